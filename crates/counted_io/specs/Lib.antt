@@ -1,0 +1,9 @@
+-- The definitions that contracts cite, one concept a file.
+-- `KnownBytes` is std's, handed on to the crates above.
+pub use Rattle.std.specs.Io.KnownBytes
+pub mod Counted
+pub mod Device
+pub mod FailAt
+pub mod Lines
+pub mod Messages
+pub mod Output

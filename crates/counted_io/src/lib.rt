@@ -1,0 +1,24 @@
+//! Readers and writers that count their failures, and lines read from them.
+//! Every crate that reads or writes stands on this one.
+#![tactic(auto)]
+
+mod counted;
+mod fail_at;
+mod fault;
+mod line_reader;
+mod next_line;
+mod output;
+mod piece;
+mod sink;
+mod source;
+#[cfg(test)]
+mod tests;
+
+pub use crate::counted::Counted;
+pub use crate::fail_at::FailAt;
+pub use crate::fault::DeviceFault;
+pub use crate::line_reader::{LINE_BUFFER, LineReader};
+pub use crate::next_line::{LineFault, NextLine};
+pub use crate::output::{OUTPUT_BUFFER, Output};
+pub use crate::sink::{Sink, write_all};
+pub use crate::source::Source;

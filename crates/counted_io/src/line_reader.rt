@@ -1,0 +1,169 @@
+//! Lines of a source, read through a buffer.
+//! Everything that takes commands or records line by line reads with it.
+ghost use Rattle.std.specs.Prelude.{◌≡◌, ◌<◌, ◌≤◌, ◌+◌, ◌↔◌, [], length, drop, Contains, IsTrue, IfOk, OnOk, OnErr, MatchBool, vec_len};
+ghost use Rattle.std.specs.Io.KnownBytes.{Consumes, IsAtEnd, prepend_known};
+ghost use Rattle.counted_io.specs.Device.{failures_after};
+ghost use Rattle.counted_io.specs.Lines.{IsDrained, Moves, Takes, TakesPart, failures_after_line};
+
+use crate::fault::DeviceFault;
+use crate::next_line::{LineFault, NextLine};
+use crate::piece::{Piece, drop_carriage_return, piece_len};
+use crate::source::Source;
+use std::alloc::{AllocError, Global};
+use std::marker::Model;
+
+/// How many octets one read of the source asks for at most.
+pub const LINE_BUFFER: usize = 65536;
+
+/// The octets read from a source and not yet handed out. The source is passed to each call.
+#[derive(Debug, Drop)]
+pub struct LineReader {
+    buffer: Vec<u8>,
+    start: usize,
+    end: usize,
+}
+
+impl Model for LineReader {
+    ghost use Rattle.std.specs.Prelude.{◌≡◌, ◌≤◌, ℕ, List, slice_range, vec_len};
+    ghost use Rattle.counted_io.specs.declared.line_reader.TheConstants.{LINE_BUFFER};
+
+    ghost Value = { List ℕ };
+
+    ghost view = { λ r. slice_range r.buffer.items r.start r.end };
+
+    ghost invariant = { λ r. (r.start ≤ r.end) × (r.end ≤ vec_len r.buffer)
+        × (vec_len r.buffer ≡ LINE_BUFFER) };
+}
+
+impl LineReader {
+    /// An empty buffer of `LINE_BUFFER` octets, which is all the memory that a reader takes.
+    pub fn new(alloc: Global) -> Result<LineReader, AllocError>
+        ensures { IfOk result (λ reader. reader ≡ []) }
+    {
+        let mut buffer = Vec::new(alloc);
+        buffer.resize(LINE_BUFFER, 0)?;
+        Ok(LineReader {
+            buffer,
+            start: 0,
+            end: 0,
+        })
+    }
+
+    /// Whether a whole line lies in the buffer, so that `next_line` reads no source.
+    pub fn has_line(&self) -> bool
+        ensures { IsTrue result ↔ Contains self.now 10 }
+    {
+        let pending = self.pending();
+        piece_len(pending) < pending.len()
+    }
+
+    /// Puts the next line into `line`, in the place of what it held, with no line end. A line ends
+    /// with LF or CR LF; a last line needs no end, and keeps a CR at its end. It reads the source,
+    /// at most `LINE_BUFFER` octets a read, only while no LF is in the buffer, and stops once the
+    /// line is longer than `limit` octets. `line` then has a part of it, of at most `limit + 1`
+    /// octets; after a fault `line` has what was taken.
+    pub fn next_line<S: Source>(
+        &mut self,
+        source: &mut S,
+        limit: usize,
+        line: &mut Vec<u8>,
+    ) -> Result<NextLine, LineFault>
+        ensures takes { IfOk result (λ next. Takes limit
+            (prepend_known self.old (S.left source.old)) self.new (S.left source.new)
+            next line.new.items) }
+        ensures fault { OnErr result (TakesPart
+            (prepend_known self.old (S.left source.old))
+            (prepend_known self.new (S.left source.new)) line.new.items) }
+        ensures count { S.failures source.new ≡ failures_after_line (S.failures source.old) result }
+        ensures buffered { Contains self.old 10 → source.new ≡ source.old }
+    {
+        line.clear();
+        while self.has_more(source)? {
+            match self.move_piece(limit, line)? {
+                Piece::Part => {}
+                Piece::Whole => return Ok(NextLine::Line),
+                Piece::TooLong => return Ok(NextLine::TooLong),
+            }
+        }
+        if line.is_empty() {
+            return Ok(NextLine::End);
+        }
+        if line.len() <= limit {
+            Ok(NextLine::Last)
+        } else {
+            Ok(NextLine::TooLong)
+        }
+    }
+
+    // The octets that the buffer holds.
+    fn pending(&self) -> &[u8]
+        ensures value { result.now ≡ self.now }
+        ensures len { length result.now ≤ LINE_BUFFER }
+    {
+        &self.buffer.as_slice()[self.start..self.end]
+    }
+
+    fn skip(&mut self, count: usize)
+        requires { count ≤ length self.old }
+        ensures { self.new ≡ drop count self.old }
+    {
+        self.start += count;
+    }
+
+    // One read of the source into the empty buffer.
+    fn refill<S: Source>(&mut self, source: &mut S) -> Result<(), DeviceFault>
+        requires { self.old ≡ [] }
+        ensures kept { Consumes (prepend_known self.old (S.left source.old))
+            (prepend_known self.new (S.left source.new)) [] }
+        ensures end { OnOk result (self.new ≡ [] → IsAtEnd (S.left source.new)) }
+        ensures count { S.failures source.new ≡ failures_after (S.failures source.old) result }
+    {
+        self.start = 0;
+        self.end = 0;
+        self.end = source.read(self.buffer.as_mut_slice())?;
+        Ok(())
+    }
+
+    // Whether an octet is left: it reads the source only where the buffer is empty.
+    fn has_more<S: Source>(&mut self, source: &mut S) -> Result<bool, DeviceFault>
+        ensures kept { Consumes (prepend_known self.old (S.left source.old))
+            (prepend_known self.new (S.left source.new)) [] }
+        ensures more { IfOk result (λ more. MatchBool more (0 < length self.new)
+            (IsDrained self.new (S.left source.new))) }
+        ensures count { S.failures source.new ≡ failures_after (S.failures source.old) result }
+        ensures buffered { 0 < length self.old
+            → (source.new ≡ source.old) × (self.new ≡ self.old) }
+    {
+        if self.pending().is_empty() {
+            self.refill(source)?;
+        }
+        Ok(!self.pending().is_empty())
+    }
+
+    // Moves the octets up to a line feed, or all, from the buffer to the end of the line.
+    fn move_piece(&mut self, limit: usize, line: &mut Vec<u8>) -> Result<Piece, AllocError>
+        requires { vec_len line.old ≤ limit + 1 }
+        ensures moves { IfOk result
+            (Moves limit self.old self.new line.old.items line.new.items) }
+        ensures err { OnErr result
+            ((self.new ≡ self.old) × (line.new.items ≡ line.old.items)) }
+    {
+        let count = piece_len(self.pending());
+        let ends = count < self.pending().len();
+        if (line.len() + count).saturating_sub(1) > limit {
+            self.skip(count);
+            return Ok(Piece::TooLong);
+        }
+        line.extend_from_slice(&self.pending()[..count])?;
+        self.skip(count);
+        if !ends {
+            return Ok(Piece::Part);
+        }
+        drop_carriage_return(line);
+        if line.len() > limit {
+            return Ok(Piece::TooLong);
+        }
+        self.skip(1);
+        Ok(Piece::Whole)
+    }
+}

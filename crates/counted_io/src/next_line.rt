@@ -1,0 +1,66 @@
+//! What a read of one line gives, and why it may fail.
+//! `LineReader::next_line` answers with them.
+use crate::fault::DeviceFault;
+use std::alloc::AllocError;
+use std::error::Error;
+use std::fmt;
+
+/// What `LineReader::next_line` found.
+#[derive(Clone, Copy, Debug, PartialEq, Eq)]
+pub enum NextLine {
+    /// A line that a line end follows.
+    Line,
+    /// The last line, which has no line end and isn't empty. Nothing is left.
+    Last,
+    /// Nothing is left, and the line is empty.
+    End,
+    /// The line is longer than the limit. Its front is consumed, and no further line can be read.
+    TooLong,
+}
+
+/// Why no line was read. The octets consumed by then are lost.
+#[derive(Clone, Copy, Debug, PartialEq, Eq)]
+pub enum LineFault {
+    /// The source failed.
+    Read,
+    /// There is no memory for the line.
+    NoMemory,
+}
+
+impl fmt::Display for LineFault {
+    ghost use Rattle.std.specs.Prelude.{Some};
+    ghost use Rattle.counted_io.specs.Messages.{line_fault_text};
+
+    ghost output = { λ fault. Some (line_fault_text fault) };
+
+    fn fmt<W: fmt::Write>(&self, f: &mut fmt::Formatter<W>) -> fmt::Result {
+        match self {
+            LineFault::Read => f.write_str("a read failed"),
+            LineFault::NoMemory => f.write_str("no memory for a line"),
+        }
+    }
+}
+
+impl Error for LineFault {}
+
+impl From<AllocError> for LineFault {
+    ghost use Rattle.std.specs.Prelude.{◌≡◌};
+    ghost use Rattle.counted_io.specs.declared.next_line.LineFault.TheVariants.{NoMemory};
+
+    ghost from_gives = { λ _ fault. fault ≡ NoMemory };
+
+    fn from(_: AllocError) -> LineFault {
+        LineFault::NoMemory
+    }
+}
+
+impl From<DeviceFault> for LineFault {
+    ghost use Rattle.std.specs.Prelude.{◌≡◌};
+    ghost use Rattle.counted_io.specs.declared.next_line.LineFault.TheVariants.{Read};
+
+    ghost from_gives = { λ _ fault. fault ≡ Read };
+
+    fn from(_: DeviceFault) -> LineFault {
+        LineFault::Read
+    }
+}

@@ -1,0 +1,101 @@
+//! A buffer before a sink.
+//! Everything that writes many short texts writes through it.
+ghost use Rattle.std.specs.Prelude.{◌≡◌, ◌<◌, ◌≤◌, ◌+◌, ◌-◌, ◌++◌, [], length, IfOk, OnOk, OnErr};
+ghost use Rattle.std.specs.Io.KnownBytes.{Appends};
+ghost use Rattle.counted_io.specs.Device.{failures_after, AppendsPrefix};
+ghost use Rattle.counted_io.specs.Output.{Passes};
+
+use crate::fault::DeviceFault;
+use crate::sink::{Sink, write_all};
+use std::alloc::{AllocError, Global};
+use std::marker::Model;
+
+/// How many octets an output holds at most before it writes them.
+pub const OUTPUT_BUFFER: usize = 65536;
+
+/// The octets not yet written. The sink is passed to each call.
+/// After a fault none are pending, so none is written twice: those that were not written are lost.
+#[derive(Debug, Drop)]
+pub struct Output {
+    buffer: Vec<u8>,
+    len: usize,
+}
+
+impl Model for Output {
+    ghost use Rattle.std.specs.Prelude.{◌≡◌, ◌≤◌, ℕ, List, take, vec_len};
+    ghost use Rattle.counted_io.specs.declared.output.TheConstants.{OUTPUT_BUFFER};
+
+    ghost Value = { List ℕ };
+
+    ghost view = { λ o. take o.len o.buffer.items };
+
+    ghost invariant = { λ o. (o.len ≤ OUTPUT_BUFFER) × (vec_len o.buffer ≡ OUTPUT_BUFFER) };
+}
+
+impl Output {
+    /// An empty buffer of `OUTPUT_BUFFER` octets, which is all the memory that an output takes.
+    pub fn new(alloc: Global) -> Result<Output, AllocError>
+        ensures { IfOk result (λ output. output ≡ []) }
+    {
+        let mut buffer = Vec::new(alloc);
+        buffer.resize(OUTPUT_BUFFER, 0)?;
+        Ok(Output {
+            buffer,
+            len: 0,
+        })
+    }
+
+    /// Adds octets behind those that are pending. Where they don't fit, the pending ones are written
+    /// first, and a piece that is larger than the buffer is then written straight.
+    pub fn push<W: Sink>(&mut self, sink: &mut W, bytes: &[u8]) -> Result<(), DeviceFault>
+        ensures ok { OnOk result (Passes (W.written sink.old) (W.written sink.new)
+            (self.old ++ bytes.now) self.new) }
+        ensures err { OnErr result (AppendsPrefix (W.written sink.old) (W.written sink.new)
+            (self.old ++ bytes.now)) }
+        ensures lost { OnErr result (self.new ≡ []) }
+        ensures buffered { length self.old + length bytes.now ≤ OUTPUT_BUFFER
+            → sink.new ≡ sink.old }
+        ensures count { W.failures sink.new ≡ failures_after (W.failures sink.old) result }
+    {
+        if bytes.len() <= self.room() {
+            self.hold(bytes);
+            return Ok(());
+        }
+        self.flush(sink)?;
+        if bytes.len() > OUTPUT_BUFFER {
+            return write_all(sink, bytes);
+        }
+        self.hold(bytes);
+        Ok(())
+    }
+
+    /// Writes all that is pending.
+    pub fn flush<W: Sink>(&mut self, sink: &mut W) -> Result<(), DeviceFault>
+        ensures ok { OnOk result (Appends (W.written sink.old) (W.written sink.new) self.old) }
+        ensures err { OnErr result
+            (AppendsPrefix (W.written sink.old) (W.written sink.new) self.old) }
+        ensures empty { self.new ≡ [] }
+        ensures count { W.failures sink.new ≡ failures_after (W.failures sink.old) result }
+    {
+        let len = self.len;
+        self.len = 0;
+        write_all(sink, &self.buffer.as_slice()[..len])
+    }
+
+    // How many more octets the buffer can hold.
+    fn room(&self) -> usize
+        ensures room { result ≡ OUTPUT_BUFFER - length self.now }
+        ensures bound { length self.now ≤ OUTPUT_BUFFER }
+    {
+        OUTPUT_BUFFER - self.len
+    }
+
+    fn hold(&mut self, bytes: &[u8])
+        requires { length bytes.now ≤ OUTPUT_BUFFER - length self.old }
+        ensures { self.new ≡ self.old ++ bytes.now }
+    {
+        let end = self.len + bytes.len();
+        self.buffer.as_mut_slice()[self.len..end].copy_from_slice(bytes);
+        self.len = end;
+    }
+}

@@ -1,0 +1,48 @@
+//! Worked rows, as facts that the check computes from the definitions: no code runs.
+
+ghost use Rattle.std.specs.Prelude.{Ok, Err, []};
+ghost use Rattle.gate_core.specs.Replies.{Begins, Arrives, Asks, Starts, Returns, Finishes};
+ghost use Rattle.gate_core.specs.Outstanding.{IsNext, NoneFree};
+ghost use Rattle.gate_core.specs.declared.outcome.Cause.TheVariants as causes;
+ghost use Rattle.gate_core.specs.Rows.{book, usual, site, page, other_page, foobot, barbot, no_file, begun, open_site, granted, started_at, go, no, two_granted, one_expired, finished, not_out, last_number, last_returned};
+
+/// A site without a robots file: its turn, its answer, a permit, and the start of its fetch.
+pub fn missing_robots()
+    ensures begin { Begins (usual []) site 100 (Ok 1) (usual begun) }
+    ensures arrive { Arrives (usual begun) site 1 no_file 105 (Ok tt) (usual open_site) }
+    ensures ask { Asks (usual open_site) foobot page 110 (Ok 65536) (usual granted) }
+    ensures start { Starts (usual granted) 65536 foobot page 120 (Ok (go 65536 page))
+        (usual (started_at 120)) }
+{}
+
+/// The answer's age at the start decides: 24 hours after the begin it is in force, a second later
+/// it is not, and a denied start has spent its permit.
+pub fn expiry_at_start()
+    ensures in_force { Starts (usual granted) 65536 foobot page 86500 (Ok (go 65536 page))
+        (usual (started_at 86500)) }
+    ensures expired { Starts (usual two_granted) 65537 foobot other_page 86501
+        (Err (no other_page causes.Expired)) (usual one_expired) }
+    ensures spent { Starts (usual one_expired) 65537 foobot other_page 86502
+        (Err (no other_page causes.Spent)) (usual one_expired) }
+{}
+
+/// A permit serves its own token once, and a start with another token spends nothing.
+pub fn spent_once()
+    ensures foreign { Starts (usual granted) 65536 barbot page 111
+        (Err (no page causes.Spent)) (usual granted) }
+    ensures own { Starts (usual granted) 65536 foobot page 112 (Ok (go 65536 page))
+        (usual (started_at 112)) }
+    ensures again { Starts (usual (started_at 112)) 65536 foobot page 113
+        (Err (no page causes.Spent)) (usual (started_at 112)) }
+    ensures back { Returns (usual (started_at 112)) 65536 (Err not_out) (usual (started_at 112)) }
+    ensures done { Finishes (usual (started_at 112)) 65536 (Ok tt) (usual finished) }
+    ensures done_again { Finishes (usual finished) 65536 (Err not_out) (usual finished) }
+{}
+
+/// One slot: its next grant has the next generation, and after the last generation there is none.
+pub fn one_slot()
+    ensures taken { NoneFree (book 1 1 granted).config granted }
+    ensures next { IsNext (book 1 1 finished).config finished 131072 }
+    ensures last { IsNext (book 1 281474976710655 open_site).config open_site last_number }
+    ensures retired { NoneFree (book 1 281474976710655 last_returned).config last_returned }
+{}

@@ -1,0 +1,4 @@
+-- Lemmas on the text of a page and on its authority.
+-- Used by the answers beside them.
+pub mod PageLemmas
+pub mod AuthorityLemmas

@@ -1,0 +1,180 @@
+-- The text of a URL with no user and no fragment is `http://`, its authority and its target.
+-- Used by `PageUrl::of_parsed` and `PageUrl::target`.
+use Rattle.std.proofs.Common.{◌≡◌, ℕ, ◌+◌, ◌<◌, Bool, true, not, ◌==◌, List, [], ◌∷◌, ◌++◌, length, get_or, take, drop, Some, None, All, sym, refl, ap, ◌∙◌, subst, ⊎_elim, append_assoc, append-nil, arith, take_at, drop_at}
+use Rattle.std.specs.Prelude.{Option, Ok, ◌≤◌, ltb, unwrap_or, is_some, option_map, decimal, codes}
+use Rattle.std.specs.List.{prefix_len}
+use Rattle.std.proofs.lemmas.Bool.{cond-false, le-ltb}
+use Rattle.std.proofs.lemmas.Bool.Decides.{nat_tests}
+use Rattle.std.proofs.lemmas.List.{drop-drop}
+use Rattle.std.proofs.lemmas.List.Elements.{All-weaker, All-nil, All-cons, All-append}
+use Rattle.url.specs.declared.slicing.Position.TheVariants.{BeforeHost, AfterPort}
+use Rattle.url.specs.Input.{when}
+use Rattle.url.specs.Host.{host_text}
+use Rattle.url.specs.Scheme.{scheme_type, default_port, is_special}
+use Rattle.url.specs.Parts.{Parts, kind_of, query_set, has_authority, host_or_empty, text_between, IsValid}
+use Rattle.url.proofs.InputLemmas.{Passes, StopsAt, prefix_len_at}
+use Rattle.url.specs.declared.scheme.SchemeType.{SchemeType}
+use Rattle.url.specs.declared.scheme.SchemeType.TheVariants.{SpecialNotFile}
+use Rattle.url.specs.declared.sets.TheConstants.{PATH}
+use Rattle.url.specs.Parser.{parse_url}
+use Rattle.url.specs.Path.{IsSegmentList}
+use Rattle.url.proofs.SetLemmas.{passes_from_kept}
+use Rattle.url.proofs.Theorems.{parse_url-serialize_special}
+use Rattle.path_normal.specs.declared.page_url.TheConstants.{MAX_URL}
+use Rattle.url.proofs.PathLemmas.{rooted}
+use Rattle.url.proofs.TextLemmas.{is_host_byte, host_and_port_bytes, All_part, query_byte}
+use Rattle.url.proofs.ValidLemmas.{segment_list_kept, hierarchical, special_has_authority, base_from_authority}
+use Rattle.path_normal.specs.PageText.{authority_of, target_of}
+use Rattle.path_normal.specs.PageUrl.{page_url_of, page_url_of_parsed, page_url_of_parts, authority_text, page_text, port_text, query_text, target_text, HasPartsOf, IsPageParts, IsWritten}
+
+-- ---- the split of a text
+
+abbrev pub is_no_slash : ℕ → Bool
+is_no_slash b = not (b == 47)
+
+stops_at_slash : (target : List ℕ) → get_or target 0 0 ≡ 47 → StopsAt is_no_slash target
+stops_at_slash [] first = tt
+stops_at_slash (b ∷ target) first = rw first
+
+no_slashes : (authority target : List ℕ) → All (Passes is_no_slash) authority → get_or target 0 0 ≡ 47 → prefix_len is_no_slash (authority ++ target) ≡ length authority
+no_slashes authority target none first =
+    prefix_len_at is_no_slash authority target none (stops_at_slash target first)
+
+-- the authority and the target of a text that is made of them
+pub authority_of_text : (authority target : List ℕ) → All (Passes is_no_slash) authority → get_or target 0 0 ≡ 47 → authority_of (codes "http://" ++ (authority ++ target)) ≡ authority
+authority_of_text authority target none first =
+    ap (λ n. take n (authority ++ target)) (no_slashes authority target none first) ∙ take_at authority target _ refl
+
+pub target_of_text : (authority target : List ℕ) → All (Passes is_no_slash) authority → get_or target 0 0 ≡ 47 → target_of (codes "http://" ++ (authority ++ target)) ≡ target
+target_of_text authority target none first =
+    ap (λ a. drop (length a) (authority ++ target)) (authority_of_text authority target none first) ∙ drop_at authority target _ refl
+
+-- what follows the end of the authority is the target
+pub target_at : (page text result : List ℕ) (end : ℕ) → text ≡ page → end ≡ 7 + length (authority_of text) → result ≡ drop end text → result ≡ target_of page
+target_at page text result end same at is =
+    is ∙ ap (λ n. drop n text) at ∙ sym (drop-drop (length (authority_of text)) 7 text) ∙ ap target_of same
+
+-- ---- the text of a URL
+
+port_pieces : (port : Option ℕ) (rest : List ℕ) → when (is_some port) (codes ":") ++ (unwrap_or (option_map decimal port) [] ++ rest) ≡ port_text port ++ rest
+port_pieces None rest = refl
+port_pieces (Some n) rest = refl
+
+query_pieces : (query : Option (List ℕ)) → when (is_some query) (codes "?") ++ (unwrap_or query [] ++ []) ≡ query_text query
+query_pieces None = refl
+query_pieces (Some q) = ap (λ t. 63 ∷ t) (append-nil q)
+
+pub authority_pieces : (url : Parts) → text_between url BeforeHost AfterPort ≡ authority_text url
+authority_pieces url =
+    ap (λ t. host_text (host_or_empty url) ++ t) (port_pieces url.port [] ∙ append-nil (port_text url.port))
+
+pub page_pieces : (url : Parts) → url.scheme ≡ codes "http" → url.username ≡ [] → url.password ≡ [] → has_authority url ≡ true → page_text url ≡ codes "http://" ++ (authority_text url ++ target_text url)
+page_pieces url scheme username password authority =
+    rw (scheme, username, password, authority) (
+    ap (λ t. codes "http://" ++ (host_text (host_or_empty url) ++ t)) (port_pieces url.port _ ∙ ap (λ t. port_text url.port ++ (url.path ++ t)) (query_pieces url.query))
+    ∙ ap (λ t. codes "http://" ++ t) (sym (append_assoc (host_text (host_or_empty url)) (port_text url.port) (target_text url)))
+    )
+
+http_is_special : is_special (scheme_type (codes "http")) ≡ true
+unfolding scheme_type default_port
+http_is_special = refl
+
+pub special : (url : Parts) → url.scheme ≡ codes "http" → is_special (kind_of url) ≡ true
+special url scheme = ap (λ s. is_special (scheme_type s)) scheme ∙ http_is_special
+
+authority_without_slash : (url : Parts) → IsValid url → All (Passes is_no_slash) (authority_text url)
+authority_without_slash url valid =
+    subst (All (Passes is_no_slash)) (authority_pieces url) (All-weaker (Passes is_host_byte) (Passes is_no_slash) (λ b passes. grind (arith, nat_tests)) _ (host_and_port_bytes url valid.head))
+
+first_of_path : (path rest : List ℕ) → 0 < length path → get_or path 0 0 ≡ 47 → get_or (path ++ rest) 0 0 ≡ 47
+first_of_path [] rest some first = absurd (omega arith)
+first_of_path (b ∷ path) rest some first = first
+
+target_from_slash : (url : Parts) → IsValid url → url.scheme ≡ codes "http" → get_or (target_text url) 0 0 ≡ 47
+target_from_slash url valid scheme =
+    let authority = special_has_authority url valid.head (special url scheme) in
+    let path = hierarchical url valid.path (base_from_authority url authority) in
+    let some : 0 < length url.path = path.1 (special url scheme) in
+    first_of_path url.path (query_text url.query) some (⊎_elim (λ (none : url.path ≡ []). absurd (omega (arith, ap length none))) (λ first. first) (rooted (kind_of url) url.path path.0))
+
+-- the text, and how it splits
+pub record Splits (page : List ℕ) (url : Parts) : Type 0 where
+  pub scheme : take 7 page ≡ codes "http://"
+  pub parts : HasPartsOf page url
+  pub rooted : get_or (target_of page) 0 0 ≡ 47
+
+pub page_splits : (url : Parts) → IsValid url → url.scheme ≡ codes "http" → url.username ≡ [] → url.password ≡ [] → Splits (page_text url) url
+page_splits url valid scheme username password =
+    let spelled = page_pieces url scheme username password (special_has_authority url valid.head (special url scheme)) in
+    let none = authority_without_slash url valid in
+    let first = target_from_slash url valid scheme in
+    let target = target_of_text (authority_text url) (target_text url) none first in
+    subst (λ page. Splits page url) (sym spelled) (record {
+      scheme = refl;
+      parts = record { authority = authority_of_text (authority_text url) (target_text url) none first; target = target };
+      rooted = ap (λ t. get_or t 0 0) target ∙ first;
+    })
+
+-- ---- the text reads as itself
+
+abbrev bare : Parts → Parts
+bare url = record url { fragment = None }
+
+bare_is_valid : (url : Parts) → IsValid url → IsValid (bare url)
+bare_is_valid url valid = record {
+  head = record {
+    scheme = valid.head.scheme;
+    username = valid.head.username;
+    password = valid.head.password;
+    host = valid.head.host;
+    port = valid.head.port;
+    bare = valid.head.bare;
+  };
+  path = valid.path;
+  query = valid.query;
+  fragment = tt;
+}
+
+http_kind : scheme_type (codes "http") ≡ SpecialNotFile
+unfolding scheme_type default_port
+http_kind = refl
+
+pub page_reads_as_itself : (url : Parts) (page : List ℕ) → IsValid url → url.scheme ≡ codes "http" → page_text url ≡ page → page_url_of_parts url ≡ Ok page → length page ≤ MAX_URL → page_url_of page ≡ Ok page
+page_reads_as_itself url page valid scheme spelled made limit =
+    let kind : kind_of (bare url) ≡ SpecialNotFile = ap scheme_type scheme ∙ http_kind in
+    let parsed : parse_url None page ≡ Ok (bare url) = ap (parse_url None) (sym spelled) ∙ parse_url-serialize_special (bare url) None (bare_is_valid url valid) kind in
+    cond-false (ltb MAX_URL (length page)) _ _ (le-ltb MAX_URL (length page) limit) ∙ ap page_url_of_parsed parsed ∙ made
+
+-- ---- no octet is a space
+
+abbrev pub IsVisible : ℕ → Type 0
+IsVisible octet = 32 < octet
+
+visible_query : (query : Option (List ℕ)) → All IsVisible (unwrap_or query []) → All IsVisible (query_text query)
+visible_query None all = all
+visible_query (Some query) all = All-cons IsVisible 63 query (omega arith) all
+
+own_query : (url : Parts) → IsValid url → All IsVisible (query_text url.query)
+own_query url valid =
+    visible_query url.query (All_part IsVisible (query_set (kind_of url)) url.query (λ b kept. let passes = query_byte (kind_of url) b kept in grind (arith, nat_tests)) valid.query)
+
+visible_path : (kind : SchemeType) (path : List ℕ) → IsSegmentList kind path → All IsVisible path
+visible_path kind path list =
+    All-weaker _ IsVisible (λ b kept. let passes = passes_from_kept PATH (λ x. ltb 32 x) refl b kept in grind (arith, nat_tests)) path (segment_list_kept kind path list)
+
+pub visible_authority : (url : Parts) → IsValid url → All IsVisible (authority_text url)
+visible_authority url valid =
+    subst (All IsVisible) (authority_pieces url) (All-weaker (Passes is_host_byte) IsVisible (λ b passes. grind (arith, nat_tests)) _ (host_and_port_bytes url valid.head))
+
+visible_start : All IsVisible (codes "http://")
+visible_start = search (arith, All-cons, All-nil)
+
+pub page_is_visible : (url : Parts) → IsValid url → url.scheme ≡ codes "http" → url.username ≡ [] → url.password ≡ [] → All IsVisible (page_text url)
+page_is_visible url valid scheme username password =
+    let authority = special_has_authority url valid.head (special url scheme) in
+    let path = hierarchical url valid.path (base_from_authority url authority) in
+    subst (All IsVisible) (sym (page_pieces url scheme username password authority)) (All-append IsVisible (codes "http://") _ visible_start (All-append IsVisible (authority_text url) _ (visible_authority url valid) (All-append IsVisible url.path _ (visible_path (kind_of url) url.path path.0) (own_query url valid))))
+
+pub written : (url : Parts) (page : List ℕ) → IsPageParts url → page_text url ≡ page → IsWritten page
+unfolding IsWritten
+written url page parts spelled = (url, parts, spelled)

@@ -1,0 +1,99 @@
+-- What a text reads as, as the URL of a page, and why it is refused.
+-- URL Standard, sections 4.4 and 4.5.
+use Rattle.std.specs.Prelude.{◌≡◌, ◌<◌, ◌≤◌, ◌++◌, ◌⊎◌, ℕ, All, IsAscii, slice_index, take, Bool, not, ◌||◌, List, [], Option, Some, None, Result, Ok, Err, MatchResult, bytes_eq, codes, decimal, length, nat_lt, if◌then◌else◌}
+use Rattle.url.specs.declared.error.ParseError.{ParseError}
+use Rattle.url.specs.declared.error.ParseError.TheVariants.{Overflow, OutOfMemory}
+use Rattle.url.specs.Host.{host_text}
+use Rattle.url.specs.Parser.{Parsed, parse_url}
+use Rattle.url.specs.Parts.{Parts, has_credentials, host_or_empty, serialize, IsValid}
+use Rattle.path_normal.specs.declared.page_url.TheConstants.{MAX_AUTHORITY, MAX_URL}
+use Rattle.path_normal.specs.declared.page_url.UrlFault.{UrlFault}
+use Rattle.path_normal.specs.declared.page_url.UrlFault.TheVariants.{BadUrl, HasUser, NoMemory, NotHttp, TooLong}
+use Rattle.path_normal.specs.PageText.{authority_of, target_of}
+
+-- the port behind its `:`, where one is written
+abbrev pub port_text : Option ℕ → List ℕ
+port_text None = []
+port_text (Some port) = codes ":" ++ decimal port
+
+-- the query behind its `?`, where there is one
+abbrev pub query_text : Option (List ℕ) → List ℕ
+query_text None = []
+query_text (Some query) = codes "?" ++ query
+
+-- the host, and the port where one is written
+abbrev pub authority_text : Parts → List ℕ
+authority_text url = host_text (host_or_empty url) ++ port_text url.port
+
+-- the path, and the query where there is one
+abbrev pub target_text : Parts → List ℕ
+target_text url = url.path ++ query_text url.query
+
+-- the URL as it is written back: without its fragment
+abbrev pub page_text : Parts → List ℕ
+page_text url = serialize (record url { fragment = None })
+
+-- the URL, or its authority, is longer than a page's may be
+abbrev pub is_too_long : Parts → Bool
+is_too_long url =
+    nat_lt MAX_URL (length (page_text url)) || nat_lt MAX_AUTHORITY (length (authority_text url))
+
+-- the page of a URL, or the first fault that it has
+abbrev pub page_url_of_parts : Parts → Result (List ℕ) UrlFault
+page_url_of_parts url =
+    if not (bytes_eq url.scheme (codes "http")) then Err NotHttp
+    else (if has_credentials url then Err HasUser
+    else (if is_too_long url then Err TooLong
+    else Ok (page_text url)))
+
+-- the page of what the parser gave, or the fault
+abbrev pub page_url_of_parsed : Parsed Parts → Result (List ℕ) UrlFault
+page_url_of_parsed (Ok url) = page_url_of_parts url
+page_url_of_parsed (Err Overflow) = Err TooLong
+page_url_of_parsed (Err error) = Err BadUrl
+
+-- the page that the text reads as, or the first fault that it has
+abbrev pub page_url_of : List ℕ → Result (List ℕ) UrlFault
+page_url_of text =
+    if nat_lt MAX_URL (length text) then Err TooLong else page_url_of_parsed (parse_url None text)
+
+-- the result is the expected one, unless there was no memory
+abbrev pub IsAnswer : Result (List ℕ) UrlFault → Result (List ℕ) UrlFault → Type 0
+IsAnswer result expected =
+    MatchResult result (λ page. expected ≡ Ok page)
+    (λ fault. (expected ≡ Err fault) ⊎ (fault ≡ NoMemory))
+
+-- the page's authority and target are those of the URL
+pub record HasPartsOf (page : List ℕ) (url : Parts) : Type 0 where
+  pub authority : authority_of page ≡ authority_text url
+  pub target : target_of page ≡ target_text url
+
+-- the answer where `url` gives an error: it overflows at 4 GB, to which no text that it is given
+-- comes, so that counts as no memory
+abbrev pub answer_to : ParseError → UrlFault
+answer_to Overflow = NoMemory
+answer_to OutOfMemory = NoMemory
+answer_to error = BadUrl
+
+-- a valid `http` URL without user
+pub record IsPageParts (url : Parts) : Type 0 where
+  pub valid : IsValid url
+  pub scheme : url.scheme ≡ codes "http"
+  pub username : url.username ≡ []
+  pub password : url.password ≡ []
+
+-- a valid URL is written so
+unfoldable pub IsWritten : List ℕ → Type 0
+IsWritten page = (url : Parts) × IsPageParts url × (page_text url ≡ page)
+
+-- the text reads as itself, and is that of a valid URL within the limits: `http://`, an authority
+-- and a target that begins with `/`, with no octet that is a space or a control before it
+pub record IsPage (page : List ℕ) : Type 0 where
+  pub own : page_url_of page ≡ Ok page
+  pub written : IsWritten page
+  pub scheme : take 7 page ≡ codes "http://"
+  pub limit : length page ≤ MAX_URL
+  pub authority_limit : length (authority_of page) ≤ MAX_AUTHORITY
+  pub rooted : slice_index (target_of page) 0 ≡ 47
+  pub ascii : IsAscii page
+  pub visible : All (λ octet. 32 < octet) page

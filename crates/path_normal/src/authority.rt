@@ -1,0 +1,133 @@
+//! The authority of a page's URL: its host, and its port where that is not 80.
+//! RFC 3986, section 3.2.
+ghost use Rattle.std.specs.Prelude.{◌≡◌, ◌++◌, None, Some, Err, IfOk, IfErr, IsTrue, bytes_eq, codes, string_bytes};
+ghost use Rattle.std.specs.Cmp.{partial_equiv_from_equiv};
+ghost use Rattle.std.specs.Cmp.Lexicographic.{nat_list_eq_equiv};
+ghost use Rattle.std.specs.List.{list_any};
+ghost use Rattle.path_normal.specs.PageText.{authority_of};
+ghost use Rattle.path_normal.specs.Authority.{IsAuthority, authority_text_of, is_delimiter};
+
+use crate::{PageUrl, UrlFault};
+use std::alloc::{AllocError, Global};
+use std::fmt;
+use std::marker::Model;
+
+/// The authority of a page's URL: the host in lower case, and `:` and the port where it is not 80.
+#[derive(Debug, Drop)]
+pub struct Authority {
+    text: String,
+}
+
+impl Model for Authority {
+    ghost use Rattle.std.specs.Prelude.{List, ℕ, string_bytes};
+    ghost use Rattle.std.specs.Coded.{coded_list, coded_ℕ};
+
+    ghost Value = { List ℕ };
+
+    ghost coded = { coded_list coded_ℕ };
+
+    ghost use Rattle.path_normal.specs.Authority.{IsAuthority};
+
+    ghost view = { λ authority. string_bytes authority.text };
+
+    ghost invariant = { λ authority. IsAuthority (string_bytes authority.text) };
+}
+
+/// Why a text was not taken as an authority.
+#[derive(Clone, Copy, Debug, PartialEq, Eq)]
+pub enum AuthorityFault {
+    /// The text has one of `/ \ ? # @`, or does not make a page's URL between `http://` and `/`.
+    BadAuthority,
+    /// The allocator had no memory.
+    NoMemory,
+}
+
+impl Authority {
+    /// Reads an authority as it stands in a URL: the port may be 80, and letters of either case.
+    pub fn new(alloc: Global, text: &str) -> Result<Authority, AuthorityFault>
+        ensures ok { IfOk result (λ authority. authority_text_of text.now ≡ Some authority) }
+        ensures bad { IfErr result (λ fault. fault ≡ AuthorityFault.BadAuthority
+            → authority_text_of text.now ≡ None) }
+        ensures delimited { IsTrue (list_any is_delimiter text.now)
+            → result ≡ Err AuthorityFault.BadAuthority }
+    {
+        if has_delimiter(text.as_bytes()) {
+            return Err(AuthorityFault::BadAuthority);
+        }
+        let Ok(page) = page_text(alloc, text) else {
+            return Err(AuthorityFault::NoMemory);
+        };
+        match PageUrl::parse(alloc, page.as_str()) {
+            Ok(url) => match Authority::of(&url) {
+                Ok(authority) => Ok(authority),
+                Err(_) => Err(AuthorityFault::NoMemory),
+            },
+            Err(UrlFault::NoMemory) => Err(AuthorityFault::NoMemory),
+            Err(_) => Err(AuthorityFault::BadAuthority),
+        }
+    }
+
+    /// The authority that a page's URL names.
+    pub fn of(url: &PageUrl) -> Result<Authority, AllocError>
+        ensures { IfOk result (λ authority. authority ≡ authority_of url.now) }
+    {
+        Ok(Authority {
+            text: String::from_str(url.allocator(), url.authority())?,
+        })
+    }
+
+    /// A second authority of the same text.
+    pub fn copy(&self) -> Result<Authority, AllocError>
+        ensures { IfOk result (λ copy. copy ≡ self.now) }
+    {
+        Ok(Authority {
+            text: self.text.clone()?,
+        })
+    }
+
+    /// The authority as the URL Standard writes it.
+    pub fn text(&self) -> &str
+        ensures value { result.now ≡ self.now }
+        ensures authority { IsAuthority self.now }
+    {
+        self.text.as_str()
+    }
+}
+
+fn has_delimiter(octets: &[u8]) -> bool
+    ensures { result ≡ list_any is_delimiter octets.now }
+{
+    octets.iter().any(|octet| matches!(*octet, b'/' | b'\\' | b'?' | b'#' | b'@'))
+}
+
+// The URL of the root of the authority that the text writes.
+fn page_text(alloc: Global, text: &str) -> Result<String, AllocError>
+    ensures { IfOk result (λ page. string_bytes page ≡ codes "http://" ++ text.now ++ codes "/") }
+{
+    let mut page = String::from_str(alloc, "http://")?;
+    page.push_str(text)?;
+    page.push_str("/")?;
+    Ok(page)
+}
+
+impl PartialEq for Authority {
+    ghost eq = { λ a b. bytes_eq a b };
+
+    ghost laws = { partial_equiv_from_equiv nat_list_eq_equiv };
+
+    fn eq(&self, other: &Authority) -> bool {
+        self.text() == other.text()
+    }
+}
+
+impl Eq for Authority {
+    ghost laws = { nat_list_eq_equiv };
+}
+
+impl fmt::Display for Authority {
+    ghost output = { λ authority. Some authority };
+
+    fn fmt<W: fmt::Write>(&self, f: &mut fmt::Formatter<W>) -> fmt::Result {
+        fmt::Display::fmt(&self.text(), f)
+    }
+}

@@ -1,0 +1,175 @@
+//! The URL of a page: an `http` URL with no user and no fragment.
+//! URL Standard, sections 4.4 and 4.5.
+ghost use Rattle.std.specs.Prelude.{◌≡◌, ◌<◌, ◌≤◌, None, Some, Ok, Err, IfOk, bytes_eq, length};
+ghost use Rattle.std.specs.Cmp.{partial_equiv_from_equiv};
+ghost use Rattle.std.specs.Cmp.Lexicographic.{nat_list_eq_equiv};
+ghost use Rattle.url.specs.Parser.{parse_url};
+ghost use Rattle.url.specs.Parts.{Parts};
+ghost use Rattle.path_normal.specs.PageText.{authority_of, target_of};
+ghost use Rattle.path_normal.specs.PageUrl.{HasPartsOf, IsPage, IsAnswer, answer_to, page_url_of, page_url_of_parts};
+
+use std::alloc::{AllocError, Global};
+use std::fmt;
+use std::marker::Model;
+use url::{ParseError, Position, Url};
+
+/// The most bytes that the URL of a page has, as handed in and as written back.
+pub const MAX_URL: usize = 4_096;
+
+/// The most bytes that its authority has, with the port where one is written.
+pub const MAX_AUTHORITY: usize = 4_000;
+
+/// The URL of a page, as the URL Standard writes it: `http`, no user, no fragment.
+///
+/// A clause sees it as its text, of which `authority_of` and `target_of` give the parts.
+#[derive(Debug, Drop)]
+pub struct PageUrl {
+    text: String,
+    authority_end: usize,
+}
+
+impl Model for PageUrl {
+    ghost use Rattle.std.specs.Prelude.{List, ℕ, ◌≡◌, ◌+◌, length, string_bytes};
+    ghost use Rattle.std.specs.Coded.{coded_list, coded_ℕ};
+
+    ghost Value = { List ℕ };
+
+    ghost coded = { coded_list coded_ℕ };
+
+    ghost use Rattle.path_normal.specs.PageText.{authority_of};
+    ghost use Rattle.path_normal.specs.PageUrl.{IsPage};
+
+    ghost view = { λ url. string_bytes url.text };
+
+    ghost invariant = { λ url. IsPage (string_bytes url.text)
+        × (url.authority_end ≡ 7 + length (authority_of (string_bytes url.text))) };
+}
+
+/// Why a text was not taken as the URL of a page, in the order of the tests.
+#[derive(Clone, Copy, Debug, PartialEq, Eq)]
+pub enum UrlFault {
+    /// The text, or the URL as it would be written back, has more than 4,096 bytes, or the
+    /// authority of the latter more than 4,000.
+    TooLong,
+    /// The URL Standard's parser refuses the text.
+    BadUrl,
+    /// The scheme is not `http`.
+    NotHttp,
+    /// There is a user name or a password that is not empty.
+    HasUser,
+    /// The allocator had no memory.
+    NoMemory,
+}
+
+impl PageUrl {
+    /// Reads the URL of a page, and drops its fragment.
+    pub fn parse(alloc: Global, text: &str) -> Result<PageUrl, UrlFault>
+        ensures long { MAX_URL < length text.now → result ≡ Err UrlFault.TooLong }
+        ensures answer { IsAnswer result (page_url_of text.now) }
+        ensures parts { IfOk result (λ page. (url : Parts) × (parse_url None text.now ≡ Ok url)
+            × HasPartsOf page url) }
+    {
+        if text.len() > MAX_URL {
+            return Err(UrlFault::TooLong);
+        }
+        match Url::parse(alloc, text) {
+            Ok(url) => PageUrl::of_parsed(alloc, &url),
+            Err(error) => Err(fault_of(error)),
+        }
+    }
+
+    fn of_parsed(alloc: Global, url: &Url) -> Result<PageUrl, UrlFault>
+        ensures answer { IsAnswer result (page_url_of_parts url.now) }
+        ensures parts { IfOk result (λ page. HasPartsOf page url.now) }
+    {
+        if url.scheme() != "http" {
+            return Err(UrlFault::NotHttp);
+        }
+        if !url.username().is_empty() || url.password().is_some() {
+            return Err(UrlFault::HasUser);
+        }
+        let page = url.slice(Position::BeforeScheme, Position::AfterQuery);
+        let authority = url.slice(Position::BeforeHost, Position::AfterPort);
+        if page.len() > MAX_URL || authority.len() > MAX_AUTHORITY {
+            return Err(UrlFault::TooLong);
+        }
+        match String::from_str(alloc, page) {
+            Ok(text) => Ok(PageUrl {
+                text,
+                authority_end: "http://".len() + authority.len(),
+            }),
+            Err(_) => Err(UrlFault::NoMemory),
+        }
+    }
+
+    /// A second URL of the same text.
+    pub fn copy(&self) -> Result<PageUrl, AllocError>
+        ensures { IfOk result (λ copy. copy ≡ self.now) }
+    {
+        Ok(PageUrl {
+            text: self.text.clone()?,
+            authority_end: self.authority_end,
+        })
+    }
+
+    /// The URL as the URL Standard writes it, without a fragment.
+    pub fn text(&self) -> &str
+        ensures value { result.now ≡ self.now }
+        ensures page { IsPage self.now }
+    {
+        self.text.as_str()
+    }
+
+    /// The host, and `:` and the port where it is not 80 (RFC 3986, 3.2).
+    pub fn authority(&self) -> &str
+        ensures value { result.now ≡ authority_of self.now }
+        ensures page { IsPage self.now }
+    {
+        &self.text.as_str()["http://".len()..self.authority_end]
+    }
+
+    /// The path, and `?` and the query where there is one (RFC 3986, 3.3 and 3.4).
+    pub fn target(&self) -> &str
+        ensures value { result.now ≡ target_of self.now }
+        ensures page { IsPage self.now }
+    {
+        &self.text.as_str()[self.authority_end..]
+    }
+
+    /// The allocator of the text.
+    pub(crate) fn allocator(&self) -> Global {
+        *self.text.allocator()
+    }
+}
+
+// `url` answers Overflow for a URL of 4 GB, which `MAX_URL` bytes never come to.
+fn fault_of(error: ParseError) -> UrlFault
+    ensures { result ≡ answer_to error }
+{
+    match error {
+        ParseError::Overflow | ParseError::OutOfMemory => UrlFault::NoMemory,
+        _ => UrlFault::BadUrl,
+    }
+}
+
+impl PartialEq for PageUrl {
+    ghost eq = { λ a b. bytes_eq a b };
+
+    ghost laws = { partial_equiv_from_equiv nat_list_eq_equiv };
+
+    fn eq(&self, other: &PageUrl) -> bool {
+        self.text() == other.text()
+    }
+}
+
+impl Eq for PageUrl {
+    ghost laws = { nat_list_eq_equiv };
+}
+
+impl fmt::Display for PageUrl {
+    ghost output = { λ url. Some url };
+
+    fn fmt<W: fmt::Write>(&self, f: &mut fmt::Formatter<W>) -> fmt::Result {
+        fmt::Display::fmt(&self.text(), f)
+    }
+}

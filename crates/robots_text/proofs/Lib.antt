@@ -1,0 +1,3 @@
+-- Lemmas on the definitions of `specs/`.
+-- Used by the answers beside them.
+pub mod TokenLemmas

@@ -1,0 +1,3 @@
+-- What contracts say of a robots.txt, a file for each concept.
+-- RFC 9309, section 2.2.
+pub mod Token

@@ -1,0 +1,130 @@
+//! A product token, which names a crawler.
+//! RFC 9309, section 2.2.1.
+ghost use Rattle.std.specs.Prelude.{◌≡◌, ◌↔◌, None, Some, IfOk, IfErr, IsTrue, bytes_eq, string_bytes};
+ghost use Rattle.std.specs.Cmp.{partial_equiv_from_equiv};
+ghost use Rattle.std.specs.Cmp.Lexicographic.{nat_list_eq_equiv};
+ghost use Rattle.std.specs.List.{list_all};
+ghost use Rattle.robots_text.specs.Token.{is_token_octet, is_token, lower_case, token_of};
+
+use std::alloc::{AllocError, Global};
+use std::fmt;
+use std::marker::Model;
+
+/// The most octets that a product token has.
+pub const MAX_TOKEN: usize = 64;
+
+/// A crawler's product token (RFC 9309, 2.2.1): 1 to 64 letters, `-` and `_`, kept in lower case.
+#[derive(Debug, Drop)]
+pub struct Token {
+    text: String,
+}
+
+impl Model for Token {
+    ghost use Rattle.std.specs.Prelude.{List, ℕ, string_bytes};
+    ghost use Rattle.std.specs.Coded.{coded_list, coded_ℕ};
+
+    ghost Value = { List ℕ };
+
+    ghost coded = { coded_list coded_ℕ };
+
+    ghost use Rattle.std.specs.Prelude.{◌≡◌, Some};
+    ghost use Rattle.robots_text.specs.Token.{token_of};
+
+    ghost view = { λ token. string_bytes token.text };
+
+    ghost invariant = { λ token. let text = string_bytes token.text in token_of text ≡ Some text };
+}
+
+/// Why octets were not taken as a token.
+#[derive(Clone, Copy, Debug, PartialEq, Eq)]
+pub enum TokenFault {
+    /// There is no octet, more than 64, or one that is no letter, `-` or `_`.
+    BadToken,
+    /// The allocator had no memory.
+    NoMemory,
+}
+
+impl Token {
+    /// Reads a token, whatever the case of its letters.
+    pub fn new(alloc: Global, octets: &[u8]) -> Result<Token, TokenFault>
+        ensures ok { IfOk result (λ token. token_of octets.now ≡ Some token) }
+        ensures bad { IfErr result (λ fault.
+            (fault ≡ TokenFault.BadToken) ↔ (token_of octets.now ≡ None)) }
+    {
+        if !is_token(octets) {
+            return Err(TokenFault::BadToken);
+        }
+        match lower_case(alloc, octets) {
+            Ok(text) => Ok(Token { text }),
+            Err(_) => Err(TokenFault::NoMemory),
+        }
+    }
+
+    /// A second token of the same text.
+    pub fn copy(&self) -> Result<Token, AllocError>
+        ensures { IfOk result (λ copy. copy ≡ self.now) }
+    {
+        Ok(Token {
+            text: self.text.clone()?,
+        })
+    }
+
+    /// The token in lower case.
+    pub fn text(&self) -> &str
+        ensures value { result.now ≡ self.now }
+        ensures own { token_of self.now ≡ Some self.now }
+    {
+        self.text.as_str()
+    }
+}
+
+impl PartialEq for Token {
+    ghost eq = { λ a b. bytes_eq a b };
+
+    ghost laws = { partial_equiv_from_equiv nat_list_eq_equiv };
+
+    fn eq(&self, other: &Token) -> bool {
+        self.text.as_str() == other.text.as_str()
+    }
+}
+
+impl Eq for Token {
+    ghost laws = { nat_list_eq_equiv };
+}
+
+impl fmt::Display for Token {
+    ghost output = { λ token. Some token };
+
+    fn fmt<W: fmt::Write>(&self, f: &mut fmt::Formatter<W>) -> fmt::Result {
+        fmt::Display::fmt(&self.text(), f)
+    }
+}
+
+fn is_token_octet(octet: u8) -> bool
+    ensures { result ≡ is_token_octet octet }
+{
+    octet.is_ascii_alphabetic() || octet == b'-' || octet == b'_'
+}
+
+fn is_token(octets: &[u8]) -> bool
+    ensures { result ≡ is_token octets.now }
+{
+    !octets.is_empty() && octets.len() <= MAX_TOKEN && are_token_octets(octets)
+}
+
+fn are_token_octets(octets: &[u8]) -> bool
+    ensures { result ≡ list_all is_token_octet octets.now }
+{
+    octets.iter().all(|octet| is_token_octet(*octet))
+}
+
+fn lower_case(alloc: Global, octets: &[u8]) -> Result<String, AllocError>
+    requires { IsTrue (is_token octets.now) }
+    ensures { IfOk result (λ text. string_bytes text ≡ lower_case octets.now) }
+{
+    let mut text = String::new(alloc);
+    for octet in octets {
+        text.push(char::from(octet.to_ascii_lowercase()))?;
+    }
+    Ok(text)
+}
