@@ -72,6 +72,20 @@ Passes-further a b c text pending left p q = record {
   split = p.split ∙ ap (λ l. p.front ++ l) q.split ∙ sym (append_assoc p.front q.front left);
 }
 
+-- a text that is pushed in two pieces behind what was pending
+pub Passes-pieces : (a b c : Option (List ℕ)) (pending text mid bytes left : List ℕ) → Passes a b (pending ++ text) mid → Passes b c (mid ++ bytes) left → Passes a c (pending ++ (text ++ bytes)) left
+Passes-pieces a b c pending text mid bytes left p q =
+    subst (λ l. Passes a c l left) (append_assoc pending text bytes) (Passes-push a b c (pending ++ text) mid bytes left p q)
+
+-- the same where the second piece met a fault
+pub Passes-cut-piece : (a b c : Option (List ℕ)) (pending text mid bytes : List ℕ) → Passes a b (pending ++ text) mid → AppendsPrefix b c (mid ++ bytes) → AppendsPrefix a c (pending ++ (text ++ bytes))
+Passes-cut-piece a b c pending text mid bytes p q =
+    subst (AppendsPrefix a c) (append_assoc pending text bytes) (Passes-cut a b c (pending ++ text) mid bytes p q)
+
+-- the same where the first piece met a fault
+pub prefix_piece : (a b : Option (List ℕ)) (pending text bytes : List ℕ) → AppendsPrefix a b (pending ++ text) → AppendsPrefix a b (pending ++ (text ++ bytes))
+prefix_piece a b pending text bytes p = subst (AppendsPrefix a b) (append_assoc pending text bytes) (prefix_longer a b (pending ++ text) bytes p)
+
 -- a fact that holds anyway holds of an error
 pub on_err : {T E P : Type 0} → (r : Result T E) → P → OnErr r P
 on_err (Ok _) p = tt

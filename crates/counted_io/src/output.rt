@@ -39,10 +39,7 @@ impl Output {
     {
         let mut buffer = Vec::new(alloc);
         buffer.resize(OUTPUT_BUFFER, 0)?;
-        Ok(Output {
-            buffer,
-            len: 0,
-        })
+        Ok(Output { buffer, len: 0 })
     }
 
     /// Adds octets behind those that are pending. Where they don't fit, the pending ones are written

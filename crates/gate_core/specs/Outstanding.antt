@@ -1,4 +1,5 @@
 -- The permits that are out, the slots that are free, and the number that the next grant gets.
+-- RFC 9309 has no permits: they make each fetch look at the answer in force (2.4).
 use Rattle.std.specs.Prelude.{◌≡◌, ℕ, ◌+◌, ◌/◌, ◌%◌, ◌<◌, ◌==◌, Bool, true, false, not, ◌&&◌, ◌||◌, nat_lt, max, List, [], ◌∷◌, if◌then◌else◌}
 use Rattle.std.specs.List.{list_any}
 use Rattle.std.specs.Str.{bytes_eq}

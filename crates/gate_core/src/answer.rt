@@ -1,7 +1,5 @@
 //! What a robots fetch of an authority came to (RFC 9309, section 2.3.1).
 
-use std::fmt;
-
 /// The answer of an authority's robots file.
 #[derive(Clone, Copy, Debug, PartialEq, Eq)]
 pub enum Answer {
@@ -35,14 +33,4 @@ pub enum Closure {
     Coding,
     /// Any other status.
     Other,
-}
-
-impl fmt::Display for Answer {
-    /// The word of the answer in replies: `open` or `closed`.
-    fn fmt<W: fmt::Write>(&self, f: &mut fmt::Formatter<W>) -> fmt::Result {
-        match self {
-            Answer::Open(_) => write!(f, "open"),
-            Answer::Closed(_) => write!(f, "closed"),
-        }
-    }
 }

@@ -27,7 +27,9 @@ pub use answer::{Answer, Closure, Opening};
 pub use book::Book;
 pub use call::{Call, Reply};
 pub use calls::run;
-pub use config::Config;
+pub use config::{
+    Config, LAST_GENERATION, LIFE, MAX_AUTHORITIES, MAX_LOG, MAX_SLOTS, SLOTS_PER_GENERATION,
+};
 pub use entry::Entry;
 pub use numbers::{PermitNo, TurnNo};
 pub use outcome::{Cause, Reason};

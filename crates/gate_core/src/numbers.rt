@@ -3,7 +3,6 @@
 ghost use Rattle.std.specs.Prelude.{◌≡◌, ◌%◌, ◌/◌};
 
 use crate::config::SLOTS_PER_GENERATION;
-use std::fmt;
 use std::marker::Model;
 
 /// The number of a permit: `generation * 65536 + slot`. Any number may be written; whether a
@@ -53,12 +52,6 @@ impl PermitNo {
     }
 }
 
-impl fmt::Display for PermitNo {
-    fn fmt<W: fmt::Write>(&self, f: &mut fmt::Formatter<W>) -> fmt::Result {
-        write!(f, "{}", self.number)
-    }
-}
-
 /// The number of a turn: the how manyth begin of the history it is, from 1.
 #[derive(Clone, Copy, Debug, PartialEq, Eq)]
 pub struct TurnNo {
@@ -88,11 +81,5 @@ impl TurnNo {
         ensures { result ≡ self }
     {
         self.number
-    }
-}
-
-impl fmt::Display for TurnNo {
-    fn fmt<W: fmt::Write>(&self, f: &mut fmt::Formatter<W>) -> fmt::Result {
-        write!(f, "{}", self.number)
     }
 }

@@ -54,7 +54,8 @@ pub fn generation_after(first: u64, greatest: u64) -> u64
 
 /// The lowest free slot, by the greatest generation of each slot.
 pub fn lowest_free(permits: &[Permit], runs: &[PermitNo], generations: &[u64]) -> Option<u64>
-    ensures { MatchOption result (AllTaken permits.now runs.now generations.now (length generations.now))
+    ensures { MatchOption result
+        (AllTaken permits.now runs.now generations.now (length generations.now))
         (IsLowest permits.now runs.now generations.now) }
 {
     for (slot, greatest) in generations.iter().enumerate() {

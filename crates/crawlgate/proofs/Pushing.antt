@@ -1,0 +1,35 @@
+-- What passes to an output of a row of texts: used by the proof of `Pieces::push`.
+use Rattle.std.proofs.Common.{◌≡◌, ◌<◌, ◌+◌, ℕ, suc, List, ◌++◌, Option, length, take, drop, get_or, flat_map, ap, sym, ◌∙◌, subst, append_assoc, drop-cons}
+use Rattle.std.proofs.lemmas.List.{take-append-drop, flat_map_more, take_more}
+use Rattle.std.proofs.lemmas.List.Concat.{flat_map-append}
+use Rattle.counted_io.specs.Device.{AppendsPrefix}
+use Rattle.counted_io.specs.Output.{Passes}
+use Rattle.counted_io.proofs.Writing.{Passes-push, Passes-cut, prefix_longer}
+
+-- the texts of a row, cut at one of them
+cut_at : {X : Type 0} (f : X → List ℕ) (xs : List X) (i : ℕ) (d : X) → i < length xs →
+    flat_map f xs ≡ flat_map f (take i xs) ++ (f (get_or xs i d) ++ flat_map f (drop (suc i) xs))
+cut_at f xs i d within =
+    ap (flat_map f) (sym (take-append-drop i xs)) ∙ flat_map-append f (take i xs) (drop i xs)
+    ∙ ap (λ l. flat_map f (take i xs) ++ flat_map f l) (drop-cons xs i d within)
+
+-- one text more passes behind those before it
+pub row_more : {X : Type 0} (f : X → List ℕ) (xs : List X) (i : ℕ) (d : X) (a b c : Option (List ℕ)) (first pending left : List ℕ) → i < length xs →
+    Passes a b (first ++ flat_map f (take i xs)) pending → Passes b c (pending ++ f (get_or xs i d)) left →
+    Passes a c (first ++ flat_map f (take (i + 1) xs)) left
+row_more f xs i d a b c first pending left within before this =
+    subst (λ (text : List ℕ). Passes a c text left)
+    (flat_map_more f first (take i xs) (get_or xs i d) ∙ ap (λ l. first ++ flat_map f l) (sym (take_more xs i d within)))
+    (Passes-push a b c (first ++ flat_map f (take i xs)) pending (f (get_or xs i d)) left before this)
+
+-- all texts before one and a part of that one are a part of the row
+pub row_cut : {X : Type 0} (f : X → List ℕ) (xs : List X) (i : ℕ) (d : X) (a b c : Option (List ℕ)) (first pending : List ℕ) → i < length xs →
+    Passes a b (first ++ flat_map f (take i xs)) pending → AppendsPrefix b c (pending ++ f (get_or xs i d)) →
+    AppendsPrefix a c (first ++ flat_map f xs)
+row_cut f xs i d a b c first pending within before this =
+    let text : List ℕ = first ++ flat_map f (take i xs) in
+    let piece : List ℕ = f (get_or xs i d) in
+    let later : List ℕ = flat_map f (drop (suc i) xs) in
+    subst (AppendsPrefix a c)
+    (append_assoc text piece later ∙ append_assoc first (flat_map f (take i xs)) (piece ++ later) ∙ ap (λ l. first ++ l) (sym (cut_at f xs i d within)))
+    (prefix_longer a c (text ++ piece) later (Passes-cut a b c text pending piece before this))

@@ -1,0 +1,36 @@
+//! Whole sessions over memory: worked rows of docs/FORMATS.md, and a fault at every place.
+
+ghost use Rattle.std.specs.Prelude.{◌<◌};
+ghost use Rattle.gate_core.specs.Gate.{IsConfig};
+
+use crate::replay::replay;
+use crate::session_fault::SessionFault;
+use counted_io::FailAt;
+use gate_core::{Book, Config};
+use std::process::Abort;
+use std::test::Fail;
+
+mod calls;
+mod faults;
+mod rows;
+mod waiting;
+
+// Replays the input with reads of at most so many octets, and checks what was written and the end.
+fn check<R: Abort + AllocGlobal>(
+    rt: &R,
+    config: Config,
+    per_read: usize,
+    row: (&str, &[u8], &[u8], Result<(), SessionFault>),
+) -> Result<(), Fail>
+    requires config { IsConfig config }
+    requires reads { 0 < per_read }
+{
+    let (name, input, want, end) = row;
+    let mut book = Book::new(rt.alloc(), config)?;
+    let mut reader = FailAt::new(input.to_vec(rt.alloc())?, per_read, None);
+    let mut writer = FailAt::new(Vec::new(rt.alloc()), 65536, None);
+    let result = replay(rt.alloc(), &mut reader, &mut writer, &mut book);
+    assert!(rt; writer.bytes() == want, "{name}");
+    assert_eq!(rt; result, end, "{name}");
+    Ok(())
+}

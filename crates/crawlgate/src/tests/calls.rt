@@ -1,0 +1,46 @@
+//! A list of calls, with ample memory.
+
+use gate_core::{Answer, Book, Call, Config, Opening, PermitNo, Reason, Reply, TurnNo, run};
+use path_normal::{Authority, PageUrl};
+use robots_text::Token;
+use std::test::Fail;
+
+#[test]
+fn a_site_without_a_robots_file(rt: HostRuntime) -> Result<(), Fail> {
+    let alloc = rt.alloc();
+    let url = PageUrl::parse(alloc, "http://a.example/x")?;
+    let token = Token::new(alloc, b"FooBot")?;
+    let authority = Authority::of(&url)?;
+    let calls = vec![in alloc;
+        Call::Begin {
+            authority: authority.copy()?,
+            moment: 100
+        },
+        Call::Arrive {
+            authority,
+            turn: TurnNo::new(1),
+            answer: Answer::Open(Opening::Unavailable),
+            moment: 105,
+        },
+        Call::Ask {
+            token: token.copy()?,
+            url: url.copy()?,
+            moment: 110
+        },
+        Call::Start {
+            number: PermitNo::new(65536),
+            token,
+            url,
+            moment: 120
+        },
+    ]?;
+    let mut book = Book::new(alloc, Config::DEFAULT)?;
+    let replies = run(alloc, &mut book, calls)?;
+    assert_eq!(rt; replies.len(), 4);
+    assert!(rt; matches!(&replies[0], Reply::Begin(Ok(turn)) if *turn == TurnNo::new(1)));
+    assert!(rt; matches!(&replies[1], Reply::Arrive(Ok(()))));
+    assert!(rt; matches!(&replies[2], Reply::Ask(Ok(number)) if *number == PermitNo::new(65536)));
+    assert!(rt; matches!(&replies[3], Reply::Start(Ok(started)) if started.reason == Reason::Open));
+    assert_eq!(rt; book.history().len(), 4);
+    Ok(())
+}

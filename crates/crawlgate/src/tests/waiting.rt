@@ -1,0 +1,85 @@
+//! That the replies are written before each read that may wait.
+
+ghost use Rattle.std.specs.Prelude.{None};
+
+use crate::replay::replay;
+use counted_io::{DeviceFault, LINE_BUFFER, Sink, Source};
+use gate_core::{Book, Config};
+use std::cell::Cell;
+use std::test::Fail;
+
+const LINE: &str = "1 BACK 7\n";
+
+const REPLY: &str = "ERR notout\n";
+
+// A sink that counts its octets.
+#[derive(Drop)]
+struct Tally<'a> {
+    written: &'a Cell<usize>,
+}
+
+impl<'a> Sink for Tally<'a> {
+    ghost written = { λ _. None };
+
+    ghost failures = { λ _. 0 };
+
+    fn write(&mut self, bytes: &[u8]) -> Result<usize, DeviceFault> {
+        self.written
+            .set(self.written.get().wrapping_add(bytes.len()));
+        Ok(bytes.len())
+    }
+}
+
+// A source of such lines that fails where the reply to a whole line that it gave isn't written yet.
+#[derive(Drop)]
+struct Waiting<'a> {
+    input: &'a [u8],
+    cut: usize,
+    due: usize,
+    written: &'a Cell<usize>,
+    failures: u64,
+}
+
+impl<'a> Source for Waiting<'a> {
+    ghost left = { λ _. None };
+
+    ghost failures = { λ s. s.failures };
+
+    fn read(&mut self, buffer: &mut [u8]) -> Result<usize, DeviceFault> {
+        if self.written.get() != self.due {
+            self.failures = self.failures.wrapping_add(1);
+            return Err(DeviceFault);
+        }
+        let count = self.cut.min(buffer.len()).min(self.input.len());
+        let (given, rest) = self.input.split_at(count);
+        buffer[..count].copy_from_slice(given);
+        let lines = given.iter().filter(|octet| **octet == b'\n').count();
+        self.due = self.due.wrapping_add(lines.wrapping_mul(REPLY.len()));
+        self.input = rest;
+        Ok(count)
+    }
+}
+
+#[test]
+fn writes_replies_before_it_waits(rt: HostRuntime) -> Result<(), Fail> {
+    let mut input = Vec::new(rt.alloc());
+    for _ in 0..5 {
+        input.extend_from_slice(LINE.as_bytes())?;
+    }
+    for cut in [1, 3, 10, LINE_BUFFER] {
+        let written = Cell::new(0);
+        let mut source = Waiting {
+            input: input.as_slice(),
+            cut,
+            due: 0,
+            written: &written,
+            failures: 0,
+        };
+        let mut sink = Tally { written: &written };
+        let mut book = Book::new(rt.alloc(), Config::DEFAULT)?;
+        let result = replay(rt.alloc(), &mut source, &mut sink, &mut book);
+        assert_eq!(rt; result, Ok(()), "at {cut}");
+        assert_eq!(rt; written.get(), 5 * REPLY.len(), "at {cut}");
+    }
+    Ok(())
+}
