@@ -3,8 +3,8 @@
 ghost use Rattle.std.specs.Prelude.{◌<◌};
 
 use crate::{
-    Counted, DeviceFault, FailAt, LINE_BUFFER, LineFault, LineReader, NextLine, Sink, Source,
-    write_all,
+    Counted, DeviceFault, FailAt, LINE_BUFFER, LineFault, LineReader, NextLine, OUTPUT_BUFFER,
+    Output, Sink, Source, write_all,
 };
 use std::alloc::Global;
 use std::io;
@@ -179,6 +179,28 @@ fn keeps_what_was_written_before_a_failure(rt: HostRuntime) -> Result<(), LineFa
         assert_eq!(rt; written.is_err(), fails_at < 3, "at {fails_at}");
         assert_eq!(rt; sink.bytes().len(), want, "at {fails_at}");
         assert!(rt; text.starts_with(sink.bytes()), "at {fails_at}");
+    }
+    Ok(())
+}
+
+// One octet more than an output holds.
+const LARGE: usize = 65537;
+
+#[test]
+fn writes_once_the_buffer_is_full(rt: HostRuntime) -> Result<(), LineFault> {
+    let large = [7; LARGE];
+    let mut sink = FailAt::new(Vec::new(rt.alloc()), OUTPUT_BUFFER, None);
+    let mut output = Output::new(rt.alloc())?;
+    let rows: [(&[u8], usize); 5] = [
+        (b"abc", 0),
+        (&large[5..], 0),
+        (b"d", 0),
+        (b"e", OUTPUT_BUFFER),
+        (&large, 2 * OUTPUT_BUFFER + 2),
+    ];
+    for (octets, written) in rows {
+        output.push(&mut sink, octets)?;
+        assert_eq!(rt; sink.bytes().len(), written);
     }
     Ok(())
 }

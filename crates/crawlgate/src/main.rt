@@ -38,12 +38,19 @@ const NO_MEMORY_OR_DEVICE: u8 = 3;
 fn main(rt: HostRuntime) -> ExitCode {
     match run(&rt) {
         Ok(code) => code,
-        // Nothing more can be printed.
-        Err(_) => ExitCode::from(NO_MEMORY_OR_DEVICE),
+        Err(error) => {
+            let fault = match error.kind() {
+                io::ErrorKind::OutOfMemory => "no memory",
+                _ => "device",
+            };
+            // A standard error that fails too leaves the status alone.
+            let _ = eprintln!(&rt; "crawlgate: {fault}");
+            ExitCode::from(NO_MEMORY_OR_DEVICE)
+        }
     }
 }
 
-// An error is one of printing, or of memory before a session.
+// An error is one of printing, or of memory outside a session.
 fn run(rt: &HostRuntime) -> io::Result<ExitCode> {
     let given = match env::args(rt) {
         Ok(given) => given,

@@ -17,13 +17,16 @@ use std::marker::Model;
 #[derive(Drop)]
 pub struct Book {
     pub(crate) config: Config,
+    // The gate's moment, and how many begins the history has.
     pub(crate) clock: u64,
     pub(crate) begins: u64,
     pub(crate) entries: Vec<Entry>,
+    // What stands in the history, each list in the order in which it was opened.
     pub(crate) waiting: Vec<Waiting>,
     pub(crate) answers: Vec<Standing>,
     pub(crate) permits: Vec<Permit>,
     pub(crate) runs: Vec<PermitNo>,
+    // The greatest generation granted in each slot, 0 where none was.
     pub(crate) generations: Vec<u64>,
 }
 
