@@ -1,18 +1,25 @@
 -- What `lines` read and wrote, by its result.
 -- The contract of `lines` cites it.
-use Rattle.std.specs.Prelude.{◌≡◌, ◌⊎◌, ◌≤◌, ◌<◌, ◌+◌, ℕ, List, [], ◌++◌, length, Option, Result, Ok, Err}
+use Rattle.std.specs.Prelude.{◌≡◌, ◌⊎◌, ◌≤◌, ◌<◌, ◌+◌, ℕ, List, [], ◌++◌, length, Option, None, Some, Result, Ok, Err}
 use Rattle.std.specs.Io.KnownBytes.{Consumes, Appends, IsAtEnd}
 use Rattle.counted_io.specs.Device.{AppendsPrefix}
 use Rattle.robots_text.specs.declared.text.TheConstants.{MAX_TEXT}
+use Rattle.robots_text.specs.Lines.{kept}
 use Rattle.crawlgate.specs.LinesText.{lines_text}
 use Rattle.crawlgate.specs.declared.session_fault.SessionFault.{SessionFault}
 use Rattle.crawlgate.specs.declared.session_fault.SessionFault.TheVariants.{LongLine, Lines, Read, Write, NoMemory}
+
+-- of the body is kept what is kept of the whole input, where that is known
+abbrev pub KeepsSame : Option (List ℕ) → List ℕ → Type 0
+KeepsSame None body = Unit {0}
+KeepsSame (Some input) body = kept body ≡ kept input
 
 -- the body was read: all that the input has, but at most one octet more than the limit
 pub record ReadsBody (old new : Option (List ℕ)) (body : List ℕ) : Type 0 where
   pub consumed : Consumes old new body
   pub fits : length body ≤ MAX_TEXT + 1
   pub all : length body < MAX_TEXT + 1 → IsAtEnd new
+  pub same : KeepsSame old body
 
 -- no more than a front of the input was read
 pub record ReadsPart (old new : Option (List ℕ)) : Type 0 where

@@ -6,6 +6,7 @@ use Rattle.std.proofs.KnownBytes.{Consumes-trans}
 use Rattle.robots_text.specs.declared.text.TheConstants.{MAX_TEXT}
 use Rattle.counted_io.proofs.Writing.{on_err}
 use Rattle.crawlgate.specs.Prints.{ReadsPart, ReadsLost}
+use Rattle.crawlgate.proofs.Reading.{ends_body, reads_body}
 use Rattle.crawlgate.proofs.body.read_body.Goals as goal
 
 sum_fits : (body octets : List ℕ) (limit : ℕ) → length octets ≤ limit - length body → length body ≤ limit → length (body ++ octets) ≤ limit
@@ -24,3 +25,14 @@ returns-in_err-read_more-clause-part g c =
     (part_with _ _ _ c.loop-piece.body.items _ c.loop-piece.invariant.consumed
     (omega (arith, c.loop-piece.invariant.fits)) c.in_err-read_more.ensures.lost
     (omega (arith, length-take c.min-most.result c.loop-piece.piece, c.min-most.ensures, c.len.ensures)))
+
+pub returns-then-len-clause-body : goal.returns-then-len-clause-body
+returns-then-len-clause-body g c =
+    ends_body _ _ _ c.loop-piece.body.items c.read_more.new.body.items _ c.loop-piece.invariant.consumed
+    (omega (arith, c.loop-piece.invariant.fits)) c.in_ok-read_more.ensures.more
+    (omega (arith, c.if-len.true, c.len-len.ensures, c.len-in-loop-piece.ensures))
+
+pub returns-clause-body : goal.returns-clause-body
+returns-clause-body g c =
+    reads_body _ _ c.loop-piece.body.items c.loop-piece.invariant.consumed
+    (omega (arith, c.loop-piece.invariant.fits)) (λ less. absurd (omega (arith, less, c.loop-piece-test.false, c.len.ensures)))
