@@ -26,9 +26,9 @@ second false b e other = e
 pub behind_cr : (text : List ℕ) → lines_from true text ≡ lines_from false (behind_end (13 ∷ text))
 behind_cr [] = refl
 behind_cr (c ∷ text) = elim (tells (c == 10)) [
-    inl e ↦ subst (λ d. lines_from true (d ∷ text) ≡ lines_from false (behind_end (13 ∷ d ∷ text))) (sym (is_number c 10 e)) refl
+  | inl e ↦ subst (λ d. lines_from true (d ∷ text) ≡ lines_from false (behind_end (13 ∷ d ∷ text))) (sym (is_number c 10 e)) refl
   | inr e ↦ rw e (rw e refl)
-  ]
+]
 
 -- an octet that is no line end belongs to the first line
 pub plain_octet : (c : ℕ) (text : List ℕ) → is_line_end c ≡ false → lines_from false (c ∷ text) ≡ onto_first c (lines_from false text)
@@ -43,10 +43,10 @@ behind_lf (c ∷ text) = refl
 -- at a line end the first line is empty
 pub end_octet : (c : ℕ) (text : List ℕ) → is_line_end c ≡ true → lines_from false (c ∷ text) ≡ [] ∷ lines_from false (behind_end (c ∷ text))
 end_octet c text e = elim (tells (c == 13)) [
-    inl cr ↦ subst (λ d. lines_from false (d ∷ text) ≡ [] ∷ lines_from false (behind_end (d ∷ text))) (sym (is_number c 13 cr)) (ap (λ l. [] ∷ l) (behind_cr text))
+  | inl cr ↦ subst (λ d. lines_from false (d ∷ text) ≡ [] ∷ lines_from false (behind_end (d ∷ text))) (sym (is_number c 13 cr)) (ap (λ l. [] ∷ l) (behind_cr text))
   | inr other ↦ (let lf : c ≡ 10 = is_number c 10 (second (c == 13) (c == 10) e other) in
       subst (λ d. lines_from false (d ∷ text) ≡ [] ∷ lines_from false (behind_end (d ∷ text))) (sym lf) (ap (λ l. [] ∷ lines_from false l) (sym (behind_lf text))))
-  ]
+]
 
 first_len : (c : ℕ) (text : List ℕ) → is_line_end c ≡ false → position_or_len is_line_end (c ∷ text) ≡ suc (position_or_len is_line_end text)
 first_len c text e = rw e (omega arith)
@@ -58,11 +58,11 @@ no_len c text e = rw e refl
 pub first_at : (text : List ℕ) → 0 < length text → lines_from false text ≡ before_first is_line_end text ∷ lines_from false (behind_end (drop (position_or_len is_line_end text) text))
 first_at [] some = absurd (omega (arith, some))
 first_at (c ∷ []) some = elim (tells (is_line_end c)) [
-    inl e ↦ subst (λ n. lines_from false (c ∷ []) ≡ take n (c ∷ []) ∷ lines_from false (behind_end (drop n (c ∷ [])))) (sym (no_len c [] e)) (end_octet c [] e)
+  | inl e ↦ subst (λ n. lines_from false (c ∷ []) ≡ take n (c ∷ []) ∷ lines_from false (behind_end (drop n (c ∷ [])))) (sym (no_len c [] e)) (end_octet c [] e)
   | inr e ↦ subst (λ n. lines_from false (c ∷ []) ≡ take n (c ∷ []) ∷ lines_from false (behind_end (drop n (c ∷ [])))) (sym (first_len c [] e)) (plain_octet c [] e)
-  ]
+]
 first_at (c ∷ d ∷ text) some = elim (tells (is_line_end c)) [
-    inl e ↦ subst (λ n. lines_from false (c ∷ d ∷ text) ≡ take n (c ∷ d ∷ text) ∷ lines_from false (behind_end (drop n (c ∷ d ∷ text)))) (sym (no_len c (d ∷ text) e)) (end_octet c (d ∷ text) e)
+  | inl e ↦ subst (λ n. lines_from false (c ∷ d ∷ text) ≡ take n (c ∷ d ∷ text) ∷ lines_from false (behind_end (drop n (c ∷ d ∷ text)))) (sym (no_len c (d ∷ text) e)) (end_octet c (d ∷ text) e)
   | inr e ↦ subst (λ n. lines_from false (c ∷ d ∷ text) ≡ take n (c ∷ d ∷ text) ∷ lines_from false (behind_end (drop n (c ∷ d ∷ text)))) (sym (first_len c (d ∷ text) e))
       (plain_octet c (d ∷ text) e ∙ ap (onto_first c) (first_at (d ∷ text) (omega arith)))
-  ]
+]

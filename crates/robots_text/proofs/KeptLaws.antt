@@ -38,23 +38,23 @@ begins c octets e = rw e refl
 some_whole : (octets : List ℕ) → list_any is_line_end octets ≡ true → EndsWhole octets
 some_whole [] e = absurd (grind arith)
 some_whole (c ∷ octets) e = elim (tells (list_any is_line_end octets)) [
-    inl more ↦ (let later = some_whole octets more in record {
-      rest = later.rest;
-      split = ap (λ t. c ∷ t) later.split ∙ ap (λ t. t ++ later.rest) (sym (begins c octets e));
-      before = c ∷ later.before;
-      last = later.last;
-      ends = begins c octets e ∙ ap (λ t. c ∷ t) later.ends;
-      line_end = later.line_end;
-    })
+  | inl more ↦ (let later = some_whole octets more in record {
+    rest = later.rest;
+    split = ap (λ t. c ∷ t) later.split ∙ ap (λ t. t ++ later.rest) (sym (begins c octets e));
+    before = c ∷ later.before;
+    last = later.last;
+    ends = begins c octets e ∙ ap (λ t. c ∷ t) later.ends;
+    line_end = later.line_end;
+  })
   | inr none ↦ record {
-      rest = octets;
-      split = ap (λ t. (c ∷ t) ++ octets) (sym (none_whole octets none)) ∙ ap (λ t. t ++ octets) (sym (begins c octets e));
-      before = [];
-      last = c;
-      ends = begins c octets e ∙ ap (λ t. c ∷ t) (none_whole octets none);
-      line_end = first_is (is_line_end c) (list_any is_line_end octets) e none;
-    }
-  ]
+    rest = octets;
+    split = ap (λ t. (c ∷ t) ++ octets) (sym (none_whole octets none)) ∙ ap (λ t. t ++ octets) (sym (begins c octets e));
+    before = [];
+    last = c;
+    ends = begins c octets e ∙ ap (λ t. c ∷ t) (none_whole octets none);
+    line_end = first_is (is_line_end c) (list_any is_line_end octets) e none;
+  }
+]
 
 or_true : (a : Bool) → (a || true) ≡ true
 or_true true = refl
@@ -121,8 +121,8 @@ no_front body other e front =
 pub longest_front : (body : List ℕ) → IsLongestFront body (whole_lines (take MAX_TEXT body))
 longest_front body = record {
   whole = elim (tells (list_any is_line_end (take MAX_TEXT body))) [
-      inl e ↦ inl (is_front body e)
+    | inl e ↦ inl (is_front body e)
     | inr e ↦ inr (none_whole (take MAX_TEXT body) e, λ other front. no_front body other e front)
-    ];
+  ];
   longest = no_longer body;
 }

@@ -43,23 +43,23 @@ with_cr [] lines more = record {
   goes_on = more;
 }
 with_cr (d ∷ text) lines more = elim (tells (d == 10)) [
-    inl e ↦ subst (λ x. AreLines (behind_end (13 ∷ x ∷ text)) lines → AreLines (13 ∷ x ∷ text) ([] ∷ lines)) (sym (is_number d 10 e)) (λ later. record {
-      end = 13 ∷ 10 ∷ [];
-      rest = text;
-      text_is = refl;
-      plain = refl;
-      ends = inl refl;
-      goes_on = later;
-    }) more
+  | inl e ↦ subst (λ x. AreLines (behind_end (13 ∷ x ∷ text)) lines → AreLines (13 ∷ x ∷ text) ([] ∷ lines)) (sym (is_number d 10 e)) (λ later. record {
+    end = 13 ∷ 10 ∷ [];
+    rest = text;
+    text_is = refl;
+    plain = refl;
+    ends = inl refl;
+    goes_on = later;
+  }) more
   | inr e ↦ record {
-      end = 13 ∷ [];
-      rest = d ∷ text;
-      text_is = refl;
-      plain = refl;
-      ends = inr (inl (refl, e));
-      goes_on = subst (λ b. AreLines (if b then text else d ∷ text) lines) e more;
-    }
-  ]
+    end = 13 ∷ [];
+    rest = d ∷ text;
+    text_is = refl;
+    plain = refl;
+    ends = inr (inl (refl, e));
+    goes_on = subst (λ b. AreLines (if b then text else d ∷ text) lines) e more;
+  }
+]
 
 -- so does an LF
 with_lf : (text : List ℕ) (lines : List (List ℕ)) → AreLines text lines → AreLines (10 ∷ text) ([] ∷ lines)
@@ -75,25 +75,24 @@ with_lf text lines more = record {
 -- one octet more, where both the text behind it and that behind a CR are known
 one_more : (c : ℕ) (text : List ℕ) → AreLines text (lines_from false text) → AreLines (behind_end (13 ∷ text)) (lines_from false (behind_end (13 ∷ text))) → AreLines (c ∷ text) (lines_from false (c ∷ text))
 one_more c text as_text behind = elim (tells (is_line_end c)) [
-    inl e ↦ elim (tells (c == 13)) [
-        inl cr ↦ subst (λ d. AreLines (d ∷ text) (lines_from false (d ∷ text))) (sym (is_number c 13 cr))
-          (subst (AreLines (13 ∷ text)) (sym (end_octet 13 text refl)) (with_cr text _ behind))
-      | inr other ↦ subst (λ d. AreLines (d ∷ text) (lines_from false (d ∷ text))) (sym (is_number c 10 (second (c == 13) (c == 10) e other)))
-          (with_lf text _ as_text)
-      ]
-  | inr e ↦ subst (AreLines (c ∷ text)) (sym (plain_octet c text e)) (with_plain c text _ e as_text)
+  | inl e ↦ elim (tells (c == 13)) [
+    | inl cr ↦ subst (λ d. AreLines (d ∷ text) (lines_from false (d ∷ text))) (sym (is_number c 13 cr))
+        (subst (AreLines (13 ∷ text)) (sym (end_octet 13 text refl)) (with_cr text _ behind))
+    | inr other ↦ subst (λ d. AreLines (d ∷ text) (lines_from false (d ∷ text))) (sym (is_number c 10 (second (c == 13) (c == 10) e other)))
+        (with_lf text _ as_text)
   ]
+  | inr e ↦ subst (AreLines (c ∷ text)) (sym (plain_octet c text e)) (with_plain c text _ e as_text)
+]
 
 both : (text : List ℕ) → AreLines text (lines_from false text) × AreLines (behind_end (13 ∷ text)) (lines_from false (behind_end (13 ∷ text)))
 both [] = (refl, refl)
 both (c ∷ text) =
     let later = both text in
-    let first = one_more c text later.0 later.1 in
-    (
+    let first = one_more c text later.0 later.1 in (
       first,
       elim (tells (c == 10)) [
-        inl e ↦ subst (λ d. AreLines (behind_end (13 ∷ d ∷ text)) (lines_from false (behind_end (13 ∷ d ∷ text)))) (sym (is_number c 10 e)) later.0
-      | inr e ↦ subst (λ b. AreLines (if b then text else c ∷ text) (lines_from false (if b then text else c ∷ text))) (sym e) first
+        | inl e ↦ subst (λ d. AreLines (behind_end (13 ∷ d ∷ text)) (lines_from false (behind_end (13 ∷ d ∷ text)))) (sym (is_number c 10 e)) later.0
+        | inr e ↦ subst (λ b. AreLines (if b then text else c ∷ text) (lines_from false (if b then text else c ∷ text))) (sym e) first
       ],
     )
 

@@ -87,6 +87,7 @@ record_at (Some colon) text = record_named (trimmed (take colon text)) (trimmed 
 -- the octet is ":", and "#"
 abbrev pub is_colon : ℕ → Bool
 is_colon octet = octet == 58
+
 abbrev pub is_hash : ℕ → Bool
 is_hash octet = octet == 35
 
@@ -106,7 +107,7 @@ records_of text = map record_of (lines_of text)
 abbrev pub numbered_from : ℕ → List Record → List Numbered
 numbered_from number [] = []
 numbered_from number (first ∷ records) =
-    record { line = number; kind = first; } ∷ numbered_from (number + 1) records
+    record { line = number; kind = first } ∷ numbered_from (number + 1) records
 
 -- the records of a text, numbered from 1
 abbrev pub numbered_records : List ℕ → List Numbered
@@ -126,4 +127,4 @@ kind_seen kinds.Other = other
 
 -- the numbered record that a record line stands for
 abbrev pub line_seen : RecordLine → Numbered
-line_seen item = record { line = item.line; kind = kind_seen item.kind; }
+line_seen item = record { line = item.line; kind = kind_seen item.kind }

@@ -8,5 +8,4 @@ pub fn one_way_to_write_lines()
     ensures lines { (text : List ℕ) → AreLines (unmarked text) (lines_of text) }
     ensures only { (text : List ℕ) (lines : List (List ℕ))
         → AreLines (unmarked text) lines → lines ≡ lines_of text }
-{
-}
+{}

@@ -144,8 +144,8 @@ fn reads_one_octet_past_the_limit(rt: HostRuntime) -> Result<(), Fail> {
     let mut reader = FailAt::new(text, 65536, None);
     let mut writer = FailAt::new(Vec::new(rt.alloc()), 65536, None);
     assert_eq!(rt; lines(rt.alloc(), &mut reader, &mut writer), Ok(()));
-    assert!(rt; reader.unread() == b"more than is read");
-    assert!(rt; writer.bytes() == b"1 agent all\n2 other\n");
+    assert!(rt; reader.unread() == b"more than is read".as_slice());
+    assert!(rt; writer.bytes() == b"1 agent all\n2 other\n".as_slice());
     Ok(())
 }
 

@@ -6,22 +6,62 @@ use std::test::Fail;
 // How many octets there are, at which places a line end stands, and how many octets are kept.
 const ROWS: [(&str, usize, &[(usize, u8)], usize); 12] = [
     ("at the limit, no line end", 512000, &[], 512000),
-    ("at the limit, one in the middle", 512000, &[(7, b'\n')], 512000),
+    (
+        "at the limit, one in the middle",
+        512000,
+        &[(7, b'\n')],
+        512000,
+    ),
     ("one over, no line end", 512001, &[], 0),
     ("one over, at the start", 512001, &[(0, b'\n')], 1),
-    ("one over, in the middle", 512001, &[(255999, b'\r')], 256000),
-    ("one over, two of them", 512001, &[(9, b'\n'), (511000, b'\n')], 511001),
-    ("one over, last but one of the limit", 512001, &[(511998, b'\n')], 511999),
-    ("one over, last of the limit", 512001, &[(511999, b'\n')], 512000),
-    ("one over, first behind the limit", 512001, &[(512000, b'\n')], 0),
+    (
+        "one over, in the middle",
+        512001,
+        &[(255999, b'\r')],
+        256000,
+    ),
+    (
+        "one over, two of them",
+        512001,
+        &[(9, b'\n'), (511000, b'\n')],
+        511001,
+    ),
+    (
+        "one over, last but one of the limit",
+        512001,
+        &[(511998, b'\n')],
+        511999,
+    ),
+    (
+        "one over, last of the limit",
+        512001,
+        &[(511999, b'\n')],
+        512000,
+    ),
+    (
+        "one over, first behind the limit",
+        512001,
+        &[(512000, b'\n')],
+        0,
+    ),
     (
         "one over, the limit between CR and LF",
         512001,
         &[(511999, b'\r'), (512000, b'\n')],
         512000,
     ),
-    ("far over, no line end within", 600000, &[(599999, b'\n')], 0),
-    ("far over, both", 600000, &[(400000, b'\r'), (550000, b'\n')], 400001),
+    (
+        "far over, no line end within",
+        600000,
+        &[(599999, b'\n')],
+        0,
+    ),
+    (
+        "far over, both",
+        600000,
+        &[(400000, b'\r'), (550000, b'\n')],
+        400001,
+    ),
 ];
 
 #[test]
@@ -44,7 +84,9 @@ fn counts_the_mark(rt: HostRuntime) -> Result<(), Fail> {
     let mut body = b"\xef\xbb\xbf\n".to_vec(rt.alloc())?;
     body.resize(512001, b'x')?;
     let text = RobotsText::read(rt.alloc(), body.as_slice())?;
-    assert!(rt; text.bytes() == b"\xef\xbb\xbf\n");
-    assert_eq!(rt; text.records().count(), 1);
+    assert!(rt; text.bytes() == b"\xef\xbb\xbf\n".as_slice());
+    let mut records = text.records();
+    assert!(rt; records.next().is_some());
+    assert!(rt; records.next().is_none());
     Ok(())
 }

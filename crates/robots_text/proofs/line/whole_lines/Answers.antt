@@ -13,8 +13,7 @@ returns-then-is_line_end-clause-value c =
 pub loop-last-preserved : goal.loop-last-preserved
 loop-last-preserved c =
     let split = c.in-Some.ensures.cases.0 in
-    let plain = sym c.is_line_end.ensures ∙ c.if-is_line_end.false in
-    (
+    let plain = sym c.is_line_end.ensures ∙ c.if-is_line_end.false in (
       sym (whole_plain c.in-Some.before.now c.in-Some.last.now plain) ∙ ap whole_lines (sym split) ∙ c.loop-last.invariant.0,
       omega (arith, c.in-Some.ensures.cases.1, c.loop-last.invariant.1),
     )
