@@ -1,12 +1,13 @@
 //! Octets of a robots text as they are written: in lower case, or escaped.
 //! Pushed by the pieces of a line.
-ghost use Rattle.std.specs.Prelude.{◌≡◌, ◌≤◌, ◌<◌, ◌++◌, [], ◌∷◌, ◌&&◌, nat_le, true, OnErr, OnOk};
+ghost use Rattle.std.specs.Prelude.{◌≡◌, ◌≤◌, ◌<◌, ◌++◌, [], ◌∷◌, true, OnErr, OnOk};
 ghost use Rattle.std.specs.Char.{to_ascii_lowercase};
 ghost use Rattle.std.specs.Fmt.{digit_glyph};
+ghost use Rattle.std.specs.List.{list_all};
 ghost use Rattle.counted_io.specs.Device.{AppendsPrefix, failures_after};
 ghost use Rattle.counted_io.specs.Output.{Passes};
 ghost use Rattle.robots_text.specs.Token.{lower_case};
-ghost use Rattle.crawlgate.specs.LinesText.{escaped, escaped_octet};
+ghost use Rattle.crawlgate.specs.LinesText.{escaped, escaped_octet, is_plain};
 
 use counted_io::{DeviceFault, Output, Sink};
 
@@ -54,6 +55,10 @@ pub(crate) fn push_escaped<W: Sink>(
         (output.old ++ escaped octets.now)) }
     ensures count { W.failures sink.new ≡ failures_after (W.failures sink.old) result }
 {
+    // Most values need no escape.
+    if are_plain(octets) {
+        return output.push(sink, octets);
+    }
     for octet in octets {
         push_octet(*octet, output, sink)?;
     }
@@ -79,9 +84,15 @@ fn push_octet<W: Sink>(octet: u8, output: &mut Output, sink: &mut W) -> Result<(
 
 // Whether an octet is written as it stands.
 fn is_plain(octet: u8) -> bool
-    ensures { result ≡ nat_le 33 octet && nat_le octet 126 }
+    ensures { result ≡ is_plain octet }
 {
     33 <= octet && octet <= 126
+}
+
+fn are_plain(octets: &[u8]) -> bool
+    ensures { result ≡ list_all is_plain octets.now }
+{
+    octets.iter().all(|octet| is_plain(*octet))
 }
 
 // The hexadecimal digit of a value.
