@@ -5,3 +5,4 @@ pub mod PlainText
 pub mod Pushing
 pub mod Giving
 pub mod Serving
+pub mod Reading

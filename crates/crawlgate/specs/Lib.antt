@@ -13,3 +13,5 @@ pub mod Replay
 pub mod Input
 pub mod Session
 pub mod Steps
+pub mod LinesText
+pub mod Prints

@@ -1,15 +1,19 @@
--- The text of a reply: a line of words, and a line that is kept as pieces.
+-- The text of a line: a line of words, and a line that is kept as pieces.
 -- Cited by the contracts of `piece` and `reply_text`.
 use Rattle.std.specs.Prelude.{◌++◌, ℕ, List, codes, decimal, flat_map}
 use Rattle.std.specs.List.{join_with_byte}
+use Rattle.robots_text.specs.Token.{lower_case}
+use Rattle.crawlgate.specs.LinesText.{escaped}
 use Rattle.crawlgate.specs.declared.piece.Piece.{Piece}
-use Rattle.crawlgate.specs.declared.piece.Piece.TheVariants.{Text, Number}
+use Rattle.crawlgate.specs.declared.piece.Piece.TheVariants.{Text, Number, LowerCase, Escaped}
 use Rattle.crawlgate.specs.declared.piece.Pieces.{Pieces}
 
 -- the text of one piece
 abbrev pub piece_text : Piece → List ℕ
 piece_text (Text text) = text.now
 piece_text (Number number) = decimal number
+piece_text (LowerCase octets) = lower_case octets.now
+piece_text (Escaped octets) = escaped octets.now
 
 -- the text of the pieces, in order
 abbrev pub pieces_text : Pieces → List ℕ

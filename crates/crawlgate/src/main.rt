@@ -4,11 +4,15 @@
 mod answerer;
 mod arguments;
 mod arrival;
+mod body;
 mod buffers;
 mod calls;
 mod command;
 mod fault;
+mod lines;
+mod lines_text;
 mod numbers;
+mod octets;
 mod options;
 mod piece;
 mod replay;
@@ -75,6 +79,7 @@ fn run(rt: &HostRuntime) -> io::Result<ExitCode> {
 fn run_words(rt: &HostRuntime, words: &[&str]) -> io::Result<ExitCode> {
     match options(rt.alloc(), words) {
         Ok(Subcommand::Replay) => replay_streams(rt),
+        Ok(Subcommand::Lines) => lines_streams(rt),
         Err(error) if error.kind() == ErrorKind::OutOfMemory => no_memory(rt),
         Err(error) => {
             eprint!(rt; "{}", error.to_string(rt.alloc())?)?;
@@ -90,7 +95,21 @@ fn replay_streams(rt: &HostRuntime) -> io::Result<ExitCode> {
     };
     let mut reader = Counted::new(rt.stdin());
     let mut writer = Counted::new(rt.stdout());
-    match replay::replay(rt.alloc(), &mut reader, &mut writer, &mut book) {
+    let end = replay::replay(rt.alloc(), &mut reader, &mut writer, &mut book);
+    report(rt, end)
+}
+
+// Writes the records of standard input to standard output.
+fn lines_streams(rt: &HostRuntime) -> io::Result<ExitCode> {
+    let mut reader = Counted::new(rt.stdin());
+    let mut writer = Counted::new(rt.stdout());
+    let end = lines::lines(rt.alloc(), &mut reader, &mut writer);
+    report(rt, end)
+}
+
+// Tells a fault on standard error, and gives the exit status.
+fn report(rt: &HostRuntime, end: Result<(), SessionFault>) -> io::Result<ExitCode> {
+    match end {
         Ok(()) => Ok(ExitCode::SUCCESS),
         Err(SessionFault::LongLine) => {
             eprintln!(rt; "crawlgate: line too long")?;

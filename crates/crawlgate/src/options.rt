@@ -9,6 +9,8 @@ use std::alloc::Global;
 pub enum Subcommand {
     /// Reads replay lines from standard input, and writes their replies to standard output.
     Replay,
+    /// Reads a robots text from standard input, and writes what each of its lines says.
+    Lines,
 }
 
 /// Reads the program's words, of which the first is its own name. The error has what `clap`
@@ -17,10 +19,16 @@ pub fn options<'a>(alloc: Global, words: &'a [&'a str]) -> Result<Subcommand, Er
     let replay = Command::new(alloc, "replay").about(
         "Answers the lines of standard input, one reply a line",
     );
+    let lines = Command::new(alloc, "lines").about(
+        "Writes what each line of the robots.txt on standard input says",
+    );
     let program = Command::new(alloc, "crawlgate")
         .about("A gate for web crawlers, under every site's robots.txt (RFC 9309)")
         .subcommand_required(true)
-        .subcommand(replay)?;
-    program.try_get_matches_from(words)?;
-    Ok(Subcommand::Replay)
+        .subcommand(replay)?
+        .subcommand(lines)?;
+    match program.try_get_matches_from(words)?.subcommand_name() {
+        Some("lines") => Ok(Subcommand::Lines),
+        _ => Ok(Subcommand::Replay),
+    }
 }

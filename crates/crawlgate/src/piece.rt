@@ -1,23 +1,28 @@
-//! A reply as a few borrowed pieces, so that it needs no memory before it is written.
-//! Made by `reply_text`, written by the session.
-ghost use Rattle.std.specs.Prelude.{◌≡◌, ◌++◌, [], ◌∷◌, OnErr, OnOk, flat_map};
+//! A line of output as a few borrowed pieces, so that it needs no memory before it is written.
+//! Made by `reply_text` and `lines_text`, written by the session and by `lines`.
+ghost use Rattle.std.specs.Prelude.{◌≡◌, ◌++◌, [], ◌∷◌, OnErr, OnOk, codes, decimal, flat_map};
 ghost use Rattle.counted_io.specs.Device.{AppendsPrefix, failures_after};
 ghost use Rattle.counted_io.specs.Output.{Passes};
 ghost use Rattle.crawlgate.specs.Pieces.{line_of, piece_text, pieces_text};
 
+use crate::octets::{push_escaped, push_lower_case};
 use counted_io::{DeviceFault, Output, Sink};
 use itoa::Buffer;
 
-/// A piece of a reply.
+/// A piece of a line.
 #[derive(Clone, Copy)]
 pub enum Piece<'a> {
     /// A text as it stands.
     Text(&'a str),
     /// A number in decimal digits.
     Number(u64),
+    /// Octets with their letters in lower case.
+    LowerCase(&'a [u8]),
+    /// Octets, of which those outside 33 to 126 are escaped.
+    Escaped(&'a [u8]),
 }
 
-/// The pieces of a reply, in order. A place that is not needed has an empty text.
+/// The pieces of a line, in order. A place that is not needed has an empty text.
 #[derive(Clone, Copy)]
 pub struct Pieces<'a> {
     pieces: [Piece<'a>; 6],
@@ -69,7 +74,24 @@ impl<'a> Pieces<'a> {
         }
     }
 
-    /// Pushes the reply to the output.
+    /// A line of a number and a word, with what follows the word.
+    pub fn numbered(number: u64, word: &'a str, gap: &'a str, value: Piece<'a>) -> Pieces<'a>
+        ensures { pieces_text result ≡ decimal number
+            ++ (codes " " ++ ((word.now ++ (gap.now ++ piece_text value.entry)) ++ codes "\n")) }
+    {
+        Pieces {
+            pieces: [
+                Piece::Number(number),
+                Piece::Text(" "),
+                Piece::Text(word),
+                Piece::Text(gap),
+                value,
+                Piece::Text("\n"),
+            ],
+        }
+    }
+
+    /// Pushes the line to the output.
     pub fn push<W: Sink>(&self, output: &mut Output, sink: &mut W) -> Result<(), DeviceFault>
         ensures ok { OnOk result (Passes (W.written sink.old) (W.written sink.new)
             (output.old ++ pieces_text self.now) output.new) }
@@ -109,6 +131,8 @@ impl<'a> Piece<'a> {
         match self {
             Piece::Text(text) => output.push(sink, text.as_bytes()),
             Piece::Number(number) => output.push(sink, Buffer::new().format(*number).as_bytes()),
+            Piece::LowerCase(octets) => push_lower_case(octets, output, sink),
+            Piece::Escaped(octets) => push_escaped(octets, output, sink),
         }
     }
 }

@@ -1,3 +1,7 @@
 -- What contracts say of a robots.txt, a file for each concept.
 -- RFC 9309, section 2.2.
+pub mod Cut
+pub mod Left
+pub mod Lines
+pub mod Records
 pub mod Token

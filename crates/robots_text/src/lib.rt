@@ -1,9 +1,18 @@
-//! What a robots.txt is made of: so far the product token that names a crawler.
-//! RFC 9309, section 2.2.
+//! What a robots.txt is made of: its lines, its records, and the product token that names a crawler.
+//! RFC 9309, sections 2.2 and 2.5.
 #![tactic(auto)]
 
+mod laws;
+mod line;
+mod record;
+mod records;
+mod text;
 mod token;
 
+pub use laws::one_way_to_write_lines;
+pub use record::{Agent, RecordKind, RecordLine, RuleKind};
+pub use records::Records;
+pub use text::{MAX_TEXT, RobotsText};
 pub use token::{MAX_TOKEN, Token, TokenFault};
 
 #[cfg(test)]

@@ -100,7 +100,7 @@ impl fmt::Display for Token {
     }
 }
 
-fn is_token_octet(octet: u8) -> bool
+pub(crate) fn is_token_octet(octet: u8) -> bool
     ensures { result ≡ is_token_octet octet }
 {
     octet.is_ascii_alphabetic() || octet == b'-' || octet == b'_'

@@ -1,0 +1,53 @@
+-- The text that `lines` writes, as docs/FORMATS.md has it: one line for each line of a robots text.
+-- Cited by the contracts of `lines` and of the pieces of a line.
+use Rattle.std.specs.Prelude.{ℕ, Bool, ◌+◌, ◌/◌, ◌%◌, ◌&&◌, nat_le, true, List, [], ◌∷◌, ◌++◌, codes, decimal, flat_map, if◌then◌else◌}
+use Rattle.std.specs.Fmt.{digit_glyph}
+use Rattle.robots_text.specs.Lines.{kept}
+use Rattle.robots_text.specs.Records.{Named, everybody, token, nobody, Record, agent, rule, other, Numbered, numbered_records}
+use Rattle.robots_text.specs.Token.{lower_case}
+use Rattle.robots_text.specs.declared.record.RuleKind.{RuleKind}
+use Rattle.robots_text.specs.declared.record.RuleKind.TheVariants.{Allow, Disallow}
+
+-- an octet from 33 to 126
+abbrev pub is_plain : ℕ → Bool
+is_plain octet = nat_le 33 octet && nat_le octet 126
+
+-- an octet from 33 to 126 as it stands, any other as "%" and two upper-case hexadecimal digits
+abbrev pub escaped_octet : ℕ → List ℕ
+escaped_octet octet =
+    if is_plain octet then octet ∷ []
+    else 37 ∷ digit_glyph true (octet / 16) ∷ digit_glyph true (octet % 16) ∷ []
+
+-- the octets, escaped
+abbrev pub escaped : List ℕ → List ℕ
+escaped octets = flat_map escaped_octet octets
+
+-- the word of a rule
+abbrev pub rule_word : RuleKind → List ℕ
+rule_word Allow = codes "allow"
+rule_word Disallow = codes "disallow"
+
+-- a value with a space before it; an empty one is left out, and its space
+abbrev pub value_text : List ℕ → List ℕ
+value_text [] = []
+value_text (octet ∷ octets) = codes " " ++ escaped (octet ∷ octets)
+
+-- the words of a record
+abbrev pub record_text : Record → List ℕ
+record_text (agent everybody) = codes "agent all"
+record_text (agent (token name)) = codes "agent name " ++ lower_case name
+record_text (agent nobody) = codes "agent none"
+record_text (rule kind value) = rule_word kind ++ value_text value
+record_text other = codes "other"
+
+-- a record with a number
+abbrev pub numbered : ℕ → Record → Numbered
+numbered number said = record { line = number; kind = said }
+
+-- a line of the output: the number of a line, a space and the words of its record
+abbrev pub numbered_text : Numbered → List ℕ
+numbered_text item = decimal item.line ++ (codes " " ++ (record_text item.kind ++ codes "\n"))
+
+-- the output for a body: a line for each record of what is kept of it
+abbrev pub lines_text : List ℕ → List ℕ
+lines_text body = flat_map numbered_text (numbered_records (kept body))

@@ -1,0 +1,85 @@
+-- What is kept of a robots text, and its lines: the one way to write it as lines and their ends.
+-- RFC 9309, sections 2.2 and 2.5.
+use Rattle.std.specs.Prelude.{◌≡◌, ◌≢◌, ◌⊎◌, ◌≤◌, ℕ, Bool, true, false, ◌&&◌, ◌||◌, ◌==◌, nat_le, List, [], ◌∷◌, ◌++◌, length, take, IsTrue, if◌then◌else◌}
+use Rattle.std.specs.List.{list_any, onto_first}
+use Rattle.robots_text.specs.declared.text.TheConstants.{MAX_TEXT}
+
+-- the octet is CR or LF
+abbrev pub is_line_end : ℕ → Bool
+is_line_end octet = octet == 13 || octet == 10
+
+-- the octets up to and with the last CR or LF, and none where there is none
+abbrev pub whole_lines : List ℕ → List ℕ
+whole_lines [] = []
+whole_lines (octet ∷ octets) =
+    if list_any is_line_end (octet ∷ octets) then octet ∷ whole_lines octets else []
+
+-- what is kept of a body: all, or if it is over the limit the whole lines within the limit
+abbrev pub kept : List ℕ → List ℕ
+kept body = if nat_le (length body) MAX_TEXT then body else whole_lines (take MAX_TEXT body)
+
+-- a front of a body that is within the limit and ends with CR or LF
+pub record IsWholeFront (body front : List ℕ) : Type 0 where
+  pub rest : List ℕ
+  pub split : body ≡ front ++ rest
+  pub fits : length front ≤ MAX_TEXT
+  pub before : List ℕ
+  pub last : ℕ
+  pub ends : front ≡ before ++ last ∷ []
+  pub line_end : is_line_end last ≡ true
+
+-- the longest such front of a body, or nothing where there is none
+pub record IsLongestFront (body front : List ℕ) : Type 0 where
+  pub whole : IsWholeFront body front ⊎ ((front ≡ []) × ((other : List ℕ) → IsWholeFront body other → ⊥))
+  pub longest : (other : List ℕ) → IsWholeFront body other → length other ≤ length front
+
+-- a text without the byte order mark EF BB BF at its start
+abbrev pub unmarked : List ℕ → List ℕ
+unmarked (a ∷ b ∷ c ∷ text) =
+    if a == 239 && b == 187 && c == 191 then text else a ∷ b ∷ c ∷ text
+unmarked text = text
+
+-- the lines with an octet more in front of them, behind a CR or not: CR and LF end an empty line, but
+-- LF behind CR ends nothing; any other octet belongs to the first line
+abbrev pub with_octet : Bool → ℕ → List (List ℕ) → List (List ℕ)
+with_octet behind_cr octet lines =
+    if octet == 13 then [] ∷ lines
+    else if octet == 10 then (if behind_cr then lines else [] ∷ lines)
+    else onto_first octet lines
+
+-- the lines of a text that stands behind a CR or not
+abbrev pub lines_from : Bool → List ℕ → List (List ℕ)
+lines_from behind_cr [] = []
+lines_from behind_cr (octet ∷ text) = with_octet behind_cr octet (lines_from (octet == 13) text)
+
+-- the lines of a text, without its mark
+abbrev pub lines_of : List ℕ → List (List ℕ)
+lines_of text = lines_from false (unmarked text)
+
+-- the text begins with LF
+abbrev pub begins_with_lf : List ℕ → Bool
+begins_with_lf [] = false
+begins_with_lf (octet ∷ text) = octet == 10
+
+-- a line is followed by CR LF, by CR not followed by LF, or by LF; the last may lack its end, and is then
+-- not empty
+abbrev pub Ends : (line end rest : List ℕ) → Type 0
+Ends line end rest =
+    (end ≡ 13 ∷ 10 ∷ [])
+    ⊎ ((end ≡ 13 ∷ []) × (begins_with_lf rest ≡ false))
+    ⊎ (end ≡ 10 ∷ [])
+    ⊎ ((end ≡ []) × (rest ≡ []) × (line ≢ []))
+
+-- the text is a line free of CR and LF, its end, and a rest
+pub record BeginsWithLine (text line : List ℕ) (rest_is : List ℕ → Type 0) : Type 0 where
+  pub end : List ℕ
+  pub rest : List ℕ
+  pub text_is : text ≡ line ++ (end ++ rest)
+  pub plain : list_any is_line_end line ≡ false
+  pub ends : Ends line end rest
+  pub goes_on : rest_is rest
+
+-- the text is these lines, each with its end
+abbrev pub AreLines : List ℕ → List (List ℕ) → Type 0
+AreLines text [] = text ≡ []
+AreLines text (line ∷ lines) = BeginsWithLine text line (λ rest. AreLines rest lines)

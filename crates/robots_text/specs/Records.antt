@@ -1,0 +1,130 @@
+-- Records: what a line of a robots text says, by its name and its value.
+-- RFC 9309, section 2.2.
+use Rattle.std.specs.Prelude.{ℕ, Bool, true, false, ◌+◌, ◌&&◌, ◌||◌, ◌==◌, not, List, [], ◌∷◌, map, take, drop, Option, Some, None, bytes_eq, codes, if◌then◌else◌}
+use Rattle.std.specs.List.{list_all, position, before_first}
+use Rattle.robots_text.specs.declared.record.Agent.{Agent}
+use Rattle.robots_text.specs.declared.record.Agent.TheVariants as agents
+use Rattle.robots_text.specs.declared.record.RecordKind.{RecordKind}
+use Rattle.robots_text.specs.declared.record.RecordKind.TheVariants as kinds
+use Rattle.robots_text.specs.declared.record.RecordLine.{RecordLine}
+use Rattle.robots_text.specs.declared.record.RuleKind.{RuleKind}
+use Rattle.robots_text.specs.declared.record.RuleKind.TheVariants.{Allow, Disallow}
+use Rattle.robots_text.specs.Lines.{lines_of}
+use Rattle.robots_text.specs.Token.{is_token_octet, lower_case}
+
+-- whom a user-agent line names: everybody, one token, or nobody
+pub data Named : Type 0 where
+  everybody : Named
+  token : List ℕ → Named
+  nobody : Named
+
+-- what a line says: whom it names, a rule with its value, or something else
+pub data Record : Type 0 where
+  agent : Named → Record
+  rule : RuleKind → List ℕ → Record
+  other : Record
+
+-- a record with the number of its line
+pub record Numbered : Type 0 where
+  pub line : ℕ
+  pub kind : Record
+
+-- a space or a tab
+abbrev pub is_blank : ℕ → Bool
+is_blank octet = octet == 32 || octet == 9
+
+-- the octets without blanks at their start
+abbrev pub without_leading : List ℕ → List ℕ
+without_leading [] = []
+without_leading (octet ∷ octets) = if is_blank octet then without_leading octets else octet ∷ octets
+
+-- the octets without blanks at their end
+abbrev pub without_trailing : List ℕ → List ℕ
+without_trailing [] = []
+without_trailing (octet ∷ octets) =
+    if list_all is_blank (octet ∷ octets) then [] else octet ∷ without_trailing octets
+
+-- the octets without blanks at either end
+abbrev pub trimmed : List ℕ → List ℕ
+trimmed octets = without_trailing (without_leading octets)
+
+-- the value is `*`, alone or before a blank
+abbrev pub is_everybody : List ℕ → Bool
+is_everybody [] = false
+is_everybody (octet ∷ []) = octet == 42
+is_everybody (octet ∷ next ∷ octets) = octet == 42 && is_blank next
+
+-- the octet is not one of a token
+abbrev pub ends_token : ℕ → Bool
+ends_token octet = not (is_token_octet octet)
+
+-- these token octets name a token, and none name nobody
+abbrev pub named_by : List ℕ → Named
+named_by [] = nobody
+named_by (octet ∷ octets) = token (octet ∷ octets)
+
+-- whom the value of a user-agent line names: by its longest front of token octets, but for `*`
+abbrev pub named : List ℕ → Named
+named value = if is_everybody value then everybody else named_by (before_first ends_token value)
+
+-- the names are the same without regard to case
+abbrev pub is_same_name : List ℕ → List ℕ → Bool
+is_same_name name word = bytes_eq (lower_case name) (lower_case word)
+
+-- the record of a name and a value
+abbrev pub record_named : List ℕ → List ℕ → Record
+record_named name value =
+    if is_same_name name (codes "user-agent") then agent (named value)
+    else if is_same_name name (codes "allow") then rule Allow value
+    else if is_same_name name (codes "disallow") then rule Disallow value
+    else other
+
+-- the record of a text whose first ":" stands at this place: the name before it and the value behind it
+abbrev pub record_at : Option ℕ → List ℕ → Record
+record_at None text = other
+record_at (Some colon) text = record_named (trimmed (take colon text)) (trimmed (drop (colon + 1) text))
+
+-- the octet is ":", and "#"
+abbrev pub is_colon : ℕ → Bool
+is_colon octet = octet == 58
+
+abbrev pub is_hash : ℕ → Bool
+is_hash octet = octet == 35
+
+-- the record of a text without a comment
+abbrev pub record_in : List ℕ → Record
+record_in text = record_at (position is_colon text) text
+
+-- the record of a line: of its part before the first "#"
+abbrev pub record_of : List ℕ → Record
+record_of line = record_in (before_first is_hash line)
+
+-- the records of a text, one for each line
+abbrev pub records_of : List ℕ → List Record
+records_of text = map record_of (lines_of text)
+
+-- the records with the numbers of their lines, counted from a number on
+abbrev pub numbered_from : ℕ → List Record → List Numbered
+numbered_from number [] = []
+numbered_from number (first ∷ records) =
+    record { line = number; kind = first } ∷ numbered_from (number + 1) records
+
+-- the records of a text, numbered from 1
+abbrev pub numbered_records : List ℕ → List Numbered
+numbered_records text = numbered_from 1 (records_of text)
+
+-- whom an agent names
+abbrev pub agent_seen : Agent → Named
+agent_seen agents.All = everybody
+agent_seen (agents.Name octets) = token octets.now
+agent_seen agents.Nobody = nobody
+
+-- the record that a kind stands for
+abbrev pub kind_seen : RecordKind → Record
+kind_seen (kinds.Agent who) = agent (agent_seen who)
+kind_seen (kinds.Rule verb value) = rule verb value.now
+kind_seen kinds.Other = other
+
+-- the numbered record that a record line stands for
+abbrev pub line_seen : RecordLine → Numbered
+line_seen item = record { line = item.line; kind = kind_seen item.kind }
