@@ -3,9 +3,11 @@
 #![tactic(auto)]
 
 mod authority;
+mod normal;
 mod page_url;
 
 pub use authority::{Authority, AuthorityFault};
+pub use normal::{normal_path, normal_pattern};
 pub use page_url::{MAX_AUTHORITY, MAX_URL, PageUrl, UrlFault};
 
 #[cfg(test)]
