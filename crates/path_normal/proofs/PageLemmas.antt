@@ -1,5 +1,5 @@
 -- The text of a URL with no user and no fragment is `http://`, its authority and its target.
--- Used by `PageUrl::of_parsed` and `PageUrl::target`.
+-- Used by `PageUrl::of_parsed`, `PageUrl::target` and what they call.
 use Rattle.std.proofs.Common.{◌≡◌, ℕ, ◌+◌, ◌<◌, Bool, true, false, not, ◌||◌, ◌==◌, List, [], ◌∷◌, ◌++◌, length, get_or, take, drop, Some, None, All, sym, refl, ap, ◌∙◌, subst, ⊎_elim, append_assoc, append-nil, arith, take_at, drop_at}
 use Rattle.std.specs.Prelude.{Option, Ok, IsAscii, bytes_eq, ◌≤◌, ltb, unwrap_or, is_some, option_map, decimal, codes}
 use Rattle.std.specs.List.{prefix_len}

@@ -1,11 +1,12 @@
 -- Where a run stands in a path, by the places that a search gives.
--- Used by `after_first`.
-use Rattle.std.proofs.Common.{◌≡◌, ℕ, ◌+◌, ◌-◌, ◌<◌, ◌≤◌, List, ◌++◌, length, take, drop, sym, ap, ◌∙◌, arith, length-append}
+-- Used by `after_first`, `after_start` and `ends_with`.
+use Rattle.std.proofs.Common.{◌≡◌, ℕ, ◌+◌, ◌-◌, ◌<◌, ◌≤◌, List, [], ◌++◌, length, take, drop, append-nil, sym, ap, ◌∙◌, subst, arith, length-append}
 use Rattle.std.proofs.lemmas.List.{take-append-drop, drop-drop}
 use Rattle.std.proofs.Math.Seq.{take-append_seam, drop-append_seam, drop-append-add}
+use Rattle.std.proofs.Math.ListN.{drop_of_length-le}
 use Rattle.memchr.specs.Find.{NoneBefore, Nowhere, OccursAt}
 use Rattle.memchr.proofs.lemmas.MatchLemmas.{OccursAt-split, OccursAt-from_part}
-use Rattle.path_pattern.specs.Runs.{IsAfterFirst, StandsNowhere}
+use Rattle.path_pattern.specs.Runs.{BeginsNot, IsAfterFirst, StandsNowhere}
 
 -- a place of the run cuts the path round it
 cut_at : (path run : List ℕ) (place : ℕ) → OccursAt path run place → path ≡ take place path ++ (run ++ drop (place + length run) path)
@@ -43,3 +44,23 @@ pub nowhere_from : (path run : List ℕ) → Nowhere (OccursAt path run) 0 (leng
 nowhere_from path run none front rest is =
     let lengths = ap length is ∙ length-append front (run ++ rest) in
     none (length front) (omega arith) (omega arith) (place_of path run front rest is)
+
+pub begun : (path run : List ℕ) → OccursAt path run 0 → path ≡ run ++ drop (length run) path
+begun path run occurs =
+    let same : 0 + length run ≡ length run = omega arith in
+    OccursAt-split path run 0 occurs ∙ ap (λ n. run ++ drop n path) same
+
+pub not_begun : (path run : List ℕ) → (OccursAt path run 0 → ⊥) → BeginsNot path run
+not_begun path run none rest is = none (place_of path run [] rest is)
+
+pub ended : (path run : List ℕ) → length run ≤ length path → OccursAt path run (length path - length run) → (front : List ℕ) × (path ≡ front ++ run)
+ended path run fits occurs =
+    let place = length path - length run in
+    let past : length path ≤ place + length run = omega arith in
+    (take place path, cut_at path run place occurs ∙ ap (λ t. take place path ++ (run ++ t)) (drop_of_length-le path past) ∙ ap (λ t. take place path ++ t) (append-nil run))
+
+pub at_end : (path run front : List ℕ) → path ≡ front ++ run → (length run ≤ length path) × OccursAt path run (length path - length run)
+at_end path run front is =
+    let lengths = ap length is ∙ length-append front run in
+    let place : length front ≡ length path - length run = omega arith in
+    (omega arith, subst (OccursAt path run) place (place_of path run front [] (is ∙ ap (λ t. front ++ t) (sym (append-nil run)))))

@@ -1,9 +1,11 @@
 //! The runs of a pattern between its stars, and where they stand in a path.
 //! RFC 9309, section 2.2.3.
 ghost use Rattle.std.specs.Prelude.{◌≡◌, ◌++◌, ◌↔◌, List, ℕ, IsTrue, MatchOption};
+ghost use Rattle.memchr.specs.Find.{OccursAt};
 ghost use Rattle.path_normal.specs.Normal.{is_anchored, unanchored};
 ghost use Rattle.path_pattern.specs.Runs.{BeginsNot, HasNoStar, IsAfterFirst, IsSplitAtStar, StandsNowhere};
 
+use memchr::arch::all::{is_prefix, is_suffix};
 use memchr::{memchr, memmem};
 
 /// The pattern without a last `$`, and whether it had one.
@@ -31,7 +33,17 @@ pub(crate) fn after_start<'p>(path: &'p [u8], run: &[u8]) -> Option<&'p [u8]>
     ensures { MatchOption result (BeginsNot path.now run.now)
         (λ rest. path.now ≡ run.now ++ rest.now) }
 {
-    path.strip_prefix(run)
+    if begins_with(path, run) {
+        Some(&path[run.len()..])
+    } else {
+        None
+    }
+}
+
+fn begins_with(path: &[u8], run: &[u8]) -> bool
+    ensures { IsTrue result ↔ OccursAt path.now run.now 0 }
+{
+    is_prefix(path, run)
 }
 
 /// What follows the first place of the run in the path.
@@ -49,5 +61,5 @@ pub(crate) fn after_first<'p>(path: &'p [u8], run: &[u8]) -> Option<&'p [u8]>
 pub(crate) fn ends_with(path: &[u8], run: &[u8]) -> bool
     ensures { IsTrue result ↔ ((front : List ℕ) × (path.now ≡ front ++ run.now)) }
 {
-    path.ends_with(run)
+    is_suffix(path, run)
 }

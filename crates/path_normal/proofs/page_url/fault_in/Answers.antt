@@ -2,19 +2,19 @@
 -- Used by `fault_in`.
 use Rattle.std.proofs.Common.{rules, length, ap, arith}
 use Rattle.std.proofs.lemmas.Grind.{common_steps}
-use Rattle.path_normal.specs.PageUrl.{IsPageParts}
 use Rattle.path_normal.proofs.page_url.fault_in.Goals as goal
-
-is_bare : (c : goal.Else-authority_in-gt-MAX_AUTHORITY) → IsPageParts c.args.url.now
-is_bare c = record {
-  valid = c.authority_in.ensures.valid;
-  scheme = search rules;
-  username = grind (arith, common_steps);
-  password = grind (arith, common_steps);
-}
 
 pub returns : goal.returns
 returns c =
     let page = ap length c.page_in.ensures.value in
     let authority = ap length c.authority_in.ensures.value in
-    record { parts = is_bare c; limit = omega arith; authority_limit = omega arith }
+    record {
+      parts = record {
+        valid = c.authority_in.ensures.valid;
+        scheme = search rules;
+        username = grind (arith, common_steps);
+        password = grind (arith, common_steps);
+      };
+      limit = omega arith;
+      authority_limit = omega arith;
+    }
