@@ -1,23 +1,23 @@
 -- The authority of a page reads as itself, by the page at its root.
 -- Used by `Authority::of`.
-use Rattle.std.proofs.Common.{◌≡◌, ℕ, ◌≤◌, true, false, not, ◌||◌, List, [], ◌∷◌, ◌++◌, length, Some, None, Ok, All, sym, refl, ap, ◌∙◌, subst, inl, arith, length-append}
-use Rattle.std.specs.Prelude.{codes, option_map, bytes_eq}
+use Rattle.std.proofs.Common.{◌≡◌, ℕ, ◌≤◌, true, false, List, [], ◌∷◌, ◌++◌, length, Some, None, Ok, All, sym, refl, ap, ◌∙◌, subst, inl, arith, length-append}
+use Rattle.std.specs.Prelude.{codes, option_map}
 use Rattle.std.specs.List.{list_any}
 use Rattle.std.specs.Result.{result_ok}
-use Rattle.std.proofs.lemmas.Bool.{cond-false, le-ltb}
+use Rattle.std.proofs.lemmas.Bool.{cond-false}
 use Rattle.std.proofs.lemmas.Bool.Decides.{nat_tests}
 use Rattle.std.proofs.lemmas.List.Elements.{All-nil, All-cons, All-head, All-tail, All-weaker}
 use Rattle.url.specs.Path.{dot_count, IsSegment, IsSegmentList}
 use Rattle.url.specs.declared.scheme.SchemeType.{SchemeType}
-use Rattle.url.specs.Parts.{Parts, kind_of, has_credentials, IsValid}
+use Rattle.url.specs.Parts.{Parts, kind_of, IsValid}
 use Rattle.url.proofs.InputLemmas.{Passes}
 use Rattle.url.proofs.TextLemmas.{is_host_byte, host_and_port_bytes}
 use Rattle.url.proofs.ValidLemmas.{special_has_authority}
 use Rattle.path_normal.specs.declared.page_url.TheConstants.{MAX_AUTHORITY, MAX_URL}
 use Rattle.path_normal.specs.PageText.{authority_of}
-use Rattle.path_normal.specs.PageUrl.{authority_text, page_text, page_url_of, page_url_of_parts, IsPage, IsPageParts, IsWritten}
+use Rattle.path_normal.specs.PageUrl.{authority_text, page_text, page_url_of, page_url_of_parts, IsFaultless, IsPage, IsPageParts, IsWritten}
 use Rattle.path_normal.specs.Authority.{authority_text_of, is_delimiter, IsAuthority, IsWrittenAuthority}
-use Rattle.path_normal.proofs.PageLemmas.{authority_of_text, authority_pieces, is_no_slash, page_pieces, page_reads_as_itself, page_splits, special, visible_authority}
+use Rattle.path_normal.proofs.PageLemmas.{authority_of_text, authority_pieces, faultless_reads, is_no_slash, page_pieces, page_reads_as_itself, page_splits, special, visible_authority}
 
 -- the URL of the root of the same authority
 abbrev root : Parts → Parts
@@ -56,21 +56,26 @@ root_spelled : (url : Parts) → IsPageParts url → page_text (root url) ≡ ro
 root_spelled url parts =
     page_pieces (root url) parts.scheme parts.username parts.password (special_has_authority url parts.valid.head (special url parts.scheme))
 
-no_credentials : (url : Parts) → IsPageParts url → has_credentials url ≡ false
-no_credentials url parts = rw (parts.username, parts.password)
-
 short : (text authority : List ℕ) → text ≡ root_text authority → length authority ≤ MAX_AUTHORITY → length text ≤ MAX_URL
 short text authority spelled limit = omega (arith, ap length spelled, length-append authority (codes "/"))
+
+root_parts : (url : Parts) → IsPageParts url → IsPageParts (root url)
+root_parts url parts = record {
+  valid = root_is_valid url parts.valid;
+  scheme = parts.scheme;
+  username = parts.username;
+  password = parts.password;
+}
 
 root_made : (url : Parts) → IsPageParts url → length (authority_text url) ≤ MAX_AUTHORITY → page_url_of_parts (root url) ≡ Ok (root_text (authority_text url))
 root_made url parts limit =
     let spelled = root_spelled url parts in
-    let text_fits = le-ltb MAX_URL (length (page_text (root url))) (short _ (authority_text url) spelled limit) in
-    let authority_fits = le-ltb MAX_AUTHORITY (length (authority_text url)) limit in
-    cond-false _ _ _ (ap (λ s. not (bytes_eq s (codes "http"))) parts.scheme)
-    ∙ cond-false _ _ _ (no_credentials url parts)
-    ∙ cond-false _ _ _ (λ i. text_fits i || authority_fits i)
-    ∙ ap Ok spelled
+    let faultless : IsFaultless (root url) = record {
+      parts = root_parts url parts;
+      limit = short _ (authority_text url) spelled limit;
+      authority_limit = limit;
+    } in
+    faultless_reads (root url) faultless ∙ ap Ok spelled
 
 root_reads : (url : Parts) → IsPageParts url → length (authority_text url) ≤ MAX_AUTHORITY → page_url_of (root_text (authority_text url)) ≡ Ok (root_text (authority_text url))
 root_reads url parts limit =

@@ -1,4 +1,5 @@
--- Lemmas on the text of a page and on its authority.
+-- Lemmas on the text of a page, on its authority and on normal forms.
 -- Used by the answers beside them.
+pub mod NormalLemmas
 pub mod PageLemmas
 pub mod AuthorityLemmas

@@ -1,17 +1,17 @@
 -- The text of a URL with no user and no fragment is `http://`, its authority and its target.
--- Used by `PageUrl::of_parsed` and `PageUrl::target`.
-use Rattle.std.proofs.Common.{◌≡◌, ℕ, ◌+◌, ◌<◌, Bool, true, not, ◌==◌, List, [], ◌∷◌, ◌++◌, length, get_or, take, drop, Some, None, All, sym, refl, ap, ◌∙◌, subst, ⊎_elim, append_assoc, append-nil, arith, take_at, drop_at}
-use Rattle.std.specs.Prelude.{Option, Ok, ◌≤◌, ltb, unwrap_or, is_some, option_map, decimal, codes}
+-- Used by `PageUrl::of_parsed`, `PageUrl::target` and what they call.
+use Rattle.std.proofs.Common.{◌≡◌, ℕ, ◌+◌, ◌<◌, Bool, true, false, not, ◌||◌, ◌==◌, List, [], ◌∷◌, ◌++◌, length, get_or, take, drop, Some, None, All, sym, refl, ap, ◌∙◌, subst, ⊎_elim, append_assoc, append-nil, arith, take_at, drop_at}
+use Rattle.std.specs.Prelude.{Option, Ok, IsAscii, bytes_eq, ◌≤◌, ltb, unwrap_or, is_some, option_map, decimal, codes}
 use Rattle.std.specs.List.{prefix_len}
 use Rattle.std.proofs.lemmas.Bool.{cond-false, le-ltb}
 use Rattle.std.proofs.lemmas.Bool.Decides.{nat_tests}
 use Rattle.std.proofs.lemmas.List.{drop-drop}
 use Rattle.std.proofs.lemmas.List.Elements.{All-weaker, All-nil, All-cons, All-append}
-use Rattle.url.specs.declared.slicing.Position.TheVariants.{BeforeHost, AfterPort}
+use Rattle.url.specs.declared.slicing.Position.TheVariants.{BeforeHost, AfterPort, BeforePath, AfterQuery}
 use Rattle.url.specs.Input.{when}
 use Rattle.url.specs.Host.{host_text}
 use Rattle.url.specs.Scheme.{scheme_type, default_port, is_special}
-use Rattle.url.specs.Parts.{Parts, kind_of, query_set, has_authority, host_or_empty, text_between, IsValid}
+use Rattle.url.specs.Parts.{Parts, kind_of, query_set, has_authority, has_credentials, host_or_empty, text_between, IsValid}
 use Rattle.url.proofs.InputLemmas.{Passes, StopsAt, prefix_len_at}
 use Rattle.url.specs.declared.scheme.SchemeType.{SchemeType}
 use Rattle.url.specs.declared.scheme.SchemeType.TheVariants.{SpecialNotFile}
@@ -20,12 +20,12 @@ use Rattle.url.specs.Parser.{parse_url}
 use Rattle.url.specs.Path.{IsSegmentList}
 use Rattle.url.proofs.SetLemmas.{passes_from_kept}
 use Rattle.url.proofs.Theorems.{parse_url-serialize_special}
-use Rattle.path_normal.specs.declared.page_url.TheConstants.{MAX_URL}
+use Rattle.path_normal.specs.declared.page_url.TheConstants.{MAX_AUTHORITY, MAX_URL}
 use Rattle.url.proofs.PathLemmas.{rooted}
 use Rattle.url.proofs.TextLemmas.{is_host_byte, host_and_port_bytes, All_part, query_byte}
 use Rattle.url.proofs.ValidLemmas.{segment_list_kept, hierarchical, special_has_authority, base_from_authority}
 use Rattle.path_normal.specs.PageText.{authority_of, target_of}
-use Rattle.path_normal.specs.PageUrl.{page_url_of, page_url_of_parsed, page_url_of_parts, authority_text, page_text, port_text, query_text, target_text, HasPartsOf, IsPageParts, IsWritten}
+use Rattle.path_normal.specs.PageUrl.{page_url_of, page_url_of_parsed, page_url_of_parts, authority_text, page_text, port_text, query_text, target_text, HasPartsOf, IsFaultless, IsPage, IsPageParts, IsWritten}
 
 -- ---- the split of a text
 
@@ -67,6 +67,9 @@ query_pieces (Some q) = ap (λ t. 63 ∷ t) (append-nil q)
 pub authority_pieces : (url : Parts) → text_between url BeforeHost AfterPort ≡ authority_text url
 authority_pieces url =
     ap (λ t. host_text (host_or_empty url) ++ t) (port_pieces url.port [] ∙ append-nil (port_text url.port))
+
+pub target_pieces : (url : Parts) → text_between url BeforePath AfterQuery ≡ target_text url
+target_pieces url = ap (λ t. url.path ++ t) (query_pieces url.query)
 
 pub page_pieces : (url : Parts) → url.scheme ≡ codes "http" → url.username ≡ [] → url.password ≡ [] → has_authority url ≡ true → page_text url ≡ codes "http://" ++ (authority_text url ++ target_text url)
 page_pieces url scheme username password authority =
@@ -178,3 +181,35 @@ page_is_visible url valid scheme username password =
 pub written : (url : Parts) (page : List ℕ) → IsPageParts url → page_text url ≡ page → IsWritten page
 unfolding IsWritten
 written url page parts spelled = (url, parts, spelled)
+
+-- ---- a URL without a fault
+
+no_credentials : (url : Parts) → IsPageParts url → has_credentials url ≡ false
+no_credentials url parts = rw (parts.username, parts.password)
+
+pub faultless_reads : (url : Parts) → IsFaultless url → page_url_of_parts url ≡ Ok (page_text url)
+faultless_reads url faultless =
+    let text_fits = le-ltb MAX_URL (length (page_text url)) faultless.limit in
+    let authority_fits = le-ltb MAX_AUTHORITY (length (authority_text url)) faultless.authority_limit in
+    cond-false _ _ _ (ap (λ s. not (bytes_eq s (codes "http"))) faultless.parts.scheme)
+    ∙ cond-false _ _ _ (no_credentials url faultless.parts)
+    ∙ cond-false _ _ _ (λ i. text_fits i || authority_fits i)
+
+pub faultless_splits : (url : Parts) → IsFaultless url → Splits (page_text url) url
+faultless_splits url faultless =
+    page_splits url faultless.parts.valid faultless.parts.scheme faultless.parts.username faultless.parts.password
+
+pub faultless_page : (url : Parts) → IsFaultless url → IsAscii (page_text url) → IsPage (page_text url)
+faultless_page url faultless ascii =
+    let parts = faultless.parts in
+    let split = faultless_splits url faultless in
+    record {
+      own = page_reads_as_itself url (page_text url) parts.valid parts.scheme refl (faultless_reads url faultless) faultless.limit;
+      written = written url (page_text url) parts refl;
+      scheme = split.scheme;
+      limit = faultless.limit;
+      authority_limit = subst (λ a. length a ≤ MAX_AUTHORITY) (sym split.parts.authority) faultless.authority_limit;
+      rooted = split.rooted;
+      ascii = ascii;
+      visible = page_is_visible url parts.valid parts.scheme parts.username parts.password;
+    }

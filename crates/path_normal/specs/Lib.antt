@@ -1,5 +1,6 @@
--- What contracts say of the URL of a page, of its parts and of its authority.
--- URL Standard, section 4; RFC 3986, section 3.
+-- What contracts say of the URL of a page, of its parts and of their normal form.
+-- URL Standard, section 4; RFC 3986, sections 2 and 3; RFC 9309, section 2.2.2.
+pub mod Normal
 pub mod PageText
 pub mod PageUrl
 pub mod Authority

@@ -1,6 +1,7 @@
 -- What a text reads as, as the URL of a page, and why it is refused.
 -- URL Standard, sections 4.4 and 4.5.
 use Rattle.std.specs.Prelude.{◌≡◌, ◌<◌, ◌≤◌, ◌++◌, ◌⊎◌, ℕ, All, IsAscii, slice_index, take, Bool, not, ◌||◌, List, [], Option, Some, None, Result, Ok, Err, MatchResult, bytes_eq, codes, decimal, length, nat_lt, if◌then◌else◌}
+use Rattle.std.specs.Result.{result_ok}
 use Rattle.url.specs.declared.error.ParseError.{ParseError}
 use Rattle.url.specs.declared.error.ParseError.TheVariants.{Overflow, OutOfMemory}
 use Rattle.url.specs.Host.{host_text}
@@ -52,10 +53,18 @@ page_url_of_parsed (Ok url) = page_url_of_parts url
 page_url_of_parsed (Err Overflow) = Err TooLong
 page_url_of_parsed (Err error) = Err BadUrl
 
--- the page that the text reads as, or the first fault that it has
+-- the page that the text reads as, beside a base or by itself, or the first fault that it has
+abbrev pub page_url_from : Option Parts → List ℕ → Result (List ℕ) UrlFault
+page_url_from base text =
+    if nat_lt MAX_URL (length text) then Err TooLong else page_url_of_parsed (parse_url base text)
+
+-- the page that the text reads as by itself, or the first fault that it has
 abbrev pub page_url_of : List ℕ → Result (List ℕ) UrlFault
-page_url_of text =
-    if nat_lt MAX_URL (length text) then Err TooLong else page_url_of_parsed (parse_url None text)
+page_url_of text = page_url_from None text
+
+-- the page that the text names on a page, which has no fragment, or the first fault that it has
+abbrev pub page_url_on : List ℕ → List ℕ → Result (List ℕ) UrlFault
+page_url_on page text = page_url_from (result_ok (parse_url None page)) text
 
 -- the result is the expected one, unless there was no memory
 abbrev pub IsAnswer : Result (List ℕ) UrlFault → Result (List ℕ) UrlFault → Type 0
@@ -67,6 +76,12 @@ IsAnswer result expected =
 pub record HasPartsOf (page : List ℕ) (url : Parts) : Type 0 where
   pub authority : authority_of page ≡ authority_text url
   pub target : target_of page ≡ target_text url
+
+-- the page has the authority and target of the URL that the text names on another page
+abbrev pub IsNamedOn : List ℕ → List ℕ → List ℕ → Type 0
+IsNamedOn page text named =
+    (base url : Parts) × (parse_url None page ≡ Ok base) × (parse_url (Some base) text ≡ Ok url)
+    × HasPartsOf named url
 
 -- the answer where `url` gives an error: it overflows at 4 GB, to which no text that it is given
 -- comes, so that counts as no memory
@@ -81,6 +96,12 @@ pub record IsPageParts (url : Parts) : Type 0 where
   pub scheme : url.scheme ≡ codes "http"
   pub username : url.username ≡ []
   pub password : url.password ≡ []
+
+-- a valid `http` URL without user, within the limits
+pub record IsFaultless (url : Parts) : Type 0 where
+  pub parts : IsPageParts url
+  pub limit : length (page_text url) ≤ MAX_URL
+  pub authority_limit : length (authority_text url) ≤ MAX_AUTHORITY
 
 -- a valid URL is written so
 unfoldable pub IsWritten : List ℕ → Type 0

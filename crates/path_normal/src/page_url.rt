@@ -1,13 +1,15 @@
 //! The URL of a page: an `http` URL with no user and no fragment.
 //! URL Standard, sections 4.4 and 4.5.
-ghost use Rattle.std.specs.Prelude.{◌≡◌, ◌<◌, ◌≤◌, None, Some, Ok, Err, IfOk, bytes_eq, length};
+ghost use Rattle.std.specs.Prelude.{◌≡◌, ◌<◌, ◌≤◌, None, Some, Ok, Err, IfOk, IsAscii, MatchOption, bytes_eq, length, nat_lt};
 ghost use Rattle.std.specs.Cmp.{partial_equiv_from_equiv};
 ghost use Rattle.std.specs.Cmp.Lexicographic.{nat_list_eq_equiv};
 ghost use Rattle.url.specs.Parser.{parse_url};
-ghost use Rattle.url.specs.Parts.{Parts};
+ghost use Rattle.url.specs.Parts.{IsValid, Parts};
+ghost use Rattle.path_normal.specs.Normal.{normal_path};
 ghost use Rattle.path_normal.specs.PageText.{authority_of, target_of};
-ghost use Rattle.path_normal.specs.PageUrl.{HasPartsOf, IsPage, IsAnswer, answer_to, page_url_of, page_url_of_parts};
+ghost use Rattle.path_normal.specs.PageUrl.{HasPartsOf, IsAnswer, IsFaultless, IsNamedOn, IsPage, answer_to, authority_text, page_text, page_url_of, page_url_of_parts, page_url_on, target_text};
 
+use crate::normal::normal_path;
 use std::alloc::{AllocError, Global};
 use std::fmt;
 use std::marker::Model;
@@ -26,6 +28,7 @@ pub const MAX_AUTHORITY: usize = 4_000;
 pub struct PageUrl {
     text: String,
     authority_end: usize,
+    path: Vec<u8>,
 }
 
 impl Model for PageUrl {
@@ -36,13 +39,15 @@ impl Model for PageUrl {
 
     ghost coded = { coded_list coded_ℕ };
 
-    ghost use Rattle.path_normal.specs.PageText.{authority_of};
+    ghost use Rattle.path_normal.specs.Normal.{normal_path};
+    ghost use Rattle.path_normal.specs.PageText.{authority_of, target_of};
     ghost use Rattle.path_normal.specs.PageUrl.{IsPage};
 
     ghost view = { λ url. string_bytes url.text };
 
     ghost invariant = { λ url. IsPage (string_bytes url.text)
-        × (url.authority_end ≡ 7 + length (authority_of (string_bytes url.text))) };
+        × (url.authority_end ≡ 7 + length (authority_of (string_bytes url.text)))
+        × (url.path.items ≡ normal_path (target_of (string_bytes url.text))) };
 }
 
 /// Why a text was not taken as the URL of a page, in the order of the tests.
@@ -69,7 +74,7 @@ impl PageUrl {
         ensures parts { IfOk result (λ page. (url : Parts) × (parse_url None text.now ≡ Ok url)
             × HasPartsOf page url) }
     {
-        if text.len() > MAX_URL {
+        if is_long(text) {
             return Err(UrlFault::TooLong);
         }
         match Url::parse(alloc, text) {
@@ -78,25 +83,41 @@ impl PageUrl {
         }
     }
 
+    /// Reads the URL of the page that a text names on this one, as a link or a redirect does
+    /// (RFC 3986, 5.2).
+    pub fn join(&self, text: &str) -> Result<PageUrl, UrlFault>
+        ensures long { MAX_URL < length text.now → result ≡ Err UrlFault.TooLong }
+        ensures answer { IsAnswer result (page_url_on self.now text.now) }
+        ensures parts { IfOk result (IsNamedOn self.now text.now) }
+    {
+        if is_long(text) {
+            return Err(UrlFault::TooLong);
+        }
+        let Ok(base) = Url::parse(self.allocator(), self.text()) else {
+            return Err(UrlFault::NoMemory);
+        };
+        match base.join(text) {
+            Ok(url) => PageUrl::of_parsed(self.allocator(), &url),
+            Err(error) => Err(fault_of(error)),
+        }
+    }
+
     fn of_parsed(alloc: Global, url: &Url) -> Result<PageUrl, UrlFault>
         ensures answer { IsAnswer result (page_url_of_parts url.now) }
         ensures parts { IfOk result (λ page. HasPartsOf page url.now) }
     {
-        if url.scheme() != "http" {
-            return Err(UrlFault::NotHttp);
+        if let Some(fault) = fault_in(url) {
+            return Err(fault);
         }
-        if !url.username().is_empty() || url.password().is_some() {
-            return Err(UrlFault::HasUser);
-        }
-        let page = url.slice(Position::BeforeScheme, Position::AfterQuery);
-        let authority = url.slice(Position::BeforeHost, Position::AfterPort);
-        if page.len() > MAX_URL || authority.len() > MAX_AUTHORITY {
-            return Err(UrlFault::TooLong);
-        }
-        match String::from_str(alloc, page) {
+        let authority = authority_in(url);
+        let Ok(path) = normal_path(alloc, target_in(url).as_bytes()) else {
+            return Err(UrlFault::NoMemory);
+        };
+        match String::from_str(alloc, page_in(url)) {
             Ok(text) => Ok(PageUrl {
                 text,
                 authority_end: "http://".len() + authority.len(),
+                path,
             }),
             Err(_) => Err(UrlFault::NoMemory),
         }
@@ -109,6 +130,7 @@ impl PageUrl {
         Ok(PageUrl {
             text: self.text.clone()?,
             authority_end: self.authority_end,
+            path: self.path.clone()?,
         })
     }
 
@@ -136,10 +158,61 @@ impl PageUrl {
         &self.text.as_str()[self.authority_end..]
     }
 
+    /// The path that patterns are matched with: the target in normal form (RFC 9309, 2.2.2).
+    pub fn path_to_match(&self) -> &[u8]
+        ensures value { result.now ≡ normal_path (target_of self.now) }
+        ensures page { IsPage self.now }
+    {
+        self.path.as_slice()
+    }
+
     /// The allocator of the text.
     pub(crate) fn allocator(&self) -> Global {
         *self.text.allocator()
     }
+}
+
+fn is_long(text: &str) -> bool
+    ensures { result ≡ nat_lt MAX_URL (length text.now) }
+{
+    text.len() > MAX_URL
+}
+
+// The first fault that a URL has as that of a page.
+fn fault_in(url: &Url) -> Option<UrlFault>
+    ensures { MatchOption result (IsFaultless url.now)
+        (λ fault. page_url_of_parts url.now ≡ Err fault) }
+{
+    if url.scheme() != "http" {
+        return Some(UrlFault::NotHttp);
+    }
+    if !url.username().is_empty() || url.password().is_some() {
+        return Some(UrlFault::HasUser);
+    }
+    if page_in(url).len() > MAX_URL || authority_in(url).len() > MAX_AUTHORITY {
+        return Some(UrlFault::TooLong);
+    }
+    None
+}
+
+fn page_in(url: &Url) -> &str
+    ensures value { result.now ≡ page_text url.now }
+    ensures ascii { IsAscii result.now }
+{
+    url.slice(Position::BeforeScheme, Position::AfterQuery)
+}
+
+fn target_in(url: &Url) -> &str
+    ensures { result.now ≡ target_text url.now }
+{
+    url.slice(Position::BeforePath, Position::AfterQuery)
+}
+
+fn authority_in(url: &Url) -> &str
+    ensures value { result.now ≡ authority_text url.now }
+    ensures valid { IsValid url.now }
+{
+    url.slice(Position::BeforeHost, Position::AfterPort)
 }
 
 // `url` answers Overflow for a URL of 4 GB, which `MAX_URL` bytes never come to.

@@ -150,6 +150,102 @@ const AUTHORITIES: [(&str, &str, &str); 15] = [
     ),
 ];
 
+// A path and its normal form.
+const PATHS: [(&[u8], &str); 15] = [
+    (b"/%62%61%7A", "/baz"),
+    (b"/%7e", "/~"),
+    (b"/a%2fb", "/a%2Fb"),
+    (b"/a%", "/a%25"),
+    (b"/%4", "/%254"),
+    (b"/%%41", "/%25A"),
+    (b"/*$", "/%2A%24"),
+    (b"/a|b", "/a%7Cb"),
+    (b"/?a=b&c", "/?a=b&c"),
+    (b"", ""),
+    (b"/%2", "/%252"),
+    (b"/%g0%0g", "/%25g0%250g"),
+    (b"/%00%ff\xFF", "/%00%FF%FF"),
+    (b":/?#[]@!&'()+,;=-._~", ":/?#[]@!&'()+,;=-._~"),
+    (b"/%2a%24%2A%25", "/%2A%24%2A%25"),
+];
+
+// A pattern and its normal form.
+const PATTERNS: [(&[u8], &str); 13] = [
+    (b"/file-%2a", "/file-%2A"),
+    (b"/a*b", "/a*b"),
+    (b"/a$", "/a$"),
+    (b"/a$$", "/a%24$"),
+    (b"/a$b", "/a%24b"),
+    (b"/a b", "/a%20b"),
+    (b"/\xC3\xA9", "/%C3%A9"),
+    (b"/%c3%a9", "/%C3%A9"),
+    (b"", ""),
+    (b"$", "$"),
+    (b"/%4$", "/%254$"),
+    (b"/a%24", "/a%24"),
+    (b"*%2A**", "*%2A**"),
+];
+
+// A page, what is joined to it, and the page that it names with its path to match, or the fault.
+const JOINED: [(&str, &str, &str); 12] = [
+    ("http://a.example/x?q", "/s", "http://a.example/s /s"),
+    ("http://a.example/x?q", "//b.example", "http://b.example/ /"),
+    ("http://a.example/x?q", "https://a.example/", "NotHttp"),
+    ("http://a.example/x/y?q", "z", "http://a.example/x/z /x/z"),
+    ("http://a.example/x?q", "?", "http://a.example/x? /x?"),
+    ("http://a.example/x?q", "#f", "http://a.example/x?q /x?q"),
+    ("http://a.example/x?q", "", "http://a.example/x?q /x?q"),
+    ("http://a.example/x#f", "", "http://a.example/x /x"),
+    (
+        "http://a.example:81/x",
+        "/%7e*",
+        "http://a.example:81/%7e* /~%2A",
+    ),
+    ("http://a.example/x", "//u@b.example/", "HasUser"),
+    ("http://a.example/x", "//", "BadUrl"),
+    ("http://a.example/x", "mailto:a", "NotHttp"),
+];
+
+#[test]
+fn writes_normal_forms_and_joins(rt: HostRuntime) -> Result<(), Fail> {
+    let alloc = rt.alloc();
+    for (path, want) in PATHS {
+        assert_eq!(rt;
+            normal_path(alloc, path)?.as_slice(),
+            want.as_bytes(),
+            "path of {want}"
+        );
+    }
+    for (pattern, want) in PATTERNS {
+        let form = normal_pattern(alloc, pattern)?;
+        assert_eq!(rt; form.as_slice(), want.as_bytes(), "pattern of {want}");
+    }
+    for (page, text, want) in JOINED {
+        assert_eq!(rt;
+            joined_line(alloc, page, text)?.as_str(),
+            want,
+            "{text} on {page}"
+        );
+    }
+    let page = "http://a.example/";
+    let long = repeated(alloc, "", 'x', 4_097, "")?;
+    let mut fits = repeated(alloc, "", 'x', 4_079, "")?;
+    assert_eq!(rt;
+        joined_line(alloc, page, long.as_str())?.as_str(),
+        "TooLong",
+        "4,097 bytes"
+    );
+    let whole = joined_line(alloc, page, fits.as_str())?;
+    assert_eq!(rt; whole.len(), 4_096 + 1 + 4_080, "a URL of 4,096 bytes");
+    fits.push('x')?;
+    assert_eq!(rt;
+        joined_line(alloc, page, fits.as_str())?.as_str(),
+        "TooLong",
+        "one more"
+    );
+    Ok(())
+}
+
 #[test]
 fn reads_pages_and_authorities(rt: HostRuntime) -> Result<(), Fail> {
     let alloc = rt.alloc();
@@ -182,6 +278,24 @@ fn page_line(alloc: Global, given: &str) -> Result<String, AllocError> {
         return format!(in alloc; "two readings of {page}");
     }
     format!(in alloc; "{page} {} {}", page.authority(), page.target())
+}
+
+// The page that the text names on another, and its path to match.
+fn joined_line(alloc: Global, page: &str, text: &str) -> Result<String, AllocError> {
+    let page = match PageUrl::parse(alloc, page) {
+        Ok(page) => page,
+        Err(fault) => return format!(in alloc; "{fault:?} in the page"),
+    };
+    match page.join(text) {
+        Ok(named) => {
+            let mut line = format!(in alloc; "{named} ")?;
+            for octet in named.path_to_match() {
+                line.push(char::from(*octet))?;
+            }
+            Ok(line)
+        }
+        Err(fault) => format!(in alloc; "{fault:?}"),
+    }
 }
 
 fn authority_line(alloc: Global, given: &str) -> Result<String, AllocError> {

@@ -1,0 +1,92 @@
+-- The normal form of a path and of a pattern, unit by unit.
+-- RFC 9309, section 2.2.2; RFC 3986, section 2.
+use Rattle.std.specs.Prelude.{ℕ, ◌+◌, ◌-◌, ◌*◌, ◌/◌, ◌%◌, Bool, true, false, not, ◌&&◌, ◌||◌, ◌==◌, List, [], ◌∷◌, ◌++◌, length, take, slice_index, codes, if◌then◌else◌}
+use Rattle.std.specs.List.{flat_map}
+use Rattle.std.specs.Char.{digit_value, is_digit, is_ascii_alphanumeric}
+use Rattle.std.specs.Fmt.{digit_glyph}
+use Rattle.path_normal.specs.declared.normal.Octet.{Octet}
+use Rattle.path_normal.specs.declared.normal.Role.{Role}
+use Rattle.path_normal.specs.declared.normal.Role.TheVariants.{Path, Pattern}
+
+-- `%` and two hexadecimal digits
+abbrev pub is_escape : ℕ → ℕ → ℕ → Bool
+is_escape octet high low = octet == 37 && is_digit high 16 && is_digit low 16
+
+-- the octet stands for itself
+abbrev pub plain : ℕ → Octet
+plain octet = record { escaped = false; value = octet }
+
+-- the octet that an escape with these two digits stands for
+abbrev pub escaped : ℕ → ℕ → Octet
+escaped high low = record { escaped = true; value = 16 * digit_value high + digit_value low }
+
+-- the units of a text: an escape is one, and so is each octet that belongs to none
+abbrev pub units : List ℕ → List Octet
+units [] = []
+units (octet ∷ []) = plain octet ∷ []
+units (octet ∷ next ∷ []) = plain octet ∷ plain next ∷ []
+units (octet ∷ high ∷ low ∷ rest) =
+    if is_escape octet high low then escaped high low ∷ units rest
+    else plain octet ∷ units (high ∷ low ∷ rest)
+
+-- a letter, a digit, or one of `- . _ ~`
+abbrev pub is_unreserved : ℕ → Bool
+is_unreserved octet =
+    is_ascii_alphanumeric octet || octet == 45 || octet == 46 || octet == 95 || octet == 126
+
+-- one of `: / ? # [ ] @`
+abbrev pub is_delimiter_of_parts : ℕ → Bool
+is_delimiter_of_parts octet =
+    octet == 58 || octet == 47 || octet == 63 || octet == 35 || octet == 91 || octet == 93
+    || octet == 64
+
+-- one of `! $ & ' ( ) * + , ; =`
+abbrev pub is_delimiter_in_parts : ℕ → Bool
+is_delimiter_in_parts octet =
+    octet == 33 || octet == 36 || octet == 38 || octet == 39 || octet == 40 || octet == 41
+    || octet == 42 || octet == 43 || octet == 44 || octet == 59 || octet == 61
+
+-- an octet that delimits, in an address or in one of its parts
+abbrev pub is_reserved : ℕ → Bool
+is_reserved octet = is_delimiter_of_parts octet || is_delimiter_in_parts octet
+
+-- a sign of patterns: `$`, and in a path `*` too, since in a pattern `*` means itself
+abbrev pub is_sign : Role → ℕ → Bool
+is_sign Path octet = octet == 36 || octet == 42
+is_sign Pattern octet = octet == 36
+
+-- the unit is written as its octet: an unreserved one always, a reserved one that stands plain
+-- where it is no sign
+abbrev pub is_kept : Role → Octet → Bool
+is_kept role unit =
+    is_unreserved unit.value
+    || (not unit.escaped && is_reserved unit.value && not (is_sign role unit.value))
+
+-- `%` and the two digits of the octet, in upper case
+abbrev pub escape_of : ℕ → List ℕ
+escape_of octet = 37 ∷ digit_glyph true (octet / 16) ∷ digit_glyph true (octet % 16) ∷ []
+
+-- how the unit is written
+abbrev pub spelled : Role → Octet → List ℕ
+spelled role unit = if is_kept role unit then unit.value ∷ [] else escape_of unit.value
+
+-- the text with each of its units written so
+abbrev pub normal : Role → List ℕ → List ℕ
+normal role text = flat_map (spelled role) (units text)
+
+-- the normal form of a path
+abbrev pub normal_path : List ℕ → List ℕ
+normal_path path = normal Path path
+
+-- the pattern ends with `$`
+abbrev pub is_anchored : List ℕ → Bool
+is_anchored pattern = slice_index pattern (length pattern - 1) == 36
+
+-- the pattern without a last `$`
+abbrev pub unanchored : List ℕ → List ℕ
+unanchored pattern = if is_anchored pattern then take (length pattern - 1) pattern else pattern
+
+-- the normal form of a pattern, in which a last `$` stays
+abbrev pub normal_pattern : List ℕ → List ℕ
+normal_pattern pattern =
+    normal Pattern (unanchored pattern) ++ (if is_anchored pattern then codes "$" else [])

@@ -1,0 +1,169 @@
+//! Normal forms of paths and patterns: equal octets are written in one way.
+//! RFC 9309, section 2.2.2; RFC 3986, section 2.
+ghost use Rattle.std.specs.Prelude.{◌≡◌, ◌++◌, ◌∷◌, ◌<◌, [], true, length, IfOk, IsTrue, MatchOption};
+ghost use Rattle.std.specs.Char.{digit_value, is_digit};
+ghost use Rattle.std.specs.Fmt.{digit_glyph};
+ghost use Rattle.path_normal.specs.Normal.{is_delimiter_in_parts, is_delimiter_of_parts, is_kept, is_reserved, is_sign, is_unreserved, normal, normal_path, normal_pattern, spelled, units};
+
+use std::alloc::{AllocError, Global};
+
+/// What a text is to be compared as.
+#[derive(Clone, Copy)]
+pub(crate) enum Role {
+    Path,
+    Pattern,
+}
+
+/// A unit of a text: an octet, and whether it was written as an escape.
+#[derive(Clone, Copy)]
+pub(crate) struct Octet {
+    escaped: bool,
+    value: u8,
+}
+
+/// The normal form of a path, which may have a query.
+pub fn normal_path(alloc: Global, path: &[u8]) -> Result<Vec<u8>, AllocError>
+    ensures value { IfOk result (λ form. form.items ≡ normal_path path.now) }
+    ensures again { IfOk result (λ form. normal_path form.items ≡ form.items) }
+{
+    let form = normal(alloc, Role::Path, path)?;
+    Ok(form)
+}
+
+/// The normal form of a pattern, in which `*` and a last `$` are signs.
+pub fn normal_pattern(alloc: Global, pattern: &[u8]) -> Result<Vec<u8>, AllocError>
+    ensures value { IfOk result (λ form. form.items ≡ normal_pattern pattern.now) }
+    ensures again { IfOk result (λ form. normal_pattern form.items ≡ form.items) }
+{
+    if let [front @ .., b'$'] = pattern {
+        let mut form = normal(alloc, Role::Pattern, front)?;
+        form.push(b'$')?;
+        Ok(form)
+    } else {
+        let form = normal(alloc, Role::Pattern, pattern)?;
+        Ok(form)
+    }
+}
+
+/// The text with each of its units in its one spelling.
+pub(crate) fn normal(alloc: Global, role: Role, text: &[u8]) -> Result<Vec<u8>, AllocError>
+    ensures { IfOk result (λ form. form.items ≡ normal role text.now) }
+{
+    let mut form = Vec::with_capacity(alloc, text.len())?;
+    let mut rest = text;
+    while let Some((unit, after)) = next_unit(rest) {
+        push_spelled(&mut form, role, unit)?;
+        rest = after;
+    }
+    Ok(form)
+}
+
+// The first unit of the text, and what follows it.
+fn next_unit(text: &[u8]) -> Option<(Octet, &[u8])>
+    ensures { MatchOption result (text.now ≡ []) (λ found.
+        (units text.now ≡ found.0 ∷ units found.1.now) × (length found.1.now < length text.now)) }
+{
+    match text {
+        [] => None,
+        [b'%', high, low, rest @ ..] if is_hex(*high) && is_hex(*low) => {
+            let value = 16 * hex_value(*high) + hex_value(*low);
+            let unit = Octet {
+                escaped: true,
+                value,
+            };
+            Some((unit, rest))
+        }
+        [octet, rest @ ..] => {
+            let unit = Octet {
+                escaped: false,
+                value: *octet,
+            };
+            Some((unit, rest))
+        }
+    }
+}
+
+fn push_spelled(form: &mut Vec<u8>, role: Role, unit: Octet) -> Result<(), AllocError>
+    ensures { IfOk result (λ _. form.new.items ≡ form.old.items ++ spelled role unit) }
+{
+    if is_kept(role, unit) {
+        form.push(unit.value)?;
+        return Ok(());
+    }
+    form.push(b'%')?;
+    form.push(hex_digit(unit.value / 16))?;
+    form.push(hex_digit(unit.value % 16))?;
+    Ok(())
+}
+
+fn is_kept(role: Role, unit: Octet) -> bool
+    ensures { result ≡ is_kept role unit }
+{
+    is_unreserved(unit.value)
+        || (!unit.escaped && is_reserved(unit.value) && !is_sign(role, unit.value))
+}
+
+fn is_unreserved(octet: u8) -> bool
+    ensures { result ≡ is_unreserved octet }
+{
+    octet.is_ascii_alphanumeric() || matches!(octet, b'-' | b'.' | b'_' | b'~')
+}
+
+fn is_reserved(octet: u8) -> bool
+    ensures { result ≡ is_reserved octet }
+{
+    is_delimiter_of_parts(octet) || is_delimiter_in_parts(octet)
+}
+
+fn is_delimiter_of_parts(octet: u8) -> bool
+    ensures { result ≡ is_delimiter_of_parts octet }
+{
+    matches!(octet, b':' | b'/' | b'?' | b'#' | b'[' | b']' | b'@')
+}
+
+fn is_delimiter_in_parts(octet: u8) -> bool
+    ensures { result ≡ is_delimiter_in_parts octet }
+{
+    matches!(
+        octet,
+        b'!' | b'$' | b'&' | b'\'' | b'(' | b')' | b'*' | b'+' | b',' | b';' | b'='
+    )
+}
+
+fn is_sign(role: Role, octet: u8) -> bool
+    ensures { result ≡ is_sign role octet }
+{
+    match role {
+        Role::Path => octet == b'$' || octet == b'*',
+        Role::Pattern => octet == b'$',
+    }
+}
+
+fn is_hex(digit: u8) -> bool
+    ensures { result ≡ is_digit digit 16 }
+{
+    matches!(digit, b'0'..=b'9' | b'A'..=b'F' | b'a'..=b'f')
+}
+
+fn hex_value(digit: u8) -> u8
+    requires { IsTrue (is_digit digit 16) }
+    ensures value { result ≡ digit_value digit }
+    ensures bound { result < 16 }
+{
+    match digit {
+        b'0'..=b'9' => digit - b'0',
+        b'A'..=b'F' => digit - b'A' + 10,
+        _ => digit - b'a' + 10,
+    }
+}
+
+fn hex_digit(value: u8) -> u8
+    requires { value < 16 }
+    ensures { result ≡ digit_glyph true value }
+{
+    if value < 10 {
+        b'0' + value
+    } else {
+        b'A' + (value - 10)
+    }
+}

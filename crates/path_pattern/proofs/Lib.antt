@@ -1,0 +1,4 @@
+-- Lemmas on how patterns spell paths, and on where runs stand in them.
+-- Used by the answers beside them.
+pub mod PlaceLemmas
+pub mod SpellsLemmas

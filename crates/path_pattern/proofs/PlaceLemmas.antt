@@ -1,0 +1,66 @@
+-- Where a run stands in a path, by the places that a search gives.
+-- Used by `after_first`, `after_start` and `ends_with`.
+use Rattle.std.proofs.Common.{◌≡◌, ℕ, ◌+◌, ◌-◌, ◌<◌, ◌≤◌, List, [], ◌++◌, length, take, drop, append-nil, sym, ap, ◌∙◌, subst, arith, length-append}
+use Rattle.std.proofs.lemmas.List.{take-append-drop, drop-drop}
+use Rattle.std.proofs.Math.Seq.{take-append_seam, drop-append_seam, drop-append-add}
+use Rattle.std.proofs.Math.ListN.{drop_of_length-le}
+use Rattle.memchr.specs.Find.{NoneBefore, Nowhere, OccursAt}
+use Rattle.memchr.proofs.lemmas.MatchLemmas.{OccursAt-split, OccursAt-from_part}
+use Rattle.path_pattern.specs.Runs.{BeginsNot, IsAfterFirst, StandsNowhere}
+
+-- a place of the run cuts the path round it
+cut_at : (path run : List ℕ) (place : ℕ) → OccursAt path run place → path ≡ take place path ++ (run ++ drop (place + length run) path)
+cut_at path run place occurs =
+    sym (take-append-drop place path) ∙ ap (λ t. take place path ++ t) (OccursAt-split path run place occurs)
+
+-- a cut of the path round the run is at a place of it
+place_of : (path run front rest : List ℕ) → path ≡ front ++ (run ++ rest) → OccursAt path run (length front)
+place_of path run front rest is =
+    let lengths = ap length is ∙ length-append front (run ++ rest) in
+    let parts = length-append run rest in
+    let from : drop (length front) path ≡ run ++ rest = ap (drop (length front)) is ∙ drop-append_seam front (run ++ rest) in
+    OccursAt-from_part path run (length front) (omega arith) (ap (take (length run)) from ∙ take-append_seam run rest)
+
+rest_of : (path run front rest : List ℕ) → path ≡ front ++ (run ++ rest) → drop (length front + length run) path ≡ rest
+rest_of path run front rest is =
+    ap (drop (length front + length run)) is ∙ drop-append-add front (run ++ rest) (length run) ∙ drop-append_seam run rest
+
+pub after_place : (path run : List ℕ) (place : ℕ) → NoneBefore (OccursAt path run) 0 (length path + 1) place → OccursAt path run place → IsAfterFirst path run (drop (place + length run) path)
+after_place path run place none occurs = record {
+  front = take place path;
+  stands = cut_at path run place occurs;
+  first = λ other after is.
+      let at = place_of path run other after is in
+      let not_before : length other < place → ⊥ = λ before. none.before (length other) (omega arith) before at in
+      let le : place ≤ length other = omega arith in
+      let rest = drop (place + length run) path in
+      let skip = length other - place in
+      let same : place + length run + skip ≡ length other + length run = omega arith in
+      let tail : drop skip rest ≡ after = drop-drop skip (place + length run) path ∙ ap (λ n. drop n path) same ∙ rest_of path run other after is in
+      (take skip rest, sym (take-append-drop skip rest) ∙ ap (λ t. take skip rest ++ t) tail);
+}
+
+pub nowhere_from : (path run : List ℕ) → Nowhere (OccursAt path run) 0 (length path + 1) → StandsNowhere path run
+nowhere_from path run none front rest is =
+    let lengths = ap length is ∙ length-append front (run ++ rest) in
+    none (length front) (omega arith) (omega arith) (place_of path run front rest is)
+
+pub begun : (path run : List ℕ) → OccursAt path run 0 → path ≡ run ++ drop (length run) path
+begun path run occurs =
+    let same : 0 + length run ≡ length run = omega arith in
+    OccursAt-split path run 0 occurs ∙ ap (λ n. run ++ drop n path) same
+
+pub not_begun : (path run : List ℕ) → (OccursAt path run 0 → ⊥) → BeginsNot path run
+not_begun path run none rest is = none (place_of path run [] rest is)
+
+pub ended : (path run : List ℕ) → length run ≤ length path → OccursAt path run (length path - length run) → (front : List ℕ) × (path ≡ front ++ run)
+ended path run fits occurs =
+    let place = length path - length run in
+    let past : length path ≤ place + length run = omega arith in
+    (take place path, cut_at path run place occurs ∙ ap (λ t. take place path ++ (run ++ t)) (drop_of_length-le path past) ∙ ap (λ t. take place path ++ t) (append-nil run))
+
+pub at_end : (path run front : List ℕ) → path ≡ front ++ run → (length run ≤ length path) × OccursAt path run (length path - length run)
+at_end path run front is =
+    let lengths = ap length is ∙ length-append front run in
+    let place : length front ≡ length path - length run = omega arith in
+    (omega arith, subst (OccursAt path run) place (place_of path run front [] (is ∙ ap (λ t. front ++ t) (sym (append-nil run)))))

@@ -1,0 +1,7 @@
+-- The pattern or the path gets shorter.
+-- Used by `spells`.
+use Rattle.std.proofs.Common.{◌+◌, length}
+use Rattle.path_pattern.proofs.laws.+spells.Given as goal
+
+abbrev pub decreases-spells : goal.decreases-spells
+decreases-spells l = length l.pattern.now + length l.path.now

@@ -1,0 +1,27 @@
+-- The runs of a pattern between its stars, and where they stand in a path.
+-- Used by the contracts of the matcher's parts.
+use Rattle.std.specs.Prelude.{◌≡◌, ◌≢◌, ◌==◌, ◌++◌, ℕ, false, All, List, ◌∷◌}
+
+-- no `*` stands in the run
+abbrev pub HasNoStar : List ℕ → Type 0
+HasNoStar run = All (λ octet. (octet == 42) ≡ false) run
+
+-- the first `*` of the pattern stands between the run and what follows
+pub record IsSplitAtStar (pattern run after : List ℕ) : Type 0 where
+  pub plain : HasNoStar run
+  pub parts : pattern ≡ run ++ 42 ∷ after
+
+-- the run does not begin the path
+abbrev pub BeginsNot : List ℕ → List ℕ → Type 0
+BeginsNot path run = (rest : List ℕ) → path ≢ run ++ rest
+
+-- the run stands nowhere in the path
+abbrev pub StandsNowhere : List ℕ → List ℕ → Type 0
+StandsNowhere path run = (front rest : List ℕ) → path ≢ front ++ (run ++ rest)
+
+-- the rest follows the first place of the run in the path, so it ends with what follows any other
+pub record IsAfterFirst (path run rest : List ℕ) : Type 0 where
+  pub front : List ℕ
+  pub stands : path ≡ front ++ (run ++ rest)
+  pub first : (other after : List ℕ) → path ≡ other ++ (run ++ after)
+      → (between : List ℕ) × (rest ≡ between ++ after)

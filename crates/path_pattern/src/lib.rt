@@ -1,0 +1,12 @@
+//! Patterns of robots files, and which paths they match.
+//! RFC 9309, section 2.2.3.
+#![tactic(auto)]
+
+pub mod laws;
+mod pattern;
+mod runs;
+
+pub use pattern::Pattern;
+
+#[cfg(test)]
+mod tests;

@@ -1,0 +1,122 @@
+//! A pattern of a robots file in normal form, and whether it matches a path.
+//! RFC 9309, section 2.2.3.
+ghost use Rattle.std.specs.Prelude.{◌≡◌, ◌↔◌, ◌∷◌, IfOk, IsTrue, length};
+ghost use Rattle.path_normal.specs.Normal.{normal_pattern};
+ghost use Rattle.path_pattern.specs.Matches.{Matches, Spells};
+ghost use Rattle.path_pattern.specs.Runs.{HasNoStar};
+
+use crate::runs::{after_first, after_start, ends_with, split_anchor, split_at_star};
+use path_normal::normal_pattern;
+use std::alloc::{AllocError, Global};
+use std::marker::Model;
+
+/// A pattern in normal form: `*` stands for any octets, also none, a last `$` for the end.
+#[derive(Debug, Drop)]
+pub struct Pattern {
+    text: Vec<u8>,
+}
+
+impl Model for Pattern {
+    ghost use Rattle.std.specs.Prelude.{List, ℕ};
+    ghost use Rattle.std.specs.Coded.{coded_list, coded_ℕ};
+
+    ghost Value = { List ℕ };
+
+    ghost coded = { coded_list coded_ℕ };
+
+    ghost use Rattle.std.specs.Prelude.{◌≡◌};
+    ghost use Rattle.path_normal.specs.Normal.{normal_pattern};
+
+    ghost view = { λ pattern. pattern.text.items };
+
+    ghost invariant = { λ pattern. normal_pattern pattern.text.items ≡ pattern.text.items };
+}
+
+impl Pattern {
+    /// The pattern that a rule's value writes.
+    pub fn new(alloc: Global, raw: &[u8]) -> Result<Pattern, AllocError>
+        ensures { IfOk result (λ pattern. pattern ≡ normal_pattern raw.now) }
+    {
+        let text = normal_pattern(alloc, raw)?;
+        Ok(Pattern { text })
+    }
+
+    /// Whether the pattern matches the path, which is to be in normal form. Takes no memory.
+    pub fn matches(&self, path: &[u8]) -> bool
+        ensures { IsTrue result ↔ Matches self.now path.now }
+    {
+        if self.text.is_empty() {
+            return false;
+        }
+        let (pattern, anchored) = split_anchor(self.text());
+        fits(pattern, anchored, path)
+    }
+
+    /// How many octets the pattern has in normal form.
+    pub fn octets(&self) -> usize
+        ensures { result ≡ length self.now }
+    {
+        self.text.len()
+    }
+
+    /// The pattern in normal form.
+    pub(crate) fn text(&self) -> &[u8]
+        ensures value { result.now ≡ self.now }
+        ensures own { normal_pattern self.now ≡ self.now }
+    {
+        self.text.as_slice()
+    }
+}
+
+// Whether the pattern, with no anchor of its own, fits the path from its first octet on.
+fn fits(pattern: &[u8], anchored: bool, path: &[u8]) -> bool
+    ensures { IsTrue result ↔ Spells pattern.now anchored path.now }
+{
+    let Some((run, after)) = split_at_star(pattern) else {
+        return fits_run(pattern, anchored, path);
+    };
+    match after_start(path, run) {
+        Some(rest) => fits_after_star(after, anchored, rest),
+        None => false,
+    }
+}
+
+// The same of a run without a star.
+fn fits_run(run: &[u8], anchored: bool, path: &[u8]) -> bool
+    requires { HasNoStar run.now }
+    ensures { IsTrue result ↔ Spells run.now anchored path.now }
+{
+    match after_start(path, run) {
+        Some(rest) => !anchored || rest.is_empty(),
+        None => false,
+    }
+}
+
+// Whether the pattern fits from some octet of the path on: a star stands before it. Each run
+// is taken at its first place: what a later place would leave is the end of what that leaves.
+fn fits_after_star(pattern: &[u8], anchored: bool, path: &[u8]) -> bool
+    ensures { IsTrue result ↔ Spells (42 ∷ pattern.now) anchored path.now }
+{
+    let mut left = pattern;
+    let mut rest = path;
+    while let Some((run, after)) = split_at_star(left) {
+        let Some(next) = after_first(rest, run) else {
+            return false;
+        };
+        rest = next;
+        left = after;
+    }
+    fits_last(left, anchored, rest)
+}
+
+// The same of a run without a star.
+fn fits_last(run: &[u8], anchored: bool, path: &[u8]) -> bool
+    requires { HasNoStar run.now }
+    ensures { IsTrue result ↔ Spells (42 ∷ run.now) anchored path.now }
+{
+    if anchored {
+        ends_with(path, run)
+    } else {
+        after_first(path, run).is_some()
+    }
+}
