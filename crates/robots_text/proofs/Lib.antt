@@ -6,3 +6,9 @@ pub mod Ends
 pub mod Cutting
 pub mod LineLaws
 pub mod KeptLaws
+pub mod LineEntries
+pub mod Reaches
+pub mod Gives
+pub mod Rises
+pub mod Walks
+pub mod Plains

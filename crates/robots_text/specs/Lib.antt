@@ -1,7 +1,10 @@
 -- What contracts say of a robots.txt, a file for each concept.
 -- RFC 9309, section 2.2.
 pub mod Cut
+pub mod Groups
 pub mod Left
 pub mod Lines
+pub mod Plain
 pub mod Records
 pub mod Token
+pub mod Walk

@@ -2,6 +2,7 @@
 //! RFC 9309, sections 2.2 and 2.5.
 #![tactic(auto)]
 
+mod groups;
 mod laws;
 mod line;
 mod record;
@@ -9,6 +10,7 @@ mod records;
 mod text;
 mod token;
 
+pub use groups::{RuleLine, RulesFor};
 pub use laws::one_way_to_write_lines;
 pub use record::{Agent, RecordKind, RecordLine, RuleKind};
 pub use records::Records;

@@ -88,7 +88,7 @@ fn record_named<'a>(name: &[u8], value: &'a [u8]) -> RecordKind<'a>
     }
 }
 
-fn is_same_name(name: &[u8], word: &[u8]) -> bool
+pub(crate) fn is_same_name(name: &[u8], word: &[u8]) -> bool
     ensures { result ≡ is_same_name name.now word.now }
 {
     name.eq_ignore_ascii_case(word)

@@ -1,7 +1,9 @@
-//! Tables of what tokens, lines and records are read.
+//! Tables of what tokens, lines, records and rules are read.
 //! RFC 9309, sections 2.2 and 2.5.
 use super::*;
 
+mod plain;
 mod records;
+mod rules;
 mod texts;
 mod tokens;

@@ -1,0 +1,11 @@
+use Rattle.std.proofs.Common.{◌≡◌, length}
+use Rattle.robots_text.specs.Left.{records_left}
+use Rattle.robots_text.specs.Walk.{rules_left}
+use Rattle.robots_text.proofs.groups.RulesForIterator.next.Given as goal
+
+-- what is left stays, as long as no rule comes
+abbrev pub invariant-loop-record : goal.invariant-loop-record
+invariant-loop-record l = rules_left l.self ≡ rules_left l.initial.self
+
+abbrev pub decreases-loop-record : goal.decreases-loop-record
+decreases-loop-record l = length (records_left l.self.records)

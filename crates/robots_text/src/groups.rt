@@ -1,0 +1,179 @@
+//! The rule lines of a robots text that govern a token.
+//! RFC 9309, section 2.2.1.
+ghost use Rattle.std.specs.Prelude.{◌≡◌, option_map};
+ghost use Rattle.robots_text.specs.Groups.{is_named, names_everybody, names_token, speaks_to};
+ghost use Rattle.robots_text.specs.Left.{records_left};
+ghost use Rattle.robots_text.specs.Records.{Record, kind_seen};
+ghost use Rattle.robots_text.specs.Walk.{after_head, after_record, after_rule, rule_seen, ruled_at, speaks};
+
+use crate::record::{Agent, RecordKind, RecordLine, RuleKind, is_same_name};
+use crate::records::Records;
+use crate::text::RobotsText;
+use crate::token::Token;
+
+/// A rule line. Lines count from 1; the pattern is that of the text, as it stands.
+#[derive(Clone, Copy, Debug, PartialEq, Eq)]
+pub struct RuleLine<'a> {
+    pub line: u64,
+    pub kind: RuleKind,
+    pub pattern: &'a [u8],
+}
+
+// Whose rules are looked for.
+#[derive(Clone, Copy, Debug)]
+pub(crate) enum Whom<'a> {
+    Token(&'a [u8]),
+    Everybody,
+}
+
+// Where a walk over the lines stands.
+#[derive(Clone, Copy, Debug)]
+enum Group {
+    // In no group, or in one for others.
+    Foreign,
+    // Among the user-agent lines of a group that speaks to those who are looked for.
+    Heads,
+    // Behind a rule of such a group.
+    Rules,
+}
+
+/// The rule lines for a token that are still to come. It takes no memory.
+#[derive(Clone, Copy, Debug, Drop)]
+pub struct RulesFor<'a> {
+    records: Records<'a>,
+    whom: Whom<'a>,
+    group: Group,
+}
+
+impl RobotsText {
+    ghost use Rattle.robots_text.specs.Groups.{AreRulesFor};
+    ghost use Rattle.robots_text.specs.Records.{numbered_records};
+    ghost use Rattle.robots_text.specs.Walk.{rules_left};
+
+    /// The rule lines that govern a token, in the order of their lines: of all groups that name it, or of
+    /// all groups for `*` where none does. The text is walked twice, whatever it holds.
+    pub fn rules_for<'a>(&'a self, token: &'a Token) -> RulesFor<'a>
+        ensures { AreRulesFor (numbered_records self.now) token.now (rules_left result) }
+    {
+        RulesFor {
+            records: self.records(),
+            whom: whom_for(self.records(), token.text().as_bytes()),
+            group: Group::Foreign,
+        }
+    }
+}
+
+impl<'a> Iterator for RulesFor<'a> {
+    ghost use Rattle.std.specs.Iterator.{YieldsFirstBy, item_count};
+    ghost use Rattle.robots_text.specs.Walk.{rule_seen, rules_left};
+
+    type Item = RuleLine<'a>;
+
+    ghost next_gives = { YieldsFirstBy rule_seen rules_left };
+
+    ghost remaining = { item_count rules_left };
+
+    fn next(&mut self) -> Option<RuleLine<'a>> {
+        while let Some(record) = self.records.next() {
+            let group = self.group;
+            self.group = after_record(self.whom, group, record.kind);
+            if let Some(rule) = rule_at(group, record.line, record.kind) {
+                return Some(rule);
+            }
+        }
+        None
+    }
+}
+
+// Whose rules are looked for: those of the token where a line names it, and else those of everybody.
+pub(crate) fn whom_for<'a>(records: Records<'_>, word: &'a [u8]) -> Whom<'a>
+    ensures { (kind : Record) → speaks result kind ≡ speaks_to (records_left records.entry) word.now kind }
+{
+    if is_named(records, word) {
+        Whom::Token(word)
+    } else {
+        Whom::Everybody
+    }
+}
+
+// Whether a line names the token.
+fn is_named(records: Records<'_>, word: &[u8]) -> bool
+    ensures { result ≡ is_named (records_left records.entry) word.now }
+{
+    let mut rest = records;
+    while let Some(record) = rest.next() {
+        if names_token(word, record.kind) {
+            return true;
+        }
+    }
+    false
+}
+
+fn names_token(word: &[u8], kind: RecordKind<'_>) -> bool
+    ensures { result ≡ names_token word.now (kind_seen kind.entry) }
+{
+    match kind {
+        RecordKind::Agent(Agent::Name(name)) => is_same_name(name, word),
+        _ => false,
+    }
+}
+
+fn names_everybody(kind: RecordKind<'_>) -> bool
+    ensures { result ≡ names_everybody (kind_seen kind.entry) }
+{
+    matches!(kind, RecordKind::Agent(Agent::All))
+}
+
+pub(crate) fn speaks(whom: Whom<'_>, kind: RecordKind<'_>) -> bool
+    ensures { result ≡ speaks whom.entry (kind_seen kind.entry) }
+{
+    match whom {
+        Whom::Token(word) => names_token(word, kind),
+        Whom::Everybody => names_everybody(kind),
+    }
+}
+
+// The rule of a line, where it is one of a group that speaks.
+fn rule_at(group: Group, line: u64, kind: RecordKind<'_>) -> Option<RuleLine<'_>>
+    ensures { option_map rule_seen result ≡ ruled_at group line (kind_seen kind.entry) }
+{
+    match (group, kind) {
+        (Group::Heads | Group::Rules, RecordKind::Rule(kind, pattern)) => Some(RuleLine {
+            line,
+            kind,
+            pattern,
+        }),
+        _ => None,
+    }
+}
+
+// Where a walk stands behind a record.
+fn after_record(whom: Whom<'_>, group: Group, kind: RecordKind<'_>) -> Group
+    ensures { result ≡ after_record (speaks whom.entry) group (kind_seen kind.entry) }
+{
+    match kind {
+        RecordKind::Agent(_) if speaks(whom, kind) => Group::Heads,
+        RecordKind::Agent(_) => after_head(group),
+        RecordKind::Rule(_, _) => after_rule(group),
+        RecordKind::Other => group,
+    }
+}
+
+// A head behind a rule begins another group.
+fn after_head(group: Group) -> Group
+    ensures { result ≡ after_head group }
+{
+    match group {
+        Group::Heads => Group::Heads,
+        Group::Foreign | Group::Rules => Group::Foreign,
+    }
+}
+
+fn after_rule(group: Group) -> Group
+    ensures { result ≡ after_rule group }
+{
+    match group {
+        Group::Foreign => Group::Foreign,
+        Group::Heads | Group::Rules => Group::Rules,
+    }
+}
