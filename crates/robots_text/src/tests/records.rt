@@ -111,76 +111,104 @@ fn reads_records(rt: HostRuntime) -> Result<(), Fail> {
     Ok(())
 }
 
-// What the text is, the text, and its records.
-const TEXTS: [(&str, &[u8], &[RecordKind<'static>]); 17] = [
-    ("nothing", b"", &[]),
-    ("a mark alone", b"\xef\xbb\xbf", &[]),
+// What the text is, the text, and its records; behind the last there is none.
+const TEXTS: [(&str, &[u8], [Option<RecordKind<'static>>; 4]); 17] = [
+    ("nothing", b"", [None, None, None, None]),
+    ("a mark alone", b"\xef\xbb\xbf", [None, None, None, None]),
     (
         "a mark and a line",
         b"\xef\xbb\xbfAllow:a",
-        &[Rule(Allow, b"a")],
+        [Some(Rule(Allow, b"a")), None, None, None],
     ),
     (
         "two marks",
         b"\xef\xbb\xbf\xef\xbb\xbfAllow:a\nAllow:b",
-        &[OTHER, Rule(Allow, b"b")],
+        [Some(OTHER), Some(Rule(Allow, b"b")), None, None],
     ),
-    ("a part of a mark", b"\xef\xbbAllow:a", &[OTHER]),
+    (
+        "a part of a mark",
+        b"\xef\xbbAllow:a",
+        [Some(OTHER), None, None, None],
+    ),
     (
         "a mark behind a line",
         b"Allow:a\n\xef\xbb\xbfAllow:b",
-        &[Rule(Allow, b"a"), OTHER],
+        [Some(Rule(Allow, b"a")), Some(OTHER), None, None],
     ),
     (
         "LF",
         b"Allow:a\nAllow:b\n",
-        &[Rule(Allow, b"a"), Rule(Allow, b"b")],
+        [Some(Rule(Allow, b"a")), Some(Rule(Allow, b"b")), None, None],
     ),
     (
         "CR",
         b"Allow:a\rAllow:b\r",
-        &[Rule(Allow, b"a"), Rule(Allow, b"b")],
+        [Some(Rule(Allow, b"a")), Some(Rule(Allow, b"b")), None, None],
     ),
     (
         "CR LF",
         b"Allow:a\r\nAllow:b\r\n",
-        &[Rule(Allow, b"a"), Rule(Allow, b"b")],
+        [Some(Rule(Allow, b"a")), Some(Rule(Allow, b"b")), None, None],
     ),
     (
         "no end on the last line",
         b"Allow:a\nAllow:b",
-        &[Rule(Allow, b"a"), Rule(Allow, b"b")],
+        [Some(Rule(Allow, b"a")), Some(Rule(Allow, b"b")), None, None],
     ),
     (
         "CR CR LF",
         b"Allow:a\r\r\nAllow:b",
-        &[Rule(Allow, b"a"), OTHER, Rule(Allow, b"b")],
+        [
+            Some(Rule(Allow, b"a")),
+            Some(OTHER),
+            Some(Rule(Allow, b"b")),
+            None,
+        ],
     ),
     (
         "LF CR",
         b"Allow:a\n\rAllow:b",
-        &[Rule(Allow, b"a"), OTHER, Rule(Allow, b"b")],
+        [
+            Some(Rule(Allow, b"a")),
+            Some(OTHER),
+            Some(Rule(Allow, b"b")),
+            None,
+        ],
     ),
     (
         "LF LF",
         b"Allow:a\n\nAllow:b",
-        &[Rule(Allow, b"a"), OTHER, Rule(Allow, b"b")],
+        [
+            Some(Rule(Allow, b"a")),
+            Some(OTHER),
+            Some(Rule(Allow, b"b")),
+            None,
+        ],
     ),
     (
         "CR LF CR LF",
         b"\r\n\r\nAllow:b",
-        &[OTHER, OTHER, Rule(Allow, b"b")],
+        [Some(OTHER), Some(OTHER), Some(Rule(Allow, b"b")), None],
     ),
     (
         "CR LF LF",
         b"Allow:a\r\n\nAllow:b",
-        &[Rule(Allow, b"a"), OTHER, Rule(Allow, b"b")],
+        [
+            Some(Rule(Allow, b"a")),
+            Some(OTHER),
+            Some(Rule(Allow, b"b")),
+            None,
+        ],
     ),
-    ("line ends alone", b"\r\n\r\n", &[OTHER, OTHER]),
+    (
+        "line ends alone",
+        b"\r\n\r\n",
+        [Some(OTHER), Some(OTHER), None, None],
+    ),
     (
         "NUL is no line end",
         b"Allow:a\x00Allow:b",
-        &[Rule(Allow, b"a\x00Allow:b")],
+        [Some(Rule(Allow, b"a\x00Allow:b")), None, None, None],
     ),
 ];
 
@@ -191,12 +219,14 @@ fn cuts_lines(rt: HostRuntime) -> Result<(), Fail> {
         assert!(rt; text.bytes() == octets, "{name}");
         let mut records = text.records();
         let mut line: u64 = 0;
-        for kind in want.iter().copied() {
+        for expected in want {
             line = line.wrapping_add(1);
-            let item = RecordLine { line, kind };
-            assert_eq!(rt; records.next(), Some(item), "{name}");
+            let item = match expected {
+                Some(kind) => Some(RecordLine { line, kind }),
+                None => None,
+            };
+            assert_eq!(rt; records.next(), item, "{name}");
         }
-        assert_eq!(rt; records.next(), None, "{name}");
     }
     Ok(())
 }
