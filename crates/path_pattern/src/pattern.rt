@@ -1,11 +1,14 @@
 //! A pattern of a robots file in normal form, and whether it matches a path.
 //! RFC 9309, section 2.2.3.
 ghost use Rattle.std.specs.Prelude.{◌≡◌, ◌↔◌, ◌∷◌, IfOk, IsTrue, length};
+ghost use Rattle.memchr.specs.Find.{IsFirstByte, is_byte};
 ghost use Rattle.path_normal.specs.Normal.{normal_pattern};
 ghost use Rattle.path_pattern.specs.Matches.{Matches, Spells};
 ghost use Rattle.path_pattern.specs.Runs.{HasNoStar};
 
-use crate::runs::{after_first, after_start, ends_with, split_anchor, split_at_star};
+use crate::runs::{
+    after_first, after_start, ends_with, first_star, split_anchor, split_at_place, split_at_star,
+};
 use path_normal::normal_pattern;
 use std::alloc::{AllocError, Global};
 use std::marker::Model;
@@ -14,6 +17,7 @@ use std::marker::Model;
 #[derive(Debug, Drop)]
 pub struct Pattern {
     text: Vec<u8>,
+    star: Option<usize>,
 }
 
 impl Model for Pattern {
@@ -25,11 +29,13 @@ impl Model for Pattern {
     ghost coded = { coded_list coded_ℕ };
 
     ghost use Rattle.std.specs.Prelude.{◌≡◌};
-    ghost use Rattle.path_normal.specs.Normal.{normal_pattern};
+    ghost use Rattle.memchr.specs.Find.{IsFirstByte, is_byte};
+    ghost use Rattle.path_normal.specs.Normal.{normal_pattern, unanchored};
 
     ghost view = { λ pattern. pattern.text.items };
 
-    ghost invariant = { λ pattern. normal_pattern pattern.text.items ≡ pattern.text.items };
+    ghost invariant = { λ pattern. (normal_pattern pattern.text.items ≡ pattern.text.items)
+        × IsFirstByte (is_byte 42) (unanchored pattern.text.items) pattern.star };
 }
 
 impl Pattern {
@@ -38,7 +44,9 @@ impl Pattern {
         ensures { IfOk result (λ pattern. pattern ≡ normal_pattern raw.now) }
     {
         let text = normal_pattern(alloc, raw)?;
-        Ok(Pattern { text })
+        let (pattern, _) = split_anchor(text.as_slice());
+        let star = first_star(pattern);
+        Ok(Pattern { text, star })
     }
 
     /// Whether the pattern matches the path, which is to be in normal form. Takes no memory.
@@ -49,7 +57,7 @@ impl Pattern {
             return false;
         }
         let (pattern, anchored) = split_anchor(self.text());
-        fits(pattern, anchored, path)
+        fits(pattern, self.star, anchored, path)
     }
 
     /// How many octets the pattern has in normal form.
@@ -69,10 +77,11 @@ impl Pattern {
 }
 
 // Whether the pattern, with no anchor of its own, fits the path from its first octet on.
-fn fits(pattern: &[u8], anchored: bool, path: &[u8]) -> bool
+fn fits(pattern: &[u8], star: Option<usize>, anchored: bool, path: &[u8]) -> bool
+    requires { IsFirstByte (is_byte 42) pattern.now star }
     ensures { IsTrue result ↔ Spells pattern.now anchored path.now }
 {
-    let Some((run, after)) = split_at_star(pattern) else {
+    let Some((run, after)) = split_at_place(pattern, star) else {
         return fits_run(pattern, anchored, path);
     };
     match after_start(path, run) {

@@ -1,7 +1,7 @@
 //! The runs of a pattern between its stars, and where they stand in a path.
 //! RFC 9309, section 2.2.3.
 ghost use Rattle.std.specs.Prelude.{◌≡◌, ◌++◌, ◌↔◌, List, ℕ, IsTrue, MatchOption};
-ghost use Rattle.memchr.specs.Find.{OccursAt};
+ghost use Rattle.memchr.specs.Find.{IsFirstByte, OccursAt, is_byte};
 ghost use Rattle.path_normal.specs.Normal.{is_anchored, unanchored};
 ghost use Rattle.path_pattern.specs.Runs.{BeginsNot, HasNoStar, IsAfterFirst, IsSplitAtStar, StandsNowhere};
 
@@ -24,7 +24,23 @@ pub(crate) fn split_at_star(pattern: &[u8]) -> Option<(&[u8], &[u8])>
     ensures { MatchOption result (HasNoStar pattern.now)
         (λ parts. IsSplitAtStar pattern.now parts.0.now parts.1.now) }
 {
-    let place = memchr(b'*', pattern)?;
+    split_at_place(pattern, first_star(pattern))
+}
+
+/// Where the first `*` of the pattern stands.
+pub(crate) fn first_star(pattern: &[u8]) -> Option<usize>
+    ensures { IsFirstByte (is_byte 42) pattern.now result }
+{
+    memchr(b'*', pattern)
+}
+
+/// What stands before the first `*` and after it, where that is already known.
+pub(crate) fn split_at_place(pattern: &[u8], star: Option<usize>) -> Option<(&[u8], &[u8])>
+    requires { IsFirstByte (is_byte 42) pattern.now star }
+    ensures { MatchOption result (HasNoStar pattern.now)
+        (λ parts. IsSplitAtStar pattern.now parts.0.now parts.1.now) }
+{
+    let place = star?;
     Some((&pattern[..place], &pattern[place + 1..]))
 }
 

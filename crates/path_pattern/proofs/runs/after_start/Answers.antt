@@ -1,6 +1,6 @@
 -- The run stands at the first place exactly where the path begins with it.
 -- Used by `after_start`.
-use Rattle.std.proofs.Common.{rules, ◌∙◌, ◌++◌, length, ap, sym}
+use Rattle.std.proofs.Common.{◌∙◌, ◌++◌, length, ap, sym}
 use Rattle.std.proofs.lemmas.Bool.{true≢false}
 use Rattle.std.proofs.lemmas.List.{take_rest}
 use Rattle.path_pattern.proofs.PlaceLemmas.{begun, not_begun}

@@ -6,7 +6,7 @@ use Rattle.path_pattern.proofs.runs.ends_with.Goals as goal
 pub returns : goal.returns
 returns c = (
   λ is.
-    let stands = c.is_suffix.ensures.0 is in
-    ended c.args.path.now c.args.run.now stands.0 stands.1,
+      let stands = c.is_suffix.ensures.0 is in
+      ended c.args.path.now c.args.run.now stands.0 stands.1,
   λ stands. c.is_suffix.ensures.1 (at_end c.args.path.now c.args.run.now stands.0 stands.1),
 )
