@@ -1,11 +1,11 @@
 -- How the lines of a text follow from its first line.
 -- Used by `cut_line`, and by the law on lines.
 use Rattle.std.proofs.Common.{◌≡◌, ◌<◌, ℕ, suc, Bool, true, false, List, [], ◌∷◌, length, take, drop, sym, refl, ap, ◌∙◌, subst, arith, ◌⊎◌, inl, inr}
-use Rattle.std.specs.Prelude.{◌==◌, ◌||◌, not, ◌+◌}
+use Rattle.std.specs.Prelude.{◌==◌, ◌||◌}
 use Rattle.std.specs.List.{position_or_len, before_first, onto_first}
 use Rattle.std.proofs.lemmas.Bool.Decides.{nat_tests}
 use Rattle.robots_text.specs.Cut.{behind_end}
-use Rattle.robots_text.specs.Lines.{is_line_end, lines_from, with_octet}
+use Rattle.robots_text.specs.Lines.{is_line_end, lines_from}
 
 pub tells : (b : Bool) → (b ≡ true) ⊎ (b ≡ false)
 tells true = inl refl

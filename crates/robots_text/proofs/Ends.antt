@@ -1,6 +1,6 @@
 -- What is kept of octets with one more at their end: blanks go, and octets behind the last line end.
 -- Used by `without_trailing` and `whole_lines`.
-use Rattle.std.proofs.Common.{◌≡◌, ℕ, Bool, true, false, List, [], ◌∷◌, ◌++◌, sym, refl, ap, ◌∙◌, arith}
+use Rattle.std.proofs.Common.{◌≡◌, ℕ, Bool, true, false, List, [], ◌∷◌, ◌++◌, refl, ap, arith}
 use Rattle.std.specs.Prelude.{◌||◌, ◌&&◌}
 use Rattle.std.specs.List.{list_any, list_all}
 use Rattle.robots_text.specs.Lines.{is_line_end, whole_lines}

@@ -1,10 +1,10 @@
 -- The lines of a text are the one way to write it as lines and their ends.
 -- Used by `one_way_to_write_lines`.
-use Rattle.std.proofs.Common.{◌≡◌, ◌≢◌, ◌⊎◌, ◌<◌, ℕ, Bool, true, false, List, [], ◌∷◌, ◌++◌, length, append-nil, sym, refl, ap, ◌∙◌, subst, arith, inl, inr}
-use Rattle.std.specs.Prelude.{◌==◌, ◌||◌, if◌then◌else◌}
+use Rattle.std.proofs.Common.{◌≡◌, ◌≢◌, ◌⊎◌, ℕ, false, List, [], ◌∷◌, ◌++◌, length, append-nil, sym, refl, ap, ◌∙◌, subst, arith, inl, inr}
+use Rattle.std.specs.Prelude.{◌==◌, if◌then◌else◌}
 use Rattle.std.specs.List.{list_any, onto_first}
 use Rattle.robots_text.specs.Cut.{behind_end}
-use Rattle.robots_text.specs.Lines.{AreLines, BeginsWithLine, Ends, begins_with_lf, is_line_end, lines_from}
+use Rattle.robots_text.specs.Lines.{AreLines, Ends, begins_with_lf, is_line_end, lines_from}
 use Rattle.robots_text.proofs.Cutting.{tells, is_number, plain_parts, second, behind_cr, end_octet, plain_octet}
 
 longer : (c : ℕ) (line end rest : List ℕ) → Ends line end rest → Ends (c ∷ line) end rest

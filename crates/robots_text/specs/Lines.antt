@@ -1,6 +1,6 @@
 -- What is kept of a robots text, and its lines: the one way to write it as lines and their ends.
 -- RFC 9309, sections 2.2 and 2.5.
-use Rattle.std.specs.Prelude.{◌≡◌, ◌≢◌, ◌⊎◌, ◌≤◌, ℕ, Bool, true, false, ◌&&◌, ◌||◌, ◌==◌, nat_le, List, [], ◌∷◌, ◌++◌, length, take, IsTrue, if◌then◌else◌}
+use Rattle.std.specs.Prelude.{◌≡◌, ◌≢◌, ◌⊎◌, ◌≤◌, ℕ, Bool, true, false, ◌&&◌, ◌||◌, ◌==◌, nat_le, List, [], ◌∷◌, ◌++◌, length, take, if◌then◌else◌}
 use Rattle.std.specs.List.{list_any, onto_first}
 use Rattle.robots_text.specs.declared.text.TheConstants.{MAX_TEXT}
 

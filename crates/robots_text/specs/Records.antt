@@ -1,6 +1,6 @@
 -- Records: what a line of a robots text says, by its name and its value.
 -- RFC 9309, section 2.2.
-use Rattle.std.specs.Prelude.{ℕ, Bool, true, false, ◌+◌, ◌&&◌, ◌||◌, ◌==◌, not, List, [], ◌∷◌, map, take, drop, Option, Some, None, bytes_eq, codes, if◌then◌else◌}
+use Rattle.std.specs.Prelude.{ℕ, Bool, false, ◌+◌, ◌&&◌, ◌||◌, ◌==◌, not, List, [], ◌∷◌, map, take, drop, Option, Some, None, bytes_eq, codes, if◌then◌else◌}
 use Rattle.std.specs.List.{list_all, position, before_first}
 use Rattle.robots_text.specs.declared.record.Agent.{Agent}
 use Rattle.robots_text.specs.declared.record.Agent.TheVariants as agents

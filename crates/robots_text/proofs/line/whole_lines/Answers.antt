@@ -1,6 +1,6 @@
 -- An octet behind the last line end goes; with a line end last, all is kept.
-use Rattle.std.proofs.Common.{◌≡◌, true, false, sym, ap, ◌∙◌, arith}
-use Rattle.robots_text.specs.Lines.{is_line_end, whole_lines}
+use Rattle.std.proofs.Common.{sym, ap, ◌∙◌, arith}
+use Rattle.robots_text.specs.Lines.{whole_lines}
 use Rattle.robots_text.proofs.Ends.{whole_end, whole_plain}
 use Rattle.robots_text.proofs.line.whole_lines.Goals as goal
 
