@@ -1,15 +1,15 @@
 -- A walk gives just the rule lines that it reaches.
 -- Used by `Walks`.
-use Rattle.std.proofs.Common.{◌≡◌, ℕ, ◌+◌, ◌<◌, ◌≤◌, Bool, true, false, ◌⊎◌, inl, inr, List, [], ◌∷◌, map, length, zero, suc, slice_index, slice_index_or, All, Contains, refl, sym, ◌∙◌, ap, subst, arith}
-use Rattle.std.specs.Prelude.{Option, Some, None, is_some, if◌then◌else◌}
+use Rattle.std.proofs.Common.{◌≡◌, ℕ, ◌+◌, ◌<◌, ◌≤◌, Bool, true, false, inl, inr, List, [], ◌∷◌, Contains, sym, ap, subst, arith}
+use Rattle.std.specs.Prelude.{Option, Some, None}
 use Rattle.robots_text.specs.declared.groups.Group.{Group}
 use Rattle.robots_text.specs.declared.groups.Group.TheVariants.{Foreign, Heads, Rules}
 use Rattle.robots_text.specs.declared.record.RuleKind.{RuleKind}
-use Rattle.robots_text.specs.Groups.{Ruled, record_ruled, is_agent, is_rule, Governs, speaks_to, IsRuleFor, AreRulesFor}
-use Rattle.robots_text.specs.Records.{Named, everybody, token, nobody, Record, agent, rule, other, Numbered, numbered_from}
-use Rattle.robots_text.specs.Walk.{after_head, after_rule, after_record, ruled_at, onto, rules_from}
-use Rattle.robots_text.proofs.LineEntries.{at, entry_of, behind, first_of, none_of, numbered_above, Late, late_from, stands_at}
-use Rattle.robots_text.proofs.Reaches.{NoBreak, NoHead, Carried, Through, Reached, step_up, step_down}
+use Rattle.robots_text.specs.Groups.{Ruled, record_ruled, is_rule}
+use Rattle.robots_text.specs.Records.{Record, agent, rule, other, Numbered, numbered_from}
+use Rattle.robots_text.specs.Walk.{after_record, ruled_at, onto, rules_from}
+use Rattle.robots_text.proofs.LineEntries.{at, entry_of, behind, first_of, none_of, numbered_above, late_from}
+use Rattle.robots_text.proofs.Reaches.{Carried, Through, Reached, step_up, step_down}
 
 -- a rule that is given stands in the lines and is reached
 abbrev pub Given : (Record → Bool) → Group → List Numbered → Ruled → Type 0

@@ -1,9 +1,8 @@
 -- Numbered lines as entries of a list: the first, the others, and what their numbers are.
 -- Used by `Reaches`, `Gives`, `Walks` and `Plains`.
-use Rattle.std.proofs.Common.{◌≡◌, ℕ, ◌+◌, ◌<◌, ◌≤◌, Bool, true, false, ◌⊎◌, inl, inr, List, [], ◌∷◌, map, length, zero, suc, slice_index, slice_index_or, All, Contains, refl, sym, ◌∙◌, ap, subst, arith}
-use Rattle.std.specs.Prelude.{Option, Some, None, is_some, if◌then◌else◌}
+use Rattle.std.proofs.Common.{◌≡◌, ℕ, ◌+◌, ◌<◌, ◌≤◌, ◌⊎◌, inl, inr, List, [], ◌∷◌, length, zero, suc, slice_index_or, Contains, refl, ap, arith}
 use Rattle.robots_text.specs.Groups.{Ruled}
-use Rattle.robots_text.specs.Records.{Named, everybody, token, nobody, Record, agent, rule, other, Numbered, numbered_from}
+use Rattle.robots_text.specs.Records.{Record, Numbered, numbered_from}
 
 -- a record with its number
 abbrev pub at : ℕ → Record → Numbered

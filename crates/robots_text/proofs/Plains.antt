@@ -1,20 +1,19 @@
 -- The relation tried line by line gives the rules for a token, and nothing else.
 -- Used by the slow program of the tests.
-use Rattle.std.proofs.Common.{◌≡◌, ℕ, ◌+◌, ◌<◌, ◌≤◌, Bool, true, false, not, ◌&&◌, ◌||◌, ◌⊎◌, inl, inr, List, [], ◌∷◌, map, length, slice_index_or, Contains, refl, sym, ◌∙◌, ap, subst, arith}
-use Rattle.std.specs.Prelude.{Option, Some, None, nat_lt, slice_index, zero, suc, if◌then◌else◌}
+use Rattle.std.proofs.Common.{◌≡◌, ℕ, ◌+◌, ◌<◌, ◌≤◌, Bool, true, false, not, ◌&&◌, ◌||◌, ◌⊎◌, inl, inr, List, [], ◌∷◌, length, slice_index_or, Contains, refl, sym, ◌∙◌, ap, subst, arith}
+use Rattle.std.specs.Prelude.{Some, None, nat_lt, slice_index, if◌then◌else◌}
 use Rattle.std.specs.List.{list_any}
 use Rattle.std.specs.List.Sorted.{IsStrictlyIncreasing}
-use Rattle.std.proofs.lemmas.Bool.{and_parts, and_from}
+use Rattle.std.proofs.lemmas.Bool.{and_parts}
 use Rattle.std.proofs.lemmas.Bool.Decides.{nat_tests}
-use Rattle.robots_text.specs.declared.groups.Group.TheVariants.{Foreign}
 use Rattle.robots_text.specs.declared.record.RuleKind.{RuleKind}
-use Rattle.robots_text.specs.Groups.{Ruled, record_ruled, is_agent, is_rule, speaks_to, IsRuleFor, AreRulesFor}
+use Rattle.robots_text.specs.Groups.{Ruled, record_ruled, is_agent, is_rule, speaks_to, AreRulesFor}
 use Rattle.robots_text.specs.Plain.{has_head, is_cut, is_governed, kept_rule, kept_rules}
 use Rattle.robots_text.specs.Records.{Record, agent, rule, other, Numbered, numbered_from}
 use Rattle.robots_text.specs.Walk.{onto}
-use Rattle.robots_text.proofs.LineEntries.{at, behind, first_of, none_of, entry_of, numbered_above, late_from, stands_at}
+use Rattle.robots_text.proofs.LineEntries.{at, behind, first_of, none_of, entry_of, stands_at}
 use Rattle.robots_text.proofs.Reaches.{Through}
-use Rattle.robots_text.proofs.Gives.{Given, onto_behind, ruled_or}
+use Rattle.robots_text.proofs.Gives.{onto_behind, ruled_or}
 use Rattle.robots_text.proofs.Rises.{lines_of_rules, onto_above, onto_rises, line_or, none_is}
 use Rattle.robots_text.proofs.Walks.{is_rule_for}
 

@@ -1,14 +1,13 @@
 -- Which lines a walk reaches: those of the group in which it stands, and those of a group to come.
 -- Used by `Gives`.
-use Rattle.std.proofs.Common.{◌≡◌, ℕ, ◌+◌, ◌<◌, ◌≤◌, Bool, true, false, ◌⊎◌, inl, inr, List, [], ◌∷◌, map, length, zero, suc, slice_index, slice_index_or, All, Contains, refl, sym, ◌∙◌, ap, subst, arith}
-use Rattle.std.specs.Prelude.{Option, Some, None, is_some, if◌then◌else◌}
+use Rattle.std.proofs.Common.{◌≡◌, ℕ, ◌<◌, Bool, true, false, ◌⊎◌, inl, inr, List, ◌∷◌, Contains, refl, ◌∙◌, ap, arith}
+use Rattle.std.specs.Prelude.{if◌then◌else◌}
 use Rattle.robots_text.specs.declared.groups.Group.{Group}
 use Rattle.robots_text.specs.declared.groups.Group.TheVariants.{Foreign, Heads, Rules}
-use Rattle.robots_text.specs.declared.record.RuleKind.{RuleKind}
-use Rattle.robots_text.specs.Groups.{Ruled, record_ruled, is_agent, is_rule, Governs, speaks_to, IsRuleFor, AreRulesFor}
-use Rattle.robots_text.specs.Records.{Named, everybody, token, nobody, Record, agent, rule, other, Numbered, numbered_from}
-use Rattle.robots_text.specs.Walk.{after_head, after_rule, after_record, ruled_at, onto, rules_from}
-use Rattle.robots_text.proofs.LineEntries.{at, entry_of, behind, first_of, none_of, numbered_above, Late, late_from, stands_at}
+use Rattle.robots_text.specs.Groups.{is_agent, is_rule}
+use Rattle.robots_text.specs.Records.{Record, agent, rule, other, Numbered}
+use Rattle.robots_text.specs.Walk.{after_head, after_rule, after_record}
+use Rattle.robots_text.proofs.LineEntries.{at, entry_of, behind, first_of, Late}
 
 -- no user-agent line stands behind a rule line before a line
 abbrev pub NoBreak : List Numbered → ℕ → Type 0

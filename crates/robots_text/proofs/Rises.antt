@@ -1,14 +1,13 @@
 -- The rules that a walk gives come in the order of their lines.
 -- Used by `Walks` and `Plains`.
-use Rattle.std.proofs.Common.{◌≡◌, ℕ, ◌+◌, ◌<◌, ◌≤◌, Bool, true, false, ◌⊎◌, inl, inr, List, [], ◌∷◌, map, length, zero, suc, slice_index, slice_index_or, All, Contains, refl, sym, ◌∙◌, ap, subst, arith}
-use Rattle.std.specs.Prelude.{Option, Some, None, is_some, if◌then◌else◌}
+use Rattle.std.proofs.Common.{◌≡◌, ℕ, ◌+◌, ◌<◌, ◌≤◌, Bool, true, false, List, [], ◌∷◌, map, length, zero, suc, slice_index, refl, sym, ap, subst, arith}
+use Rattle.std.specs.Prelude.{Option, Some, None, is_some}
 use Rattle.std.specs.List.Sorted.{IsStrictlyIncreasing}
 use Rattle.robots_text.specs.declared.groups.Group.{Group}
 use Rattle.robots_text.specs.declared.groups.Group.TheVariants.{Foreign, Heads, Rules}
-use Rattle.robots_text.specs.declared.record.RuleKind.{RuleKind}
-use Rattle.robots_text.specs.Groups.{Ruled, record_ruled, is_agent, is_rule, Governs, speaks_to, IsRuleFor, AreRulesFor}
-use Rattle.robots_text.specs.Records.{Named, everybody, token, nobody, Record, agent, rule, other, Numbered, numbered_from}
-use Rattle.robots_text.specs.Walk.{after_head, after_rule, after_record, ruled_at, onto, rules_from}
+use Rattle.robots_text.specs.Groups.{Ruled}
+use Rattle.robots_text.specs.Records.{Record, agent, rule, other, numbered_from}
+use Rattle.robots_text.specs.Walk.{after_record, ruled_at, onto, rules_from}
 
 -- the numbers of the rules that are given rise
 abbrev pub lines_of_rules : List Ruled → List ℕ

@@ -1,16 +1,13 @@
 -- The walk over the lines gives the rules for a token, and nothing else.
 -- Used by `RobotsText::rules_for`.
-use Rattle.std.proofs.Common.{◌≡◌, ℕ, ◌+◌, ◌<◌, ◌≤◌, Bool, true, false, ◌⊎◌, inl, inr, List, [], ◌∷◌, map, length, zero, suc, slice_index, slice_index_or, All, Contains, refl, sym, ◌∙◌, ap, subst, arith}
-use Rattle.std.specs.Prelude.{Option, Some, None, is_some, if◌then◌else◌}
-use Rattle.robots_text.specs.declared.groups.Group.{Group}
-use Rattle.robots_text.specs.declared.groups.Group.TheVariants.{Foreign, Heads, Rules}
-use Rattle.robots_text.specs.Groups.{Ruled, record_ruled, is_agent, is_rule, Governs, speaks_to, IsRuleFor, AreRulesFor}
-use Rattle.robots_text.specs.Records.{Named, everybody, token, nobody, Record, agent, rule, other, Numbered, numbered_from}
-use Rattle.robots_text.specs.Walk.{after_head, after_rule, after_record, ruled_at, onto, rules_from}
-use Rattle.robots_text.proofs.LineEntries.{at, entry_of, behind, first_of, none_of, numbered_above, Late, late_from, stands_at}
-use Rattle.robots_text.proofs.Reaches.{NoBreak, NoHead, Carried, Through, Reached, step_up, step_down}
+use Rattle.std.proofs.Common.{◌≡◌, ℕ, Bool, inl, inr, List, slice_index_or, refl, sym, ◌∙◌}
+use Rattle.robots_text.specs.declared.groups.Group.TheVariants.{Foreign}
+use Rattle.robots_text.specs.Groups.{Ruled, speaks_to, IsRuleFor, AreRulesFor}
+use Rattle.robots_text.specs.Records.{Record, numbered_from}
+use Rattle.robots_text.specs.Walk.{rules_from}
+use Rattle.robots_text.proofs.LineEntries.{stands_at}
 use Rattle.robots_text.proofs.Gives.{Given, gives_only, gives_every}
-use Rattle.robots_text.proofs.Rises.{lines_of_rules, rules_rise}
+use Rattle.robots_text.proofs.Rises.{rules_rise}
 
 pub is_rule_for : (test : Record → Bool) (word : List ℕ) (ks : List Record) →
     ((k : Record) → test k ≡ speaks_to (numbered_from 1 ks) word k) →

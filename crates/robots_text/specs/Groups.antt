@@ -5,7 +5,7 @@ use Rattle.std.specs.Prelude.{◌≡◌, ◌<◌, ℕ, Bool, true, false, List, 
 use Rattle.std.specs.List.{list_any}
 use Rattle.std.specs.List.Sorted.{IsStrictlyIncreasing}
 use Rattle.robots_text.specs.declared.record.RuleKind.{RuleKind}
-use Rattle.robots_text.specs.Records.{Named, everybody, token, nobody, Record, agent, rule, other, Numbered, is_same_name}
+use Rattle.robots_text.specs.Records.{everybody, token, nobody, Record, agent, rule, other, Numbered, is_same_name}
 
 -- a rule line: its number, its kind and its pattern as it stands
 pub record Ruled : Type 0 where
