@@ -1,9 +1,9 @@
 -- The text that `lines` writes, as docs/FORMATS.md has it: one line for each line of a robots text.
 -- Cited by the contracts of `lines` and of the pieces of a line.
-use Rattle.std.specs.Prelude.{ℕ, Bool, ◌+◌, ◌/◌, ◌%◌, ◌&&◌, nat_le, true, List, [], ◌∷◌, ◌++◌, codes, decimal, flat_map, if◌then◌else◌}
+use Rattle.std.specs.Prelude.{ℕ, Bool, ◌/◌, ◌%◌, ◌&&◌, nat_le, true, List, [], ◌∷◌, ◌++◌, codes, decimal, flat_map, if◌then◌else◌}
 use Rattle.std.specs.Fmt.{digit_glyph}
 use Rattle.robots_text.specs.Lines.{kept}
-use Rattle.robots_text.specs.Records.{Named, everybody, token, nobody, Record, agent, rule, other, Numbered, numbered_records}
+use Rattle.robots_text.specs.Records.{everybody, token, nobody, Record, agent, rule, other, Numbered, numbered_records}
 use Rattle.robots_text.specs.Token.{lower_case}
 use Rattle.robots_text.specs.declared.record.RuleKind.{RuleKind}
 use Rattle.robots_text.specs.declared.record.RuleKind.TheVariants.{Allow, Disallow}

@@ -1,5 +1,5 @@
 -- What was read before a fault, and at it, is a front of the input.
-use Rattle.std.proofs.Common.{◌≡◌, ◌≤◌, ◌<◌, ◌-◌, ◌+◌, ℕ, List, ◌++◌, Option, length, length-append, arith}
+use Rattle.std.proofs.Common.{◌≤◌, ◌-◌, ◌+◌, ℕ, List, ◌++◌, Option, length, length-append, arith}
 use Rattle.std.proofs.lemmas.List.{length-take}
 use Rattle.std.specs.Io.KnownBytes.{Consumes}
 use Rattle.std.proofs.KnownBytes.{Consumes-trans}

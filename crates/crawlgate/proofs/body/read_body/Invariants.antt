@@ -1,5 +1,5 @@
 -- The body so far was read, and nothing failed.
-use Rattle.std.proofs.Common.{◌≡◌, ◌≤◌, ◌-◌, length, vec_len}
+use Rattle.std.proofs.Common.{◌≡◌, ◌≤◌, ◌-◌, vec_len}
 use Rattle.std.specs.Io.KnownBytes.{Consumes}
 use Rattle.crawlgate.specs.declared.body.TheConstants.{MAX_BODY}
 use Rattle.crawlgate.proofs.body.read_body.Given as goal
