@@ -1,0 +1,2 @@
+-- What contracts say of requests and responses of HTTP/1.1.
+-- RFC 9110 and RFC 9112.
