@@ -1,2 +1,10 @@
--- What contracts say of requests and responses of HTTP/1.1.
+-- What contracts say of requests and responses of HTTP/1.1, one concept a file.
 -- RFC 9110 and RFC 9112.
+pub mod Bodies
+pub mod Chunks
+pub mod Fields
+pub mod Heads
+pub mod Left
+pub mod Messages
+pub mod Reading
+pub mod Response

@@ -2,5 +2,15 @@
 //! RFC 9110 and RFC 9112, in the profile of docs/FORMATS.md.
 #![tactic(auto)]
 
-mod chunked;
+mod body;
+mod buffer;
+mod fault;
+mod fields;
+mod framing;
+mod limits;
 mod look;
+mod response;
+
+pub use fault::WireFault;
+pub use limits::{MAX_HEAD, MAX_HEADER_LINES, MAX_INTERIM_HEADS, MAX_RAW};
+pub use response::HttpReply;

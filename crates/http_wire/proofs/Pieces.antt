@@ -1,0 +1,37 @@
+-- The pieces of a list between commas.
+-- Used by the proofs of `split_member` and of the members of a list.
+use Rattle.std.proofs.Common.{◌≡◌, refl, ◌==◌, List, ◌∷◌, [], ◌++◌, ℕ, false, map, ap, ◌∙◌, cond}
+use Rattle.std.proofs.lemmas.List.Elements.{All-head, All-tail}
+use Rattle.http_wire.specs.Fields.{pieces, onto_first, members}
+use Rattle.httparse.specs.Grammar.{trim_ows}
+use Rattle.http_wire.specs.Left.{HasNoComma}
+
+abbrev is_plain : ℕ → Type 0
+is_plain octet = (octet == 44) ≡ false
+
+step : (octet : ℕ) (text : List ℕ) → is_plain octet → pieces (octet ∷ text) ≡ onto_first octet (pieces text)
+step octet text plain = ap (λ test. cond test ([] ∷ pieces text) (onto_first octet (pieces text))) plain
+
+-- a list without a comma is one piece
+pieces_whole : (text : List ℕ) → HasNoComma text → pieces text ≡ text ∷ []
+pieces_whole [] plain = refl
+pieces_whole (octet ∷ text) plain =
+    step octet text (All-head is_plain octet text plain)
+    ∙ ap (onto_first octet) (pieces_whole text (All-tail is_plain octet text plain))
+
+-- what stands before the first comma is the first piece
+pieces_split : (front after : List ℕ) → HasNoComma front → pieces (front ++ 44 ∷ after) ≡ front ∷ pieces after
+pieces_split [] after plain = refl
+pieces_split (octet ∷ front) after plain =
+    step octet (front ++ 44 ∷ after) (All-head is_plain octet front plain)
+    ∙ ap (onto_first octet) (pieces_split front after (All-tail is_plain octet front plain))
+
+-- the same of members
+pub members_whole : (text : List ℕ) → HasNoComma text → members text ≡ trim_ows text ∷ []
+unfolding members
+members_whole text plain = ap (map trim_ows) (pieces_whole text plain)
+
+pub members_split : (front after : List ℕ) → HasNoComma front
+    → members (front ++ 44 ∷ after) ≡ trim_ows front ∷ members after
+unfolding members
+members_split front after plain = ap (map trim_ows) (pieces_split front after plain)

@@ -1,0 +1,52 @@
+-- What a body of each framing gives, where it ends too early, and where it can't be read.
+-- RFC 9112, section 6.3.
+use Rattle.std.specs.Prelude.{◌≡◌, ℕ, ◌<◌, ◌≤◌, Bool, true, false, List, [], ◌∷◌, ◌++◌, length, Ok}
+use Rattle.httparse.specs.Grammar.{ResponseHead, status_code}
+use Rattle.http_wire.specs.Fields.{framing_of}
+use Rattle.http_wire.specs.Heads.{HasFinal, fields_of}
+use Rattle.http_wire.specs.Chunks.{GivesChunked, EndsInChunked, IsBadChunked}
+use Rattle.http_wire.specs.declared.framing.Framing.{Framing}
+use Rattle.http_wire.specs.declared.framing.Framing.TheVariants.{Counted, Chunked, ToEnd}
+
+-- the first octets of the text, as many as the limit, with one more behind them
+pub record GivesFirst (limit : ℕ) (text given rest : List ℕ) : Type 0 where
+  pub last : ℕ
+  pub parts : text ≡ given ++ last ∷ rest
+  pub full : length given ≡ limit
+
+-- so many octets, or the first of them where they are more than the limit
+abbrev pub GivesCounted : ℕ → ℕ → List ℕ → List ℕ → Bool → List ℕ → Type 0
+GivesCounted size limit text given false rest = (size ≤ limit) × (length given ≡ size) × (text ≡ given ++ rest)
+GivesCounted size limit text given true rest = (limit < size) × GivesFirst limit text given rest
+
+-- the whole text, or the first octets of it where it has more than the limit
+abbrev pub GivesToEnd : ℕ → List ℕ → List ℕ → Bool → List ℕ → Type 0
+GivesToEnd limit text given false rest = (length given ≤ limit) × (text ≡ given) × (rest ≡ [])
+GivesToEnd limit text given true rest = GivesFirst limit text given rest
+
+-- what the text after a head gives as the body, whether that is cut, and the rest
+abbrev pub Gives : Framing → ℕ → List ℕ → List ℕ → Bool → List ℕ → Type 0
+Gives (Counted size) limit text given cut rest = GivesCounted size limit text given cut rest
+Gives Chunked limit text given cut rest = GivesChunked limit text given cut rest
+Gives ToEnd limit text given cut rest = GivesToEnd limit text given cut rest
+
+-- the text ends inside the body, with no more octets of it than the limit
+abbrev pub EndsInBody : Framing → ℕ → List ℕ → Type 0
+EndsInBody (Counted size) limit text = (length text < size) × (length text ≤ limit)
+EndsInBody Chunked limit text = EndsInChunked limit text
+EndsInBody ToEnd limit text = length text ≤ limit
+
+-- the body can't be read, whatever follows, and no more octets than the limit come before
+abbrev pub IsBadBody : Framing → ℕ → List ℕ → Type 0
+IsBadBody (Counted size) limit text = ⊥
+IsBadBody Chunked limit text = IsBadChunked limit text
+IsBadBody ToEnd limit text = ⊥
+
+-- the fact holds of the framing that the final head tells and of the text after it
+pub record InBody (Fact : Framing → List ℕ → Type 0) (input : List ℕ) : Type 0 where
+  pub head : ResponseHead
+  pub text : List ℕ
+  pub final : HasFinal input head text
+  pub framing : Framing
+  pub framed : framing_of (status_code head) (fields_of head) ≡ Ok framing
+  pub fact : Fact framing text

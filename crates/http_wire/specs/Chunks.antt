@@ -1,0 +1,8 @@
+-- stand-in
+use Rattle.std.specs.Prelude.{ℕ, List, Bool}
+abbrev pub GivesChunked : ℕ → List ℕ → List ℕ → Bool → List ℕ → Type 0
+GivesChunked limit text given cut rest = ⊥
+abbrev pub EndsInChunked : ℕ → List ℕ → Type 0
+EndsInChunked limit text = ⊥
+abbrev pub IsBadChunked : ℕ → List ℕ → Type 0
+IsBadChunked limit text = ⊥

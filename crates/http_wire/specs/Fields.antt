@@ -1,0 +1,106 @@
+-- What the fields of a head say of the body that follows it.
+-- RFC 9112, section 6.3; RFC 9110, sections 5.6.1, 8.4 and 8.6.
+use Rattle.std.specs.Prelude.{◌≡◌, ℕ, ◌^◌, Bool, ◌&&◌, ◌||◌, not, nat_lt, nat_le, ◌==◌, if◌then◌else◌, List, [], ◌∷◌, map, length, flat_map, codes, IsUtf8, Option, None, Some, Result, Ok, Err, bytes_eq}
+use Rattle.std.specs.List.{list_all, list_any}
+use Rattle.std.specs.Char.{is_ascii_digit, to_ascii_lowercase}
+use Rattle.std.specs.Str.Parse.{digits_value}
+use Rattle.httparse.specs.Grammar.{trim_ows}
+use Rattle.http_wire.specs.declared.fault.WireFault.{WireFault}
+use Rattle.http_wire.specs.declared.fault.WireFault.TheVariants.{BadLength, Coding}
+use Rattle.http_wire.specs.declared.framing.Framing.{Framing}
+use Rattle.http_wire.specs.declared.framing.Framing.TheVariants.{Counted, Chunked, ToEnd}
+
+-- a name and its value
+abbrev pub Pair : Type 0
+Pair = List ℕ × List ℕ
+
+-- the two texts are the same but for the case of letters
+abbrev pub is_same_word : List ℕ → List ℕ → Bool
+is_same_word a b = bytes_eq (map to_ascii_lowercase a) (map to_ascii_lowercase b)
+
+-- the value, if the field has this name in any case
+abbrev pub value_if : List ℕ → Pair → List (List ℕ)
+value_if name field = if is_same_word field.0 name then field.1 ∷ [] else []
+
+-- the values of the fields with this name, in order
+abbrev pub values_of : List ℕ → List Pair → List (List ℕ)
+values_of name fields = flat_map (value_if name) fields
+
+-- the pieces, with an octet before the first
+abbrev pub onto_first : ℕ → List (List ℕ) → List (List ℕ)
+onto_first octet [] = (octet ∷ []) ∷ []
+onto_first octet (piece ∷ pieces) = (octet ∷ piece) ∷ pieces
+
+-- the pieces between commas
+abbrev pub pieces : List ℕ → List (List ℕ)
+pieces [] = [] ∷ []
+pieces (octet ∷ value) = if octet == 44 then [] ∷ pieces value else onto_first octet (pieces value)
+
+-- the members of a list, without the white space around each; an empty one is a member
+unfoldable pub members : List ℕ → List (List ℕ)
+members value = map trim_ows (pieces value)
+
+-- the members of all fields with this name, in order
+abbrev pub members_of : List ℕ → List Pair → List (List ℕ)
+members_of name fields = flat_map members (values_of name fields)
+
+-- 1*DIGIT
+abbrev pub is_numeral : List ℕ → Bool
+is_numeral member = nat_lt 0 (length member) && list_all is_ascii_digit member
+
+-- digits of a number below 2 to the 64
+abbrev pub is_number : List ℕ → Bool
+is_number member = is_numeral member && nat_lt (digits_value 10 member) (2 ^ 64)
+
+-- the text writes this number
+abbrev pub is_number_of : ℕ → List ℕ → Bool
+is_number_of n member = is_number member && (digits_value 10 member == n)
+
+-- the number that a first member writes and that all others write too
+abbrev pub counted : List ℕ → List (List ℕ) → Result Framing WireFault
+counted member others =
+    let n = digits_value 10 member in
+    if is_number member && list_all (is_number_of n) others then Ok (Counted n) else Err BadLength
+
+-- the only coding is `chunked`
+abbrev pub chunked : List ℕ → List (List ℕ) → Result Framing WireFault
+chunked coding [] = if is_same_word coding (codes "chunked") then Ok Chunked else Err Coding
+chunked coding (_ ∷ _) = Err Coding
+
+-- how the body is framed by the members of Transfer-Encoding and of Content-Length
+abbrev pub framed_by : List (List ℕ) → List (List ℕ) → Result Framing WireFault
+framed_by [] [] = Ok ToEnd
+framed_by [] (member ∷ others) = counted member others
+framed_by (coding ∷ codings) lengths = chunked coding codings
+
+-- no body follows a head of this status
+abbrev pub is_bodiless : ℕ → Bool
+is_bodiless status = (status == 204) || (status == 304)
+
+-- how the body after a head is framed, decided in this order, or why it can't be
+abbrev pub framing_of : ℕ → List Pair → Result Framing WireFault
+framing_of status fields =
+    if is_bodiless status then Ok (Counted 0)
+    else framed_by (members_of (codes "transfer-encoding") fields) (members_of (codes "content-length") fields)
+
+-- the content is as it is
+abbrev pub is_plain : List ℕ → Bool
+is_plain coding = (length coding == 0) || is_same_word coding (codes "identity")
+
+-- some content coding is named
+abbrev pub has_coding : List Pair → Bool
+has_coding fields = list_any (λ coding. not (is_plain coding)) (values_of (codes "content-encoding") fields)
+
+-- the body would be used, and is in a content coding
+abbrev pub is_coded : ℕ → List Pair → Bool
+is_coded status fields = nat_le 200 status && (nat_lt status 300 && has_coding fields)
+
+-- the text of the first value, where there is one and it is UTF-8
+abbrev pub IsFirstText : List (List ℕ) → Option (List ℕ) → Type 0
+IsFirstText [] text = text ≡ None
+IsFirstText (value ∷ values) None = ¬ (IsUtf8 value)
+IsFirstText (value ∷ values) (Some text) = IsUtf8 value × (text ≡ value)
+
+-- where a redirect leads
+abbrev pub IsLocation : List Pair → Option (List ℕ) → Type 0
+IsLocation fields text = IsFirstText (values_of (codes "location") fields) text

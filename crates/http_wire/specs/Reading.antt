@@ -1,0 +1,70 @@
+-- What reads of a source leave, and what the parts of the reader answer of the whole input.
+-- The contracts of the reader's parts cite it.
+use Rattle.std.specs.Prelude.{◌≡◌, ◌≢◌, ℕ, ◌+◌, ◌<◌, ◌≤◌, List, ◌++◌, length, drop, take, Option, IfSome, Result, Ok, Err, ⊤}
+use Rattle.std.specs.Io.KnownBytes.{Consumes, IsAtEnd}
+use Rattle.http_wire.specs.Bodies.{Gives, EndsInBody, IsBadBody}
+use Rattle.http_wire.specs.declared.body.Body.{Body}
+use Rattle.http_wire.specs.declared.buffer.Fill.{Fill}
+use Rattle.http_wire.specs.declared.buffer.Fill.TheVariants.{More, Ended, Past}
+use Rattle.http_wire.specs.declared.fault.WireFault.{WireFault}
+use Rattle.http_wire.specs.declared.fault.WireFault.TheVariants.{EarlyEnd, BadHead, HeadTooLong, TooManyInterim, BadLength, BadChunk, Coding, Device, NoMemory, TooMuch}
+use Rattle.http_wire.specs.declared.framing.Framing.{Framing}
+use Rattle.http_wire.specs.declared.framing.Framing.TheVariants.{ToEnd}
+use Rattle.http_wire.specs.declared.limits.TheConstants.{MAX_RAW}
+
+-- the buffer has grown by what the source gave
+pub record Grows (left left' : Option (List ℕ)) (old new : List ℕ) : Type 0 where
+  pub piece : List ℕ
+  pub read : Consumes left left' piece
+  pub grown : new ≡ old ++ piece
+
+-- what a call that fills the buffer did, by its answer
+abbrev pub Fills : Option (List ℕ) → Option (List ℕ) → List ℕ → List ℕ → Fill → Type 0
+Fills left left' old new More = Grows left left' old new × (length old < length new)
+Fills left left' old new Ended = IsAtEnd left × (new ≡ old)
+Fills left left' old new Past =
+    IfSome left (λ octets. 0 < length octets) × (length old ≡ MAX_RAW) × (new ≡ old)
+
+-- the input is what was seen and then what the source has left, where that is known
+pub record IsWhole (left : Option (List ℕ)) (seen input : List ℕ) : Type 0 where
+  pub more : List ℕ
+  pub parts : input ≡ seen ++ more
+  pub known : IfSome left (λ octets. octets ≡ more)
+
+-- a body that the input has from a place on, within as many octets as a response may have
+pub record HasBody (framing : Framing) (limit start : ℕ) (input : List ℕ) (body : Body) : Type 0 where
+  pub rest : List ℕ
+  pub gives : Gives framing limit (drop start input) body.octets.items body.cut rest
+  pub within : length input ≤ MAX_RAW + length rest
+
+-- the input goes on where the body from a place on would have to have ended
+pub record GoesOn (framing : Framing) (limit start : ℕ) (input : List ℕ) : Type 0 where
+  pub more : MAX_RAW < length input
+  pub unfinished : EndsInBody framing limit (drop start (take MAX_RAW input))
+
+-- why the input gives no body from a place on, by the fault
+abbrev pub HasNoBody : WireFault → Framing → ℕ → ℕ → List ℕ → Type 0
+HasNoBody EarlyEnd framing limit start input =
+    (framing ≢ ToEnd) × EndsInBody framing limit (drop start input)
+HasNoBody BadHead framing limit start input = ⊥
+HasNoBody HeadTooLong framing limit start input = ⊥
+HasNoBody TooManyInterim framing limit start input = ⊥
+HasNoBody BadLength framing limit start input = ⊥
+HasNoBody BadChunk framing limit start input = IsBadBody framing limit (drop start input)
+HasNoBody Coding framing limit start input = ⊥
+HasNoBody Device framing limit start input = ⊤
+HasNoBody NoMemory framing limit start input = ⊤
+HasNoBody TooMuch framing limit start input = GoesOn framing limit start input
+
+-- what a call answers of the body that the input has from a place on
+abbrev pub TellsBody : Framing → ℕ → ℕ → List ℕ → Result Body WireFault → Type 0
+TellsBody framing limit start input (Ok body) = HasBody framing limit start input body
+TellsBody framing limit start input (Err fault) = HasNoBody fault framing limit start input
+
+-- the same, of some input that begins with what was seen
+pub record ReadsBody
+    (framing : Framing) (limit start : ℕ) (left : Option (List ℕ)) (seen : List ℕ)
+    (result : Result Body WireFault) : Type 0 where
+  pub input : List ℕ
+  pub whole : IsWhole left seen input
+  pub tells : TellsBody framing limit start input result

@@ -1,0 +1,120 @@
+-- What a response gives, and the cause of each fault, both of the whole input.
+-- RFC 9112, sections 2 and 6.
+use Rattle.std.specs.Prelude.{◌≡◌, ◌≢◌, ℕ, ◌+◌, ◌<◌, ◌≤◌, ◌⊎◌, Bool, false, true, List, length, take, Option, IfSome, Result, Ok, Err, ⊤, option_map}
+use Rattle.httparse.specs.Grammar.{ResponseHead, status_code}
+use Rattle.std.specs.String.{string_bytes}
+use Rattle.counted_io.specs.Device.{one_more}
+use Rattle.http_wire.specs.Fields.{framing_of, is_coded, IsLocation}
+use Rattle.http_wire.specs.Heads.{AfterInterims, HasFinal, IsBadHead, IsLongHead, EndsInHead, HasTooManyInterim, fields_of}
+use Rattle.http_wire.specs.Bodies.{Gives, EndsInBody, IsBadBody, InBody}
+use Rattle.http_wire.specs.declared.fault.WireFault.{WireFault}
+use Rattle.http_wire.specs.declared.fault.WireFault.TheVariants.{EarlyEnd, BadHead, HeadTooLong, TooManyInterim, BadLength, BadChunk, Coding, Device, NoMemory, TooMuch}
+use Rattle.http_wire.specs.declared.framing.Framing.{Framing}
+use Rattle.http_wire.specs.declared.framing.Framing.TheVariants.{ToEnd}
+use Rattle.http_wire.specs.declared.limits.TheConstants.{MAX_RAW}
+use Rattle.http_wire.specs.declared.response.HttpReply.{HttpReply}
+
+-- what a reader of the response is told
+pub record Reply : Type 0 where
+  pub status : ℕ
+  pub location : Option (List ℕ)
+  pub body : List ℕ
+  pub cut : Bool
+
+-- the input is interim heads, a final head, a body that gives the reply's, and the rest
+pub record GivesReply (input : List ℕ) (limit : ℕ) (reply : Reply) (rest : List ℕ) : Type 0 where
+  pub head : ResponseHead
+  pub text : List ℕ
+  pub final : HasFinal input head text
+  pub framing : Framing
+  pub framed : framing_of (status_code head) (fields_of head) ≡ Ok framing
+  pub plain : is_coded (status_code head) (fields_of head) ≡ false
+  pub gives : Gives framing limit text reply.body reply.cut rest
+  pub status : reply.status ≡ status_code head
+  pub location : IsLocation (fields_of head) reply.location
+
+-- the reply stands within as many octets as a response may have
+pub record Response (input : List ℕ) (limit : ℕ) (reply : Reply) : Type 0 where
+  pub rest : List ℕ
+  pub gives : GivesReply input limit reply rest
+  pub within : length input ≤ MAX_RAW + length rest
+
+-- the fact holds of the final head
+pub record AtFinal (Fact : ResponseHead → Type 0) (input : List ℕ) : Type 0 where
+  pub head : ResponseHead
+  pub text : List ℕ
+  pub final : HasFinal input head text
+  pub fact : Fact head
+
+-- the head's fields tell no framing, for this reason
+abbrev pub IsUnframed : WireFault → ResponseHead → Type 0
+IsUnframed fault head = framing_of (status_code head) (fields_of head) ≡ Err fault
+
+-- the body is in a coding that is not read
+abbrev pub IsInCoding : ResponseHead → Type 0
+IsInCoding head =
+    (is_coded (status_code head) (fields_of head) ≡ true) ⊎ IsUnframed Coding head
+
+-- the text ends inside a head or inside the body
+abbrev pub EndsInside : List ℕ → ℕ → Type 0
+EndsInside text limit =
+    AfterInterims EndsInHead text ⊎ InBody (λ framing after. EndsInBody framing limit after) text
+
+-- the input ends inside a head, or inside a body that its end does not end
+abbrev pub EndsEarly : List ℕ → ℕ → Type 0
+EndsEarly input limit =
+    AfterInterims EndsInHead input
+    ⊎ InBody (λ framing after. (framing ≢ ToEnd) × EndsInBody framing limit after) input
+
+-- the input goes on where a response would have to have ended
+pub record IsTooMuch (input : List ℕ) (limit : ℕ) : Type 0 where
+  pub more : MAX_RAW < length input
+  pub unfinished : EndsInside (take MAX_RAW input) limit
+
+-- why no reply is given, by the fault
+abbrev pub Cause : WireFault → List ℕ → ℕ → Type 0
+Cause EarlyEnd input limit = EndsEarly input limit
+Cause BadHead input limit = AfterInterims IsBadHead input
+Cause HeadTooLong input limit = AfterInterims IsLongHead input
+Cause TooManyInterim input limit = HasTooManyInterim input
+Cause BadLength input limit = AtFinal (IsUnframed BadLength) input
+Cause BadChunk input limit = InBody (λ framing after. IsBadBody framing limit after) input
+Cause Coding input limit = AtFinal IsInCoding input
+Cause Device input limit = ⊤
+Cause NoMemory input limit = ⊤
+Cause TooMuch input limit = IsTooMuch input limit
+
+-- the reply that the code's value writes
+abbrev pub reply_of : HttpReply → Reply
+reply_of reply = record { status = reply.status; location = option_map string_bytes reply.location; body = reply.body.items; cut = reply.cut }
+
+-- what a call answers of this input: its reply, or a fault whose cause stands
+abbrev pub Answers : List ℕ → ℕ → Result HttpReply WireFault → Type 0
+Answers input limit (Ok reply) = Response input limit (reply_of reply)
+Answers input limit (Err fault) = Cause fault input limit
+
+-- the call answers of some input, which is what the source has left where that is known
+pub record Tells (left : Option (List ℕ)) (limit : ℕ) (result : Result HttpReply WireFault) : Type 0 where
+  pub input : List ℕ
+  pub whole : IfSome left (λ octets. octets ≡ input)
+  pub answers : Answers input limit result
+
+-- the call gives this reply, or neither memory nor the device sufficed
+abbrev pub GivesOrStops : Reply → Result HttpReply WireFault → Type 0
+GivesOrStops reply (Ok given) = reply_of given ≡ reply
+GivesOrStops reply (Err fault) = (fault ≡ Device) ⊎ (fault ≡ NoMemory)
+
+-- a reply that stands in what the source has left is given
+abbrev pub Finds : Option (List ℕ) → ℕ → Result HttpReply WireFault → Type 0
+Finds left limit result =
+    IfSome left (λ input. (reply : Reply) → Response input limit reply → GivesOrStops reply result)
+
+-- one failure more at a fault of the device
+abbrev pub failures_after_fault : ℕ → WireFault → ℕ
+failures_after_fault failures Device = one_more failures
+failures_after_fault failures _ = failures
+
+-- the count of the device's failures after a call that gave this
+abbrev pub failures_after_reading : {T : Type 0} → ℕ → Result T WireFault → ℕ
+failures_after_reading failures (Ok _) = failures
+failures_after_reading failures (Err fault) = failures_after_fault failures fault

@@ -1,0 +1,132 @@
+//! The octets that have come, and reads of more.
+//! A response is read into one buffer, so that what was read can be looked at again.
+ghost use Rattle.std.specs.Io.KnownBytes.{IsAtEnd};
+ghost use Rattle.std.specs.Prelude.{◌≡◌, ◌≤◌, ◌<◌, ◌+◌, Ok, ◌⊎◌, [], Err, length, take, IfOk, OnOk, OnErr, vec_len};
+ghost use Rattle.http_wire.specs.Reading.{Fills, Grows};
+ghost use Rattle.http_wire.specs.Response.{failures_after_reading};
+
+use crate::fault::WireFault;
+use crate::limits::MAX_RAW;
+use counted_io::Source;
+use std::alloc::{AllocError, Global};
+use std::marker::Model;
+
+/// How many octets the first read asks for.
+const FIRST_READ: usize = 16_384;
+
+/// What a read gave.
+#[derive(Clone, Copy, Debug, PartialEq, Eq)]
+pub(crate) enum Fill {
+    /// More octets.
+    More,
+    /// The end of the input.
+    Ended,
+    /// An octet past the last that a response may have. It was not kept.
+    Past,
+}
+
+/// The octets that have come, at most `MAX_RAW`. Behind them is room for the next read.
+#[derive(Debug, Drop)]
+pub(crate) struct Buffer {
+    room: Vec<u8>,
+    end: usize,
+}
+
+impl Model for Buffer {
+    ghost use Rattle.std.specs.Prelude.{◌≤◌, ℕ, List, take, vec_len};
+    ghost use Rattle.http_wire.specs.declared.limits.TheConstants.{MAX_RAW};
+
+    ghost Value = { List ℕ };
+
+    ghost view = { λ buffer. take buffer.end buffer.room.items };
+
+    ghost invariant = { λ buffer. (buffer.end ≤ vec_len buffer.room)
+        × (vec_len buffer.room ≤ MAX_RAW) };
+}
+
+impl Buffer {
+    /// An empty buffer, which takes no memory yet.
+    pub(crate) fn new(alloc: Global) -> Buffer
+        ensures { result ≡ [] }
+    {
+        Buffer {
+            room: Vec::new(alloc),
+            end: 0,
+        }
+    }
+
+    /// The octets that have come.
+    pub(crate) fn octets(&self) -> &[u8]
+        ensures value { result.now ≡ self.now }
+        ensures within { length self.now ≤ MAX_RAW }
+    {
+        &self.room[..self.end]
+    }
+
+    /// Reads more octets behind those that have come, as many as one read gives.
+    pub(crate) fn fill<S: Source>(&mut self, source: &mut S) -> Result<Fill, WireFault>
+        ensures ok { IfOk result (λ fill.
+            Fills (S.left source.old) (S.left source.new) self.old self.new fill) }
+        ensures count { S.failures source.new ≡ failures_after_reading (S.failures source.old) result }
+        ensures err { OnErr result ((result ≡ Err WireFault.Device) ⊎ (result ≡ Err WireFault.NoMemory)) }
+    {
+        if self.end == MAX_RAW {
+            return self.look_past(source);
+        }
+        make_room(&mut self.room, self.end)?;
+        let count = read_behind(source, self.room.as_mut_slice(), self.end)?;
+        self.end += count;
+        if count == 0 {
+            Ok(Fill::Ended)
+        } else {
+            Ok(Fill::More)
+        }
+    }
+
+    // Whether the input goes on behind a full buffer.
+    fn look_past<S: Source>(&self, source: &mut S) -> Result<Fill, WireFault>
+        requires { length self.now ≡ MAX_RAW }
+        ensures ok { IfOk result (λ fill.
+            Fills (S.left source.old) (S.left source.new) self.now self.now fill) }
+        ensures count { S.failures source.new ≡ failures_after_reading (S.failures source.old) result }
+        ensures err { OnErr result (result ≡ Err WireFault.Device) }
+    {
+        match source.read(&mut [0]) {
+            Ok(0) => Ok(Fill::Ended),
+            Ok(_) => Ok(Fill::Past),
+            Err(_) => Err(WireFault::Device),
+        }
+    }
+}
+
+// Room for at least one octet behind the first `end`, twice as much as before where it was full.
+fn make_room(room: &mut Vec<u8>, end: usize) -> Result<(), AllocError>
+    requires within { end ≤ vec_len room.old }
+    requires not_full { end < MAX_RAW }
+    requires small { vec_len room.old ≤ MAX_RAW }
+    ensures kept { take end room.new.items ≡ take end room.old.items }
+    ensures more { OnOk result (end < vec_len room.new) }
+    ensures bounds { (end ≤ vec_len room.new) × (vec_len room.new ≤ MAX_RAW) }
+{
+    if end == room.len() {
+        room.resize((end * 2).clamp(FIRST_READ, MAX_RAW), 0)?;
+    }
+    Ok(())
+}
+
+// Reads into the room behind the first `end` octets, and says how many octets came.
+fn read_behind<S: Source>(source: &mut S, room: &mut [u8], end: usize) -> Result<usize, WireFault>
+    requires { end < length room.old }
+    ensures ok { IfOk result (λ count. end + count ≤ length room.new
+        × Grows (S.left source.old) (S.left source.new)
+            (take end room.old) (take (end + count) room.new)) }
+    ensures ended { result ≡ Ok 0 → IsAtEnd (S.left source.old) }
+    ensures kept { (length room.new ≡ length room.old) × (take end room.new ≡ take end room.old) }
+    ensures count { S.failures source.new ≡ failures_after_reading (S.failures source.old) result }
+    ensures err { OnErr result (result ≡ Err WireFault.Device) }
+{
+    match source.read(&mut room[end..]) {
+        Ok(count) => Ok(count),
+        Err(_) => Err(WireFault::Device),
+    }
+}

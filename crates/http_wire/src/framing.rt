@@ -1,0 +1,136 @@
+//! Where the body of a response ends.
+//! RFC 9112, section 6.3.
+ghost use Rattle.std.specs.Prelude.{◌≡◌, if◌then◌else◌, Option, Some, None, MatchOption, true, false};
+ghost use Rattle.std.specs.List.{list_all};
+ghost use Rattle.std.specs.Char.{is_ascii_digit};
+ghost use Rattle.std.specs.Str.Parse.{digits_value};
+ghost use Rattle.http_wire.specs.Fields.{chunked, counted, framing_of, has_coding, is_coded, is_number, is_number_of, is_numeral, is_plain, IsLocation};
+ghost use Rattle.http_wire.specs.Left.{members_left, pairs, text_of};
+
+use crate::fault::WireFault;
+use crate::fields::{Field, Members, Values, is_same_word};
+
+/// What tells where a body ends.
+#[derive(Clone, Copy, Debug, PartialEq, Eq)]
+pub(crate) enum Framing {
+    /// It has so many octets.
+    Counted(u64),
+    /// Its chunks do.
+    Chunked,
+    /// The end of the input does.
+    ToEnd,
+}
+
+/// The framing of the body that follows a head.
+pub(crate) fn framing_of(status: u16, fields: &[Field<'_>]) -> Result<Framing, WireFault>
+    ensures { result ≡ framing_of status (pairs fields.now) }
+{
+    if status == 204 || status == 304 {
+        return Ok(Framing::Counted(0));
+    }
+    let mut codings = Members::of(fields, b"transfer-encoding");
+    if let Some(coding) = codings.next() {
+        return chunked(coding, codings);
+    }
+    let mut lengths = Members::of(fields, b"content-length");
+    match lengths.next() {
+        Some(length) => counted(length, lengths),
+        None => Ok(Framing::ToEnd),
+    }
+}
+
+// The framing by a first coding and the others.
+fn chunked(coding: &[u8], mut others: Members<'_>) -> Result<Framing, WireFault>
+    ensures { result ≡ chunked coding.now (members_left others.entry) }
+{
+    if others.next().is_none() && is_same_word(coding, b"chunked") {
+        Ok(Framing::Chunked)
+    } else {
+        Err(WireFault::Coding)
+    }
+}
+
+// The framing by a first length and the others.
+fn counted(length: &[u8], others: Members<'_>) -> Result<Framing, WireFault>
+    ensures { result ≡ counted length.now (members_left others.entry) }
+{
+    match number_of(length) {
+        Some(size) if are_all(size, others) => Ok(Framing::Counted(size)),
+        _ => Err(WireFault::BadLength),
+    }
+}
+
+fn are_all(number: u64, mut members: Members<'_>) -> bool
+    ensures { result ≡ list_all (is_number_of number) (members_left members.entry) }
+{
+    members.all(|member| is_number_of(number, member))
+}
+
+fn is_number_of(number: u64, member: &[u8]) -> bool
+    ensures { result ≡ is_number_of number member.now }
+{
+    number_of(member) == Some(number)
+}
+
+// The number that a member writes in digits.
+fn number_of(member: &[u8]) -> Option<u64>
+    ensures { result ≡ (if is_number member.now then Some (digits_value 10 member.now) else None) }
+{
+    match numeral_of(member) {
+        Some(text) => text.parse().ok(),
+        None => None,
+    }
+}
+
+// The member as a text, where it is digits: `parse` would take a sign.
+fn numeral_of(member: &[u8]) -> Option<&str>
+    ensures { MatchOption result (is_numeral member.now ≡ false)
+        (λ text. (text.now ≡ member.now) × (is_numeral member.now ≡ true)) }
+{
+    if !is_numeral(member) {
+        return None;
+    }
+    match str::from_utf8(member) {
+        Ok(text) => Some(text),
+        Err(_) => None,
+    }
+}
+
+fn is_numeral(member: &[u8]) -> bool
+    ensures { result ≡ is_numeral member.now }
+{
+    !member.is_empty() && are_digits(member)
+}
+
+fn are_digits(member: &[u8]) -> bool
+    ensures { result ≡ list_all is_ascii_digit member.now }
+{
+    member.iter().all(|octet| octet.is_ascii_digit())
+}
+
+/// Whether the body would be used and is in a content coding.
+pub(crate) fn is_coded(status: u16, fields: &[Field<'_>]) -> bool
+    ensures { result ≡ is_coded status (pairs fields.now) }
+{
+    status >= 200 && status < 300 && has_coding(fields)
+}
+
+fn has_coding(fields: &[Field<'_>]) -> bool
+    ensures { result ≡ has_coding (pairs fields.now) }
+{
+    Values::of(fields, b"content-encoding").any(|coding| !is_plain(coding))
+}
+
+fn is_plain(coding: &[u8]) -> bool
+    ensures { result ≡ is_plain coding.now }
+{
+    coding.is_empty() || is_same_word(coding, b"identity")
+}
+
+/// The text of the first Location field, where that is UTF-8.
+pub(crate) fn location_of<'h>(fields: &'h [Field<'h>]) -> Option<&'h str>
+    ensures { IsLocation (pairs fields.now) (text_of result) }
+{
+    let value = Values::of(fields, b"location").next()?;
+    str::from_utf8(value).ok()
+}
