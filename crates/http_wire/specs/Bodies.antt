@@ -1,10 +1,10 @@
 -- What a body of each framing gives, where it ends too early, and where it can't be read.
 -- RFC 9112, section 6.3.
-use Rattle.std.specs.Prelude.{◌≡◌, ℕ, ◌<◌, ◌≤◌, Bool, true, false, List, [], ◌∷◌, ◌++◌, length, Ok}
+use Rattle.std.specs.Prelude.{◌≡◌, ℕ, ◌<◌, ◌≤◌, ◌⊎◌, Bool, true, false, List, [], ◌∷◌, ◌++◌, length, Ok}
 use Rattle.httparse.specs.Grammar.{ResponseHead, status_code}
 use Rattle.http_wire.specs.Fields.{framing_of}
 use Rattle.http_wire.specs.Heads.{HasFinal, fields_of}
-use Rattle.http_wire.specs.Chunks.{GivesChunked, EndsInChunked, IsBadChunked}
+use Rattle.http_wire.specs.Chunks.{GivesChunked, EndsInChunked, EndsTooLong, IsRefusedChunked}
 use Rattle.http_wire.specs.declared.framing.Framing.{Framing}
 use Rattle.http_wire.specs.declared.framing.Framing.TheVariants.{Counted, Chunked, ToEnd}
 
@@ -30,16 +30,22 @@ Gives (Counted size) limit text given cut rest = GivesCounted size limit text gi
 Gives Chunked limit text given cut rest = GivesChunked limit text given cut rest
 Gives ToEnd limit text given cut rest = GivesToEnd limit text given cut rest
 
--- the text ends inside the body, with no more octets of it than the limit
+-- the text ends before the body does, with no more octets of it than the limit
 abbrev pub EndsInBody : Framing → ℕ → List ℕ → Type 0
 EndsInBody (Counted size) limit text = (length text < size) × (length text ≤ limit)
 EndsInBody Chunked limit text = EndsInChunked limit text
-EndsInBody ToEnd limit text = length text ≤ limit
+EndsInBody ToEnd limit text = ⊥
 
--- the body can't be read, whatever follows, and no more octets than the limit come before
+-- the text is a front of the body, with no more octets of it than the limit, and what follows belongs to it
+abbrev pub IsBodyFront : Framing → ℕ → List ℕ → Type 0
+IsBodyFront (Counted size) limit text = (length text < size) × (length text ≤ limit)
+IsBodyFront Chunked limit text = EndsInChunked limit text ⊎ EndsTooLong limit text
+IsBodyFront ToEnd limit text = length text ≤ limit
+
+-- the body can't be read, and no more octets than the limit come before
 abbrev pub IsBadBody : Framing → ℕ → List ℕ → Type 0
 IsBadBody (Counted size) limit text = ⊥
-IsBadBody Chunked limit text = IsBadChunked limit text
+IsBadBody Chunked limit text = IsRefusedChunked limit text
 IsBadBody ToEnd limit text = ⊥
 
 -- the fact holds of the framing that the final head tells and of the text after it

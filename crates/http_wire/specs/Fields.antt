@@ -5,10 +5,10 @@ use Rattle.std.specs.List.{list_all, list_any}
 use Rattle.std.specs.Char.{is_ascii_digit, to_ascii_lowercase}
 use Rattle.std.specs.Str.Parse.{digits_value}
 use Rattle.httparse.specs.Grammar.{trim_ows}
-use Rattle.http_wire.specs.declared.fault.WireFault.{WireFault}
-use Rattle.http_wire.specs.declared.fault.WireFault.TheVariants.{BadLength, Coding}
 use Rattle.http_wire.specs.declared.framing.Framing.{Framing}
 use Rattle.http_wire.specs.declared.framing.Framing.TheVariants.{Counted, Chunked, ToEnd}
+use Rattle.http_wire.specs.declared.framing.Unframed.{Unframed}
+use Rattle.http_wire.specs.declared.framing.Unframed.TheVariants.{BadLength, OtherCoding}
 
 -- a name and its value
 abbrev pub Pair : Type 0
@@ -57,18 +57,18 @@ abbrev pub is_number_of : ℕ → List ℕ → Bool
 is_number_of n member = is_number member && (digits_value 10 member == n)
 
 -- the number that a first member writes and that all others write too
-abbrev pub counted : List ℕ → List (List ℕ) → Result Framing WireFault
+abbrev pub counted : List ℕ → List (List ℕ) → Result Framing Unframed
 counted member others =
     let n = digits_value 10 member in
     if is_number member && list_all (is_number_of n) others then Ok (Counted n) else Err BadLength
 
 -- the only coding is `chunked`
-abbrev pub chunked : List ℕ → List (List ℕ) → Result Framing WireFault
-chunked coding [] = if is_same_word coding (codes "chunked") then Ok Chunked else Err Coding
-chunked coding (_ ∷ _) = Err Coding
+abbrev pub chunked : List ℕ → List (List ℕ) → Result Framing Unframed
+chunked coding [] = if is_same_word coding (codes "chunked") then Ok Chunked else Err OtherCoding
+chunked coding (_ ∷ _) = Err OtherCoding
 
 -- how the body is framed by the members of Transfer-Encoding and of Content-Length
-abbrev pub framed_by : List (List ℕ) → List (List ℕ) → Result Framing WireFault
+abbrev pub framed_by : List (List ℕ) → List (List ℕ) → Result Framing Unframed
 framed_by [] [] = Ok ToEnd
 framed_by [] (member ∷ others) = counted member others
 framed_by (coding ∷ codings) lengths = chunked coding codings
@@ -78,7 +78,7 @@ abbrev pub is_bodiless : ℕ → Bool
 is_bodiless status = (status == 204) || (status == 304)
 
 -- how the body after a head is framed, decided in this order, or why it can't be
-abbrev pub framing_of : ℕ → List Pair → Result Framing WireFault
+abbrev pub framing_of : ℕ → List Pair → Result Framing Unframed
 framing_of status fields =
     if is_bodiless status then Ok (Counted 0)
     else framed_by (members_of (codes "transfer-encoding") fields) (members_of (codes "content-length") fields)

@@ -3,6 +3,7 @@
 pub mod Bodies
 pub mod Chunks
 pub mod Fields
+pub mod Finding
 pub mod Heads
 pub mod Left
 pub mod Messages

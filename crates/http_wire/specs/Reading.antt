@@ -2,7 +2,7 @@
 -- The contracts of the reader's parts cite it.
 use Rattle.std.specs.Prelude.{◌≡◌, ◌≢◌, ℕ, ◌+◌, ◌<◌, ◌≤◌, List, ◌++◌, length, drop, take, Option, IfSome, Result, Ok, Err, ⊤}
 use Rattle.std.specs.Io.KnownBytes.{Consumes, IsAtEnd}
-use Rattle.http_wire.specs.Bodies.{Gives, EndsInBody, IsBadBody}
+use Rattle.http_wire.specs.Bodies.{Gives, EndsInBody, IsBodyFront, IsBadBody}
 use Rattle.http_wire.specs.declared.body.Body.{Body}
 use Rattle.http_wire.specs.declared.buffer.Fill.{Fill}
 use Rattle.http_wire.specs.declared.buffer.Fill.TheVariants.{More, Ended, Past}
@@ -40,12 +40,11 @@ pub record HasBody (framing : Framing) (limit start : ℕ) (input : List ℕ) (b
 -- the input goes on where the body from a place on would have to have ended
 pub record GoesOn (framing : Framing) (limit start : ℕ) (input : List ℕ) : Type 0 where
   pub more : MAX_RAW < length input
-  pub unfinished : EndsInBody framing limit (drop start (take MAX_RAW input))
+  pub front : IsBodyFront framing limit (drop start (take MAX_RAW input))
 
 -- why the input gives no body from a place on, by the fault
 abbrev pub HasNoBody : WireFault → Framing → ℕ → ℕ → List ℕ → Type 0
-HasNoBody EarlyEnd framing limit start input =
-    (framing ≢ ToEnd) × EndsInBody framing limit (drop start input)
+HasNoBody EarlyEnd framing limit start input = EndsInBody framing limit (drop start input)
 HasNoBody BadHead framing limit start input = ⊥
 HasNoBody HeadTooLong framing limit start input = ⊥
 HasNoBody TooManyInterim framing limit start input = ⊥

@@ -6,11 +6,11 @@ use Rattle.std.specs.String.{string_bytes}
 use Rattle.counted_io.specs.Device.{one_more}
 use Rattle.http_wire.specs.Fields.{framing_of, is_coded, IsLocation}
 use Rattle.http_wire.specs.Heads.{AfterInterims, HasFinal, IsBadHead, IsLongHead, EndsInHead, HasTooManyInterim, fields_of}
-use Rattle.http_wire.specs.Bodies.{Gives, EndsInBody, IsBadBody, InBody}
+use Rattle.http_wire.specs.Bodies.{Gives, EndsInBody, IsBodyFront, IsBadBody, InBody}
 use Rattle.http_wire.specs.declared.fault.WireFault.{WireFault}
 use Rattle.http_wire.specs.declared.fault.WireFault.TheVariants.{EarlyEnd, BadHead, HeadTooLong, TooManyInterim, BadLength, BadChunk, Coding, Device, NoMemory, TooMuch}
 use Rattle.http_wire.specs.declared.framing.Framing.{Framing}
-use Rattle.http_wire.specs.declared.framing.Framing.TheVariants.{ToEnd}
+use Rattle.http_wire.specs.declared.framing.Unframed.TheVariants as Unframed
 use Rattle.http_wire.specs.declared.limits.TheConstants.{MAX_RAW}
 use Rattle.http_wire.specs.declared.response.HttpReply.{HttpReply}
 
@@ -28,7 +28,7 @@ pub record GivesReply (input : List ℕ) (limit : ℕ) (reply : Reply) (rest : L
   pub final : HasFinal input head text
   pub framing : Framing
   pub framed : framing_of (status_code head) (fields_of head) ≡ Ok framing
-  pub plain : is_coded (status_code head) (fields_of head) ≡ false
+  pub uncoded : is_coded (status_code head) (fields_of head) ≡ false
   pub gives : Gives framing limit text reply.body reply.cut rest
   pub status : reply.status ≡ status_code head
   pub location : IsLocation (fields_of head) reply.location
@@ -46,30 +46,26 @@ pub record AtFinal (Fact : ResponseHead → Type 0) (input : List ℕ) : Type 0 
   pub final : HasFinal input head text
   pub fact : Fact head
 
--- the head's fields tell no framing, for this reason
-abbrev pub IsUnframed : WireFault → ResponseHead → Type 0
-IsUnframed fault head = framing_of (status_code head) (fields_of head) ≡ Err fault
+-- the fields of the head tell no length
+abbrev pub HasBadLength : ResponseHead → Type 0
+HasBadLength head = framing_of (status_code head) (fields_of head) ≡ Err Unframed.BadLength
 
 -- the body is in a coding that is not read
 abbrev pub IsInCoding : ResponseHead → Type 0
 IsInCoding head =
-    (is_coded (status_code head) (fields_of head) ≡ true) ⊎ IsUnframed Coding head
+    (is_coded (status_code head) (fields_of head) ≡ true)
+    ⊎ (framing_of (status_code head) (fields_of head) ≡ Err Unframed.OtherCoding)
 
--- the text ends inside a head or inside the body
-abbrev pub EndsInside : List ℕ → ℕ → Type 0
-EndsInside text limit =
-    AfterInterims EndsInHead text ⊎ InBody (λ framing after. EndsInBody framing limit after) text
-
--- the input ends inside a head, or inside a body that its end does not end
+-- the input ends inside a head, or before the body does
 abbrev pub EndsEarly : List ℕ → ℕ → Type 0
 EndsEarly input limit =
     AfterInterims EndsInHead input
-    ⊎ InBody (λ framing after. (framing ≢ ToEnd) × EndsInBody framing limit after) input
+    ⊎ InBody (λ framing after. EndsInBody framing limit after) input
 
 -- the input goes on where a response would have to have ended
 pub record IsTooMuch (input : List ℕ) (limit : ℕ) : Type 0 where
   pub more : MAX_RAW < length input
-  pub unfinished : EndsInside (take MAX_RAW input) limit
+  pub front : InBody (λ framing after. IsBodyFront framing limit after) (take MAX_RAW input)
 
 -- why no reply is given, by the fault
 abbrev pub Cause : WireFault → List ℕ → ℕ → Type 0
@@ -77,7 +73,7 @@ Cause EarlyEnd input limit = EndsEarly input limit
 Cause BadHead input limit = AfterInterims IsBadHead input
 Cause HeadTooLong input limit = AfterInterims IsLongHead input
 Cause TooManyInterim input limit = HasTooManyInterim input
-Cause BadLength input limit = AtFinal (IsUnframed BadLength) input
+Cause BadLength input limit = AtFinal HasBadLength input
 Cause BadChunk input limit = InBody (λ framing after. IsBadBody framing limit after) input
 Cause Coding input limit = AtFinal IsInCoding input
 Cause Device input limit = ⊤

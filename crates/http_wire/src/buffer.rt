@@ -119,7 +119,7 @@ fn read_behind<S: Source>(source: &mut S, room: &mut [u8], end: usize) -> Result
     requires { end < length room.old }
     ensures ok { IfOk result (λ count. end + count ≤ length room.new
         × Grows (S.left source.old) (S.left source.new)
-            (take end room.old) (take (end + count) room.new)) }
+        (take end room.old) (take (end + count) room.new)) }
     ensures ended { result ≡ Ok 0 → IsAtEnd (S.left source.old) }
     ensures kept { (length room.new ≡ length room.old) × (take end room.new ≡ take end room.old) }
     ensures count { S.failures source.new ≡ failures_after_reading (S.failures source.old) result }

@@ -104,7 +104,7 @@ impl<'h> Members<'h> {
         ensures { MatchOption result
             ((members_left self.old ≡ []) × (members_left self.new ≡ []))
             (λ list. members_left self.old
-                ≡ members list.now ++ flat_map members (values_left self.new.values)) }
+            ≡ members list.now ++ flat_map members (values_left self.new.values)) }
     {
         match self.rest {
             Some(rest) => Some(rest),

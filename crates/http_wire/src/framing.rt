@@ -7,7 +7,6 @@ ghost use Rattle.std.specs.Str.Parse.{digits_value};
 ghost use Rattle.http_wire.specs.Fields.{chunked, counted, framing_of, has_coding, is_coded, is_number, is_number_of, is_numeral, is_plain, IsLocation};
 ghost use Rattle.http_wire.specs.Left.{members_left, pairs, text_of};
 
-use crate::fault::WireFault;
 use crate::fields::{Field, Members, Values, is_same_word};
 
 /// What tells where a body ends.
@@ -21,8 +20,17 @@ pub(crate) enum Framing {
     ToEnd,
 }
 
+/// Why the fields of a head tell no framing.
+#[derive(Clone, Copy, Debug, PartialEq, Eq)]
+pub(crate) enum Unframed {
+    /// The members of Content-Length are not all the same number below 2 to the 64.
+    BadLength,
+    /// The body is in another transfer coding than `chunked`.
+    OtherCoding,
+}
+
 /// The framing of the body that follows a head.
-pub(crate) fn framing_of(status: u16, fields: &[Field<'_>]) -> Result<Framing, WireFault>
+pub(crate) fn framing_of(status: u16, fields: &[Field<'_>]) -> Result<Framing, Unframed>
     ensures { result ≡ framing_of status (pairs fields.now) }
 {
     if status == 204 || status == 304 {
@@ -40,23 +48,23 @@ pub(crate) fn framing_of(status: u16, fields: &[Field<'_>]) -> Result<Framing, W
 }
 
 // The framing by a first coding and the others.
-fn chunked(coding: &[u8], mut others: Members<'_>) -> Result<Framing, WireFault>
+fn chunked(coding: &[u8], mut others: Members<'_>) -> Result<Framing, Unframed>
     ensures { result ≡ chunked coding.now (members_left others.entry) }
 {
     if others.next().is_none() && is_same_word(coding, b"chunked") {
         Ok(Framing::Chunked)
     } else {
-        Err(WireFault::Coding)
+        Err(Unframed::OtherCoding)
     }
 }
 
 // The framing by a first length and the others.
-fn counted(length: &[u8], others: Members<'_>) -> Result<Framing, WireFault>
+fn counted(length: &[u8], others: Members<'_>) -> Result<Framing, Unframed>
     ensures { result ≡ counted length.now (members_left others.entry) }
 {
     match number_of(length) {
         Some(size) if are_all(size, others) => Ok(Framing::Counted(size)),
-        _ => Err(WireFault::BadLength),
+        _ => Err(Unframed::BadLength),
     }
 }
 

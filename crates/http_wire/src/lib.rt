@@ -4,9 +4,11 @@
 
 mod body;
 mod buffer;
+mod empty_line;
 mod fault;
 mod fields;
 mod framing;
+mod head;
 mod limits;
 mod look;
 mod response;

@@ -1,0 +1,315 @@
+-- What a look at a head tells of the input, whatever follows.
+-- Used by the proofs of `HeadFinder`.
+use Rattle.std.proofs.Common.{◌≡◌, ◌≢◌, ℕ, ◌+◌, ◌*◌, ◌<◌, ◌≤◌, ◌⊎◌, ◌-◌, Bool, true, false, List, [], ◌∷◌, ◌++◌, length, map, take, drop, All, refl, sym, ap, subst, ◌∙◌, arith, append_assoc, append-nil, length-append, length-take, length-drop, take-append-drop, inl, inr}
+use Rattle.std.proofs.Math.Seq.{take-append-add, drop-append_seam}
+use Rattle.std.specs.Prelude.{IsTrue, ◌||◌}
+use Rattle.std.specs.List.{flat_map}
+use Rattle.std.proofs.lemmas.List.{take_all, take-append-le, length-take-le, drop-append-le, drop-drop}
+use Rattle.std.proofs.lemmas.List.Elements.{All-push}
+use Rattle.std.proofs.lemmas.List.{flat_map_more}
+use Rattle.httparse.specs.Grammar.{ResponseHead, IsResponseHead, print_response, status_code, ReadsResponse, HasNoResponse, NeverHasResponse, MayBecomeResponse}
+use Rattle.httparse.specs.Spans.{header_bytes, IsResponseAt, ResponseOverflows, ResponseExceeds}
+use Rattle.http_wire.specs.Heads.{AfterInterims, BeginsFinal, fields_of, HasFinal, HasInterims, HasHead, HasTooManyInterim, HasStrangeStatus, IsBadHead, IsHead, IsInterim, IsLongHead, line_ends, is_interim, is_final}
+use Rattle.http_wire.specs.Finding.{Passes, IsHeadFront, IsHeadAt, IsPlan, IsFound, HasNoPlan, Faults}
+use Rattle.http_wire.specs.Fields.{Pair}
+use Rattle.http_wire.specs.Response.{Cause}
+use Rattle.http_wire.specs.declared.fault.WireFault.{WireFault}
+use Rattle.http_wire.specs.declared.fault.WireFault.TheVariants.{EarlyEnd, BadHead, HeadTooLong, TooManyInterim, BadLength, BadChunk, Coding, Device, NoMemory, TooMuch}
+use Rattle.http_wire.specs.declared.head.FinalHead.{FinalHead}
+use Rattle.httparse.specs.declared.spans.HeaderSpan.{HeaderSpan}
+use Rattle.httparse.specs.declared.spans.ResponseSpans.{ResponseSpans}
+use Rattle.http_wire.specs.declared.head.HeadFinder.{HeadFinder}
+use Rattle.http_wire.specs.declared.limits.TheConstants.{MAX_HEADER_LINES, MAX_HEAD, MAX_INTERIM_HEADS}
+use Rattle.http_wire.proofs.LineEnds.{line_ends-append, lines_in_front, exceeds_lines}
+
+-- ---- more octets behind a text
+
+pub parts_append : (text front rest more : List ℕ) → text ≡ front ++ rest → text ++ more ≡ front ++ (rest ++ more)
+parts_append text front rest more parts = ap (λ (t : List ℕ). t ++ more) parts ∙ append_assoc front rest more
+
+pub head_append : (text : List ℕ) (head : ResponseHead) (rest more : List ℕ) → HasHead text head rest
+    → HasHead (text ++ more) head (rest ++ more)
+head_append text head rest more has =
+    record { is = has.is; parts = parts_append text (print_response head) rest more has.parts }
+
+pub interims_append : (heads : List ResponseHead) (text rest more : List ℕ) → HasInterims heads text rest
+    → HasInterims heads (text ++ more) (rest ++ more)
+interims_append heads text rest more has =
+    record { are = has.are; parts = parts_append text (flat_map print_response heads) rest more has.parts }
+
+-- a fact of what follows the heads that were passed over
+pub after_passed : {Fact : List ℕ → Type 0} (finder : HeadFinder) (bytes more : List ℕ) → Passes finder bytes
+    → Fact (drop finder.at bytes ++ more) → AfterInterims Fact (bytes ++ more)
+after_passed finder bytes more passes fact = record {
+  heads = passes.heads;
+  rest = drop finder.at bytes ++ more;
+  few = omega (arith, passes.count, passes.few);
+  passed = interims_append passes.heads bytes (drop finder.at bytes) more passes.passed;
+  fact = fact;
+}
+
+-- ---- the front of a text
+
+pub front_split : (text : List ℕ) (n : ℕ) (more : List ℕ) → text ++ more ≡ take n text ++ (drop n text ++ more)
+front_split text n more = parts_append text (take n text) (drop n text) more (sym (take-append-drop n text))
+
+-- what never becomes a head never does with more behind it
+pub never_front : (text more : List ℕ) → NeverHasResponse (take MAX_HEAD text) → NeverHasResponse (text ++ more)
+never_front text more never later head rest reads =
+    never (drop MAX_HEAD text ++ (more ++ later)) head rest
+    (subst (λ (t : List ℕ). ReadsResponse t head rest)
+    (append_assoc text more later ∙ front_split text MAX_HEAD (more ++ later)) reads)
+
+-- a head that stands in a text of a full front stands in that front
+in_front : (text more : List ℕ) (head : ResponseHead) (rest : List ℕ) → MAX_HEAD ≤ length text → HasHead (text ++ more) head rest
+    → (tail : List ℕ) × ReadsResponse (take MAX_HEAD text) head tail
+in_front text more head rest full has =
+    let print = print_response head in
+    let same : take MAX_HEAD (text ++ more) ≡ take MAX_HEAD text = take-append-le MAX_HEAD text more full in
+    let room = MAX_HEAD - length print in
+    let whole : length print + room ≡ MAX_HEAD = omega (arith, has.is.octets) in
+    let front : take MAX_HEAD (text ++ more) ≡ print ++ take room rest =
+        ap (take MAX_HEAD) has.parts ∙ ap (λ n. take n (print ++ rest)) (sym whole) ∙ take-append-add print rest room in
+    (take room rest, (has.is.valid, sym same ∙ front))
+
+-- no head in a full front
+pub long_open : (text more : List ℕ) → MAX_HEAD ≤ length text → HasNoResponse (take MAX_HEAD text) → IsLongHead (text ++ more)
+long_open text more full none = record {
+  none = λ head rest has. let inside = in_front text more head rest full has in none head inside.0 inside.1;
+  long = inl (omega (arith, full, length-append text more));
+}
+
+-- too many lines in a front that is full, or is the whole text
+pub long_many : (text more : List ℕ) → ResponseOverflows MAX_HEADER_LINES (take MAX_HEAD text)
+    → ResponseExceeds MAX_HEADER_LINES (take MAX_HEAD text) → IsLongHead (text ++ more)
+long_many text more over exceeds = record {
+  none = λ head rest has.
+      let many = over (drop MAX_HEAD text ++ more) head rest
+          (has.is.valid, sym (front_split text MAX_HEAD more) ∙ has.parts) in
+      omega (arith, many, has.is.lines);
+  long = inr (omega (arith, exceeds_lines (take MAX_HEAD text) exceeds, front_lines));
+} where
+  front_lines : line_ends (take MAX_HEAD text) ≤ line_ends (take MAX_HEAD (text ++ more))
+  front_lines =
+      omega (arith, lines_in_front (take MAX_HEAD text) (drop MAX_HEAD text ++ more) (omega (arith, length-take MAX_HEAD text)),
+      ap (λ (t : List ℕ). line_ends (take MAX_HEAD t)) (front_split text MAX_HEAD more))
+
+-- ---- a head that was parsed
+
+-- the head that the spans tell, in the whole text
+pub head_found : (text : List ℕ) (headers : List HeaderSpan) (spans : ResponseSpans) (head : ResponseHead)
+    → IsHeadAt (take MAX_HEAD text) headers spans head → HasHead text head (drop spans.len text)
+head_found text headers spans head found =
+    let front = take MAX_HEAD text in
+    let print = print_response head in
+    let len : spans.len ≡ length print = found.at.len in
+    let split : text ≡ print ++ (drop spans.len front ++ drop MAX_HEAD text) =
+        sym (take-append-drop MAX_HEAD text) ∙ parts_append front print (drop spans.len front) (drop MAX_HEAD text) found.at.reads.1 in
+    let tail : drop spans.len text ≡ drop spans.len front ++ drop MAX_HEAD text =
+        ap (λ n. drop n text) len ∙ ap (drop (length print)) split ∙ drop-append_seam print (drop spans.len front ++ drop MAX_HEAD text) in
+    record { is = found.is; parts = split ∙ ap (λ (t : List ℕ). print ++ t) (sym tail) }
+
+-- one interim head more
+pub interims_push : (heads : List ResponseHead) (head : ResponseHead) (text middle rest : List ℕ)
+    → HasInterims heads text middle → HasHead middle head rest → IsTrue (is_interim (status_code head))
+    → HasInterims (heads ++ head ∷ []) text rest
+interims_push heads head text middle rest has next interim = record {
+  are = All-push IsInterim heads head has.are (record { is = next.is; status = interim });
+  parts =
+      has.parts ∙ ap (λ (t : List ℕ). flat_map print_response heads ++ t) next.parts
+      ∙ sym (append_assoc (flat_map print_response heads) (print_response head) rest)
+      ∙ ap (λ (t : List ℕ). t ++ rest) (flat_map_more print_response [] heads head);
+}
+
+-- the finder passes over an interim head
+pub passes_next : (finder new : HeadFinder) (bytes : List ℕ) (headers : List HeaderSpan) (spans : ResponseSpans) (head : ResponseHead)
+    → Passes finder bytes → IsHeadAt (take MAX_HEAD (drop finder.at bytes)) headers spans head
+    → IsTrue (is_interim spans.code) → finder.passed < MAX_INTERIM_HEADS
+    → new.at ≡ finder.at + spans.len → new.passed ≡ finder.passed + 1 → Passes new bytes
+passes_next finder new bytes headers spans head passes found interim few at passed =
+    let text = drop finder.at bytes in
+    let has = head_found text headers spans head found in
+    let status : IsTrue (is_interim (status_code head)) = subst (λ code. IsTrue (is_interim code)) found.at.code interim in
+    let place : drop spans.len text ≡ drop new.at bytes =
+        drop-drop spans.len finder.at bytes ∙ ap (λ n. drop n bytes) (sym at) in
+    let len = length-take MAX_HEAD text in
+    record {
+      heads = passes.heads ++ head ∷ [];
+      passed = subst (HasInterims (passes.heads ++ head ∷ []) bytes) place
+          (interims_push passes.heads head bytes text (drop spans.len text) passes.passed has status);
+      count = omega (arith, length-append passes.heads (head ∷ []), passes.count, passed);
+      few = omega (arith, few, passed);
+      within = omega (arith, passes.within, found.within.section.len_fits, len, at, length-drop finder.at bytes);
+      soon = omega (arith, passes.soon, found.within.section.len_fits, len, at, passed);
+    }
+
+-- ---- what a status tells
+
+-- a ninth interim head
+pub too_many : (finder : HeadFinder) (bytes more : List ℕ) (headers : List HeaderSpan) (spans : ResponseSpans) (head : ResponseHead)
+    → Passes finder bytes → IsHeadAt (take MAX_HEAD (drop finder.at bytes)) headers spans head
+    → IsTrue (is_interim spans.code) → MAX_INTERIM_HEADS ≤ finder.passed → HasTooManyInterim (bytes ++ more)
+too_many finder bytes more headers spans head passes found interim many =
+    let text = drop finder.at bytes in
+    let has = head_found text headers spans head found in
+    let status : IsTrue (is_interim (status_code head)) = subst (λ code. IsTrue (is_interim code)) found.at.code interim in
+    record {
+      heads = passes.heads ++ head ∷ [];
+      rest = drop spans.len text ++ more;
+      many = omega (arith, length-append passes.heads (head ∷ []), passes.count, passes.few, many);
+      passed = interims_append (passes.heads ++ head ∷ []) bytes (drop spans.len text) more
+          (interims_push passes.heads head bytes text (drop spans.len text) passes.passed has status);
+    }
+
+-- a status that is neither interim nor final
+pub strange : (finder : HeadFinder) (bytes more : List ℕ) (headers : List HeaderSpan) (spans : ResponseSpans) (head : ResponseHead)
+    → Passes finder bytes → IsHeadAt (take MAX_HEAD (drop finder.at bytes)) headers spans head
+    → (is_interim spans.code || is_final spans.code) ≡ false → AfterInterims IsBadHead (bytes ++ more)
+strange finder bytes more headers spans head passes found status =
+    let text = drop finder.at bytes in
+    after_passed finder bytes more passes (inr (record {
+      head = head;
+      rest = drop spans.len text ++ more;
+      has = head_append text head (drop spans.len text) more (head_found text headers spans head found);
+      status = subst (λ code. (is_interim code || is_final code) ≡ false) found.at.code status;
+    }))
+
+-- the final head
+final_found : (finder : HeadFinder) (bytes : List ℕ) (headers : List HeaderSpan) (spans : ResponseSpans) (head : ResponseHead)
+    → Passes finder bytes → IsHeadAt (take MAX_HEAD (drop finder.at bytes)) headers spans head
+    → IsTrue (is_final spans.code) → HasFinal bytes head (drop (finder.at + spans.len) bytes)
+final_found finder bytes headers spans head passes found final =
+    let text = drop finder.at bytes in
+    let place : drop spans.len text ≡ drop (finder.at + spans.len) bytes = drop-drop spans.len finder.at bytes in
+    record {
+      heads = passes.heads;
+      rest = text;
+      few = omega (arith, passes.count, passes.few);
+      passed = passes.passed;
+      fact = record {
+        has = subst (HasHead text head) place (head_found text headers spans head found);
+        status = subst (λ code. IsTrue (is_final code)) found.at.code final;
+      };
+    }
+
+pub final_append : (text : List ℕ) (head : ResponseHead) (after more : List ℕ) → HasFinal text head after
+    → HasFinal (text ++ more) head (after ++ more)
+final_append text head after more final = record {
+  heads = final.heads;
+  rest = final.rest ++ more;
+  few = final.few;
+  passed = interims_append final.heads text final.rest more final.passed;
+  fact = record { has = head_append final.rest head after more final.fact.has; status = final.fact.status };
+}
+
+-- the fields that the spans cover, and the status
+told : (Fact : ℕ → List Pair → Type 0) (front : List ℕ) (headers : List HeaderSpan) (spans : ResponseSpans) (head : ResponseHead) → IsHeadAt front headers spans head
+    → Fact spans.code (map (header_bytes front) (take spans.headers headers))
+    → Fact (status_code head) (fields_of head)
+told Fact front headers spans head found fact =
+    subst (λ code. Fact code (fields_of head)) found.at.code (subst (Fact spans.code) found.at.fields fact)
+
+-- what was read off the final head
+pub planned : (finder : HeadFinder) (bytes : List ℕ) (headers : List HeaderSpan) (spans : ResponseSpans) (head : ResponseHead)
+    (plan : FinalHead) → Passes finder bytes → IsHeadAt (take MAX_HEAD (drop finder.at bytes)) headers spans head
+    → IsTrue (is_final spans.code)
+    → IsPlan spans.code (map (header_bytes (take MAX_HEAD (drop finder.at bytes))) (take spans.headers headers)) (finder.at + spans.len) plan
+    → IsFound bytes plan
+planned finder bytes headers spans head plan passes found final is =
+    let own : IsPlan (status_code head) (fields_of head) (finder.at + spans.len) plan =
+        told (λ code fields. IsPlan code fields (finder.at + spans.len) plan)
+            (take MAX_HEAD (drop finder.at bytes)) headers spans head found is in
+    let len = length-take MAX_HEAD (drop finder.at bytes) in
+    record {
+      head = head;
+      final = subst (λ n. HasFinal bytes head (drop n bytes)) (sym own.end_is) (final_found finder bytes headers spans head passes found final);
+      within = omega (arith, own.end_is, passes.within, found.within.section.len_fits, len, length-drop finder.at bytes);
+      framed = own.framed;
+      uncoded = own.uncoded;
+      status = own.status;
+      location = own.location;
+    }
+
+-- why nothing was read off it
+pub unplanned : (finder : HeadFinder) (bytes : List ℕ) (headers : List HeaderSpan) (spans : ResponseSpans) (head : ResponseHead)
+    (fault : WireFault) → Passes finder bytes → IsHeadAt (take MAX_HEAD (drop finder.at bytes)) headers spans head
+    → IsTrue (is_final spans.code)
+    → HasNoPlan spans.code (map (header_bytes (take MAX_HEAD (drop finder.at bytes))) (take spans.headers headers)) fault
+    → Faults bytes fault
+unplanned finder bytes headers spans head fault passes found final none more limit =
+    by_fault fault
+        (told (λ code fields. HasNoPlan code fields fault) (take MAX_HEAD (drop finder.at bytes)) headers spans head found none)
+  where
+    after : List ℕ
+    after = drop (finder.at + spans.len) bytes ++ more
+    whole : HasFinal (bytes ++ more) head after
+    whole = final_append bytes head (drop (finder.at + spans.len) bytes) more (final_found finder bytes headers spans head passes found final)
+    by_fault : (fault : WireFault) → HasNoPlan (status_code head) (fields_of head) fault → Cause fault (bytes ++ more) limit
+    by_fault BadLength bad = record { head = head; text = after; final = whole; fact = bad }
+    by_fault Coding coded = record { head = head; text = after; final = whole; fact = coded }
+    by_fault NoMemory _ = tt
+    by_fault EarlyEnd none = absurd none
+    by_fault BadHead none = absurd none
+    by_fault HeadTooLong none = absurd none
+    by_fault TooManyInterim none = absurd none
+    by_fault BadChunk none = absurd none
+    by_fault Device none = absurd none
+    by_fault TooMuch none = absurd none
+
+-- ---- what the parser tells
+
+-- a front that is short is the whole text
+short_front : (text : List ℕ) → length (take MAX_HEAD text) < MAX_HEAD → length text < MAX_HEAD
+short_front text short = omega (arith, length-take MAX_HEAD text, short)
+
+-- an unfinished head, short of the longest
+pub front_open : (finder new : HeadFinder) (bytes front : List ℕ) → front ≡ take MAX_HEAD (drop finder.at bytes)
+    → new.at ≡ finder.at → HasNoResponse front → MayBecomeResponse front → length front < MAX_HEAD
+    → IsHeadFront (drop new.at bytes)
+front_open finder new bytes front is at none unfinished short =
+    let text = drop finder.at bytes in
+    let less = short_front text (subst (λ (t : List ℕ). length t < MAX_HEAD) is short) in
+    let whole : front ≡ text = is ∙ take_all MAX_HEAD text (omega (arith, less)) in
+    subst (λ n. IsHeadFront (drop n bytes)) (sym at) (record {
+      none = subst HasNoResponse whole none;
+      unfinished = subst MayBecomeResponse whole unfinished;
+      octets = less;
+    })
+
+-- the finder stays where it is
+pub passes_same : (finder new : HeadFinder) (bytes : List ℕ) → new.at ≡ finder.at → new.passed ≡ finder.passed
+    → Passes finder bytes → Passes new bytes
+passes_same finder new bytes at passed passes = record {
+  heads = passes.heads;
+  passed = subst (λ n. HasInterims passes.heads bytes (drop n bytes)) (sym at) passes.passed;
+  count = passes.count ∙ sym passed;
+  few = omega (arith, passes.few, passed);
+  within = omega (arith, passes.within, at);
+  soon = subst (λ n. n ≤ new.passed * MAX_HEAD) (sym at) (subst (λ n. finder.at ≤ n * MAX_HEAD) (sym passed) passes.soon);
+}
+
+-- fewer octets are there than a head may have
+pub short_of : (finder new : HeadFinder) (bytes front : List ℕ) → front ≡ take MAX_HEAD (drop finder.at bytes)
+    → new.at ≡ finder.at → Passes finder bytes → length front < MAX_HEAD → length bytes < new.at + MAX_HEAD
+short_of finder new bytes front is at passes short =
+    let less = short_front (drop finder.at bytes) (subst (λ (t : List ℕ). length t < MAX_HEAD) is short) in
+    omega (arith, less, length-drop finder.at bytes, at, passes.within)
+
+pub open_long : (finder : HeadFinder) (bytes front more : List ℕ) → front ≡ take MAX_HEAD (drop finder.at bytes)
+    → Passes finder bytes → HasNoResponse front → MAX_HEAD ≤ length front → AfterInterims IsLongHead (bytes ++ more)
+open_long finder bytes front more is passes none full =
+    let text = drop finder.at bytes in
+    let long : MAX_HEAD ≤ length text = omega (arith, full, ap length is, length-take MAX_HEAD text) in
+    after_passed finder bytes more passes (long_open text more long (subst HasNoResponse is none))
+
+pub many_long : (finder : HeadFinder) (bytes front more : List ℕ) → front ≡ take MAX_HEAD (drop finder.at bytes)
+    → Passes finder bytes → ResponseOverflows MAX_HEADER_LINES front → ResponseExceeds MAX_HEADER_LINES front
+    → AfterInterims IsLongHead (bytes ++ more)
+many_long finder bytes front more is passes over exceeds =
+    after_passed finder bytes more passes (long_many (drop finder.at bytes) more
+    (subst (ResponseOverflows MAX_HEADER_LINES) is over) (subst (ResponseExceeds MAX_HEADER_LINES) is exceeds))
+
+pub never_bad : (finder : HeadFinder) (bytes front more : List ℕ) → front ≡ take MAX_HEAD (drop finder.at bytes)
+    → Passes finder bytes → NeverHasResponse front → AfterInterims IsBadHead (bytes ++ more)
+never_bad finder bytes front more is passes never =
+    after_passed finder bytes more passes (inl (never_front (drop finder.at bytes) more (subst NeverHasResponse is never)))

@@ -1,0 +1,115 @@
+-- What the reader of heads finds in the octets that have come.
+-- The contracts of its parts cite it.
+use Rattle.std.specs.Prelude.{◌≡◌, ℕ, ◌*◌, ◌+◌, ◌<◌, ◌≤◌, ◌⊎◌, Bool, ◌||◌, false, true, IsTrue, List, [], ◌++◌, length, drop, Option, Some, None, option_map, Result, Ok, Err, ⊤}
+use Rattle.std.specs.String.{string_bytes}
+use Rattle.httparse.specs.Grammar.{ResponseHead, status_code, HasNoResponse, NeverHasResponse, MayBecomeResponse}
+use Rattle.httparse.specs.Spans.{IsResponseAt, IsResponseWithin, ResponseOverflows, ResponseExceeds}
+use Rattle.httparse.specs.declared.spans.HeaderSpan.{HeaderSpan}
+use Rattle.httparse.specs.declared.spans.ResponseSpans.{ResponseSpans}
+use Rattle.http_wire.specs.Fields.{Pair, framing_of, is_coded, IsLocation}
+use Rattle.http_wire.specs.Heads.{AfterInterims, HasFinal, HasInterims, IsHead, fields_of, is_interim, is_final}
+use Rattle.http_wire.specs.Reading.{IsWhole}
+use Rattle.http_wire.specs.Response.{Cause}
+use Rattle.http_wire.specs.declared.fault.WireFault.{WireFault}
+use Rattle.http_wire.specs.declared.fault.WireFault.TheVariants.{EarlyEnd, BadHead, HeadTooLong, TooManyInterim, BadLength, BadChunk, Coding, Device, NoMemory, TooMuch}
+use Rattle.http_wire.specs.declared.framing.Unframed.TheVariants as Unframed
+use Rattle.http_wire.specs.declared.head.Class.{Class}
+use Rattle.http_wire.specs.declared.head.Class.TheVariants as classes
+use Rattle.http_wire.specs.declared.head.FinalHead.{FinalHead}
+use Rattle.http_wire.specs.declared.head.HeadFinder.{HeadFinder}
+use Rattle.http_wire.specs.declared.head.Parsed.{Parsed}
+use Rattle.http_wire.specs.declared.head.Parsed.TheVariants as parsed
+use Rattle.http_wire.specs.declared.head.Seen.{Seen}
+use Rattle.http_wire.specs.declared.head.Seen.TheVariants as seen
+use Rattle.http_wire.specs.declared.limits.TheConstants.{MAX_HEAD, MAX_HEADER_LINES, MAX_INTERIM_HEADS}
+
+-- a head within the limits stands at the front, and the spans cover its parts
+pub record IsHeadAt (text : List ℕ) (headers : List HeaderSpan) (spans : ResponseSpans) (head : ResponseHead) : Type 0 where
+  pub is : IsHead head
+  pub at : IsResponseAt text headers spans head
+  pub within : IsResponseWithin text headers spans
+
+-- what the parser tells of the text
+abbrev pub Parses : List ℕ → List HeaderSpan → Parsed → Type 0
+Parses text headers (parsed.Head spans) = (head : ResponseHead) × IsHeadAt text headers spans head
+Parses text headers parsed.Open = HasNoResponse text × MayBecomeResponse text
+Parses text headers parsed.TooMany = ResponseOverflows MAX_HEADER_LINES text × ResponseExceeds MAX_HEADER_LINES text
+Parses text headers parsed.Bad = NeverHasResponse text
+
+-- what the status makes of its head
+abbrev pub IsClass : ℕ → Class → Type 0
+IsClass status classes.Interim = IsTrue (is_interim status)
+IsClass status classes.Final = IsTrue (is_final status)
+IsClass status classes.Strange = (is_interim status || is_final status) ≡ false
+
+-- the finder stands behind as many interim heads as it has passed over
+pub record Passes (finder : HeadFinder) (bytes : List ℕ) : Type 0 where
+  pub heads : List ResponseHead
+  pub passed : HasInterims heads bytes (drop finder.at bytes)
+  pub count : length heads ≡ finder.passed
+  pub few : finder.passed ≤ MAX_INTERIM_HEADS
+  pub within : finder.at ≤ length bytes
+  pub soon : finder.at ≤ finder.passed * MAX_HEAD
+
+-- the text is a front of a head, and short of the longest
+pub record IsHeadFront (text : List ℕ) : Type 0 where
+  pub none : HasNoResponse text
+  pub unfinished : MayBecomeResponse text
+  pub octets : length text < MAX_HEAD
+
+-- the finder has found this final head in the bytes
+pub record IsFound (bytes : List ℕ) (found : FinalHead) : Type 0 where
+  pub head : ResponseHead
+  pub final : HasFinal bytes head (drop found.end bytes)
+  pub within : found.end ≤ length bytes
+  pub framed : framing_of (status_code head) (fields_of head) ≡ Ok found.framing
+  pub uncoded : is_coded (status_code head) (fields_of head) ≡ false
+  pub status : found.status ≡ status_code head
+  pub location : IsLocation (fields_of head) (option_map string_bytes found.location)
+
+-- the fault's cause stands, whatever follows the bytes and whatever the limit
+abbrev pub Faults : List ℕ → WireFault → Type 0
+Faults bytes fault = (more : List ℕ) (limit : ℕ) → Cause fault (bytes ++ more) limit
+
+-- what one look at the bytes sees
+abbrev pub Sees : List ℕ → Bool → ℕ → HeadFinder → Seen → Type 0
+Sees bytes last passed finder (seen.Final found) = IsFound bytes found
+Sees bytes last passed finder seen.Interim = Passes finder bytes × (finder.passed ≡ passed + 1)
+Sees bytes last passed finder seen.More =
+    Passes finder bytes × (length bytes < finder.at + MAX_HEAD)
+    × (IsTrue last → IsHeadFront (drop finder.at bytes))
+
+-- what looks at the bytes find: the final head, or that more octets are needed
+abbrev pub Finds : List ℕ → Bool → HeadFinder → Option FinalHead → Type 0
+Finds bytes last finder (Some found) = IsFound bytes found
+Finds bytes last finder None =
+    Passes finder bytes × (length bytes < finder.at + MAX_HEAD)
+    × (IsTrue last → IsHeadFront (drop finder.at bytes))
+
+-- the fault of some input that the source gives, whatever the limit
+pub record Fails (left : Option (List ℕ)) (seen : List ℕ) (fault : WireFault) : Type 0 where
+  pub input : List ℕ
+  pub whole : IsWhole left seen input
+  pub cause : (limit : ℕ) → Cause fault input limit
+
+-- what is read off a final head of this status and these fields
+pub record IsPlan (code : ℕ) (fields : List Pair) (end : ℕ) (found : FinalHead) : Type 0 where
+  pub framed : framing_of code fields ≡ Ok found.framing
+  pub uncoded : is_coded code fields ≡ false
+  pub status : found.status ≡ code
+  pub location : IsLocation fields (option_map string_bytes found.location)
+  pub end_is : found.end ≡ end
+
+-- why nothing is read off it
+abbrev pub HasNoPlan : ℕ → List Pair → WireFault → Type 0
+HasNoPlan status fields BadLength = framing_of status fields ≡ Err Unframed.BadLength
+HasNoPlan status fields Coding =
+    (is_coded status fields ≡ true) ⊎ (framing_of status fields ≡ Err Unframed.OtherCoding)
+HasNoPlan status fields NoMemory = ⊤
+HasNoPlan status fields EarlyEnd = ⊥
+HasNoPlan status fields BadHead = ⊥
+HasNoPlan status fields HeadTooLong = ⊥
+HasNoPlan status fields TooManyInterim = ⊥
+HasNoPlan status fields BadChunk = ⊥
+HasNoPlan status fields Device = ⊥
+HasNoPlan status fields TooMuch = ⊥

@@ -1,0 +1,267 @@
+//! Heads of responses, found in the octets that have come.
+//! RFC 9112, sections 2 to 5.
+ghost use Rattle.std.specs.Prelude.{◌≡◌, ◌≤◌, ◌<◌, ◌≢◌, ◌+◌, ℕ, List, Err, drop, take, map, length, IfOk, IfErr, IsTrue, Bool, option_map, false};
+ghost use Rattle.std.specs.String.{string_bytes};
+ghost use Rattle.httparse.specs.Grammar.{ResponseHead};
+ghost use Rattle.httparse.specs.Spans.{IsResponseWithin, header_bytes};
+ghost use Rattle.http_wire.specs.Fields.{IsLocation};
+ghost use Rattle.http_wire.specs.Finding.{Faults, Finds, HasNoPlan, IsClass, IsHeadAt, IsPlan, Parses, Passes, Sees};
+ghost use Rattle.http_wire.specs.Left.{pairs};
+
+use crate::empty_line::EmptyLine;
+use crate::fault::WireFault;
+use crate::fields::{EMPTY_FIELD, Field, cover};
+use crate::framing::{Framing, Unframed, framing_of, is_coded, location_of};
+use crate::limits::{MAX_HEAD, MAX_HEADER_LINES, MAX_INTERIM_HEADS};
+use httparse::spans::{EMPTY_HEADER_SPAN, HeaderSpan, ResponseSpans, parse_response};
+use httparse::{Error, Status};
+use std::alloc::{AllocError, Global};
+
+/// The final head of a response, as far as its reader needs it.
+#[derive(Debug, Drop)]
+pub(crate) struct FinalHead {
+    pub status: u16,
+    pub framing: Framing,
+    pub location: Option<String>,
+    /// Where the body begins, counted from the first octet of the input.
+    pub end: usize,
+}
+
+/// What the parser tells of a text.
+#[derive(Clone, Copy, Debug)]
+pub(crate) enum Parsed {
+    /// It begins with a head.
+    Head(ResponseSpans),
+    /// It is a front of a head.
+    Open,
+    /// It has more header lines than a head may have.
+    TooMany,
+    /// No head begins so.
+    Bad,
+}
+
+/// What one look at the octets sees.
+#[derive(Debug, Drop)]
+pub(crate) enum Seen {
+    /// The final head.
+    Final(FinalHead),
+    /// An interim head, which is passed over.
+    Interim,
+    /// Nothing yet.
+    More,
+}
+
+/// What a status makes of its head.
+#[derive(Clone, Copy, Debug, PartialEq, Eq)]
+pub(crate) enum Class {
+    Interim,
+    Final,
+    /// 101, and those below 100.
+    Strange,
+}
+
+impl Class {
+    fn of(status: u16) -> Class
+        ensures { IsClass status result }
+    {
+        match status {
+            100 | 102..200 => Class::Interim,
+            200.. => Class::Final,
+            _ => Class::Strange,
+        }
+    }
+}
+
+/// The place behind the interim heads that were passed over.
+#[derive(Clone, Copy, Debug)]
+pub(crate) struct HeadFinder {
+    at: usize,
+    passed: usize,
+    // When to parse: no answer rests on it.
+    line: EmptyLine,
+}
+
+fn parse(text: &[u8], headers: &mut [HeaderSpan]) -> Parsed
+    requires short { length text.now ≤ MAX_HEAD }
+    requires room { length headers.old ≡ MAX_HEADER_LINES }
+    ensures parses { Parses text.now headers.new result }
+    ensures room_kept { length headers.new ≡ MAX_HEADER_LINES }
+{
+    match parse_response(text, headers) {
+        Ok(Status::Complete(spans)) => Parsed::Head(spans),
+        Ok(Status::Partial) => Parsed::Open,
+        Err(Error::TooManyHeaders) => Parsed::TooMany,
+        Err(_) => Parsed::Bad,
+    }
+}
+
+impl HeadFinder {
+    /// The place before the first head.
+    pub(crate) fn new() -> HeadFinder
+        ensures { (bytes : List ℕ) → Passes result bytes }
+    {
+        HeadFinder {
+            at: 0,
+            passed: 0,
+            line: EmptyLine::new(),
+        }
+    }
+
+    /// Looks for the final head. `last`: no look follows, so what has come is parsed in any case.
+    pub(crate) fn look(
+        &mut self,
+        alloc: Global,
+        bytes: &[u8],
+        last: bool,
+    ) -> Result<Option<FinalHead>, WireFault>
+        requires { Passes self.old bytes.now }
+        ensures finds { IfOk result (Finds bytes.now last self.new) }
+        ensures faults { IfErr result (Faults bytes.now) }
+        ensures no_device { result ≢ Err WireFault.Device }
+    {
+        loop {
+            match self.step(alloc, bytes, last) {
+                Ok(Seen::Final(head)) => return Ok(Some(head)),
+                Ok(Seen::More) => return Ok(None),
+                Ok(Seen::Interim) => {}
+                Err(fault) => return Err(fault),
+            }
+        }
+    }
+
+    // Looks at one head.
+    fn step(&mut self, alloc: Global, bytes: &[u8], last: bool) -> Result<Seen, WireFault>
+        requires { Passes self.old bytes.now }
+        ensures sees { IfOk result (Sees bytes.now last self.old.passed self.new) }
+        ensures faults { IfErr result (Faults bytes.now) }
+        ensures no_device { result ≢ Err WireFault.Device }
+    {
+        let text = front_of(bytes, self.at);
+        if self.waits(text, last) {
+            return Ok(Seen::More);
+        }
+        let mut headers = [EMPTY_HEADER_SPAN; MAX_HEADER_LINES];
+        match parse(text, &mut headers) {
+            Parsed::Head(spans) => self.take(alloc, bytes, text, spans, &headers),
+            Parsed::Open if text.len() < MAX_HEAD => Ok(Seen::More),
+            Parsed::Open => Err(WireFault::HeadTooLong),
+            Parsed::TooMany if text.len() < MAX_HEAD && !last => Ok(Seen::More),
+            Parsed::TooMany => Err(WireFault::HeadTooLong),
+            Parsed::Bad => Err(WireFault::BadHead),
+        }
+    }
+
+    // Whether more octets are to come before the text is parsed.
+    fn waits(&mut self, text: &[u8], last: bool) -> bool
+        ensures short { IsTrue result → (last ≡ false) × (length text.now < MAX_HEAD) }
+        ensures at { self.new.at ≡ self.old.at }
+        ensures passed { self.new.passed ≡ self.old.passed }
+    {
+        !last && text.len() < MAX_HEAD && !self.line.ends_in(text)
+    }
+
+    // Takes a head that was parsed, by its status.
+    fn take(
+        &mut self,
+        alloc: Global,
+        bytes: &[u8],
+        text: &[u8],
+        spans: ResponseSpans,
+        headers: &[HeaderSpan],
+    ) -> Result<Seen, WireFault>
+        requires passes { Passes self.old bytes.now }
+        requires front { text.now ≡ take MAX_HEAD (drop self.old.at bytes.now) }
+        requires at { (head : ResponseHead) × IsHeadAt text.now headers.now spans head }
+        requires room { length headers.now ≡ MAX_HEADER_LINES }
+        ensures sees { IfOk result (λ seen. (last : Bool) → Sees bytes.now last self.old.passed self.new seen) }
+        ensures faults { IfErr result (Faults bytes.now) }
+        ensures no_device { result ≢ Err WireFault.Device }
+    {
+        match Class::of(spans.code) {
+            Class::Interim if self.passed < MAX_INTERIM_HEADS => {
+                self.at += spans.len;
+                self.passed += 1;
+                self.line = EmptyLine::new();
+                Ok(Seen::Interim)
+            }
+            Class::Interim => Err(WireFault::TooManyInterim),
+            Class::Final => match plan(alloc, text, spans, headers, self.at + spans.len) {
+                Ok(head) => Ok(Seen::Final(head)),
+                Err(fault) => Err(fault),
+            },
+            Class::Strange => Err(WireFault::BadHead),
+        }
+    }
+}
+
+// The octets from a place on that a head may have.
+fn front_of(bytes: &[u8], at: usize) -> &[u8]
+    requires { at ≤ length bytes.now }
+    ensures { result.now ≡ take MAX_HEAD (drop at bytes.now) }
+{
+    let text = &bytes[at..];
+    if text.len() < MAX_HEAD {
+        text
+    } else {
+        &text[..MAX_HEAD]
+    }
+}
+
+// Reads off a final head what its reader needs. Its body begins at `end`.
+fn plan(
+    alloc: Global,
+    text: &[u8],
+    spans: ResponseSpans,
+    headers: &[HeaderSpan],
+    end: usize,
+) -> Result<FinalHead, WireFault>
+    requires within { IsResponseWithin text.now headers.now spans }
+    requires room { length headers.now ≡ MAX_HEADER_LINES }
+    ensures ok { IfOk result (IsPlan spans.code
+        (map (header_bytes text.now) (take spans.headers headers.now)) end) }
+    ensures err { IfErr result (HasNoPlan spans.code
+        (map (header_bytes text.now) (take spans.headers headers.now))) }
+{
+    let mut slots = [EMPTY_FIELD; MAX_HEADER_LINES];
+    cover(text, &headers[..spans.headers], &mut slots);
+    plan_of(alloc, spans.code, &slots[..spans.headers], end)
+}
+
+// The plan of a body that begins at `end`, by the status and the fields of its head.
+fn plan_of(
+    alloc: Global,
+    status: u16,
+    fields: &[Field<'_>],
+    end: usize,
+) -> Result<FinalHead, WireFault>
+    ensures ok { IfOk result (IsPlan status (pairs fields.now) end) }
+    ensures err { IfErr result (HasNoPlan status (pairs fields.now)) }
+{
+    if is_coded(status, fields) {
+        return Err(WireFault::Coding);
+    }
+    let framing = match framing_of(status, fields) {
+        Ok(framing) => framing,
+        Err(Unframed::BadLength) => return Err(WireFault::BadLength),
+        Err(Unframed::OtherCoding) => return Err(WireFault::Coding),
+    };
+    match location_text(alloc, fields) {
+        Ok(location) => Ok(FinalHead {
+            status,
+            framing,
+            location,
+            end,
+        }),
+        Err(_) => Err(WireFault::NoMemory),
+    }
+}
+
+fn location_text(alloc: Global, fields: &[Field<'_>]) -> Result<Option<String>, AllocError>
+    ensures { IfOk result (λ text.
+        IsLocation (pairs fields.now) (option_map string_bytes text)) }
+{
+    match location_of(fields) {
+        Some(text) => Ok(Some(String::from_str(alloc, text)?)),
+        None => Ok(None),
+    }
+}
