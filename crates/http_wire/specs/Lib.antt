@@ -1,2 +1,3 @@
 -- What contracts say of requests and responses of HTTP/1.1.
 -- RFC 9110 and RFC 9112.
+pub mod Chunks

@@ -4,3 +4,4 @@
 
 mod chunked;
 mod look;
+mod trailers;
