@@ -10,18 +10,10 @@ use Rattle.httparse.proofs.ChunkLemmas.{chunk_line_unique, ReadsChunkLine-append
 use Rattle.httparse.proofs.GrammarLemmas.{section_unique}
 use Rattle.httparse.proofs.PieceLemmas.{front-append}
 use Rattle.http_wire.specs.declared.trailers.TheConstants.{MAX_TRAILERS, MAX_TRAILER_BYTES}
-use Rattle.http_wire.specs.Chunks.{Chunk, print_chunks, joined, ReadsChunks, GivesChunked, AfterChunks, AfterLast, AfterOctets, NeverHasEnd, EndsAt, in_line, in_octets, in_end, in_trailers, EndsInChunked, IsTooLong, IsBadAt, bad_line, bad_end, bad_trailers, too_long, IsBadChunked, HasTooManyLines, EndsTooLong, print_body, print_front}
+use Rattle.http_wire.specs.Chunks.{Chunk, print_chunks, joined, ReadsChunks, ReadsTrailers, GivesChunked, AfterChunks, AfterLast, AfterOctets, NeverHasEnd, EndsAt, in_line, in_octets, in_end, in_trailers, EndsInChunked, IsTooLong, IsBadAt, bad_line, bad_end, bad_trailers, too_long, IsBadChunked, HasTooManyLines, EndsTooLong, print_body, print_front}
 use Rattle.http_wire.proofs.ChunkLists.{fronts_same, regroup, line_of, HasNoChunk, same_chunks}
 
 -- ---- a body by its parts: chunks, and what follows the last of them
-
--- text is trailers within their two limits, and then rest
-pub record ReadsTrailers (text rest : List ℕ) : Type 0 where
-  pub fields : List Field
-  pub last : LineEnd
-  pub reads : ReadsSection text fields last rest
-  pub few : length fields ≤ MAX_TRAILERS
-  pub short : length (print_section fields last) ≤ MAX_TRAILER_BYTES
 
 -- text is a chunk's line and its octets up to the first past the room, and then rest
 pub record ReadsPast (room : ℕ) (text front rest : List ℕ) : Type 0 where

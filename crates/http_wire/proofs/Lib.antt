@@ -2,3 +2,4 @@
 -- The proof files of this crate cite them.
 pub mod ChunkLists
 pub mod ChunkLaws
+pub mod ChunkPlaces

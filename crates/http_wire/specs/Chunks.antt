@@ -58,6 +58,14 @@ pub record IsChunkedBody (b : ChunkedBody) : Type 0 where
   pub few : length b.trailers ≤ MAX_TRAILERS
   pub short : length (print_section b.trailers b.end) ≤ MAX_TRAILER_BYTES
 
+-- text is trailers within their two limits, and then rest
+pub record ReadsTrailers (text rest : List ℕ) : Type 0 where
+  pub fields : List Field
+  pub last : LineEnd
+  pub reads : ReadsSection text fields last rest
+  pub few : length fields ≤ MAX_TRAILERS
+  pub short : length (print_section fields last) ≤ MAX_TRAILER_BYTES
+
 -- text is a body of at most limit octets, which are given, and then rest
 pub record GivesWhole (limit : ℕ) (text given rest : List ℕ) : Type 0 where
   pub body : ChunkedBody
