@@ -10,7 +10,7 @@ use Rattle.httparse.proofs.ChunkLemmas.{chunk_line_unique, ReadsChunkLine-append
 use Rattle.httparse.proofs.GrammarLemmas.{section_unique}
 use Rattle.httparse.proofs.PieceLemmas.{front-append}
 use Rattle.http_wire.specs.declared.trailers.TheConstants.{MAX_TRAILERS, MAX_TRAILER_BYTES}
-use Rattle.http_wire.specs.Chunks.{Chunk, print_chunks, joined, ReadsChunks, ReadsTrailers, GivesChunked, AfterChunks, AfterLast, AfterOctets, NeverHasEnd, EndsAt, in_line, in_octets, in_end, in_trailers, EndsInChunked, IsTooLong, IsBadAt, bad_line, bad_end, bad_trailers, too_long, IsBadChunked, HasTooManyLines, EndsTooLong, print_body, print_front}
+use Rattle.http_wire.specs.Chunks.{Chunk, print_chunks, joined, ReadsChunks, ReadsTrailers, GivesChunked, AfterChunks, AfterLast, AfterOctets, NeverHasEnd, EndsAt, in_line, in_octets, in_end, in_trailers, EndsInChunked, IsTooLong, IsBadAt, bad_line, bad_end, bad_trailers, too_long, IsBadChunked, HasTooManyLines, EndsTooLong, IsRefusedChunked, print_body, print_front}
 use Rattle.http_wire.proofs.ChunkLists.{fronts_same, regroup, line_of, HasNoChunk, same_chunks}
 
 -- ---- a body by its parts: chunks, and what follows the last of them
@@ -354,3 +354,15 @@ bad_more room text more (too_long x) = too_long (last_append IsTooLong text more
 -- More bytes make nothing readable that can't be read.
 pub bad_append : (limit : ℕ) (text more : List ℕ) → IsBadChunked limit text → IsBadChunked limit (text ++ more)
 bad_append limit text more bad = after_append IsBadAt limit text more bad (λ room t p. bad_more room t more p)
+
+-- What is told of the octets so far is told of all that come.
+pub refused_append : (limit : ℕ) (text more : List ℕ) (ended : Bool) → (IsTrue ended → more ≡ [])
+    → IsBadChunked limit text ⊎ (IsTrue ended × EndsTooLong limit text) → IsRefusedChunked limit (text ++ more)
+refused_append limit text more ended none (inl bad) = inl (bad_append limit text more bad)
+refused_append limit text more ended none (inr (is, long)) =
+    inr (subst (EndsTooLong limit) (sym (append-nil text) ∙ ap (λ m. text ++ m) (sym (none is))) long)
+
+-- A refused text gives none.
+pub refused_excludes : (limit : ℕ) (text given : List ℕ) (cut : Bool) (rest : List ℕ) → IsRefusedChunked limit text → GivesChunked limit text given cut rest → ⊥
+refused_excludes limit text given cut rest (inl bad) gives = bad_excludes limit text given cut rest bad gives
+refused_excludes limit text given cut rest (inr long) gives = long_excludes limit text given cut rest long gives

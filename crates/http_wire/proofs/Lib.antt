@@ -3,3 +3,5 @@
 pub mod ChunkLists
 pub mod ChunkLaws
 pub mod ChunkPlaces
+pub mod ChunkMoves
+pub mod TrailerFronts

@@ -188,3 +188,7 @@ pub record HasTooManyLines (text : List ℕ) : Type 0 where
 -- the text ends after a body's last chunk, with as many lines as trailers may have and no end
 abbrev pub EndsTooLong : ℕ → List ℕ → Type 0
 EndsTooLong limit = AfterChunks limit (λ room. AfterLast HasTooManyLines)
+
+-- the cause of BadChunk, for all the octets that came
+abbrev pub IsRefusedChunked : ℕ → List ℕ → Type 0
+IsRefusedChunked limit text = IsBadChunked limit text ⊎ EndsTooLong limit text

@@ -105,9 +105,8 @@ impl ChunkDecoder {
         ensures steps { Steps bytes.now ended self.old.at self.new result }
     {
         // A line that comes octet by octet is parsed once.
-        let seen = has_line_feed(bytes, self.scanned);
-        self.scanned = bytes.len();
-        if !seen && !ended {
+        if !ended && !has_line_feed(bytes, self.scanned) {
+            self.scanned = bytes.len();
             return Some(Look::More);
         }
         match parse_chunk_size(&bytes[self.at..]) {
@@ -224,12 +223,13 @@ impl ChunkDecoder {
         ensures decodes { Decodes bytes.now ended self.new result }
     {
         let text = &bytes[self.at..];
-        let seen = has_empty_line(text, self.scanned.saturating_sub(self.at));
-        if !seen && !ended && text.len() < MAX_TRAILER_BYTES {
+        let open = !ended && text.len() < MAX_TRAILER_BYTES;
+        if open && !has_empty_line(text, self.scanned.saturating_sub(self.at)) {
             self.scanned = self.scanned.max(bytes.len());
             return Look::More;
         }
-        // Where more is wanted behind an empty line, there are too many lines before it.
+        // More is wanted behind an empty line only where too many lines stand before it, and then
+        // no other empty line helps.
         self.scanned = self.at.saturating_add(MAX_TRAILER_BYTES);
         look_trailers(text, ended)
     }
