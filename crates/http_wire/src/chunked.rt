@@ -265,3 +265,6 @@ fn chunk_end(text: &[u8]) -> ChunkEnd
         _ => ChunkEnd::Bad,
     }
 }
+
+#[cfg(test)]
+mod tests;
