@@ -224,3 +224,9 @@ stands_append decoder bytes more s = record {
       subst (λ t. Decoded decoder.limit t decoder.octets.items decoder.place (drop decoder.at (bytes ++ more))) front
       (subst (Decoded decoder.limit (drop decoder.start bytes ++ more) decoder.octets.items decoder.place) rest d);
 }
+
+-- The same where the bytes are the front of a text.
+pub stands_longer : (decoder : ChunkDecoder) (text : List ℕ) (n m : ℕ) → n ≤ m → Stands decoder (take n text) → Stands decoder (take m text)
+stands_longer decoder text n m le s =
+    let whole : take n text ++ drop n (take m text) ≡ take m text = ap (λ t. t ++ drop n (take m text)) (sym (take-take n m text le)) ∙ take-append-drop n (take m text) in
+    subst (Stands decoder) whole (stands_append decoder (take n text) (drop n (take m text)) s)

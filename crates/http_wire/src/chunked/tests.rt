@@ -1,11 +1,11 @@
 //! Rows for bodies in chunks, each read at one look and octet by octet.
 //! They say what the definitions mean on real octets.
-ghost use Rattle.std.specs.Prelude.{◌≡◌};
 
 use super::ChunkDecoder;
 use crate::look::Look;
 use crate::trailers::{MAX_TRAILER_BYTES, MAX_TRAILERS};
 use std::alloc::{AllocError, Global};
+use std::process::Abort;
 
 struct Row {
     name: &'static str,
@@ -209,10 +209,10 @@ fn decode_slowly(alloc: Global, text: &[u8], limit: usize) -> Result<(Look, Vec<
 #[test]
 fn rows(rt: HostRuntime) {
     for row in &ROWS {
-        let (look, given) = decode(rt.alloc(), row.text, row.limit).unwrap();
+        let (look, given) = decode(rt.alloc(), row.text, row.limit).expect(&rt, "memory");
         assert_eq!(rt; look, row.look, "{}", row.name);
         assert_eq!(rt; given.as_slice(), row.given, "{}", row.name);
-        let (look, given) = decode_slowly(rt.alloc(), row.text, row.limit).unwrap();
+        let (look, given) = decode_slowly(rt.alloc(), row.text, row.limit).expect(&rt, "memory");
         assert_eq!(rt; look, row.look, "{}, slowly", row.name);
         assert_eq!(rt; given.as_slice(), row.given, "{}, slowly", row.name);
     }
@@ -297,10 +297,10 @@ fn trailers(rt: HostRuntime) {
         ),
     ];
     for (name, lines, len, ended, want) in rows {
-        let text = with_trailers(rt.alloc(), lines, len, ended).unwrap();
-        let (look, _) = decode(rt.alloc(), &text, 0).unwrap();
+        let text = with_trailers(rt.alloc(), lines, len, ended).expect(&rt, "memory");
+        let (look, _) = decode(rt.alloc(), &text, 0).expect(&rt, "memory");
         assert_eq!(rt; look, want, "{name}");
-        let (look, _) = decode_slowly(rt.alloc(), &text, 0).unwrap();
+        let (look, _) = decode_slowly(rt.alloc(), &text, 0).expect(&rt, "memory");
         assert_eq!(rt; look, want, "{name}, slowly");
     }
 }
