@@ -4,7 +4,7 @@ use Rattle.std.proofs.Common.{IsTrue, ◌⊎◌, ◌≡◌, ℕ, ◌+◌, ◌-�
 use Rattle.std.proofs.Math.Seq.{take-append-add}
 use Rattle.std.proofs.lemmas.List.{take_all, take-append-le}
 use Rattle.httparse.specs.Ascii.{crlf_bytes}
-use Rattle.httparse.specs.Grammar.{ChunkLine, print_chunk_line, chunk_size, ReadsChunkLine, HasNoChunkLine, NeverHasChunkLine, LineEnd, Field, print_section, ReadsSection}
+use Rattle.httparse.specs.Grammar.{ChunkLine, print_chunk_line, chunk_size, ReadsChunkLine, HasNoChunkLine, NeverHasChunkLine, print_section, ReadsSection}
 use Rattle.httparse.specs.Spans.{SectionOverflows}
 use Rattle.httparse.proofs.ChunkLemmas.{chunk_line_unique, ReadsChunkLine-append}
 use Rattle.httparse.proofs.GrammarLemmas.{section_unique}
@@ -92,7 +92,7 @@ parts limit text given true rest g =
 
 -- ---- no further chunk stands there
 
-last_no_chunk : (P : List ℕ → Type 0) (room : ℕ) (text : List ℕ) → AfterLast P text → HasNoChunk room text
+pub last_no_chunk : (P : List ℕ → Type 0) (room : ℕ) (text : List ℕ) → AfterLast P text → HasNoChunk room text
 last_no_chunk P room text (line, after, reads, zero, p) = record {
   none = λ c rest valid fits e.
       let same = chunk_line_unique text line c.line _ _ reads (line_of text rest c valid e) in
@@ -125,7 +125,7 @@ not_open rest e = cc
 not_half : (rest : List ℕ) → (crlf_bytes ++ rest ≡ 13 ∷ []) → ⊥
 not_half rest e = cc
 
-ends_no_chunk : (room : ℕ) (text : List ℕ) → EndsAt room text → HasNoChunk room text
+pub ends_no_chunk : (room : ℕ) (text : List ℕ) → EndsAt room text → HasNoChunk room text
 ends_no_chunk room text (in_line none may) = line_no_chunk room text none
 ends_no_chunk room text (in_octets line part reads less fits) = record {
   none = λ c rest valid _ e.
@@ -136,10 +136,10 @@ ends_no_chunk room text (in_end x) =
     octets_no_chunk _ room room text x (λ rest p. elim p [ inl e ↦ not_open rest e | inr e ↦ not_half rest e ])
 ends_no_chunk room text (in_trailers x) = last_no_chunk _ room text x
 
-never_now : (text : List ℕ) → ((more : List ℕ) → HasNoChunkLine (text ++ more)) → HasNoChunkLine text
+pub never_now : (text : List ℕ) → ((more : List ℕ) → HasNoChunkLine (text ++ more)) → HasNoChunkLine text
 never_now text never = subst HasNoChunkLine (append-nil text) (never [])
 
-bad_no_chunk : (room : ℕ) (text : List ℕ) → IsBadAt room text → HasNoChunk room text
+pub bad_no_chunk : (room : ℕ) (text : List ℕ) → IsBadAt room text → HasNoChunk room text
 bad_no_chunk room text (bad_line never) = line_no_chunk room text (never_now text never)
 bad_no_chunk room text (bad_end x) =
     octets_no_chunk _ room room text x (λ rest p. p [] rest (append-nil (crlf_bytes ++ rest)))

@@ -1,11 +1,10 @@
 -- What each place of a body tells, over plain lists.
 -- The answers of `ChunkDecoder` cite it.
-use Rattle.std.proofs.Common.{◌≡◌, ℕ, ◌+◌, ◌-◌, ◌<◌, ◌≤◌, Bool, true, false, List, [], ◌∷◌, ◌++◌, length, take, drop, refl, sym, ap, subst, ◌∙◌, arith, append_assoc, append-nil, length-append, take-append-drop, inl, inr}
-use Rattle.std.specs.Prelude.{All, IsTrue, ◌⊎◌}
-use Rattle.std.specs.List.{flat_map}
+use Rattle.std.proofs.Common.{◌≡◌, ℕ, ◌+◌, ◌-◌, ◌<◌, ◌≤◌, Bool, List, [], ◌∷◌, ◌++◌, length, take, drop, refl, sym, ap, subst, ◌∙◌, arith, append_assoc, append-nil, length-append, take-append-drop, inl, inr}
+use Rattle.std.specs.Prelude.{IsTrue, ◌⊎◌}
 use Rattle.std.proofs.Math.Seq.{take-append-add}
 use Rattle.std.proofs.lemmas.Grind.{flat_map-append}
-use Rattle.std.proofs.lemmas.List.{length-take-le, take-take, length-drop, drop-append-le}
+use Rattle.std.proofs.lemmas.List.{length-take-le, take-take, drop-append-le}
 use Rattle.std.proofs.lemmas.List.Elements.{All-push}
 use Rattle.httparse.specs.Ascii.{crlf_bytes}
 use Rattle.httparse.specs.Grammar.{ChunkLine, print_chunk_line, chunk_size, ReadsChunkLine, HasNoChunkLine, NeverHasChunkLine, MayBecomeChunkLine, print_section}
@@ -13,8 +12,7 @@ use Rattle.httparse.specs.Spans.{SectionOverflows}
 use Rattle.http_wire.specs.declared.trailers.TheConstants.{MAX_TRAILERS}
 use Rattle.httparse.proofs.ChunkLemmas.{ReadsChunkLine-append}
 use Rattle.httparse.proofs.PieceLemmas.{front-append}
-use Rattle.http_wire.specs.declared.look.Look.{Look}
-use Rattle.http_wire.specs.declared.look.Look.TheVariants.{Whole, Cut, Bad, More}
+use Rattle.http_wire.specs.declared.look.Look.TheVariants.{Bad}
 use Rattle.http_wire.specs.declared.chunked.Place.{Place}
 use Rattle.http_wire.specs.declared.chunked.Place.TheVariants as places
 use Rattle.http_wire.specs.declared.chunked.ChunkDecoder.{ChunkDecoder}

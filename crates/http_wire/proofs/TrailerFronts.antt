@@ -1,7 +1,7 @@
 -- What the first octets of a text, as many as trailers may have, tell of the text.
 -- The answers of `look_full` cite it.
-use Rattle.std.proofs.Common.{◌≡◌, ◌≢◌, ℕ, ◌<◌, ◌≤◌, List, [], ◌++◌, length, take, drop, sym, refl, subst, append-nil, take-append-drop}
-use Rattle.httparse.specs.Grammar.{ReadsSection, HasNoSection, LineEnd, Field}
+use Rattle.std.proofs.Common.{◌≢◌, ℕ, ◌<◌, ◌≤◌, List, [], ◌++◌, length, take, drop, sym, refl, subst, append-nil, take-append-drop}
+use Rattle.httparse.specs.Grammar.{ReadsSection, LineEnd, Field}
 use Rattle.httparse.specs.Spans.{SectionOverflows}
 use Rattle.httparse.proofs.GrammarLemmas.{ReadsSection-append}
 use Rattle.http_wire.specs.declared.trailers.TheConstants.{MAX_TRAILERS, MAX_TRAILER_BYTES}

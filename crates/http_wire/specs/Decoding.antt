@@ -1,6 +1,6 @@
 -- What the decoder of bodies in chunks knows of the octets that have come.
 -- The contracts of `ChunkDecoder` cite it.
-use Rattle.std.specs.Prelude.{◌≡◌, ℕ, ◌+◌, ◌<◌, ◌≤◌, ◌⊎◌, Bool, true, false, List, [], ◌∷◌, ◌++◌, length, drop, IsTrue, Option, Some, None}
+use Rattle.std.specs.Prelude.{◌≡◌, ℕ, ◌<◌, ◌≤◌, ◌⊎◌, Bool, true, false, List, ◌++◌, length, drop, IsTrue, Option, Some, None}
 use Rattle.httparse.specs.Ascii.{crlf_bytes}
 use Rattle.httparse.specs.Grammar.{ChunkLine, ReadsChunkLine, chunk_size, HasNoSection, MayBecomeSection}
 use Rattle.httparse.specs.Spans.{SectionOverflows}
@@ -14,7 +14,7 @@ use Rattle.http_wire.specs.declared.chunked.ChunkEnd.TheVariants as ends
 use Rattle.http_wire.specs.declared.chunked.ChunkDecoder.{ChunkDecoder}
 use Rattle.http_wire.specs.declared.trailers.TrailerSection.{TrailerSection}
 use Rattle.http_wire.specs.declared.trailers.TrailerSection.TheVariants as sections
-use Rattle.http_wire.specs.Chunks.{Chunk, joined, ReadsChunks, ReadsTrailers, GivesChunked, AfterLast, IsOpenEnd, NeverHasEnd, EndsInTrailers, EndsInChunked, IsTooLong, IsBadChunked, HasTooManyLines, EndsTooLong}
+use Rattle.http_wire.specs.Chunks.{Chunk, joined, ReadsChunks, ReadsTrailers, GivesChunked, IsOpenEnd, NeverHasEnd, EndsInTrailers, EndsInChunked, IsTooLong, IsBadChunked, HasTooManyLines, EndsTooLong}
 
 -- ---- the end of a chunk, and the trailers
 

@@ -1,6 +1,6 @@
 -- The octets that trailers may have stand there, so what they lack is too long.
 -- The lemmas of `TrailerFronts` say so over plain lists.
-use Rattle.std.proofs.Common.{arith, ◌∷◌, length, take, inl, inr, ◌++◌, drop}
+use Rattle.std.proofs.Common.{arith, inl, inr, ◌++◌, drop}
 use Rattle.std.proofs.lemmas.List.{length-take}
 use Rattle.http_wire.proofs.TrailerFronts.{front_whole, front_bad}
 use Rattle.http_wire.proofs.trailers.look_full.Goals as goal

@@ -1,7 +1,7 @@
 -- A chunk of which a part stands there is open, and one with no end behind it is bad.
 -- The lemmas of `ChunkPlaces` say so over plain lists.
-use Rattle.std.proofs.Common.{◌≡◌, ◌<◌, ◌≤◌, ◌+◌, ◌-◌, ◌++◌, arith, ap, subst, sym, ◌∙◌, length, drop, take, inl}
-use Rattle.std.proofs.lemmas.List.{take_rest, length-drop}
+use Rattle.std.proofs.Common.{◌<◌, ◌≤◌, arith, ap, length, drop, inl}
+use Rattle.std.proofs.lemmas.List.{take_rest}
 use Rattle.http_wire.specs.declared.chunked.Place.TheVariants as places
 use Rattle.http_wire.specs.Chunks.{IsOpenEnd, NeverHasEnd}
 use Rattle.http_wire.proofs.ChunkPlaces.{octets_end, chunk_open, chunk_bad}

@@ -1,7 +1,6 @@
 -- With the octet after the last that there is room for, the body is cut.
 -- The lemmas of `ChunkPlaces` say so over plain lists.
 use Rattle.std.proofs.Common.{◌≡◌, ◌<◌, ◌≤◌, ◌+◌, ◌++◌, arith, ap, subst, sym, ◌∙◌, length, drop, take}
-use Rattle.std.proofs.lemmas.Grind.{common_steps}
 use Rattle.std.proofs.lemmas.List.{take_rest}
 use Rattle.http_wire.specs.declared.chunked.Place.TheVariants as places
 use Rattle.http_wire.specs.Chunks.{GivesCut}

@@ -1,7 +1,6 @@
 -- A decoder that wants more stands for the octets with one more.
 -- The lemma `stands_longer` says so.
 use Rattle.std.proofs.Common.{◌+◌, arith}
-use Rattle.http_wire.specs.Decoding.{Decodes}
 use Rattle.http_wire.proofs.ChunkPlaces.{stands_longer}
 use Rattle.http_wire.proofs.chunked.tests.decode_slowly.Goals as goal
 
