@@ -1,6 +1,6 @@
 //! Bodies in chunks, decoded from all the octets that have come.
 //! RFC 9112, section 7.1.
-ghost use Rattle.std.specs.Prelude.{◌≡◌, ◌+◌, ◌-◌, ◌<◌, ◌≤◌, ℕ, List, IfOk, drop, length, vec_len, take};
+ghost use Rattle.std.specs.Prelude.{◌≡◌, ◌+◌, ◌-◌, ◌<◌, ◌≤◌, ℕ, List, IfOk, drop, length, vec_len};
 ghost use Rattle.http_wire.specs.Decoding.{Decodes, EndTells, Stands, Steps};
 
 use crate::look::Look;

@@ -242,7 +242,7 @@ fn with_trailers(
 
 #[test]
 fn trailers(rt: HostRuntime) {
-    // The name, how many lines, of how many octets each, whether an empty line ends them, the answer.
+    // The name, the lines, the octets of each, whether an empty line ends them, the answer.
     let rows = [
         ("as many lines", MAX_TRAILERS, 4, true, Look::Whole),
         (
