@@ -1,6 +1,12 @@
 -- The lemmas of this crate's proofs.
+pub mod ChunkEnds
+pub mod ChunkLaws
+pub mod ChunkLists
+pub mod ChunkMoves
+pub mod ChunkPlaces
 mod Filling
 mod HeadFacts
 mod LineEnds
 mod Numbers
 mod Pieces
+pub mod TrailerFronts

@@ -1,17 +1,194 @@
--- stand-in
-use Rattle.std.specs.Prelude.{ℕ, List, Bool}
+-- Bodies in chunks: what is read, what is cut at a limit, and what can't be read.
+-- RFC 9112, section 7.1.
+use Rattle.std.specs.Prelude.{◌≡◌, ℕ, ◌+◌, ◌-◌, ◌<◌, ◌≤◌, ◌==◌, ◌⊎◌, Bool, true, false, List, [], ◌∷◌, ◌++◌, length, take, All, count_by}
+use Rattle.std.specs.List.{flat_map}
+use Rattle.httparse.specs.Ascii.{carriage_return, line_feed, crlf_bytes}
+use Rattle.httparse.specs.Grammar.{ChunkLine, print_chunk_line, IsChunkLine, chunk_size, ReadsChunkLine, HasNoChunkLine, NeverHasChunkLine, MayBecomeChunkLine, LineEnd, Field, IsField, print_section, ReadsSection, HasNoSection, MayBecomeSection}
+use Rattle.httparse.specs.Spans.{SectionOverflows}
+use Rattle.http_wire.specs.declared.trailers.TheConstants.{MAX_TRAILERS, MAX_TRAILER_BYTES}
 
+-- chunk = chunk-line chunk-data CRLF, where the line holds the size and the extension
+pub record Chunk : Type 0 where
+  pub line : ChunkLine
+  pub octets : List ℕ
+
+-- the bytes of a chunk
+abbrev pub print_chunk : Chunk → List ℕ
+print_chunk c = print_chunk_line c.line ++ (c.octets ++ crlf_bytes)
+
+-- there are octets, as many as the line says
+pub record IsChunk (c : Chunk) : Type 0 where
+  pub line : IsChunkLine c.line
+  pub some : 0 < chunk_size c.line
+  pub size : length c.octets ≡ chunk_size c.line
+
+-- the bytes of chunks in a row
+abbrev pub print_chunks : List Chunk → List ℕ
+print_chunks chunks = flat_map print_chunk chunks
+
+-- the octets of chunks in a row, which are what a body gives
+abbrev pub joined : List Chunk → List ℕ
+joined chunks = flat_map (λ c. c.octets) chunks
+
+-- text is the chunks, of at most limit octets, and then rest
+pub record ReadsChunks (limit : ℕ) (text : List ℕ) (chunks : List Chunk) (rest : List ℕ) : Type 0 where
+  pub valid : All IsChunk chunks
+  pub fits : length (joined chunks) ≤ limit
+  pub text_is : text ≡ print_chunks chunks ++ rest
+
+-- ---- whole bodies
+
+-- chunked-body = *chunk last-chunk trailer-section CRLF
+pub record ChunkedBody : Type 0 where
+  pub chunks : List Chunk
+  pub last : ChunkLine
+  pub trailers : List Field
+  pub end : LineEnd
+
+-- the bytes of a body
+abbrev pub print_body : ChunkedBody → List ℕ
+print_body b = print_chunks b.chunks ++ (print_chunk_line b.last ++ print_section b.trailers b.end)
+
+-- the last line has the size 0, and the trailers are within their two limits
+pub record IsChunkedBody (b : ChunkedBody) : Type 0 where
+  pub chunks : All IsChunk b.chunks
+  pub last : IsChunkLine b.last
+  pub size : chunk_size b.last ≡ 0
+  pub trailers : All IsField b.trailers
+  pub few : length b.trailers ≤ MAX_TRAILERS
+  pub short : length (print_section b.trailers b.end) ≤ MAX_TRAILER_BYTES
+
+-- text is trailers within their two limits, and then rest
+pub record ReadsTrailers (text rest : List ℕ) : Type 0 where
+  pub fields : List Field
+  pub last : LineEnd
+  pub reads : ReadsSection text fields last rest
+  pub few : length fields ≤ MAX_TRAILERS
+  pub short : length (print_section fields last) ≤ MAX_TRAILER_BYTES
+
+-- text is a body of at most limit octets, which are given, and then rest
+pub record GivesWhole (limit : ℕ) (text given rest : List ℕ) : Type 0 where
+  pub body : ChunkedBody
+  pub valid : IsChunkedBody body
+  pub text_is : text ≡ print_body body ++ rest
+  pub given_is : given ≡ joined body.chunks
+  pub fits : length given ≤ limit
+
+-- ---- bodies that are cut
+
+-- a body up to an octet of a chunk
+pub record BodyFront : Type 0 where
+  pub chunks : List Chunk
+  pub line : ChunkLine
+  pub octets : List ℕ
+
+-- the bytes of a body's front
+abbrev pub print_front : BodyFront → List ℕ
+print_front b = print_chunks b.chunks ++ (print_chunk_line b.line ++ b.octets)
+
+-- the octets that stand in a body's front
+abbrev pub front_octets : BodyFront → List ℕ
+front_octets b = joined b.chunks ++ b.octets
+
+-- it ends with octet limit + 1, which its last line still counts
+pub record IsFrontPast (limit : ℕ) (b : BodyFront) : Type 0 where
+  pub chunks : All IsChunk b.chunks
+  pub fits : length (joined b.chunks) ≤ limit
+  pub line : IsChunkLine b.line
+  pub within : length b.octets ≤ chunk_size b.line
+  pub past : length (front_octets b) ≡ limit + 1
+
+-- text begins with a body's front up to octet limit + 1, and the first limit octets are given
+pub record GivesCut (limit : ℕ) (text given rest : List ℕ) : Type 0 where
+  pub front : BodyFront
+  pub valid : IsFrontPast limit front
+  pub text_is : text ≡ print_front front ++ rest
+  pub given_is : given ≡ take limit (front_octets front)
+
+-- what the body that text begins with gives, and what stands after the last octet looked at
 abbrev pub GivesChunked : ℕ → List ℕ → List ℕ → Bool → List ℕ → Type 0
-GivesChunked limit text given cut rest = ⊥
+GivesChunked limit text given false rest = GivesWhole limit text given rest
+GivesChunked limit text given true rest = GivesCut limit text given rest
 
+-- ---- texts that give no body
+
+-- after chunks of at most limit octets, P of the octets left to the limit and of what follows
+abbrev pub AfterChunks : ℕ → (ℕ → List ℕ → Type 0) → List ℕ → Type 0
+AfterChunks limit P text =
+    (chunks : List Chunk) × (rest : List ℕ)
+    × ReadsChunks limit text chunks rest × P (limit - length (joined chunks)) rest
+
+-- text is a chunk line of the size 0, and P holds of what follows
+abbrev pub AfterLast : (List ℕ → Type 0) → List ℕ → Type 0
+AfterLast P text =
+    (line : ChunkLine) × (after : List ℕ)
+    × ReadsChunkLine text line after × (chunk_size line ≡ 0) × P after
+
+-- text is a chunk line and all its octets, at most room, and P holds of what follows
+abbrev pub AfterOctets : ℕ → (List ℕ → Type 0) → List ℕ → Type 0
+AfterOctets room P text =
+    (line : ChunkLine) × (octets : List ℕ) × (after : List ℕ)
+    × ReadsChunkLine text line (octets ++ after) × (0 < chunk_size line)
+    × (length octets ≡ chunk_size line) × (length octets ≤ room) × P after
+
+-- the number of line feeds in text
+abbrev pub line_feeds : List ℕ → ℕ
+line_feeds text = count_by (λ octet. octet == line_feed) text
+
+-- the end of a chunk is still to come, or half of it
+abbrev pub IsOpenEnd : List ℕ → Type 0
+IsOpenEnd text = (text ≡ []) ⊎ (text ≡ carriage_return ∷ [])
+
+-- no bytes can follow that make text begin with the end of a chunk
+abbrev pub NeverHasEnd : List ℕ → Type 0
+NeverHasEnd text = (more after : List ℕ) → text ++ more ≡ crlf_bytes ++ after → ⊥
+
+-- text ends inside trailers, which may yet keep their two limits
+pub record EndsInTrailers (text : List ℕ) : Type 0 where
+  pub none : HasNoSection text
+  pub may : MayBecomeSection text
+  pub short : length text < MAX_TRAILER_BYTES
+  pub few : line_feeds text < MAX_TRAILERS
+
+-- where text ends: inside a chunk line, a chunk's octets, their end, or the trailers
+pub data EndsAt (room : ℕ) (text : List ℕ) : Type 0 where
+  in_line : HasNoChunkLine text → MayBecomeChunkLine text → EndsAt room text
+  in_octets : (line : ChunkLine) (part : List ℕ) → ReadsChunkLine text line part
+      → length part < chunk_size line → length part ≤ room → EndsAt room text
+  in_end : AfterOctets room IsOpenEnd text → EndsAt room text
+  in_trailers : AfterLast EndsInTrailers text → EndsAt room text
+
+-- the text ends inside a body, of which at most limit octets stand
 abbrev pub EndsInChunked : ℕ → List ℕ → Type 0
-EndsInChunked limit text = ⊥
+EndsInChunked limit = AfterChunks limit EndsAt
 
+-- the bytes that trailers may have stand there, and have no trailers of at most the lines allowed
+pub record IsTooLong (text : List ℕ) : Type 0 where
+  pub long : MAX_TRAILER_BYTES ≤ length text
+  pub none : (fields : List Field) (last : LineEnd) (rest : List ℕ)
+      → ReadsSection (take MAX_TRAILER_BYTES text) fields last rest → MAX_TRAILERS < length fields
+
+-- what can't be read, whatever follows: a chunk line, the end of a chunk, or trailers within their
+-- two limits
+pub data IsBadAt (room : ℕ) (text : List ℕ) : Type 0 where
+  bad_line : NeverHasChunkLine text → IsBadAt room text
+  bad_end : AfterOctets room NeverHasEnd text → IsBadAt room text
+  bad_trailers : AfterLast (SectionOverflows MAX_TRAILERS) text → IsBadAt room text
+  too_long : AfterLast IsTooLong text → IsBadAt room text
+
+-- no bytes can follow that make text begin with a body that can be read
 abbrev pub IsBadChunked : ℕ → List ℕ → Type 0
-IsBadChunked limit text = ⊥
+IsBadChunked limit = AfterChunks limit IsBadAt
 
+-- text ends with no end of the trailers, though as many lines as they may have stand there
+pub record HasTooManyLines (text : List ℕ) : Type 0 where
+  pub none : HasNoSection text
+  pub many : MAX_TRAILERS ≤ line_feeds text
+
+-- the text ends after a body's last chunk, with as many lines as trailers may have and no end
 abbrev pub EndsTooLong : ℕ → List ℕ → Type 0
-EndsTooLong limit text = ⊥
+EndsTooLong limit = AfterChunks limit (λ room. AfterLast HasTooManyLines)
 
+-- the cause of BadChunk, for all the octets that came
 abbrev pub IsRefusedChunked : ℕ → List ℕ → Type 0
-IsRefusedChunked limit text = ⊥
+IsRefusedChunked limit text = IsBadChunked limit text ⊎ EndsTooLong limit text

@@ -2,6 +2,7 @@
 -- RFC 9110 and RFC 9112.
 pub mod Bodies
 pub mod Chunks
+pub mod Decoding
 pub mod Fields
 pub mod Finding
 pub mod Heads

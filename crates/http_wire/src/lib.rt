@@ -4,6 +4,7 @@
 
 mod body;
 mod buffer;
+mod chunked;
 mod empty_line;
 mod fault;
 mod fields;
@@ -12,6 +13,7 @@ mod head;
 mod limits;
 mod look;
 mod response;
+mod trailers;
 
 pub use fault::WireFault;
 pub use limits::{MAX_HEAD, MAX_HEADER_LINES, MAX_INTERIM_HEADS, MAX_RAW};

@@ -1,0 +1,15 @@
+-- The decoder stands for the octets at each step, and each step moves its place on.
+-- The proof of `look` rests on it.
+use Rattle.std.proofs.Common.{◌≡◌, ◌-◌, length}
+use Rattle.http_wire.specs.Decoding.{Stands}
+use Rattle.http_wire.proofs.chunked.ChunkDecoder.look.Given as goal
+
+abbrev pub invariant-loop-look : goal.invariant-loop-look
+invariant-loop-look l = record {
+  stands : Stands l.self l.bytes;
+  limit : l.self.limit ≡ l.fn.self.limit;
+  start : l.self.start ≡ l.fn.self.start;
+}
+
+abbrev pub decreases-loop-look : goal.decreases-loop-look
+decreases-loop-look l = length l.bytes - l.self.at

@@ -1,0 +1,81 @@
+-- What the decoder of bodies in chunks knows of the octets that have come.
+-- The contracts of `ChunkDecoder` cite it.
+use Rattle.std.specs.Prelude.{◌≡◌, ℕ, ◌<◌, ◌≤◌, ◌⊎◌, Bool, true, false, List, ◌++◌, length, drop, IsTrue, Option, Some, None}
+use Rattle.httparse.specs.Ascii.{crlf_bytes}
+use Rattle.httparse.specs.Grammar.{ChunkLine, ReadsChunkLine, chunk_size, HasNoSection, MayBecomeSection}
+use Rattle.httparse.specs.Spans.{SectionOverflows}
+use Rattle.http_wire.specs.declared.trailers.TheConstants.{MAX_TRAILERS}
+use Rattle.http_wire.specs.declared.look.Look.{Look}
+use Rattle.http_wire.specs.declared.look.Look.TheVariants.{Whole, Cut, Bad, More}
+use Rattle.http_wire.specs.declared.chunked.Place.{Place}
+use Rattle.http_wire.specs.declared.chunked.Place.TheVariants as places
+use Rattle.http_wire.specs.declared.chunked.ChunkEnd.{ChunkEnd}
+use Rattle.http_wire.specs.declared.chunked.ChunkEnd.TheVariants as ends
+use Rattle.http_wire.specs.declared.chunked.ChunkDecoder.{ChunkDecoder}
+use Rattle.http_wire.specs.declared.trailers.TrailerSection.{TrailerSection}
+use Rattle.http_wire.specs.declared.trailers.TrailerSection.TheVariants as sections
+use Rattle.http_wire.specs.Chunks.{Chunk, joined, ReadsChunks, ReadsTrailers, GivesChunked, IsOpenEnd, NeverHasEnd, EndsInTrailers, EndsInChunked, IsTooLong, IsBadChunked, HasTooManyLines, EndsTooLong}
+
+-- ---- the end of a chunk, and the trailers
+
+-- what the octets after those of a chunk are
+abbrev pub EndTells : List ℕ → ChunkEnd → Type 0
+EndTells text ends.Whole = (rest : List ℕ) × (text ≡ crlf_bytes ++ rest)
+EndTells text ends.Open = IsOpenEnd text
+EndTells text ends.Bad = NeverHasEnd text
+
+-- what octets that trailers may have are
+abbrev pub SectionTells : List ℕ → TrailerSection → Type 0
+SectionTells text sections.Whole = (rest : List ℕ) × ReadsTrailers text rest
+SectionTells text sections.Open = HasNoSection text × MayBecomeSection text
+SectionTells text sections.Over = SectionOverflows MAX_TRAILERS text
+SectionTells text sections.Bad = SectionOverflows MAX_TRAILERS text
+
+-- what the octets after the last chunk's line are
+abbrev pub TrailersTell : List ℕ → Bool → Look → Type 0
+TrailersTell text ended Whole = (rest : List ℕ) × ReadsTrailers text rest
+TrailersTell text ended Cut = ⊥
+TrailersTell text ended Bad =
+    SectionOverflows MAX_TRAILERS text ⊎ IsTooLong text ⊎ (IsTrue ended × HasTooManyLines text)
+TrailersTell text ended More = IsTrue ended → EndsInTrailers text
+
+-- ---- the body
+
+-- middle is what was read at the place, and then rest
+abbrev pub StandsAt : Place → List ℕ → List ℕ → Type 0
+StandsAt places.Line middle rest = middle ≡ rest
+StandsAt (places.Octets size) middle rest =
+    (line : ChunkLine) × ReadsChunkLine middle line rest × (size ≡ chunk_size line) × (0 < size)
+StandsAt places.Trailers middle rest =
+    (line : ChunkLine) × ReadsChunkLine middle line rest × (chunk_size line ≡ 0)
+
+-- text is chunks, whose octets were kept, then what was read at the place, and then rest
+pub record Decoded (limit : ℕ) (text octets : List ℕ) (place : Place) (rest : List ℕ) : Type 0 where
+  pub chunks : List Chunk
+  pub middle : List ℕ
+  pub reads : ReadsChunks limit text chunks middle
+  pub octets_are : octets ≡ joined chunks
+  pub at : StandsAt place middle rest
+
+-- the decoder has read the bytes from its start to its place
+pub record Stands (decoder : ChunkDecoder) (bytes : List ℕ) : Type 0 where
+  pub started : decoder.start ≤ decoder.at
+  pub within : decoder.at ≤ length bytes
+  pub decoded : Decoded decoder.limit (drop decoder.start bytes) decoder.octets.items decoder.place (drop decoder.at bytes)
+
+-- what a look at the bytes from the decoder's start on tells, with the octets that it holds then
+abbrev pub Decodes : List ℕ → Bool → ChunkDecoder → Look → Type 0
+Decodes bytes ended decoder Whole =
+    (rest : List ℕ) × GivesChunked decoder.limit (drop decoder.start bytes) decoder.octets.items false rest
+Decodes bytes ended decoder Cut =
+    (rest : List ℕ) × GivesChunked decoder.limit (drop decoder.start bytes) decoder.octets.items true rest
+Decodes bytes ended decoder Bad =
+    IsBadChunked decoder.limit (drop decoder.start bytes)
+    ⊎ (IsTrue ended × EndsTooLong decoder.limit (drop decoder.start bytes))
+Decodes bytes ended decoder More =
+    Stands decoder bytes × (IsTrue ended → EndsInChunked decoder.limit (drop decoder.start bytes))
+
+-- a step tells, or moves the place on
+abbrev pub Steps : List ℕ → Bool → ℕ → ChunkDecoder → Option Look → Type 0
+Steps bytes ended at decoder (Some look) = Decodes bytes ended decoder look
+Steps bytes ended at decoder None = (at < decoder.at) × Stands decoder bytes

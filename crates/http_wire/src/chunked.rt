@@ -1,0 +1,270 @@
+//! Bodies in chunks, decoded from all the octets that have come.
+//! RFC 9112, section 7.1.
+ghost use Rattle.std.specs.Prelude.{◌≡◌, ◌+◌, ◌-◌, ◌<◌, ◌≤◌, ℕ, List, IfOk, drop, length, vec_len};
+ghost use Rattle.http_wire.specs.Decoding.{Decodes, EndTells, Stands, Steps};
+
+use crate::look::Look;
+use crate::trailers::{MAX_TRAILER_BYTES, has_empty_line, look_trailers};
+use httparse::{Status, parse_chunk_size};
+use memchr::memchr;
+use std::alloc::{AllocError, Global};
+
+/// Where the decoding of a body stands.
+#[derive(Clone, Copy, Debug, PartialEq, Eq)]
+enum Place {
+    /// Before a chunk line.
+    Line,
+    /// After a chunk line, before as many octets as it says.
+    Octets(u64),
+    /// After the last chunk line.
+    Trailers,
+}
+
+/// What the octets after those of a chunk are.
+#[derive(Clone, Copy, Debug, PartialEq, Eq)]
+enum ChunkEnd {
+    /// CR LF.
+    Whole,
+    /// A part of CR LF, to which more octets can come.
+    Open,
+    /// Something else, whatever follows.
+    Bad,
+}
+
+/// A body in chunks, as far as it was decoded. After an answer other than `More` it is done.
+#[derive(Debug, Drop)]
+pub(crate) struct ChunkDecoder {
+    limit: usize,
+    start: usize,
+    octets: Vec<u8>,
+    place: Place,
+    at: usize,
+    // Up to where a line end was looked for: it saves time, and no answer rests on it.
+    scanned: usize,
+}
+
+impl ChunkDecoder {
+    /// A decoder of the body that begins at `start`, which gives at most `limit` octets.
+    pub(crate) fn new(alloc: Global, start: usize, limit: usize) -> ChunkDecoder
+        ensures stands { (bytes : List ℕ) → start ≤ length bytes → Stands result bytes }
+        ensures start { result.start ≡ start }
+        ensures limit { result.limit ≡ limit }
+    {
+        ChunkDecoder {
+            limit,
+            start,
+            octets: Vec::new(alloc),
+            place: Place::Line,
+            at: start,
+            scanned: start,
+        }
+    }
+
+    /// Looks at what has come. `ended`: whether nothing more will come.
+    pub(crate) fn look(&mut self, bytes: &[u8], ended: bool) -> Result<Look, AllocError>
+        requires stands { Stands self.old bytes.now }
+        ensures limit { self.new.limit ≡ self.old.limit }
+        ensures start { self.new.start ≡ self.old.start }
+        ensures decodes { IfOk result (Decodes bytes.now ended self.new) }
+    {
+        loop {
+            match self.step(bytes, ended) {
+                Ok(None) => {}
+                Ok(Some(look)) => return Ok(look),
+                Err(error) => return Err(error),
+            }
+        }
+    }
+
+    /// The octets that the body gave.
+    pub(crate) fn into_octets(self) -> Vec<u8>
+        ensures { result ≡ self.octets }
+    {
+        self.octets
+    }
+
+    // One step of `look`, which reads at most one part.
+    fn step(&mut self, bytes: &[u8], ended: bool) -> Result<Option<Look>, AllocError>
+        requires stands { Stands self.old bytes.now }
+        ensures limit { self.new.limit ≡ self.old.limit }
+        ensures start { self.new.start ≡ self.old.start }
+        ensures steps { IfOk result (Steps bytes.now ended self.old.at self.new) }
+    {
+        match self.place {
+            Place::Line => Ok(self.look_line(bytes, ended)),
+            Place::Octets(size) => self.look_octets(size, bytes, ended),
+            Place::Trailers => Ok(Some(self.look_end(bytes, ended))),
+        }
+    }
+
+    fn look_line(&mut self, bytes: &[u8], ended: bool) -> Option<Look>
+        requires stands { Stands self.old bytes.now }
+        requires place { self.old.place ≡ Place.Line }
+        ensures limit { self.new.limit ≡ self.old.limit }
+        ensures start { self.new.start ≡ self.old.start }
+        ensures steps { Steps bytes.now ended self.old.at self.new result }
+    {
+        // A line that comes octet by octet is parsed once.
+        if !ended && !has_line_feed(bytes, self.scanned) {
+            self.scanned = bytes.len();
+            return Some(Look::More);
+        }
+        match parse_chunk_size(&bytes[self.at..]) {
+            Ok(Status::Complete((len, 0))) => {
+                self.pass(len, Place::Trailers);
+                None
+            }
+            Ok(Status::Complete((len, size))) => {
+                self.pass(len, Place::Octets(size));
+                None
+            }
+            Ok(Status::Partial) => Some(Look::More),
+            Err(_) => Some(Look::Bad),
+        }
+    }
+
+    fn look_octets(
+        &mut self,
+        size: u64,
+        bytes: &[u8],
+        ended: bool,
+    ) -> Result<Option<Look>, AllocError>
+        requires stands { Stands self.old bytes.now }
+        requires place { self.old.place ≡ Place.Octets size }
+        ensures limit { self.new.limit ≡ self.old.limit }
+        ensures start { self.new.start ≡ self.old.start }
+        ensures steps { IfOk result (Steps bytes.now ended self.old.at self.new) }
+    {
+        let room = self.limit - self.octets.len();
+        if size > room as u64 {
+            return self.look_past(room, bytes, ended);
+        }
+        self.look_chunk(size as usize, bytes, ended)
+    }
+
+    // The chunk has more octets than the limit has room for.
+    fn look_past(
+        &mut self,
+        room: usize,
+        bytes: &[u8],
+        ended: bool,
+    ) -> Result<Option<Look>, AllocError>
+        requires stands { Stands self.old bytes.now }
+        requires past { (size : ℕ) × (self.old.place ≡ Place.Octets size) × (room < size) }
+        requires room { room + vec_len self.old.octets ≡ self.old.limit }
+        ensures limit { self.new.limit ≡ self.old.limit }
+        ensures start { self.new.start ≡ self.old.start }
+        ensures steps { IfOk result (Steps bytes.now ended self.old.at self.new) }
+    {
+        let text = &bytes[self.at..];
+        if text.len() <= room {
+            return Ok(Some(Look::More));
+        }
+        match self.octets.extend_from_slice(&text[..room]) {
+            Ok(()) => Ok(Some(Look::Cut)),
+            Err(error) => Err(error),
+        }
+    }
+
+    // The limit has room for the octets of the chunk.
+    fn look_chunk(
+        &mut self,
+        size: usize,
+        bytes: &[u8],
+        ended: bool,
+    ) -> Result<Option<Look>, AllocError>
+        requires stands { Stands self.old bytes.now }
+        requires place { self.old.place ≡ Place.Octets size }
+        requires fits { size + vec_len self.old.octets ≤ self.old.limit }
+        ensures limit { self.new.limit ≡ self.old.limit }
+        ensures start { self.new.start ≡ self.old.start }
+        ensures steps { IfOk result (Steps bytes.now ended self.old.at self.new) }
+    {
+        let text = &bytes[self.at..];
+        if text.len() < size {
+            return Ok(Some(Look::More));
+        }
+        match chunk_end(&text[size..]) {
+            ChunkEnd::Whole => match self.take_chunk(size, bytes) {
+                Ok(()) => Ok(None),
+                Err(error) => Err(error),
+            },
+            ChunkEnd::Open => Ok(Some(Look::More)),
+            ChunkEnd::Bad => Ok(Some(Look::Bad)),
+        }
+    }
+
+    // Keeps the octets of a chunk, and moves behind its end.
+    fn take_chunk(&mut self, size: usize, bytes: &[u8]) -> Result<(), AllocError>
+        requires stands { Stands self.old bytes.now }
+        requires place { self.old.place ≡ Place.Octets size }
+        requires fits { size + vec_len self.old.octets ≤ self.old.limit }
+        requires within { size ≤ length bytes.now - self.old.at }
+        requires ends { EndTells (drop size (drop self.old.at bytes.now)) ChunkEnd.Whole }
+        ensures limit { self.new.limit ≡ self.old.limit }
+        ensures start { self.new.start ≡ self.old.start }
+        ensures moves { IfOk result (λ _. (self.old.at < self.new.at) × Stands self.new bytes.now) }
+    {
+        let text = &bytes[self.at..];
+        match self.octets.extend_from_slice(&text[..size]) {
+            Ok(()) => {
+                self.pass(size + 2, Place::Line);
+                Ok(())
+            }
+            Err(error) => Err(error),
+        }
+    }
+
+    fn look_end(&mut self, bytes: &[u8], ended: bool) -> Look
+        requires stands { Stands self.old bytes.now }
+        requires place { self.old.place ≡ Place.Trailers }
+        ensures limit { self.new.limit ≡ self.old.limit }
+        ensures start { self.new.start ≡ self.old.start }
+        ensures decodes { Decodes bytes.now ended self.new result }
+    {
+        let text = &bytes[self.at..];
+        let open = !ended && text.len() < MAX_TRAILER_BYTES;
+        if open && !has_empty_line(text, self.scanned.saturating_sub(self.at)) {
+            self.scanned = self.scanned.max(bytes.len());
+            return Look::More;
+        }
+        // More is wanted behind an empty line only where too many lines stand before it, and then
+        // no other empty line helps.
+        self.scanned = self.at.saturating_add(MAX_TRAILER_BYTES);
+        look_trailers(text, ended)
+    }
+
+    // Moves the place on by `len` octets.
+    fn pass(&mut self, len: usize, place: Place)
+        requires { self.old.at + len ≤ usize.MAX }
+        ensures limit { self.new.limit ≡ self.old.limit }
+        ensures start { self.new.start ≡ self.old.start }
+        ensures octets { self.new.octets ≡ self.old.octets }
+        ensures place { self.new.place ≡ place }
+        ensures at { self.new.at ≡ self.old.at + len }
+    {
+        self.at += len;
+        self.scanned = self.at;
+        self.place = place;
+    }
+}
+
+fn has_line_feed(bytes: &[u8], from: usize) -> bool {
+    match bytes.get(from..) {
+        Some(new) => memchr(b'\n', new).is_some(),
+        None => false,
+    }
+}
+
+fn chunk_end(text: &[u8]) -> ChunkEnd
+    ensures { EndTells text.now result }
+{
+    match text {
+        [b'\r', b'\n', ..] => ChunkEnd::Whole,
+        [] | [b'\r'] => ChunkEnd::Open,
+        _ => ChunkEnd::Bad,
+    }
+}
+
+#[cfg(test)]
+mod tests;

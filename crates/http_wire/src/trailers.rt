@@ -1,0 +1,97 @@
+//! Trailers of a body in chunks, which are read and dropped.
+//! RFC 9112, section 7.1.2.
+ghost use Rattle.std.specs.Prelude.{◌≡◌, ◌<◌, ◌≤◌, Bool, length};
+ghost use Rattle.http_wire.specs.Chunks.{line_feeds};
+ghost use Rattle.http_wire.specs.Decoding.{SectionTells, TrailersTell};
+
+use crate::look::Look;
+use httparse::spans::{EMPTY_HEADER_SPAN, parse_headers};
+use httparse::{Error, Status};
+use memchr::memmem;
+
+/// How many lines trailers may have.
+pub(crate) const MAX_TRAILERS: usize = 100;
+
+/// How many octets trailers may have, their empty line among them.
+pub(crate) const MAX_TRAILER_BYTES: usize = 65536;
+
+/// What octets that trailers may have are.
+#[derive(Clone, Copy, Debug, PartialEq, Eq)]
+enum TrailerSection {
+    /// Trailers, and what follows them.
+    Whole,
+    /// A part of trailers, to which more octets can come.
+    Open,
+    /// More lines than trailers may have.
+    Over,
+    /// No trailers, whatever follows.
+    Bad,
+}
+
+/// Whether an empty line ends after the first `from` octets, or begins the text.
+pub(crate) fn has_empty_line(text: &[u8], from: usize) -> bool {
+    if matches!(text, [b'\n', ..] | [b'\r', b'\n', ..]) {
+        return true;
+    }
+    // The end of the line before it may stand among the octets that were seen.
+    match text.get(from.saturating_sub(2)..) {
+        Some(new) => memmem::find(new, b"\n\n").is_some() || memmem::find(new, b"\n\r\n").is_some(),
+        None => false,
+    }
+}
+
+/// What the octets after the last chunk's line are. `ended`: whether nothing more will come.
+pub(crate) fn look_trailers(text: &[u8], ended: bool) -> Look
+    ensures { TrailersTell text.now ended result }
+{
+    if text.len() < MAX_TRAILER_BYTES {
+        look_short(text, ended)
+    } else {
+        look_full(text)
+    }
+}
+
+// Fewer octets stand there than trailers may have.
+fn look_short(text: &[u8], ended: bool) -> Look
+    requires { length text.now < MAX_TRAILER_BYTES }
+    ensures { TrailersTell text.now ended result }
+{
+    match read_section(text) {
+        TrailerSection::Whole => Look::Whole,
+        TrailerSection::Bad => Look::Bad,
+        TrailerSection::Over if ended => Look::Bad,
+        TrailerSection::Over => Look::More,
+        TrailerSection::Open if ended && count_line_feeds(text) >= MAX_TRAILERS => Look::Bad,
+        TrailerSection::Open => Look::More,
+    }
+}
+
+// All the octets stand there that trailers may have.
+fn look_full(text: &[u8]) -> Look
+    requires { MAX_TRAILER_BYTES ≤ length text.now }
+    ensures { (ended : Bool) → TrailersTell text.now ended result }
+{
+    match read_section(&text[..MAX_TRAILER_BYTES]) {
+        TrailerSection::Whole => Look::Whole,
+        _ => Look::Bad,
+    }
+}
+
+fn count_line_feeds(text: &[u8]) -> usize
+    ensures { result ≡ line_feeds text.now }
+{
+    text.iter().filter(|octet| **octet == b'\n').count()
+}
+
+fn read_section(text: &[u8]) -> TrailerSection
+    requires { length text.now ≤ MAX_TRAILER_BYTES }
+    ensures { SectionTells text.now result }
+{
+    let mut headers = [EMPTY_HEADER_SPAN; MAX_TRAILERS];
+    match parse_headers(text, &mut headers) {
+        Ok(Status::Complete(_)) => TrailerSection::Whole,
+        Ok(Status::Partial) => TrailerSection::Open,
+        Err(Error::TooManyHeaders) => TrailerSection::Over,
+        Err(_) => TrailerSection::Bad,
+    }
+}
