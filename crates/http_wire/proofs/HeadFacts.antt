@@ -9,7 +9,7 @@ use Rattle.std.proofs.lemmas.List.Elements.{All-push}
 use Rattle.std.proofs.lemmas.List.{flat_map_more}
 use Rattle.httparse.specs.Grammar.{ResponseHead, IsResponseHead, print_response, status_code, ReadsResponse, HasNoResponse, NeverHasResponse, MayBecomeResponse}
 use Rattle.httparse.specs.Spans.{header_bytes, IsResponseAt, ResponseOverflows, ResponseExceeds}
-use Rattle.http_wire.specs.Heads.{AfterInterims, BeginsFinal, fields_of, HasFinal, HasInterims, HasHead, HasTooManyInterim, HasStrangeStatus, IsBadHead, IsHead, IsInterim, IsLongHead, line_ends, is_interim, is_final}
+use Rattle.http_wire.specs.Heads.{AfterInterims, BeginsFinal, fields_of, HasFinal, HasInterims, HasHead, HasTooManyInterim, HasStrangeStatus, IsBadHead, IsHead, IsInterim, IsLongHead, EndsInHead, line_ends, is_interim, is_final}
 use Rattle.http_wire.specs.Finding.{Passes, IsHeadFront, IsHeadAt, IsPlan, IsFound, HasNoPlan, Faults}
 use Rattle.http_wire.specs.Fields.{Pair}
 use Rattle.http_wire.specs.Response.{Cause}
@@ -69,7 +69,7 @@ in_front text more head rest full has =
     let room = MAX_HEAD - length print in
     let whole : length print + room ≡ MAX_HEAD = omega (arith, has.is.octets) in
     let front : take MAX_HEAD (text ++ more) ≡ print ++ take room rest =
-        ap (take MAX_HEAD) has.parts ∙ ap (λ n. take n (print ++ rest)) (sym whole) ∙ take-append-add print rest room in
+    ap (take MAX_HEAD) has.parts ∙ ap (λ n. take n (print ++ rest)) (sym whole) ∙ take-append-add print rest room in
     (take room rest, (has.is.valid, sym same ∙ front))
 
 -- no head in a full front
@@ -85,14 +85,17 @@ pub long_many : (text more : List ℕ) → ResponseOverflows MAX_HEADER_LINES (t
 long_many text more over exceeds = record {
   none = λ head rest has.
       let many = over (drop MAX_HEAD text ++ more) head rest
-          (has.is.valid, sym (front_split text MAX_HEAD more) ∙ has.parts) in
+      (has.is.valid, sym (front_split text MAX_HEAD more) ∙ has.parts) in
       omega (arith, many, has.is.lines);
   long = inr (omega (arith, exceeds_lines (take MAX_HEAD text) exceeds, front_lines));
 } where
   front_lines : line_ends (take MAX_HEAD text) ≤ line_ends (take MAX_HEAD (text ++ more))
   front_lines =
-      omega (arith, lines_in_front (take MAX_HEAD text) (drop MAX_HEAD text ++ more) (omega (arith, length-take MAX_HEAD text)),
-      ap (λ (t : List ℕ). line_ends (take MAX_HEAD t)) (front_split text MAX_HEAD more))
+      omega (
+        arith,
+        lines_in_front (take MAX_HEAD text) (drop MAX_HEAD text ++ more) (omega (arith, length-take MAX_HEAD text)),
+        ap (λ (t : List ℕ). line_ends (take MAX_HEAD t)) (front_split text MAX_HEAD more),
+      )
 
 -- ---- a head that was parsed
 
@@ -104,9 +107,9 @@ head_found text headers spans head found =
     let print = print_response head in
     let len : spans.len ≡ length print = found.at.len in
     let split : text ≡ print ++ (drop spans.len front ++ drop MAX_HEAD text) =
-        sym (take-append-drop MAX_HEAD text) ∙ parts_append front print (drop spans.len front) (drop MAX_HEAD text) found.at.reads.1 in
+    sym (take-append-drop MAX_HEAD text) ∙ parts_append front print (drop spans.len front) (drop MAX_HEAD text) found.at.reads.1 in
     let tail : drop spans.len text ≡ drop spans.len front ++ drop MAX_HEAD text =
-        ap (λ n. drop n text) len ∙ ap (drop (length print)) split ∙ drop-append_seam print (drop spans.len front ++ drop MAX_HEAD text) in
+    ap (λ n. drop n text) len ∙ ap (drop (length print)) split ∙ drop-append_seam print (drop spans.len front ++ drop MAX_HEAD text) in
     record { is = found.is; parts = split ∙ ap (λ (t : List ℕ). print ++ t) (sym tail) }
 
 -- one interim head more
@@ -131,7 +134,7 @@ passes_next finder new bytes headers spans head passes found interim few at pass
     let has = head_found text headers spans head found in
     let status : IsTrue (is_interim (status_code head)) = subst (λ code. IsTrue (is_interim code)) found.at.code interim in
     let place : drop spans.len text ≡ drop new.at bytes =
-        drop-drop spans.len finder.at bytes ∙ ap (λ n. drop n bytes) (sym at) in
+    drop-drop spans.len finder.at bytes ∙ ap (λ n. drop n bytes) (sym at) in
     let len = length-take MAX_HEAD text in
     record {
       heads = passes.heads ++ head ∷ [];
@@ -217,8 +220,8 @@ pub planned : (finder : HeadFinder) (bytes : List ℕ) (headers : List HeaderSpa
     → IsFound bytes plan
 planned finder bytes headers spans head plan passes found final is =
     let own : IsPlan (status_code head) (fields_of head) (finder.at + spans.len) plan =
-        told (λ code fields. IsPlan code fields (finder.at + spans.len) plan)
-            (take MAX_HEAD (drop finder.at bytes)) headers spans head found is in
+    told (λ code fields. IsPlan code fields (finder.at + spans.len) plan)
+    (take MAX_HEAD (drop finder.at bytes)) headers spans head found is in
     let len = length-take MAX_HEAD (drop finder.at bytes) in
     record {
       head = head;
@@ -238,12 +241,14 @@ pub unplanned : (finder : HeadFinder) (bytes : List ℕ) (headers : List HeaderS
     → Faults bytes fault
 unplanned finder bytes headers spans head fault passes found final none more limit =
     by_fault fault
-        (told (λ code fields. HasNoPlan code fields fault) (take MAX_HEAD (drop finder.at bytes)) headers spans head found none)
+    (told (λ code fields. HasNoPlan code fields fault) (take MAX_HEAD (drop finder.at bytes)) headers spans head found none)
   where
     after : List ℕ
     after = drop (finder.at + spans.len) bytes ++ more
+
     whole : HasFinal (bytes ++ more) head after
     whole = final_append bytes head (drop (finder.at + spans.len) bytes) more (final_found finder bytes headers spans head passes found final)
+
     by_fault : (fault : WireFault) → HasNoPlan (status_code head) (fields_of head) fault → Cause fault (bytes ++ more) limit
     by_fault BadLength bad = record { head = head; text = after; final = whole; fact = bad }
     by_fault Coding coded = record { head = head; text = after; final = whole; fact = coded }
@@ -313,3 +318,30 @@ pub never_bad : (finder : HeadFinder) (bytes front more : List ℕ) → front �
     → Passes finder bytes → NeverHasResponse front → AfterInterims IsBadHead (bytes ++ more)
 never_bad finder bytes front more is passes never =
     after_passed finder bytes more passes (inl (never_front (drop finder.at bytes) more (subst NeverHasResponse is never)))
+
+-- the end of the input behind an unfinished head
+pub ends_in_head : (finder : HeadFinder) (bytes : List ℕ) → Passes finder bytes → IsHeadFront (drop finder.at bytes)
+    → line_ends (drop finder.at bytes) ≤ MAX_HEADER_LINES → AfterInterims EndsInHead bytes
+ends_in_head finder bytes passes front lines = record {
+  heads = passes.heads;
+  rest = drop finder.at bytes;
+  few = omega (arith, passes.count, passes.few);
+  passed = passes.passed;
+  fact = record { none = front.none; unfinished = front.unfinished; octets = front.octets; lines = lines };
+}
+
+-- the same with too many lines
+pub ends_long : (finder : HeadFinder) (bytes : List ℕ) → Passes finder bytes → IsHeadFront (drop finder.at bytes)
+    → MAX_HEADER_LINES < line_ends (drop finder.at bytes) → AfterInterims IsLongHead bytes
+ends_long finder bytes passes front many =
+    let text = drop finder.at bytes in
+    record {
+      heads = passes.heads;
+      rest = text;
+      few = omega (arith, passes.count, passes.few);
+      passed = passes.passed;
+      fact = record {
+        none = λ head rest has. front.none head rest (has.is.valid, has.parts);
+        long = inr (omega (arith, many, ap line_ends (take_all MAX_HEAD text (omega (arith, front.octets)))));
+      };
+    }

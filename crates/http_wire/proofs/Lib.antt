@@ -4,8 +4,10 @@ pub mod ChunkLaws
 pub mod ChunkLists
 pub mod ChunkMoves
 pub mod ChunkPlaces
+mod Answered
 mod Filling
 mod HeadFacts
+mod HeadReads
 mod LineEnds
 mod Numbers
 mod Pieces

@@ -21,7 +21,7 @@ pub record Grows (left left' : Option (List ℕ)) (old new : List ℕ) : Type 0 
 -- what a call that fills the buffer did, by its answer
 abbrev pub Fills : Option (List ℕ) → Option (List ℕ) → List ℕ → List ℕ → Fill → Type 0
 Fills left left' old new More = Grows left left' old new × (length old < length new)
-Fills left left' old new Ended = IsAtEnd left × (new ≡ old)
+Fills left left' old new Ended = IsAtEnd left × (new ≡ old) × Grows left left' old new
 Fills left left' old new Past =
     IfSome left (λ octets. 0 < length octets) × (length old ≡ MAX_RAW) × (new ≡ old)
 

@@ -5,8 +5,10 @@ ghost use Rattle.std.specs.String.{string_bytes};
 ghost use Rattle.httparse.specs.Grammar.{ResponseHead};
 ghost use Rattle.httparse.specs.Spans.{IsResponseWithin, header_bytes};
 ghost use Rattle.http_wire.specs.Fields.{IsLocation};
-ghost use Rattle.http_wire.specs.Finding.{Faults, Finds, HasNoPlan, IsClass, IsHeadAt, IsPlan, Parses, Passes, Sees};
+ghost use Rattle.http_wire.specs.Finding.{Faults, Finds, HasNoPlan, IsClass, IsFound, IsHeadAt, IsPlan, Parses, Passes, Sees};
+ghost use Rattle.http_wire.specs.Heads.{line_ends};
 ghost use Rattle.http_wire.specs.Left.{pairs};
+ghost use Rattle.http_wire.specs.Response.{Cause};
 
 use crate::empty_line::EmptyLine;
 use crate::fault::WireFault;
@@ -126,6 +128,23 @@ impl HeadFinder {
                 Ok(Seen::Interim) => {}
                 Err(fault) => return Err(fault),
             }
+        }
+    }
+
+    /// Looks for the final head where nothing more will come.
+    pub(crate) fn end(mut self, alloc: Global, bytes: &[u8]) -> Result<FinalHead, WireFault>
+        requires { Passes self bytes.now }
+        ensures found { IfOk result (IsFound bytes.now) }
+        ensures faults { IfErr result (λ fault. (limit : ℕ) → Cause fault bytes.now limit) }
+        ensures no_device { result ≢ Err WireFault.Device }
+    {
+        match self.look(alloc, bytes, true) {
+            Ok(Some(head)) => Ok(head),
+            Ok(None) if count_line_ends(&bytes[self.at..]) > MAX_HEADER_LINES => {
+                Err(WireFault::HeadTooLong)
+            }
+            Ok(None) => Err(WireFault::EarlyEnd),
+            Err(fault) => Err(fault),
         }
     }
 
@@ -264,4 +283,10 @@ fn location_text(alloc: Global, fields: &[Field<'_>]) -> Result<Option<String>, 
         Some(text) => Ok(Some(String::from_str(alloc, text)?)),
         None => Ok(None),
     }
+}
+
+fn count_line_ends(text: &[u8]) -> usize
+    ensures { result ≡ line_ends text.now }
+{
+    text.iter().filter(|octet| **octet == b'\n').count()
 }

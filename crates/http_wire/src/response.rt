@@ -1,5 +1,16 @@
 //! Responses, read from a source.
 //! RFC 9112, sections 2 and 6.
+ghost use Rattle.std.specs.Prelude.{◌≡◌, [], IfErr, IfOk};
+ghost use Rattle.http_wire.specs.Finding.{Fails, IsFound};
+ghost use Rattle.http_wire.specs.Reading.{Grows};
+ghost use Rattle.http_wire.specs.Response.{Tells, failures_after_reading};
+
+use crate::body::read_body;
+use crate::buffer::{Buffer, Fill};
+use crate::fault::WireFault;
+use crate::head::{FinalHead, HeadFinder};
+use counted_io::Source;
+use std::alloc::Global;
 
 /// What a server answered.
 #[derive(Debug, Drop)]
@@ -12,4 +23,59 @@ pub struct HttpReply {
     pub body: Vec<u8>,
     /// Whether the body has more octets than the limit.
     pub cut: bool,
+}
+
+/// Reads one response, and gives at most `limit` octets of its body. Octets that follow the
+/// response may be read too. It may wait for the source.
+pub fn read_response<S: Source>(
+    alloc: Global,
+    source: &mut S,
+    limit: usize,
+) -> Result<HttpReply, WireFault>
+    ensures tells { Tells (S.left source.old) limit result }
+    ensures count { S.failures source.new ≡ failures_after_reading (S.failures source.old) result }
+{
+    let mut buffer = Buffer::new(alloc);
+    let head = match read_final(alloc, source, &mut buffer) {
+        Ok(head) => head,
+        Err(fault) => return Err(fault),
+    };
+    match read_body(alloc, source, &mut buffer, head.framing, head.end, limit) {
+        Ok(body) => Ok(HttpReply {
+            status: head.status,
+            location: head.location,
+            body: body.octets,
+            cut: body.cut,
+        }),
+        Err(fault) => Err(fault),
+    }
+}
+
+// Reads up to the final head.
+fn read_final<S: Source>(
+    alloc: Global,
+    source: &mut S,
+    buffer: &mut Buffer,
+) -> Result<FinalHead, WireFault>
+    requires { buffer.old ≡ [] }
+    ensures found { IfOk result (IsFound buffer.new) }
+    ensures grows { IfOk result (λ _. Grows (S.left source.old) (S.left source.new) [] buffer.new) }
+    ensures fails { IfErr result (Fails (S.left source.old) []) }
+    ensures count { S.failures source.new ≡ failures_after_reading (S.failures source.old) result }
+{
+    let mut finder = HeadFinder::new();
+    loop {
+        match finder.look(alloc, buffer.octets(), false) {
+            Ok(Some(head)) => return Ok(head),
+            Ok(None) => {}
+            Err(fault) => return Err(fault),
+        }
+        match buffer.fill(source) {
+            Ok(Fill::More) => {}
+            Ok(Fill::Ended) => return finder.end(alloc, buffer.octets()),
+            // More octets than eight interim heads and a final one may have are in the buffer.
+            Ok(Fill::Past) => return Err(WireFault::TooMuch),
+            Err(fault) => return Err(fault),
+        }
+    }
 }

@@ -1,5 +1,5 @@
 -- What the parser tells of the octets that have come.
-use Rattle.std.proofs.Common.{◌<◌, length, length-take, drop, ap, sym, ◌∙◌, arith}
+use Rattle.std.proofs.Common.{◌<◌, length, refl, length-take, drop, ap, sym, ◌∙◌, arith}
 use Rattle.std.proofs.lemmas.Bool.{false≢true}
 use Rattle.http_wire.specs.declared.limits.TheConstants.{MAX_HEAD}
 use Rattle.http_wire.proofs.HeadFacts.{front_open, passes_same, short_of, open_long, many_long, never_bad}
@@ -21,7 +21,7 @@ returns-in-Open-clause-sees c =
 pub returns-in-Open-2-clause-faults : goal.returns-in-Open-2-clause-faults
 returns-in-Open-2-clause-faults c more limit =
     open_long c.args.self.now c.args.bytes.now c.front_of-text.result.now more c.front_of-text.ensures c.requires
-        c.in-Open-2.ensures.parses.0 (omega (arith, c.if-text-lt-MAX_HEAD.false))
+    c.in-Open-2.ensures.parses.0 (omega (arith, c.if-text-lt-MAX_HEAD.false))
 
 pub returns-in-TooMany-clause-sees : goal.returns-in-TooMany-clause-sees
 returns-in-TooMany-clause-sees c =
@@ -29,14 +29,22 @@ returns-in-TooMany-clause-sees c =
     let short : length c.front_of-text.result.now < MAX_HEAD = omega (arith, c.if-text-lt-MAX_HEAD-2.true) in (
       passes_same c.args.self.now c.waits.new.self c.args.bytes.now c.waits.ensures.at c.waits.ensures.passed c.requires,
       short_of c.args.self.now c.waits.new.self c.args.bytes.now c.front_of-text.result.now is c.waits.ensures.at c.requires short,
-      λ last. absurd (false≢true (sym c.if-not-last.false ∙ last)),
+      λ last. absurd (false≢true (sym c.if-not-last.true ∙ last)),
     )
 
 pub returns-in-TooMany-2-clause-faults : goal.returns-in-TooMany-2-clause-faults
 returns-in-TooMany-2-clause-faults c more limit =
     many_long c.args.self.now c.args.bytes.now c.front_of-text.result.now more c.front_of-text.ensures c.requires
-        c.in-TooMany.ensures.parses.0 c.in-TooMany.ensures.parses.1
+    c.in-TooMany.ensures.parses.0 c.in-TooMany.ensures.parses.1
 
 pub returns-in-Bad-clause-faults : goal.returns-in-Bad-clause-faults
 returns-in-Bad-clause-faults c more limit =
     never_bad c.args.self.now c.args.bytes.now c.front_of-text.result.now more c.front_of-text.ensures c.requires c.in-Bad.ensures.parses
+
+pub returns-then-waits-clause-sees : goal.returns-then-waits-clause-sees
+returns-then-waits-clause-sees c =
+    let waits = c.if-waits.ensures.short refl in (
+      passes_same c.args.self.now c.waits.new.self c.args.bytes.now c.waits.ensures.at c.waits.ensures.passed c.requires,
+      short_of c.args.self.now c.waits.new.self c.args.bytes.now c.front_of-text.result.now c.front_of-text.ensures c.waits.ensures.at c.requires waits.1,
+      λ last. absurd (false≢true (sym waits.0 ∙ last)),
+    )

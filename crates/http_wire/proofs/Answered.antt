@@ -1,0 +1,123 @@
+-- From the final head and the body to the answer of the whole input.
+-- Used by the proof of `read_response`.
+use Rattle.std.proofs.Common.{◌≡◌, ◌<◌, ◌≤◌, ◌⊎◌, ◌+◌, ◌-◌, ℕ, Bool, List, [], ◌∷◌, ◌++◌, length, take, drop, Option, Some, None, Result, Ok, Err, refl, sym, ap, subst, ◌∙◌, arith, append_assoc, length-append, inl, inr}
+use Rattle.std.specs.Prelude.{IfSome, option_map}
+use Rattle.std.specs.String.{string_bytes}
+use Rattle.std.specs.Io.KnownBytes.{Consumes}
+use Rattle.std.proofs.lemmas.List.{drop-append-le, take-append-le}
+use Rattle.std.proofs.Math.Seq.{take-append-add}
+use Rattle.httparse.specs.Grammar.{ResponseHead, status_code}
+use Rattle.http_wire.specs.Bodies.{InBody, EndsInBody, IsBodyFront, IsBadBody}
+use Rattle.http_wire.specs.Fields.{framing_of}
+use Rattle.http_wire.specs.Finding.{Fails, IsFound}
+use Rattle.http_wire.specs.Heads.{HasFinal, fields_of}
+use Rattle.http_wire.specs.Reading.{Grows, IsWhole, HasBody, HasNoBody, GoesOn, ReadsBody}
+use Rattle.http_wire.specs.Response.{Response, Tells, Cause, reply_of}
+use Rattle.http_wire.specs.declared.body.Body.{Body}
+use Rattle.http_wire.specs.declared.fault.WireFault.{WireFault}
+use Rattle.http_wire.specs.declared.fault.WireFault.TheVariants.{EarlyEnd, BadHead, HeadTooLong, TooManyInterim, BadLength, BadChunk, Coding, Device, NoMemory, TooMuch}
+use Rattle.http_wire.specs.declared.framing.Framing.{Framing}
+use Rattle.http_wire.specs.declared.head.FinalHead.{FinalHead}
+use Rattle.http_wire.specs.declared.limits.TheConstants.{MAX_RAW}
+use Rattle.http_wire.specs.declared.response.HttpReply.{HttpReply}
+use Rattle.http_wire.proofs.HeadFacts.{final_append}
+
+-- what the source had left is what was read, and then what is left now
+whole_input : (left left' : Option (List ℕ)) (seen input : List ℕ) → Grows left left' [] seen → IsWhole left' seen input
+    → IfSome left (λ octets. octets ≡ input)
+whole_input None left' seen input grows whole = tt
+whole_input (Some old) None seen input grows whole = absurd grows.read
+whole_input (Some old) (Some new) seen input grows whole =
+    grows.read ∙ ap (λ (t : List ℕ). t ++ new) (sym grows.grown)
+    ∙ ap (λ (t : List ℕ). seen ++ t) whole.known ∙ sym whole.parts
+
+-- the final head of what was seen is that of the whole input
+final_of : (seen input more : List ℕ) (found : FinalHead) (is : IsFound seen found) → input ≡ seen ++ more
+    → HasFinal input is.head (drop found.end input)
+final_of seen input more found is parts =
+    let place : drop found.end (seen ++ more) ≡ drop found.end seen ++ more = drop-append-le found.end seen more is.within in
+    subst (λ (t : List ℕ). HasFinal t is.head (drop found.end t)) (sym parts)
+    (subst (HasFinal (seen ++ more) is.head) (sym place) (final_append seen is.head (drop found.end seen) more is.final))
+
+-- the reply of the whole input
+pub reply_told : (left left' : Option (List ℕ)) (seen : List ℕ) (found : FinalHead) (limit : ℕ) (body : Body) (reply : HttpReply)
+    → Grows left left' [] seen → IsFound seen found → ReadsBody found.framing limit found.end left' seen (Ok body)
+    → reply_of reply ≡ record { status = found.status; location = option_map string_bytes found.location; body = body.octets.items; cut = body.cut }
+    → Tells left limit (Ok reply)
+reply_told left left' seen found limit body reply grows is reads same = record {
+  input = reads.input;
+  whole = whole_input left left' seen reads.input grows reads.whole;
+  answers = subst (Response reads.input limit) (sym same) (record {
+    rest = reads.tells.rest;
+    gives = record {
+      head = is.head;
+      text = drop found.end reads.input;
+      final = final_of seen reads.input reads.whole.more found is reads.whole.parts;
+      framing = found.framing;
+      framed = is.framed;
+      uncoded = is.uncoded;
+      gives = reads.tells.gives;
+      status = is.status;
+      location = is.location;
+    };
+    within = reads.tells.within;
+  });
+}
+
+-- a fact of the body, in the whole input
+in_body : {Fact : Framing → List ℕ → Type 0} (seen input more : List ℕ) (found : FinalHead) → IsFound seen found → input ≡ seen ++ more
+    → Fact found.framing (drop found.end input) → InBody Fact input
+in_body seen input more found is parts fact = record {
+  head = is.head;
+  text = drop found.end input;
+  final = final_of seen input more found is parts;
+  framing = found.framing;
+  framed = is.framed;
+  fact = fact;
+}
+
+-- the fault of the whole input
+pub fault_told : (left left' : Option (List ℕ)) (seen : List ℕ) (found : FinalHead) (limit : ℕ) (fault : WireFault)
+    → Grows left left' [] seen → IsFound seen found → length seen ≤ MAX_RAW
+    → ReadsBody found.framing limit found.end left' seen (Err fault) → Tells left limit (Err fault)
+fault_told left left' seen found limit fault grows is few reads = record {
+  input = reads.input;
+  whole = whole_input left left' seen reads.input grows reads.whole;
+  answers = by_fault fault reads.tells;
+} where
+  input : List ℕ
+  input = reads.input
+  more : List ℕ
+  more = reads.whole.more
+  sum : MAX_RAW ≡ length seen + (MAX_RAW - length seen)
+  sum = omega (arith, few)
+  front : take MAX_RAW input ≡ seen ++ take (MAX_RAW - length seen) more
+  front =
+      ap (take MAX_RAW) reads.whole.parts
+      ∙ ap (λ n. take n (seen ++ more)) sum
+      ∙ take-append-add seen more (MAX_RAW - length seen)
+  by_fault : (fault : WireFault) → HasNoBody fault found.framing limit found.end input → Cause fault input limit
+  by_fault EarlyEnd ends = inr (in_body seen input more found is reads.whole.parts ends)
+  by_fault BadChunk bad = in_body seen input more found is reads.whole.parts bad
+  by_fault TooMuch on = record {
+    more = on.more;
+    front = in_body seen (take MAX_RAW input) (take (MAX_RAW - length seen) more) found is front on.front;
+  }
+  by_fault Device _ = tt
+  by_fault NoMemory _ = tt
+  by_fault BadHead none = absurd none
+  by_fault HeadTooLong none = absurd none
+  by_fault TooManyInterim none = absurd none
+  by_fault BadLength none = absurd none
+  by_fault Coding none = absurd none
+
+-- a fault of the heads
+pub fails_told : (left : Option (List ℕ)) (limit : ℕ) (fault : WireFault) → Fails left [] fault → Tells left limit (Err fault)
+fails_told left limit fault fails = record {
+  input = fails.input;
+  whole = known left fails.whole.known;
+  answers = fails.cause limit;
+} where
+  known : (left : Option (List ℕ)) → IfSome left (λ octets. octets ≡ fails.whole.more) → IfSome left (λ octets. octets ≡ fails.input)
+  known None is = tt
+  known (Some octets) is = is ∙ sym fails.whole.parts
