@@ -87,15 +87,19 @@ fault_told left left' seen found limit fault grows is few reads = record {
 } where
   input : List ℕ
   input = reads.input
+
   more : List ℕ
   more = reads.whole.more
+
   sum : MAX_RAW ≡ length seen + (MAX_RAW - length seen)
   sum = omega (arith, few)
+
   front : take MAX_RAW input ≡ seen ++ take (MAX_RAW - length seen) more
   front =
       ap (take MAX_RAW) reads.whole.parts
       ∙ ap (λ n. take n (seen ++ more)) sum
       ∙ take-append-add seen more (MAX_RAW - length seen)
+
   by_fault : (fault : WireFault) → HasNoBody fault found.framing limit found.end input → Cause fault input limit
   by_fault EarlyEnd ends = inr (in_body seen input more found is reads.whole.parts ends)
   by_fault BadChunk bad = in_body seen input more found is reads.whole.parts bad

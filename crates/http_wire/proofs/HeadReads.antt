@@ -48,10 +48,10 @@ pub fails_to_read : {T : Type 0} (left left' : Option (List ℕ)) (octets : List
 fails_to_read left left' octets fault grows which =
     let whole = whole_of left left' octets (subst (Consumes left left') (sym grows.grown) grows.read) in
     elim which [
-      inl device ↦
+      | inl device ↦
           let same : fault ≡ Device = cc in
           subst (Fails left []) (sym same) (record { input = octets ++ whole.0; whole = whole.1; cause = λ _. tt })
-    | inr memory ↦
+      | inr memory ↦
           let same : fault ≡ NoMemory = cc in
           subst (Fails left []) (sym same) (record { input = octets ++ whole.0; whole = whole.1; cause = λ _. tt })
     ]

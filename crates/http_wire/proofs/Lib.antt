@@ -5,10 +5,13 @@ pub mod ChunkLists
 pub mod ChunkMoves
 pub mod ChunkPlaces
 mod Answered
+mod BodyLaws
 mod Filling
 mod HeadFacts
+mod HeadLaws
 mod HeadReads
 mod LineEnds
 mod Numbers
 mod Pieces
+mod ResponseLaws
 pub mod TrailerFronts

@@ -17,4 +17,4 @@ mod trailers;
 
 pub use fault::WireFault;
 pub use limits::{MAX_HEAD, MAX_HEADER_LINES, MAX_INTERIM_HEADS, MAX_RAW};
-pub use response::HttpReply;
+pub use response::{HttpReply, read_response};

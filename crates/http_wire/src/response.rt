@@ -3,7 +3,7 @@
 ghost use Rattle.std.specs.Prelude.{◌≡◌, [], IfErr, IfOk};
 ghost use Rattle.http_wire.specs.Finding.{Fails, IsFound};
 ghost use Rattle.http_wire.specs.Reading.{Grows};
-ghost use Rattle.http_wire.specs.Response.{Tells, failures_after_reading};
+ghost use Rattle.http_wire.specs.Response.{Finds, Tells, failures_after_reading};
 
 use crate::body::read_body;
 use crate::buffer::{Buffer, Fill};
@@ -26,8 +26,22 @@ pub struct HttpReply {
 }
 
 /// Reads one response, and gives at most `limit` octets of its body. Octets that follow the
-/// response may be read too. It may wait for the source.
+/// response may be read too. It may wait for the source, and takes memory for what it reads, at
+/// most `MAX_RAW` octets.
 pub fn read_response<S: Source>(
+    alloc: Global,
+    source: &mut S,
+    limit: usize,
+) -> Result<HttpReply, WireFault>
+    ensures tells { Tells (S.left source.old) limit result }
+    ensures found { Finds (S.left source.old) limit result }
+    ensures count { S.failures source.new ≡ failures_after_reading (S.failures source.old) result }
+{
+    read_reply(alloc, source, limit)
+}
+
+// The same, without the law that what stands in the input is found.
+fn read_reply<S: Source>(
     alloc: Global,
     source: &mut S,
     limit: usize,
