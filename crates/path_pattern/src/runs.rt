@@ -89,8 +89,10 @@ pub(crate) fn after_first<'p>(path: &'p [u8], run: &[u8]) -> Option<&'p [u8]>
 fn first_place(path: &[u8], run: &[u8]) -> Option<usize>
     ensures { FindsNeedle path.now run.now 0 result }
 {
-    let [front @ .., last] = run else {
-        return Some(0);
+    let (front, last) = match run {
+        [] => return Some(0),
+        [octet] => return memchr(*octet, path),
+        [front @ .., last] => (front, last),
     };
     if path.len() < run.len() {
         return None;
