@@ -1,10 +1,13 @@
 -- Where a run stands in a path, by the places that a search gives.
--- Used by `after_first`, `after_start` and `ends_with`.
-use Rattle.std.proofs.Common.{◌≡◌, ℕ, ◌+◌, ◌-◌, ◌<◌, ◌≤◌, List, [], ◌++◌, length, take, drop, append-nil, sym, ap, ◌∙◌, subst, arith, length-append}
-use Rattle.std.proofs.lemmas.List.{take-append-drop, drop-drop}
+-- Used by `after_first`, `after_start`, `ends_with` and `first_place`.
+use Rattle.std.proofs.Common.{◌≡◌, ℕ, ◌+◌, ◌-◌, ◌<◌, ◌≤◌, List, [], ◌++◌, length, take, drop, get_or, append-nil, sym, ap, ◌∙◌, subst, arith, length-append, length-drop}
+use Rattle.std.proofs.lemmas.Bool.{eq-eqb}
+use Rattle.std.proofs.lemmas.List.{take-append-drop, drop-drop, get_or-drop}
 use Rattle.std.proofs.Math.Seq.{take-append_seam, drop-append_seam, drop-append-add}
 use Rattle.std.proofs.Math.ListN.{drop_of_length-le}
-use Rattle.memchr.specs.Find.{NoneBefore, Nowhere, OccursAt}
+use Rattle.std.specs.Prelude.{Option, None, Some}
+use Rattle.memchr.specs.Find.{FindsNeedle, IsFirstByte, NoneBefore, Nowhere, OccursAt, Passes, is_byte}
+use Rattle.memchr.proofs.lemmas.FindLemmas.{Nowhere-then, OccursAt-byte, byte-OccursAt}
 use Rattle.memchr.proofs.lemmas.MatchLemmas.{OccursAt-split, OccursAt-from_part}
 use Rattle.path_pattern.specs.Runs.{BeginsNot, IsAfterFirst, StandsNowhere}
 
@@ -64,3 +67,94 @@ at_end path run front is =
     let lengths = ap length is ∙ length-append front run in
     let place : length front ≡ length path - length run = omega arith in
     (omega arith, subst (OccursAt path run) place (place_of path run front [] (is ∙ ap (λ t. front ++ t) (sym (append-nil run)))))
+
+-- ---- the last octet of a run, in the part of the path that follows as many octets as stand before it
+
+-- where the run stands in the path, its last octet stands at the same place of that part
+last_octet : (path run part : List ℕ) (before place : ℕ) → part ≡ drop before path → before + 1 ≡ length run → OccursAt path run place → Passes (is_byte (get_or run (length run - 1) 0)) part place
+last_octet path run part before place is many occurs =
+    let there : before + place ≡ place + before = omega arith in
+    let last : before ≡ length run - 1 = omega arith in
+    eq-eqb _ _ (
+    ap (λ p. get_or p place 0) is
+    ∙ get_or-drop before path place 0
+    ∙ ap (λ k. get_or path k 0) there
+    ∙ occurs.reads before (omega arith)
+    ∙ ap (λ k. get_or run k 0) last
+    )
+
+pub none_below : (path run part : List ℕ) (before place : ℕ) → part ≡ drop before path → before + 1 ≡ length run → NoneBefore (Passes (is_byte (get_or run (length run - 1) 0)) part) 0 (length part) place → Nowhere (OccursAt path run) 0 place
+none_below path run part before place is many none at low high occurs =
+    none.before at low high (last_octet path run part before at is many occurs)
+
+pub place_within : (path run part : List ℕ) (before place : ℕ) → part ≡ drop before path → NoneBefore (Passes (is_byte (get_or run (length run - 1) 0)) part) 0 (length part) place → place ≤ length path
+place_within path run part before place is none =
+    let high = none.high in
+    let lengths = ap length is ∙ length-drop before path in
+    omega arith
+
+pub none_anywhere : (path run part : List ℕ) (before : ℕ) → part ≡ drop before path → before + 1 ≡ length run → Nowhere (Passes (is_byte (get_or run (length run - 1) 0)) part) 0 (length part) → Nowhere (OccursAt path run) 0 (length path + 1)
+none_anywhere path run part before is many none at low high occurs =
+    let fits = occurs.fits in
+    let lengths = ap length is ∙ length-drop before path in
+    none at low (omega arith) (last_octet path run part before at is many occurs)
+
+-- ---- places in the part of the path from a place on
+
+onward : (path run part : List ℕ) (place later : ℕ) → part ≡ drop place path → place ≤ length path → OccursAt part run later → OccursAt path run (place + later)
+onward path run part place later is within occurs =
+    let fits = occurs.fits in
+    let lengths = ap length is ∙ length-drop place path in
+    record {
+      fits = omega arith;
+      reads = λ j below.
+          let there : place + later + j ≡ place + (later + j) = omega arith in
+          ap (λ k. get_or path k 0) there ∙ sym (get_or-drop place path (later + j) 0) ∙ ap (λ p. get_or p (later + j) 0) (sym is) ∙ occurs.reads j below;
+    }
+
+backward : (path run part : List ℕ) (place at : ℕ) → part ≡ drop place path → place ≤ at → OccursAt path run at → OccursAt part run (at - place)
+backward path run part place at is past occurs =
+    let fits = occurs.fits in
+    let lengths = ap length is ∙ length-drop place path in
+    record {
+      fits = omega arith;
+      reads = λ j below.
+          let there : place + (at - place + j) ≡ at + j = omega arith in
+          ap (λ p. get_or p (at - place + j) 0) is ∙ get_or-drop place path (at - place + j) 0 ∙ ap (λ k. get_or path k 0) there ∙ occurs.reads j below;
+    }
+
+none_until : (path run part : List ℕ) (place later end : ℕ) → part ≡ drop place path → end ≡ place + later → Nowhere (OccursAt path run) 0 place → Nowhere (OccursAt part run) 0 later → Nowhere (OccursAt path run) 0 end
+none_until path run part place later end is sum none none_later =
+    Nowhere-then none (λ at low high occurs. none_later (at - place) (omega arith) (omega arith) (backward path run part place at is low occurs))
+
+first_from : (path run part : List ℕ) (place later end : ℕ) → part ≡ drop place path → place ≤ length path → end ≡ place + later → Nowhere (OccursAt path run) 0 place → Nowhere (OccursAt part run) 0 later → OccursAt part run later → NoneBefore (OccursAt path run) 0 (length path + 1) end × OccursAt path run end
+first_from path run part place later end is within sum none none_later occurs =
+    let there = subst (OccursAt path run) (sym sum) (onward path run part place later is within occurs) in
+    let fits = there.fits in
+    (record { low = omega arith; high = omega arith; before = none_until path run part place later end is sum none none_later }, there)
+
+pub none_onward : (path run part : List ℕ) (place : ℕ) → part ≡ drop place path → place ≤ length path → Nowhere (OccursAt path run) 0 place → Nowhere (OccursAt part run) 0 (length part + 1) → Nowhere (OccursAt path run) 0 (length path + 1)
+none_onward path run part place is within none none_later =
+    let lengths = ap length is ∙ length-drop place path in
+    none_until path run part place (length part + 1) (length path + 1) is (omega arith) none none_later
+
+pub first_here : (path run part : List ℕ) (place : ℕ) → part ≡ drop place path → place ≤ length path → Nowhere (OccursAt path run) 0 place → OccursAt part run 0 → NoneBefore (OccursAt path run) 0 (length path + 1) place × OccursAt path run place
+first_here path run part place is within none occurs =
+    first_from path run part place 0 place is within (omega arith) none (λ at low below. absurd (omega arith)) occurs
+
+pub first_onward : (path run part : List ℕ) (place later : ℕ) → part ≡ drop place path → place ≤ length path → Nowhere (OccursAt path run) 0 place → NoneBefore (OccursAt part run) 0 (length part + 1) later → OccursAt part run later → NoneBefore (OccursAt path run) 0 (length path + 1) (place + later) × OccursAt path run (place + later)
+first_onward path run part place later is within none none_later occurs =
+    first_from path run part place later (place + later) is within (omega arith) none none_later.before occurs
+
+-- ---- a run of one octet
+
+pub found_octet : (path run : List ℕ) (found : Option ℕ) → length run ≡ 1 → IsFirstByte (is_byte (get_or run 0 0)) path found → FindsNeedle path run 0 found
+found_octet path run None one none =
+    λ at low high occurs.
+    let fits = occurs.fits in
+    none at low (omega arith) (byte-OccursAt path run one at occurs)
+found_octet path run (Some place) one found =
+    let high = found.0.high in (
+      record { low = omega arith; high = omega arith; before = λ at low below occurs. found.0.before at low below (byte-OccursAt path run one at occurs) },
+      OccursAt-byte path run one place high found.1,
+    )

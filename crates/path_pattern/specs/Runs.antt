@@ -11,6 +11,10 @@ pub record IsSplitAtStar (pattern run after : List ℕ) : Type 0 where
   pub plain : HasNoStar run
   pub parts : pattern ≡ run ++ 42 ∷ after
 
+-- no second `*` stands behind the first one of the pattern
+abbrev pub HasNoSecondStar : List ℕ → Type 0
+HasNoSecondStar pattern = (run after : List ℕ) → IsSplitAtStar pattern run after → HasNoStar after
+
 -- the run does not begin the path
 abbrev pub BeginsNot : List ℕ → List ℕ → Type 0
 BeginsNot path run = (rest : List ℕ) → path ≢ run ++ rest

@@ -4,10 +4,11 @@ ghost use Rattle.std.specs.Prelude.{◌≡◌, ◌↔◌, ◌∷◌, IfOk, IsTru
 ghost use Rattle.memchr.specs.Find.{IsFirstByte, is_byte};
 ghost use Rattle.path_normal.specs.Normal.{normal_pattern};
 ghost use Rattle.path_pattern.specs.Matches.{Matches, Spells};
-ghost use Rattle.path_pattern.specs.Runs.{HasNoStar};
+ghost use Rattle.path_pattern.specs.Runs.{HasNoSecondStar, HasNoStar};
 
 use crate::runs::{
-    after_first, after_start, ends_with, first_star, split_anchor, split_at_place, split_at_star,
+    after_first, after_start, ends_with, first_star, has_no_second_star, split_anchor,
+    split_at_place, split_at_star,
 };
 use path_normal::normal_pattern;
 use std::alloc::{AllocError, Global};
@@ -18,6 +19,8 @@ use std::marker::Model;
 pub struct Pattern {
     text: Vec<u8>,
     star: Option<usize>,
+    // To look for a second star again would cost each match a walk over the pattern.
+    one_star: bool,
 }
 
 impl Model for Pattern {
@@ -28,14 +31,16 @@ impl Model for Pattern {
 
     ghost coded = { coded_list coded_ℕ };
 
-    ghost use Rattle.std.specs.Prelude.{◌≡◌};
+    ghost use Rattle.std.specs.Prelude.{◌≡◌, ◌↔◌, IsTrue};
     ghost use Rattle.memchr.specs.Find.{IsFirstByte, is_byte};
     ghost use Rattle.path_normal.specs.Normal.{normal_pattern, unanchored};
+    ghost use Rattle.path_pattern.specs.Runs.{HasNoSecondStar};
 
     ghost view = { λ pattern. pattern.text.items };
 
     ghost invariant = { λ pattern. (normal_pattern pattern.text.items ≡ pattern.text.items)
-        × IsFirstByte (is_byte 42) (unanchored pattern.text.items) pattern.star };
+        × IsFirstByte (is_byte 42) (unanchored pattern.text.items) pattern.star
+        × (IsTrue pattern.one_star ↔ HasNoSecondStar (unanchored pattern.text.items)) };
 }
 
 impl Pattern {
@@ -46,7 +51,12 @@ impl Pattern {
         let text = normal_pattern(alloc, raw)?;
         let (pattern, _) = split_anchor(text.as_slice());
         let star = first_star(pattern);
-        Ok(Pattern { text, star })
+        let one_star = has_no_second_star(pattern, star);
+        Ok(Pattern {
+            text,
+            star,
+            one_star,
+        })
     }
 
     /// Whether the pattern matches the path, which is to be in normal form. Takes no memory.
@@ -57,7 +67,7 @@ impl Pattern {
             return false;
         }
         let (pattern, anchored) = split_anchor(self.text());
-        fits(pattern, self.star, anchored, path)
+        fits(pattern, self.star, self.one_star, anchored, path)
     }
 
     /// How many octets the pattern has in normal form.
@@ -77,14 +87,16 @@ impl Pattern {
 }
 
 // Whether the pattern, with no anchor of its own, fits the path from its first octet on.
-fn fits(pattern: &[u8], star: Option<usize>, anchored: bool, path: &[u8]) -> bool
-    requires { IsFirstByte (is_byte 42) pattern.now star }
+fn fits(pattern: &[u8], star: Option<usize>, one_star: bool, anchored: bool, path: &[u8]) -> bool
+    requires first { IsFirstByte (is_byte 42) pattern.now star }
+    requires one { IsTrue one_star ↔ HasNoSecondStar pattern.now }
     ensures { IsTrue result ↔ Spells pattern.now anchored path.now }
 {
     let Some((run, after)) = split_at_place(pattern, star) else {
         return fits_run(pattern, anchored, path);
     };
     match after_start(path, run) {
+        Some(rest) if one_star => fits_last(after, anchored, rest),
         Some(rest) => fits_after_star(after, anchored, rest),
         None => false,
     }

@@ -1,9 +1,9 @@
 //! The runs of a pattern between its stars, and where they stand in a path.
 //! RFC 9309, section 2.2.3.
 ghost use Rattle.std.specs.Prelude.{◌≡◌, ◌++◌, ◌↔◌, List, ℕ, IsTrue, MatchOption};
-ghost use Rattle.memchr.specs.Find.{IsFirstByte, OccursAt, is_byte};
+ghost use Rattle.memchr.specs.Find.{FindsNeedle, IsFirstByte, OccursAt, is_byte};
 ghost use Rattle.path_normal.specs.Normal.{is_anchored, unanchored};
-ghost use Rattle.path_pattern.specs.Runs.{BeginsNot, HasNoStar, IsAfterFirst, IsSplitAtStar, StandsNowhere};
+ghost use Rattle.path_pattern.specs.Runs.{BeginsNot, HasNoSecondStar, HasNoStar, IsAfterFirst, IsSplitAtStar, StandsNowhere};
 
 use memchr::arch::all::{is_prefix, is_suffix};
 use memchr::{memchr, memmem};
@@ -32,6 +32,17 @@ pub(crate) fn first_star(pattern: &[u8]) -> Option<usize>
     ensures { IsFirstByte (is_byte 42) pattern.now result }
 {
     memchr(b'*', pattern)
+}
+
+/// Whether no second `*` stands behind the first one, of which the place is known.
+pub(crate) fn has_no_second_star(pattern: &[u8], star: Option<usize>) -> bool
+    requires { IsFirstByte (is_byte 42) pattern.now star }
+    ensures { IsTrue result ↔ HasNoSecondStar pattern.now }
+{
+    match split_at_place(pattern, star) {
+        Some((_, after)) => first_star(after).is_none(),
+        None => true,
+    }
 }
 
 /// What stands before the first `*` and after it, where that is already known.
@@ -67,10 +78,32 @@ pub(crate) fn after_first<'p>(path: &'p [u8], run: &[u8]) -> Option<&'p [u8]>
     ensures { MatchOption result (StandsNowhere path.now run.now)
         (λ rest. IsAfterFirst path.now run.now rest.now) }
 {
-    match memmem::find(path, run) {
+    match first_place(path, run) {
         Some(place) => Some(&path[place + run.len()..]),
         None => None,
     }
+}
+
+// To prepare a search costs as much as to look for the last octet of the run in a path that is
+// many times as long. Where that octet is missing, or the first one ends the run, none is needed.
+fn first_place(path: &[u8], run: &[u8]) -> Option<usize>
+    ensures { FindsNeedle path.now run.now 0 result }
+{
+    let (front, last) = match run {
+        [] => return Some(0),
+        [octet] => return memchr(*octet, path),
+        [front @ .., last] => (front, last),
+    };
+    if path.len() < run.len() {
+        return None;
+    }
+    let place = memchr(*last, &path[front.len()..])?;
+    let rest = &path[place..];
+    if begins_with(rest, run) {
+        return Some(place);
+    }
+    let later = memmem::find(rest, run)?;
+    Some(place + later)
 }
 
 /// Whether the path ends with the run.
