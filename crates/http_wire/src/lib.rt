@@ -18,3 +18,6 @@ mod trailers;
 pub use fault::WireFault;
 pub use limits::{MAX_HEAD, MAX_HEADER_LINES, MAX_INTERIM_HEADS, MAX_RAW};
 pub use response::{HttpReply, read_response};
+
+#[cfg(test)]
+mod tests;

@@ -1,0 +1,4 @@
+//! Tests of the crate, a file for each table.
+
+mod limits;
+mod responses;
