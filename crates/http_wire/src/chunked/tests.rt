@@ -250,7 +250,7 @@ fn trailers(rt: HostRuntime) {
             MAX_TRAILERS,
             4,
             false,
-            Look::Bad,
+            Look::Full,
         ),
         (
             "one line less with no end",
