@@ -1,4 +1,6 @@
 -- The lemmas of this crate's proofs.
+pub mod BodyLooks
+pub mod BodyReads
 pub mod ChunkEnds
 pub mod ChunkLaws
 pub mod ChunkLists
@@ -9,4 +11,5 @@ mod HeadFacts
 mod LineEnds
 mod Numbers
 mod Pieces
+pub mod SourceReads
 pub mod TrailerFronts

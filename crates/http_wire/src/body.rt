@@ -1,5 +1,15 @@
 //! Bodies, read by their framing.
 //! RFC 9112, section 6.
+ghost use Rattle.std.specs.Prelude.{◌≡◌, ◌≤◌, length};
+ghost use Rattle.http_wire.specs.Reading.{ReadsBody};
+ghost use Rattle.http_wire.specs.Response.{failures_after_reading};
+
+use crate::body_decoder::BodyDecoder;
+use crate::buffer::{Buffer, Fill};
+use crate::fault::WireFault;
+use crate::framing::Framing;
+use counted_io::Source;
+use std::alloc::Global;
 
 /// What was read of a body.
 #[derive(Debug, Drop)]
@@ -7,4 +17,33 @@ pub(crate) struct Body {
     pub octets: Vec<u8>,
     /// Whether the body has more octets than that.
     pub cut: bool,
+}
+
+/// Reads the body that begins at `start`, and gives at most `limit` octets of it.
+pub(crate) fn read_body<S: Source>(
+    alloc: Global,
+    source: &mut S,
+    buffer: &mut Buffer,
+    framing: Framing,
+    start: usize,
+    limit: usize,
+) -> Result<Body, WireFault>
+    requires { start ≤ length buffer.old }
+    ensures reads { ReadsBody framing limit start (S.left source.old) buffer.old result }
+    ensures count { S.failures source.new ≡ failures_after_reading (S.failures source.old) result }
+{
+    let mut decoder = BodyDecoder::new(alloc, framing, start, limit);
+    loop {
+        match decoder.look(alloc, buffer.octets()) {
+            Ok(Some(body)) => return Ok(body),
+            Ok(None) => {}
+            Err(fault) => return Err(fault),
+        }
+        match buffer.fill(source) {
+            Ok(Fill::More) => {}
+            Ok(Fill::Ended) => return decoder.end(alloc, buffer.octets()),
+            Ok(Fill::Past) => return decoder.past(alloc, buffer.octets()),
+            Err(fault) => return Err(fault),
+        }
+    }
 }

@@ -8,6 +8,7 @@ use crate::trailers::{MAX_TRAILER_BYTES, has_empty_line, look_trailers};
 use httparse::{Status, parse_chunk_size};
 use memchr::memchr;
 use std::alloc::{AllocError, Global};
+use std::mem;
 
 /// Where the decoding of a body stands.
 #[derive(Clone, Copy, Debug, PartialEq, Eq)]
@@ -76,11 +77,13 @@ impl ChunkDecoder {
         }
     }
 
-    /// The octets that the body gave.
-    pub(crate) fn into_octets(self) -> Vec<u8>
-        ensures { result ≡ self.octets }
+    /// Hands out the octets that the body gave.
+    pub(crate) fn take_octets(&mut self, alloc: Global) -> Vec<u8>
+        ensures limit { self.new.limit ≡ self.old.limit }
+        ensures start { self.new.start ≡ self.old.start }
+        ensures octets { result ≡ self.old.octets }
     {
-        self.octets
+        mem::replace(&mut self.octets, Vec::new(alloc))
     }
 
     // One step of `look`, which reads at most one part.
