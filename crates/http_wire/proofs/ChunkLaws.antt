@@ -1,6 +1,6 @@
 -- A text gives one body at most, whatever follows it, and none beside a fault.
 -- RFC 9112, section 7.1.
-use Rattle.std.proofs.Common.{IsTrue, ◌⊎◌, ◌≡◌, ℕ, ◌+◌, ◌-◌, ◌<◌, ◌≤◌, Bool, true, false, List, [], ◌∷◌, ◌++◌, length, take, refl, sym, ap, subst, ◌∙◌, arith, append_assoc, append-nil, length-append, inl, inr}
+use Rattle.std.proofs.Common.{◌≡◌, ℕ, ◌+◌, ◌-◌, ◌<◌, ◌≤◌, Bool, true, false, List, [], ◌∷◌, ◌++◌, length, take, refl, sym, ap, subst, ◌∙◌, arith, append_assoc, append-nil, length-append, inl, inr}
 use Rattle.std.proofs.Math.Seq.{take-append-add}
 use Rattle.std.proofs.lemmas.List.{take_all, take-append-le}
 use Rattle.httparse.specs.Ascii.{crlf_bytes}
@@ -354,13 +354,6 @@ bad_more room text more (too_long x) = too_long (last_append IsTooLong text more
 -- More bytes make nothing readable that can't be read.
 pub bad_append : (limit : ℕ) (text more : List ℕ) → IsBadChunked limit text → IsBadChunked limit (text ++ more)
 bad_append limit text more bad = after_append IsBadAt limit text more bad (λ room t p. bad_more room t more p)
-
--- What is told of the octets so far is told of all that come.
-pub refused_append : (limit : ℕ) (text more : List ℕ) (ended : Bool) → (IsTrue ended → more ≡ [])
-    → IsBadChunked limit text ⊎ (IsTrue ended × EndsTooLong limit text) → IsRefusedChunked limit (text ++ more)
-refused_append limit text more ended none (inl bad) = inl (bad_append limit text more bad)
-refused_append limit text more ended none (inr (is, long)) =
-    inr (subst (EndsTooLong limit) (sym (append-nil text) ∙ ap (λ m. text ++ m) (sym (none is))) long)
 
 -- A refused text gives none.
 pub refused_excludes : (limit : ℕ) (text given : List ℕ) (cut : Bool) (rest : List ℕ) → IsRefusedChunked limit text → GivesChunked limit text given cut rest → ⊥

@@ -5,12 +5,12 @@ use Rattle.std.proofs.lemmas.List.{drop-drop, take_rest, length-drop}
 use Rattle.httparse.specs.Grammar.{ChunkLine, print_chunk_line, IsChunkLine, ReadsChunkLine, chunk_size, print_extension, print_end, crlf}
 use Rattle.httparse.specs.Spans.{IsChunkLineAt}
 use Rattle.http_wire.specs.declared.look.Look.{Look}
-use Rattle.http_wire.specs.declared.look.Look.TheVariants.{Whole, Cut, Bad, More}
+use Rattle.http_wire.specs.declared.look.Look.TheVariants.{Whole, Cut, Bad, Full, More}
 use Rattle.http_wire.specs.declared.chunked.Place.{Place}
 use Rattle.http_wire.specs.declared.chunked.Place.TheVariants as places
 use Rattle.http_wire.specs.declared.chunked.ChunkDecoder.{ChunkDecoder}
 use Rattle.http_wire.specs.Decoding.{TrailersTell, Decoded, Stands, Decodes}
-use Rattle.http_wire.proofs.ChunkPlaces.{trailers_whole, trailers_bad, trailers_end}
+use Rattle.http_wire.proofs.ChunkPlaces.{trailers_whole, trailers_bad, trailers_full, trailers_end}
 
 -- what a decoder stands for at a place that is known
 pub at_place : (decoder : ChunkDecoder) (bytes : List ℕ) (place : Place) → Stands decoder bytes → decoder.place ≡ place
@@ -80,12 +80,14 @@ text_behind P bytes at size p =
     subst P (take_rest (drop at bytes) size) behind
 
 -- what the trailers tell of the body
-pub end_decodes : (decoder : ChunkDecoder) (bytes : List ℕ) (ended : Bool) (look : Look) → Stands decoder bytes → decoder.place ≡ places.Trailers
-    → TrailersTell (drop decoder.at bytes) ended look → Decodes bytes ended decoder look
-end_decodes decoder bytes ended Whole s is tells =
+pub end_decodes : (decoder : ChunkDecoder) (bytes : List ℕ) (last : Bool) (look : Look) → Stands decoder bytes → decoder.place ≡ places.Trailers
+    → TrailersTell (drop decoder.at bytes) last look → Decodes bytes last decoder look
+end_decodes decoder bytes last Whole s is tells =
     (tells.0, trailers_whole _ _ _ _ tells.0 (at_place decoder bytes places.Trailers s is) tells.1)
-end_decodes decoder bytes ended Cut s is tells = absurd tells
-end_decodes decoder bytes ended Bad s is tells =
-    trailers_bad _ _ _ _ ended (at_place decoder bytes places.Trailers s is) tells
-end_decodes decoder bytes ended More s is tells =
+end_decodes decoder bytes last Cut s is tells = absurd tells
+end_decodes decoder bytes last Bad s is tells =
+    trailers_bad _ _ _ _ (at_place decoder bytes places.Trailers s is) tells
+end_decodes decoder bytes last Full s is tells =
+    (tells.0, trailers_full _ _ _ _ (at_place decoder bytes places.Trailers s is) tells.1)
+end_decodes decoder bytes last More s is tells =
     (s, λ true'. trailers_end _ _ _ _ (at_place decoder bytes places.Trailers s is) (tells true'))

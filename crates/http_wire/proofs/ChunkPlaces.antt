@@ -1,7 +1,7 @@
 -- What each place of a body tells, over plain lists.
 -- The answers of `ChunkDecoder` cite it.
-use Rattle.std.proofs.Common.{◌≡◌, ℕ, ◌+◌, ◌-◌, ◌<◌, ◌≤◌, Bool, List, [], ◌∷◌, ◌++◌, length, take, drop, refl, sym, ap, subst, ◌∙◌, arith, append_assoc, append-nil, length-append, take-append-drop, inl, inr}
-use Rattle.std.specs.Prelude.{IsTrue, ◌⊎◌}
+use Rattle.std.proofs.Common.{◌≡◌, ℕ, ◌+◌, ◌-◌, ◌<◌, ◌≤◌, List, [], ◌∷◌, ◌++◌, length, take, drop, refl, sym, ap, subst, ◌∙◌, arith, append_assoc, append-nil, length-append, take-append-drop, inl, inr}
+use Rattle.std.specs.Prelude.{◌⊎◌}
 use Rattle.std.proofs.Math.Seq.{take-append-add}
 use Rattle.std.proofs.lemmas.Grind.{flat_map-append}
 use Rattle.std.proofs.lemmas.List.{length-take-le, take-take, drop-append-le}
@@ -12,12 +12,11 @@ use Rattle.httparse.specs.Spans.{SectionOverflows}
 use Rattle.http_wire.specs.declared.trailers.TheConstants.{MAX_TRAILERS}
 use Rattle.httparse.proofs.ChunkLemmas.{ReadsChunkLine-append}
 use Rattle.httparse.proofs.PieceLemmas.{front-append}
-use Rattle.http_wire.specs.declared.look.Look.TheVariants.{Bad}
 use Rattle.http_wire.specs.declared.chunked.Place.{Place}
 use Rattle.http_wire.specs.declared.chunked.Place.TheVariants as places
 use Rattle.http_wire.specs.declared.chunked.ChunkDecoder.{ChunkDecoder}
 use Rattle.http_wire.specs.Chunks.{Chunk, print_chunk, IsChunk, print_chunks, joined, ReadsChunks, ReadsTrailers, GivesWhole, GivesCut, AfterLast, AfterOctets, IsOpenEnd, NeverHasEnd, EndsInTrailers, in_line, in_octets, in_end, in_trailers, EndsInChunked, IsTooLong, HasTooManyLines, bad_line, bad_end, bad_trailers, too_long, IsBadChunked, EndsTooLong}
-use Rattle.http_wire.specs.Decoding.{TrailersTell, StandsAt, Decoded, Stands}
+use Rattle.http_wire.specs.Decoding.{StandsAt, Decoded, Stands}
 use Rattle.http_wire.proofs.ChunkLists.{regroup}
 
 -- ---- at a chunk line
@@ -178,16 +177,17 @@ pub trailers_end : (limit : ℕ) (text octets rest : List ℕ) → Decoded limit
 trailers_end limit text octets rest d ends =
     (d.chunks, d.middle, d.reads, in_trailers (after_last EndsInTrailers limit text octets rest d ends))
 
-pub trailers_bad : (limit : ℕ) (text octets rest : List ℕ) (ended : Bool) → Decoded limit text octets places.Trailers rest → TrailersTell rest ended Bad
-    → IsBadChunked limit text ⊎ (IsTrue ended × EndsTooLong limit text)
-trailers_bad limit text octets rest ended d tells =
+pub trailers_bad : (limit : ℕ) (text octets rest : List ℕ) → Decoded limit text octets places.Trailers rest
+    → SectionOverflows MAX_TRAILERS rest ⊎ IsTooLong rest → IsBadChunked limit text
+trailers_bad limit text octets rest d tells =
     elim tells [
-      | inl over ↦ inl (d.chunks, d.middle, d.reads, bad_trailers (after_last (SectionOverflows MAX_TRAILERS) limit text octets rest d over))
-      | inr others ↦ elim others [
-        | inl long ↦ inl (d.chunks, d.middle, d.reads, too_long (after_last IsTooLong limit text octets rest d long))
-        | inr last ↦ inr (last.0, (d.chunks, d.middle, d.reads, after_last HasTooManyLines limit text octets rest d last.1))
-      ]
+      | inl over ↦ (d.chunks, d.middle, d.reads, bad_trailers (after_last (SectionOverflows MAX_TRAILERS) limit text octets rest d over))
+      | inr long ↦ (d.chunks, d.middle, d.reads, too_long (after_last IsTooLong limit text octets rest d long))
     ]
+
+pub trailers_full : (limit : ℕ) (text octets rest : List ℕ) → Decoded limit text octets places.Trailers rest → HasTooManyLines rest → EndsTooLong limit text
+trailers_full limit text octets rest d full =
+    (d.chunks, d.middle, d.reads, after_last HasTooManyLines limit text octets rest d full)
 
 -- ---- more bytes
 

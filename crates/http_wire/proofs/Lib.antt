@@ -1,11 +1,13 @@
 -- The lemmas of this crate's proofs.
-pub mod ChunkEnds
-pub mod ChunkLaws
-pub mod ChunkLists
-pub mod ChunkMoves
-pub mod ChunkPlaces
 mod Answered
 mod BodyLaws
+mod BodyLooks
+mod BodyReads
+mod ChunkEnds
+mod ChunkLaws
+mod ChunkLists
+mod ChunkMoves
+mod ChunkPlaces
 mod Filling
 mod HeadFacts
 mod HeadLaws
@@ -14,4 +16,5 @@ mod LineEnds
 mod Numbers
 mod Pieces
 mod ResponseLaws
-pub mod TrailerFronts
+mod SourceReads
+mod TrailerFronts

@@ -6,7 +6,7 @@ use Rattle.httparse.specs.Grammar.{ChunkLine, ReadsChunkLine, chunk_size, HasNoS
 use Rattle.httparse.specs.Spans.{SectionOverflows}
 use Rattle.http_wire.specs.declared.trailers.TheConstants.{MAX_TRAILERS}
 use Rattle.http_wire.specs.declared.look.Look.{Look}
-use Rattle.http_wire.specs.declared.look.Look.TheVariants.{Whole, Cut, Bad, More}
+use Rattle.http_wire.specs.declared.look.Look.TheVariants.{Whole, Cut, Bad, Full, More}
 use Rattle.http_wire.specs.declared.chunked.Place.{Place}
 use Rattle.http_wire.specs.declared.chunked.Place.TheVariants as places
 use Rattle.http_wire.specs.declared.chunked.ChunkEnd.{ChunkEnd}
@@ -33,11 +33,11 @@ SectionTells text sections.Bad = SectionOverflows MAX_TRAILERS text
 
 -- what the octets after the last chunk's line are
 abbrev pub TrailersTell : List ℕ → Bool → Look → Type 0
-TrailersTell text ended Whole = (rest : List ℕ) × ReadsTrailers text rest
-TrailersTell text ended Cut = ⊥
-TrailersTell text ended Bad =
-    SectionOverflows MAX_TRAILERS text ⊎ IsTooLong text ⊎ (IsTrue ended × HasTooManyLines text)
-TrailersTell text ended More = IsTrue ended → EndsInTrailers text
+TrailersTell text last Whole = (rest : List ℕ) × ReadsTrailers text rest
+TrailersTell text last Cut = ⊥
+TrailersTell text last Bad = SectionOverflows MAX_TRAILERS text ⊎ IsTooLong text
+TrailersTell text last Full = IsTrue last × HasTooManyLines text
+TrailersTell text last More = IsTrue last → EndsInTrailers text
 
 -- ---- the body
 
@@ -65,17 +65,17 @@ pub record Stands (decoder : ChunkDecoder) (bytes : List ℕ) : Type 0 where
 
 -- what a look at the bytes from the decoder's start on tells, with the octets that it holds then
 abbrev pub Decodes : List ℕ → Bool → ChunkDecoder → Look → Type 0
-Decodes bytes ended decoder Whole =
+Decodes bytes last decoder Whole =
     (rest : List ℕ) × GivesChunked decoder.limit (drop decoder.start bytes) decoder.octets.items false rest
-Decodes bytes ended decoder Cut =
+Decodes bytes last decoder Cut =
     (rest : List ℕ) × GivesChunked decoder.limit (drop decoder.start bytes) decoder.octets.items true rest
-Decodes bytes ended decoder Bad =
-    IsBadChunked decoder.limit (drop decoder.start bytes)
-    ⊎ (IsTrue ended × EndsTooLong decoder.limit (drop decoder.start bytes))
-Decodes bytes ended decoder More =
-    Stands decoder bytes × (IsTrue ended → EndsInChunked decoder.limit (drop decoder.start bytes))
+Decodes bytes last decoder Bad = IsBadChunked decoder.limit (drop decoder.start bytes)
+Decodes bytes last decoder Full =
+    IsTrue last × EndsTooLong decoder.limit (drop decoder.start bytes)
+Decodes bytes last decoder More =
+    Stands decoder bytes × (IsTrue last → EndsInChunked decoder.limit (drop decoder.start bytes))
 
 -- a step tells, or moves the place on
 abbrev pub Steps : List ℕ → Bool → ℕ → ChunkDecoder → Option Look → Type 0
-Steps bytes ended at decoder (Some look) = Decodes bytes ended decoder look
-Steps bytes ended at decoder None = (at < decoder.at) × Stands decoder bytes
+Steps bytes last at decoder (Some look) = Decodes bytes last decoder look
+Steps bytes last at decoder None = (at < decoder.at) × Stands decoder bytes

@@ -10,3 +10,4 @@ pub mod Left
 pub mod Messages
 pub mod Reading
 pub mod Response
+pub mod Seeing

@@ -4,7 +4,8 @@ ghost use Rattle.std.specs.Prelude.{◌≡◌, ◌≤◌, length};
 ghost use Rattle.http_wire.specs.Reading.{ReadsBody};
 ghost use Rattle.http_wire.specs.Response.{failures_after_reading};
 
-use crate::buffer::Buffer;
+use crate::body_decoder::BodyDecoder;
+use crate::buffer::{Buffer, Fill};
 use crate::fault::WireFault;
 use crate::framing::Framing;
 use counted_io::Source;
@@ -31,5 +32,18 @@ pub(crate) fn read_body<S: Source>(
     ensures reads { ReadsBody framing limit start (S.left source.old) buffer.old result }
     ensures count { S.failures source.new ≡ failures_after_reading (S.failures source.old) result }
 {
-    Err(WireFault::NoMemory)
+    let mut decoder = BodyDecoder::new(alloc, framing, start, limit);
+    loop {
+        match decoder.look(alloc, buffer.octets()) {
+            Ok(Some(body)) => return Ok(body),
+            Ok(None) => {}
+            Err(fault) => return Err(fault),
+        }
+        match buffer.fill(source) {
+            Ok(Fill::More) => {}
+            Ok(Fill::Ended) => return decoder.end(alloc, buffer.octets()),
+            Ok(Fill::Past) => return decoder.past(alloc, buffer.octets()),
+            Err(fault) => return Err(fault),
+        }
+    }
 }

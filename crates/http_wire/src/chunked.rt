@@ -8,6 +8,7 @@ use crate::trailers::{MAX_TRAILER_BYTES, has_empty_line, look_trailers};
 use httparse::{Status, parse_chunk_size};
 use memchr::memchr;
 use std::alloc::{AllocError, Global};
+use std::mem;
 
 /// Where the decoding of a body stands.
 #[derive(Clone, Copy, Debug, PartialEq, Eq)]
@@ -60,15 +61,15 @@ impl ChunkDecoder {
         }
     }
 
-    /// Looks at what has come. `ended`: whether nothing more will come.
-    pub(crate) fn look(&mut self, bytes: &[u8], ended: bool) -> Result<Look, AllocError>
+    /// Looks at what has come. `last`: no look follows, so what has come is parsed in any case.
+    pub(crate) fn look(&mut self, bytes: &[u8], last: bool) -> Result<Look, AllocError>
         requires stands { Stands self.old bytes.now }
         ensures limit { self.new.limit ≡ self.old.limit }
         ensures start { self.new.start ≡ self.old.start }
-        ensures decodes { IfOk result (Decodes bytes.now ended self.new) }
+        ensures decodes { IfOk result (Decodes bytes.now last self.new) }
     {
         loop {
-            match self.step(bytes, ended) {
+            match self.step(bytes, last) {
                 Ok(None) => {}
                 Ok(Some(look)) => return Ok(look),
                 Err(error) => return Err(error),
@@ -76,36 +77,38 @@ impl ChunkDecoder {
         }
     }
 
-    /// The octets that the body gave.
-    pub(crate) fn into_octets(self) -> Vec<u8>
-        ensures { result ≡ self.octets }
+    /// Hands out the octets that the body gave.
+    pub(crate) fn take_octets(&mut self, alloc: Global) -> Vec<u8>
+        ensures limit { self.new.limit ≡ self.old.limit }
+        ensures start { self.new.start ≡ self.old.start }
+        ensures octets { result ≡ self.old.octets }
     {
-        self.octets
+        mem::replace(&mut self.octets, Vec::new(alloc))
     }
 
     // One step of `look`, which reads at most one part.
-    fn step(&mut self, bytes: &[u8], ended: bool) -> Result<Option<Look>, AllocError>
+    fn step(&mut self, bytes: &[u8], last: bool) -> Result<Option<Look>, AllocError>
         requires stands { Stands self.old bytes.now }
         ensures limit { self.new.limit ≡ self.old.limit }
         ensures start { self.new.start ≡ self.old.start }
-        ensures steps { IfOk result (Steps bytes.now ended self.old.at self.new) }
+        ensures steps { IfOk result (Steps bytes.now last self.old.at self.new) }
     {
         match self.place {
-            Place::Line => Ok(self.look_line(bytes, ended)),
-            Place::Octets(size) => self.look_octets(size, bytes, ended),
-            Place::Trailers => Ok(Some(self.look_end(bytes, ended))),
+            Place::Line => Ok(self.look_line(bytes, last)),
+            Place::Octets(size) => self.look_octets(size, bytes, last),
+            Place::Trailers => Ok(Some(self.look_end(bytes, last))),
         }
     }
 
-    fn look_line(&mut self, bytes: &[u8], ended: bool) -> Option<Look>
+    fn look_line(&mut self, bytes: &[u8], last: bool) -> Option<Look>
         requires stands { Stands self.old bytes.now }
         requires place { self.old.place ≡ Place.Line }
         ensures limit { self.new.limit ≡ self.old.limit }
         ensures start { self.new.start ≡ self.old.start }
-        ensures steps { Steps bytes.now ended self.old.at self.new result }
+        ensures steps { Steps bytes.now last self.old.at self.new result }
     {
         // A line that comes octet by octet is parsed once.
-        if !ended && !has_line_feed(bytes, self.scanned) {
+        if !last && !has_line_feed(bytes, self.scanned) {
             self.scanned = bytes.len();
             return Some(Look::More);
         }
@@ -127,19 +130,19 @@ impl ChunkDecoder {
         &mut self,
         size: u64,
         bytes: &[u8],
-        ended: bool,
+        last: bool,
     ) -> Result<Option<Look>, AllocError>
         requires stands { Stands self.old bytes.now }
         requires place { self.old.place ≡ Place.Octets size }
         ensures limit { self.new.limit ≡ self.old.limit }
         ensures start { self.new.start ≡ self.old.start }
-        ensures steps { IfOk result (Steps bytes.now ended self.old.at self.new) }
+        ensures steps { IfOk result (Steps bytes.now last self.old.at self.new) }
     {
         let room = self.limit - self.octets.len();
         if size > room as u64 {
-            return self.look_past(room, bytes, ended);
+            return self.look_past(room, bytes, last);
         }
-        self.look_chunk(size as usize, bytes, ended)
+        self.look_chunk(size as usize, bytes, last)
     }
 
     // The chunk has more octets than the limit has room for.
@@ -147,14 +150,14 @@ impl ChunkDecoder {
         &mut self,
         room: usize,
         bytes: &[u8],
-        ended: bool,
+        last: bool,
     ) -> Result<Option<Look>, AllocError>
         requires stands { Stands self.old bytes.now }
         requires past { (size : ℕ) × (self.old.place ≡ Place.Octets size) × (room < size) }
         requires room { room + vec_len self.old.octets ≡ self.old.limit }
         ensures limit { self.new.limit ≡ self.old.limit }
         ensures start { self.new.start ≡ self.old.start }
-        ensures steps { IfOk result (Steps bytes.now ended self.old.at self.new) }
+        ensures steps { IfOk result (Steps bytes.now last self.old.at self.new) }
     {
         let text = &bytes[self.at..];
         if text.len() <= room {
@@ -171,14 +174,14 @@ impl ChunkDecoder {
         &mut self,
         size: usize,
         bytes: &[u8],
-        ended: bool,
+        last: bool,
     ) -> Result<Option<Look>, AllocError>
         requires stands { Stands self.old bytes.now }
         requires place { self.old.place ≡ Place.Octets size }
         requires fits { size + vec_len self.old.octets ≤ self.old.limit }
         ensures limit { self.new.limit ≡ self.old.limit }
         ensures start { self.new.start ≡ self.old.start }
-        ensures steps { IfOk result (Steps bytes.now ended self.old.at self.new) }
+        ensures steps { IfOk result (Steps bytes.now last self.old.at self.new) }
     {
         let text = &bytes[self.at..];
         if text.len() < size {
@@ -215,15 +218,15 @@ impl ChunkDecoder {
         }
     }
 
-    fn look_end(&mut self, bytes: &[u8], ended: bool) -> Look
+    fn look_end(&mut self, bytes: &[u8], last: bool) -> Look
         requires stands { Stands self.old bytes.now }
         requires place { self.old.place ≡ Place.Trailers }
         ensures limit { self.new.limit ≡ self.old.limit }
         ensures start { self.new.start ≡ self.old.start }
-        ensures decodes { Decodes bytes.now ended self.new result }
+        ensures decodes { Decodes bytes.now last self.new result }
     {
         let text = &bytes[self.at..];
-        let open = !ended && text.len() < MAX_TRAILER_BYTES;
+        let open = !last && text.len() < MAX_TRAILER_BYTES;
         if open && !has_empty_line(text, self.scanned.saturating_sub(self.at)) {
             self.scanned = self.scanned.max(bytes.len());
             return Look::More;
@@ -231,7 +234,7 @@ impl ChunkDecoder {
         // More is wanted behind an empty line only where too many lines stand before it, and then
         // no other empty line helps.
         self.scanned = self.at.saturating_add(MAX_TRAILER_BYTES);
-        look_trailers(text, ended)
+        look_trailers(text, last)
     }
 
     // Moves the place on by `len` octets.

@@ -3,6 +3,7 @@
 #![tactic(auto)]
 
 mod body;
+mod body_decoder;
 mod buffer;
 mod chunked;
 mod empty_line;

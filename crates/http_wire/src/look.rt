@@ -10,6 +10,8 @@ pub(crate) enum Look {
     Cut,
     /// No octets that may follow make it a part that can be read.
     Bad,
+    /// As many lines as trailers may have stand there, and no end of them.
+    Full,
     /// More octets are needed to tell.
     More,
 }

@@ -40,28 +40,28 @@ pub(crate) fn has_empty_line(text: &[u8], from: usize) -> bool {
     }
 }
 
-/// What the octets after the last chunk's line are. `ended`: whether nothing more will come.
-pub(crate) fn look_trailers(text: &[u8], ended: bool) -> Look
-    ensures { TrailersTell text.now ended result }
+/// What the octets after the last chunk's line are. `last`: no look follows.
+pub(crate) fn look_trailers(text: &[u8], last: bool) -> Look
+    ensures { TrailersTell text.now last result }
 {
     if text.len() < MAX_TRAILER_BYTES {
-        look_short(text, ended)
+        look_short(text, last)
     } else {
         look_full(text)
     }
 }
 
 // Fewer octets stand there than trailers may have.
-fn look_short(text: &[u8], ended: bool) -> Look
+fn look_short(text: &[u8], last: bool) -> Look
     requires { length text.now < MAX_TRAILER_BYTES }
-    ensures { TrailersTell text.now ended result }
+    ensures { TrailersTell text.now last result }
 {
     match read_section(text) {
         TrailerSection::Whole => Look::Whole,
         TrailerSection::Bad => Look::Bad,
-        TrailerSection::Over if ended => Look::Bad,
+        TrailerSection::Over if last => Look::Bad,
         TrailerSection::Over => Look::More,
-        TrailerSection::Open if ended && count_line_feeds(text) >= MAX_TRAILERS => Look::Bad,
+        TrailerSection::Open if last && count_line_feeds(text) >= MAX_TRAILERS => Look::Full,
         TrailerSection::Open => Look::More,
     }
 }
@@ -69,7 +69,7 @@ fn look_short(text: &[u8], ended: bool) -> Look
 // All the octets stand there that trailers may have.
 fn look_full(text: &[u8]) -> Look
     requires { MAX_TRAILER_BYTES ≤ length text.now }
-    ensures { (ended : Bool) → TrailersTell text.now ended result }
+    ensures { (last : Bool) → TrailersTell text.now last result }
 {
     match read_section(&text[..MAX_TRAILER_BYTES]) {
         TrailerSection::Whole => Look::Whole,

@@ -189,7 +189,7 @@ const ROWS: [Row; 24] = [
 fn decode(alloc: Global, text: &[u8], limit: usize) -> Result<(Look, Vec<u8>), AllocError> {
     let mut decoder = ChunkDecoder::new(alloc, 0, limit);
     let look = decoder.look(text, true)?;
-    Ok((look, decoder.into_octets()))
+    Ok((look, decoder.take_octets(alloc)))
 }
 
 // The same, where the octets come one by one.
@@ -198,12 +198,12 @@ fn decode_slowly(alloc: Global, text: &[u8], limit: usize) -> Result<(Look, Vec<
     for end in 0..text.len() {
         match decoder.look(&text[..end], false) {
             Ok(Look::More) => {}
-            Ok(look) => return Ok((look, decoder.into_octets())),
+            Ok(look) => return Ok((look, decoder.take_octets(alloc))),
             Err(error) => return Err(error),
         }
     }
     let look = decoder.look(text, true)?;
-    Ok((look, decoder.into_octets()))
+    Ok((look, decoder.take_octets(alloc)))
 }
 
 #[test]
@@ -250,7 +250,7 @@ fn trailers(rt: HostRuntime) {
             MAX_TRAILERS,
             4,
             false,
-            Look::Bad,
+            Look::Full,
         ),
         (
             "one line less with no end",

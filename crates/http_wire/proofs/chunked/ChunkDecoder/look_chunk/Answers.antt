@@ -1,6 +1,6 @@
 -- A chunk of which a part stands there is open, and one with no end behind it is bad.
 -- The lemmas of `ChunkPlaces` say so over plain lists.
-use Rattle.std.proofs.Common.{◌<◌, ◌≤◌, arith, ap, length, drop, inl}
+use Rattle.std.proofs.Common.{◌<◌, ◌≤◌, arith, ap, length, drop}
 use Rattle.std.proofs.lemmas.List.{take_rest}
 use Rattle.http_wire.specs.declared.chunked.Place.TheVariants as places
 use Rattle.http_wire.specs.Chunks.{IsOpenEnd, NeverHasEnd}
@@ -32,4 +32,4 @@ returns-in-Bad-clause-steps c =
     let d = at_place old c.args.bytes.now (places.Octets c.args.size) c.requires.stands c.requires.place in
     let stand : c.args.size ≤ length rest = omega (arith, ap length (take_rest c.args.bytes.now old.at), c.if-text-size.false) in
     let never = text_behind NeverHasEnd c.args.bytes.now old.at c.args.size c.in-Bad.ensures in
-    inl (chunk_bad old.limit c.args.size _ old.octets.items rest d (omega (arith, c.requires.fits, old.octets.ok)) stand never)
+    chunk_bad old.limit c.args.size _ old.octets.items rest d (omega (arith, c.requires.fits, old.octets.ok)) stand never

@@ -11,7 +11,7 @@ returns-clause-decodes c =
     let old = c.args.self.now in
     let new = record old { scanned = c.saturating_add-self.result } in
     let look = c.look_trailers.result in
-    let tells = subst (λ t. TrailersTell t c.args.ended look) (take_rest c.args.bytes.now old.at) c.look_trailers.ensures in
-    end_decodes new c.args.bytes.now c.args.ended look
+    let tells = subst (λ t. TrailersTell t c.args.last look) (take_rest c.args.bytes.now old.at) c.look_trailers.ensures in
+    end_decodes new c.args.bytes.now c.args.last look
     (record { started = c.requires.stands.started; within = c.requires.stands.within; decoded = c.requires.stands.decoded })
     c.requires.place tells

@@ -1,0 +1,71 @@
+-- What several reads of a source leave, and what its whole input is.
+-- The proofs of the loops over reads rest on it.
+use Rattle.std.proofs.Common.{◌≡◌, ℕ, ◌<◌, List, [], ◌∷◌, ◌++◌, length, refl, sym, ap, ◌∙◌, arith, append_assoc, append-nil, Option, Some, None}
+use Rattle.std.specs.Prelude.{IfSome}
+use Rattle.std.specs.Io.KnownBytes.{Consumes, IsAtEnd}
+use Rattle.http_wire.specs.Reading.{Grows, IsWhole}
+
+-- ---- the whole input
+
+-- the octets that a source is known to give
+abbrev pub ahead : Option (List ℕ) → List ℕ
+ahead None = []
+ahead (Some octets) = octets
+
+-- Some input is whole: what was seen, and what the source is known to give.
+pub whole_now : (left : Option (List ℕ)) (seen : List ℕ) → IsWhole left seen (seen ++ ahead left)
+whole_now None seen = record { more = []; parts = refl; known = tt }
+whole_now (Some octets) seen = record { more = octets; parts = refl; known = refl }
+
+known_before : (left left' : Option (List ℕ)) (piece more : List ℕ) → Consumes left left' piece → IfSome left' (λ octets. octets ≡ more)
+    → IfSome left (λ octets. octets ≡ piece ++ more)
+known_before None left' piece more read known = tt
+known_before (Some xs) None piece more read known = absurd read
+known_before (Some xs) (Some ys) piece more read known = read ∙ ap (λ t. piece ++ t) known
+
+-- The input that is whole after reads was so before them.
+pub whole_before : (left left' : Option (List ℕ)) (old new input : List ℕ) → Grows left left' old new → IsWhole left' new input → IsWhole left old input
+whole_before left left' old new input grows whole = record {
+  more = grows.piece ++ whole.more;
+  parts = whole.parts ∙ ap (λ t. t ++ whole.more) grows.grown ∙ append_assoc old grows.piece whole.more;
+  known = known_before left left' grows.piece whole.more grows.read whole.known;
+}
+
+known_ended : (left : Option (List ℕ)) → IsAtEnd left → IfSome left (λ octets. octets ≡ [])
+known_ended None ended = tt
+known_ended (Some octets) ended = ended
+
+-- At the end what was seen is the whole input.
+pub whole_ended : (left : Option (List ℕ)) (seen : List ℕ) → IsAtEnd left → IsWhole left seen seen
+whole_ended left seen ended = record { more = []; parts = sym (append-nil seen); known = known_ended left ended }
+
+-- Where an octet is left, the whole input goes on behind what was seen.
+pub whole_past : (left : Option (List ℕ)) (seen : List ℕ) → IfSome left (λ octets. 0 < length octets)
+    → (more : List ℕ) × (0 < length more) × IsWhole left seen (seen ++ more)
+whole_past None seen some = (0 ∷ [], omega arith, record { more = 0 ∷ []; parts = refl; known = tt })
+whole_past (Some octets) seen some = (octets, some, record { more = octets; parts = refl; known = refl })
+
+-- ---- reads in a row
+
+consumes_none : (left : Option (List ℕ)) → Consumes left left []
+consumes_none None = tt
+consumes_none (Some octets) = refl
+
+-- With no read the octets stay.
+pub grows_same : (left : Option (List ℕ)) (octets : List ℕ) → Grows left left octets octets
+grows_same left octets = record { piece = []; read = consumes_none left; grown = sym (append-nil octets) }
+
+consumes_more : (first second third : Option (List ℕ)) (piece next : List ℕ) → Consumes first second piece → Consumes second third next → Consumes first third (piece ++ next)
+consumes_more None second third piece next read then' = tt
+consumes_more (Some xs) None third piece next read then' = absurd read
+consumes_more (Some xs) (Some ys) None piece next read then' = absurd then'
+consumes_more (Some xs) (Some ys) (Some zs) piece next read then' =
+    read ∙ ap (λ t. piece ++ t) then' ∙ sym (append_assoc piece next zs)
+
+-- What reads give and what later reads give is what all of them give.
+pub grows_more : (first second third : Option (List ℕ)) (old mid new : List ℕ) → Grows first second old mid → Grows second third mid new → Grows first third old new
+grows_more first second third old mid new one two = record {
+  piece = one.piece ++ two.piece;
+  read = consumes_more first second third one.piece two.piece one.read two.read;
+  grown = two.grown ∙ ap (λ t. t ++ two.piece) one.grown ∙ append_assoc old one.piece two.piece;
+}

@@ -1,0 +1,100 @@
+-- What looks at the octets of a body see.
+-- The contracts of `BodyDecoder` cite it.
+use Rattle.std.specs.Prelude.{◌≡◌, ℕ, ◌<◌, ◌≤◌, ◌⊎◌, Bool, true, IsTrue, List, ◌++◌, length, drop, Option, Some, None, ⊤}
+use Rattle.http_wire.specs.Bodies.{Gives, GivesFirst, IsBadBody}
+use Rattle.http_wire.specs.Chunks.{EndsInChunked, EndsTooLong}
+use Rattle.http_wire.specs.Decoding.{Stands}
+use Rattle.http_wire.specs.declared.body.Body.{Body}
+use Rattle.http_wire.specs.declared.body_decoder.BodyDecoder.{BodyDecoder}
+use Rattle.http_wire.specs.declared.body_decoder.BodySeen.{BodySeen}
+use Rattle.http_wire.specs.declared.body_decoder.BodySeen.TheVariants.{Given, Full, More}
+use Rattle.http_wire.specs.declared.body_decoder.Form.{Form}
+use Rattle.http_wire.specs.declared.body_decoder.Form.TheVariants as forms
+use Rattle.http_wire.specs.declared.chunked.ChunkDecoder.{ChunkDecoder}
+use Rattle.http_wire.specs.declared.fault.WireFault.{WireFault}
+use Rattle.http_wire.specs.declared.fault.WireFault.TheVariants.{BadChunk, NoMemory}
+use Rattle.http_wire.specs.declared.framing.Framing.{Framing}
+use Rattle.http_wire.specs.declared.framing.Framing.TheVariants.{Counted, Chunked, ToEnd}
+
+-- ---- the decoder
+
+-- the framing of a body that is decoded so
+abbrev pub framing_by : Form → Framing
+framing_by (forms.Counted size) = Counted size
+framing_by (forms.Chunked chunks) = Chunked
+framing_by forms.ToEnd = ToEnd
+
+-- the framing of the body that the decoder reads
+abbrev pub framing_in : BodyDecoder → Framing
+framing_in decoder = framing_by decoder.form
+
+-- a decoder of the chunks from this place on to this limit, which has read the bytes up to its place
+pub record ChunksStand (limit start : ℕ) (chunks : ChunkDecoder) (bytes : List ℕ) : Type 0 where
+  pub limit_is : chunks.limit ≡ limit
+  pub start_is : chunks.start ≡ start
+  pub stands : Stands chunks bytes
+
+-- what was decoded so far is what the bytes have
+abbrev pub FormStands : ℕ → ℕ → Form → List ℕ → Type 0
+FormStands limit start (forms.Counted size) bytes = ⊤
+FormStands limit start (forms.Chunked chunks) bytes = ChunksStand limit start chunks bytes
+FormStands limit start forms.ToEnd bytes = ⊤
+
+-- the body begins among the bytes, and what the decoder knows of them is so
+pub record BodyStands (decoder : BodyDecoder) (bytes : List ℕ) : Type 0 where
+  pub within : decoder.start ≤ length bytes
+  pub form : FormStands decoder.limit decoder.start decoder.form bytes
+
+-- ---- what a look sees
+
+-- the text gives this body, whatever follows
+pub record GivesBody (framing : Framing) (limit : ℕ) (text : List ℕ) (body : Body) : Type 0 where
+  pub rest : List ℕ
+  pub gives : (more : List ℕ) → Gives framing limit (text ++ more) body.octets.items body.cut (rest ++ more)
+
+-- the text has as many lines as trailers may have, and no end of them
+abbrev pub IsFull : Framing → ℕ → List ℕ → Type 0
+IsFull (Counted size) limit text = ⊥
+IsFull Chunked limit text = EndsTooLong limit text
+IsFull ToEnd limit text = ⊥
+
+-- the text is a front of the body, and more octets of the body can follow
+abbrev pub IsOpen : Framing → ℕ → List ℕ → Type 0
+IsOpen (Counted size) limit text = (length text < size) × (length text ≤ limit)
+IsOpen Chunked limit text = EndsInChunked limit text
+IsOpen ToEnd limit text = length text ≤ limit
+
+-- what a look sees in the text: of an open one the last look alone tells
+abbrev pub Sees : Framing → ℕ → List ℕ → Bool → BodySeen → Type 0
+Sees framing limit text last (Given body) = GivesBody framing limit text body
+Sees framing limit text last Full = IsTrue last × IsFull framing limit text
+Sees framing limit text last More = IsTrue last → IsOpen framing limit text
+
+-- the body is the first octets of the text up to the limit, and more stand there
+pub record GivesFront (limit : ℕ) (text : List ℕ) (body : Body) : Type 0 where
+  pub cut : body.cut ≡ true
+  pub rest : List ℕ
+  pub first : (more : List ℕ) → GivesFirst limit (text ++ more) body.octets.items (rest ++ more)
+
+-- whether more octets stand there than the limit
+abbrev pub SeesFront : ℕ → List ℕ → BodySeen → Type 0
+SeesFront limit text (Given body) = GivesFront limit text body
+SeesFront limit text Full = ⊥
+SeesFront limit text More = length text ≤ limit
+
+-- it is a body of these octets
+abbrev pub IsGiven : List ℕ → Bool → BodySeen → Type 0
+IsGiven octets cut (Given body) = (body.octets.items ≡ octets) × (body.cut ≡ cut)
+IsGiven octets cut Full = ⊥
+IsGiven octets cut More = ⊥
+
+-- what a look at the bytes gives: the body, or a decoder that stands for them
+abbrev pub Looks : List ℕ → BodyDecoder → Option Body → Type 0
+Looks bytes decoder (Some body) = GivesBody (framing_in decoder) decoder.limit (drop decoder.start bytes) body
+Looks bytes decoder None = BodyStands decoder bytes
+
+-- why a look gives nothing: the text can't be read, whatever follows, or there was no memory
+abbrev pub Refuses : Framing → ℕ → List ℕ → WireFault → Type 0
+Refuses framing limit text fault =
+    ((fault ≡ BadChunk) × ((more : List ℕ) → IsBadBody framing limit (text ++ more)))
+    ⊎ (fault ≡ NoMemory)
