@@ -2,6 +2,7 @@
 -- The answers of `read_body` cite it.
 use Rattle.std.proofs.Common.{◌⊎◌, inl, inr, ◌≡◌, ℕ, ◌<◌, ◌≤◌, List, ◌++◌, length, drop, sym, subst, Option, Result, Ok, Err}
 use Rattle.std.specs.Prelude.{IfSome}
+use Rattle.std.specs.Io.KnownBytes.{IsAtEnd}
 use Rattle.http_wire.specs.declared.body.Body.{Body}
 use Rattle.http_wire.specs.declared.body_decoder.BodyDecoder.{BodyDecoder}
 use Rattle.http_wire.specs.declared.fault.WireFault.{WireFault}
@@ -11,7 +12,7 @@ use Rattle.http_wire.specs.declared.limits.TheConstants.{MAX_RAW}
 use Rattle.http_wire.specs.Reading.{Grows, IsWhole, HasNoBody, TellsBody, ReadsBody}
 use Rattle.http_wire.specs.Seeing.{GivesBody, Refuses, framing_in}
 use Rattle.http_wire.proofs.BodyLooks.{given_past, refused_past}
-use Rattle.http_wire.proofs.SourceReads.{ahead, whole_now, whole_before, whole_past}
+use Rattle.http_wire.proofs.SourceReads.{ahead, whole_now, whole_before, whole_ended, whole_past}
 
 -- the decoder is one of the body that is read
 pub record IsFor (framing : Framing) (limit start : ℕ) (decoder : BodyDecoder) : Type 0 where
@@ -72,6 +73,13 @@ no_cause framing limit start input fault stops =
     ]
 
 -- A read failed, or there was no memory for it.
+pub ended_read : (framing : Framing) (limit start : ℕ) (left left' : Option (List ℕ)) (old seen bytes : List ℕ) (decoder : BodyDecoder) (result : Result Body WireFault)
+    → IsFor framing limit start decoder → Grows left left' old seen → bytes ≡ seen → IsAtEnd left'
+    → TellsBody (framing_in decoder) decoder.limit decoder.start bytes result → ReadsBody framing limit start left old result
+ended_read framing limit start left left' old seen bytes decoder result is grows same ended tells =
+    reads_for framing limit start left left' old seen seen decoder result is grows (whole_ended left' seen ended)
+    (subst (λ t. TellsBody (framing_in decoder) decoder.limit decoder.start t result) same tells)
+
 pub stopped_read : (framing : Framing) (limit start : ℕ) (left left' : Option (List ℕ)) (old seen : List ℕ) (fault : WireFault)
     → Grows left left' old seen → (fault ≡ Device) ⊎ (fault ≡ NoMemory) → ReadsBody framing limit start left old (Err fault)
 stopped_read framing limit start left left' old seen fault grows stops = record {
