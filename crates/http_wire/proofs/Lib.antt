@@ -1,4 +1,5 @@
 -- The lemmas of this crate's proofs.
+pub mod BodyLaws
 pub mod BodyLooks
 pub mod BodyReads
 pub mod ChunkEnds
