@@ -185,7 +185,7 @@ ends_at room text front cut rest (in_end x) g = octets_against _ room text front
 ends_at room text front cut rest (in_trailers x) g =
     last_against _ room text front cut rest x (λ after p t. p.none t.fields t.last rest t.reads) g
 
-take_within : (n : ℕ) (front rest : List ℕ) → length front ≤ n → take n (front ++ rest) ≡ front ++ take (n - length front) rest
+pub take_within : (n : ℕ) (front rest : List ℕ) → length front ≤ n → take n (front ++ rest) ≡ front ++ take (n - length front) rest
 take_within n front rest fits =
     let whole : length front + (n - length front) ≡ n = omega arith in
     subst (λ m. take m (front ++ rest) ≡ front ++ take (n - length front) rest) whole (take-append-add front rest (n - length front))
