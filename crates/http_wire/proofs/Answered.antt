@@ -1,17 +1,14 @@
 -- From the final head and the body to the answer of the whole input.
 -- Used by the proof of `read_response`.
-use Rattle.std.proofs.Common.{◌≡◌, ◌<◌, ◌≤◌, ◌⊎◌, ◌+◌, ◌-◌, ℕ, Bool, List, [], ◌∷◌, ◌++◌, length, take, drop, Option, Some, None, Result, Ok, Err, refl, sym, ap, subst, ◌∙◌, arith, append_assoc, length-append, inl, inr}
+use Rattle.std.proofs.Common.{◌≡◌, ◌≤◌, ◌+◌, ◌-◌, ℕ, List, [], ◌++◌, length, take, drop, Option, Some, None, Ok, Err, sym, ap, subst, ◌∙◌, arith, inr}
 use Rattle.std.specs.Prelude.{IfSome, option_map}
 use Rattle.std.specs.String.{string_bytes}
-use Rattle.std.specs.Io.KnownBytes.{Consumes}
-use Rattle.std.proofs.lemmas.List.{drop-append-le, take-append-le}
+use Rattle.std.proofs.lemmas.List.{drop-append-le}
 use Rattle.std.proofs.Math.Seq.{take-append-add}
-use Rattle.httparse.specs.Grammar.{ResponseHead, status_code}
-use Rattle.http_wire.specs.Bodies.{InBody, EndsInBody, IsBodyFront, IsBadBody}
-use Rattle.http_wire.specs.Fields.{framing_of}
+use Rattle.http_wire.specs.Bodies.{InBody}
 use Rattle.http_wire.specs.Finding.{Fails, IsFound}
-use Rattle.http_wire.specs.Heads.{HasFinal, fields_of}
-use Rattle.http_wire.specs.Reading.{Grows, IsWhole, HasBody, HasNoBody, GoesOn, ReadsBody}
+use Rattle.http_wire.specs.Heads.{HasFinal}
+use Rattle.http_wire.specs.Reading.{Grows, IsWhole, HasNoBody, ReadsBody}
 use Rattle.http_wire.specs.Response.{Response, Tells, Cause, reply_of}
 use Rattle.http_wire.specs.declared.body.Body.{Body}
 use Rattle.http_wire.specs.declared.fault.WireFault.{WireFault}

@@ -1,15 +1,15 @@
 -- What a look at a head tells of the input, whatever follows.
 -- Used by the proofs of `HeadFinder`.
-use Rattle.std.proofs.Common.{◌≡◌, ◌≢◌, ℕ, ◌+◌, ◌*◌, ◌<◌, ◌≤◌, ◌⊎◌, ◌-◌, Bool, true, false, List, [], ◌∷◌, ◌++◌, length, map, take, drop, All, refl, sym, ap, subst, ◌∙◌, arith, append_assoc, append-nil, length-append, length-take, length-drop, take-append-drop, inl, inr}
+use Rattle.std.proofs.Common.{◌≡◌, ℕ, ◌+◌, ◌*◌, ◌<◌, ◌≤◌, ◌-◌, false, List, [], ◌∷◌, ◌++◌, length, map, take, drop, sym, ap, subst, ◌∙◌, arith, append_assoc, length-append, length-take, length-drop, take-append-drop, inl, inr}
 use Rattle.std.proofs.Math.Seq.{take-append-add, drop-append_seam}
 use Rattle.std.specs.Prelude.{IsTrue, ◌||◌}
 use Rattle.std.specs.List.{flat_map}
-use Rattle.std.proofs.lemmas.List.{take_all, take-append-le, length-take-le, drop-append-le, drop-drop}
+use Rattle.std.proofs.lemmas.List.{take_all, take-append-le, drop-drop}
 use Rattle.std.proofs.lemmas.List.Elements.{All-push}
 use Rattle.std.proofs.lemmas.List.{flat_map_more}
-use Rattle.httparse.specs.Grammar.{ResponseHead, IsResponseHead, print_response, status_code, ReadsResponse, HasNoResponse, NeverHasResponse, MayBecomeResponse}
-use Rattle.httparse.specs.Spans.{header_bytes, IsResponseAt, ResponseOverflows, ResponseExceeds}
-use Rattle.http_wire.specs.Heads.{AfterInterims, BeginsFinal, fields_of, HasFinal, HasInterims, HasHead, HasTooManyInterim, HasStrangeStatus, IsBadHead, IsHead, IsInterim, IsLongHead, EndsInHead, line_ends, is_interim, is_final}
+use Rattle.httparse.specs.Grammar.{ResponseHead, print_response, status_code, ReadsResponse, HasNoResponse, NeverHasResponse, MayBecomeResponse}
+use Rattle.httparse.specs.Spans.{header_bytes, ResponseOverflows, ResponseExceeds}
+use Rattle.http_wire.specs.Heads.{AfterInterims, fields_of, HasFinal, HasInterims, HasHead, HasTooManyInterim, IsBadHead, IsInterim, IsLongHead, EndsInHead, line_ends, is_interim, is_final}
 use Rattle.http_wire.specs.Finding.{Passes, IsHeadFront, IsHeadAt, IsPlan, IsFound, HasNoPlan, Faults}
 use Rattle.http_wire.specs.Fields.{Pair}
 use Rattle.http_wire.specs.Response.{Cause}
@@ -20,7 +20,7 @@ use Rattle.httparse.specs.declared.spans.HeaderSpan.{HeaderSpan}
 use Rattle.httparse.specs.declared.spans.ResponseSpans.{ResponseSpans}
 use Rattle.http_wire.specs.declared.head.HeadFinder.{HeadFinder}
 use Rattle.http_wire.specs.declared.limits.TheConstants.{MAX_HEADER_LINES, MAX_HEAD, MAX_INTERIM_HEADS}
-use Rattle.http_wire.proofs.LineEnds.{line_ends-append, lines_in_front, exceeds_lines}
+use Rattle.http_wire.proofs.LineEnds.{lines_in_front, exceeds_lines}
 
 -- ---- more octets behind a text
 

@@ -1,15 +1,14 @@
 -- An input has one final head, and no fault of a head beside it.
 -- RFC 9112, section 2.
-use Rattle.std.proofs.Common.{◌≡◌, ◌<◌, ◌≤◌, ◌⊎◌, ◌+◌, ℕ, Bool, true, false, List, [], ◌∷◌, ◌++◌, length, All, refl, sym, ap, subst, ◌∙◌, arith, append_assoc, append-nil, inl, inr}
+use Rattle.std.proofs.Common.{◌≡◌, ◌⊎◌, ◌+◌, ℕ, Bool, true, false, List, [], ◌∷◌, ◌++◌, length, refl, sym, ap, subst, ◌∙◌, arith, append_assoc, append-nil, inl, inr}
 use Rattle.std.specs.Prelude.{IsTrue, ◌||◌}
 use Rattle.std.specs.List.{flat_map}
 use Rattle.std.proofs.lemmas.Bool.Decides.{nat_tests}
 use Rattle.std.proofs.lemmas.Bool.{false≢true}
 use Rattle.std.proofs.lemmas.List.Elements.{All-head, All-tail}
-use Rattle.httparse.specs.Grammar.{ResponseHead, print_response, status_code, NeverHasResponse}
+use Rattle.httparse.specs.Grammar.{ResponseHead, print_response, status_code}
 use Rattle.httparse.proofs.GrammarLemmas.{response_unique}
 use Rattle.http_wire.specs.Heads.{AfterInterims, BeginsFinal, HasFinal, HasHead, HasInterims, HasTooManyInterim, IsBadHead, IsInterim, IsLongHead, EndsInHead, is_interim, is_final}
-use Rattle.http_wire.specs.declared.limits.TheConstants.{MAX_INTERIM_HEADS}
 
 -- ---- one head after another
 

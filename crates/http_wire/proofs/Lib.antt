@@ -1,12 +1,13 @@
 -- The lemmas of this crate's proofs.
-pub mod BodyLaws
-pub mod BodyLooks
-pub mod BodyReads
-pub mod ChunkEnds
-pub mod ChunkLaws
-pub mod ChunkLists
-pub mod ChunkMoves
-pub mod ChunkPlaces
+mod Answered
+mod BodyLaws
+mod BodyLooks
+mod BodyReads
+mod ChunkEnds
+mod ChunkLaws
+mod ChunkLists
+mod ChunkMoves
+mod ChunkPlaces
 mod Filling
 mod HeadFacts
 mod HeadLaws

@@ -1,11 +1,10 @@
 -- How many lines end in a head.
 -- Used where a head has more header lines than the parser takes.
-use Rattle.std.proofs.Common.{◌≡◌, ℕ, ◌+◌, ◌-◌, ◌<◌, ◌≤◌, ◌==◌, List, [], ◌∷◌, ◌++◌, length, take, refl, sym, ap, ◌∙◌, arith, cond, append_assoc, length-append, take-append-drop}
+use Rattle.std.proofs.Common.{◌≡◌, ℕ, ◌+◌, ◌-◌, ◌<◌, ◌≤◌, ◌==◌, List, [], ◌∷◌, ◌++◌, length, take, refl, sym, ap, ◌∙◌, arith, cond}
 use Rattle.std.proofs.Math.Seq.{take-append-add}
 use Rattle.std.specs.List.{flat_map}
-use Rattle.std.proofs.lemmas.List.Sums.{sum_by-append, sum_by-take-le}
-use Rattle.std.proofs.lemmas.List.{take_all, take-append-le}
-use Rattle.httparse.specs.Grammar.{LineEnd, crlf, lf, print_end, Field, print_field, print_section, ResponseHead, print_response, ReadsResponse, print_blank, print_version, print_reason}
+use Rattle.std.proofs.lemmas.List.Sums.{sum_by-append}
+use Rattle.httparse.specs.Grammar.{LineEnd, crlf, lf, print_end, Field, print_field, print_section, ResponseHead, print_response, print_blank, print_version, print_reason}
 use Rattle.httparse.specs.Spans.{ResponseExceeds}
 use Rattle.http_wire.specs.Heads.{line_ends}
 use Rattle.http_wire.specs.declared.limits.TheConstants.{MAX_HEADER_LINES, MAX_HEAD}

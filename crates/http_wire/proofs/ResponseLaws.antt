@@ -1,12 +1,11 @@
 -- An input gives one reply, and no fault but the device's and memory's beside it.
 -- Used by the proof of `read_response`.
-use Rattle.std.proofs.Common.{◌≡◌, ◌<◌, ◌≤◌, ◌⊎◌, ◌+◌, ℕ, Bool, true, false, List, [], ◌∷◌, ◌++◌, length, take, drop, Option, Some, None, Result, Ok, Err, refl, sym, ap, subst, ◌∙◌, arith, length-append, length-take, take-append-drop, inl, inr}
-use Rattle.std.specs.Prelude.{IsUtf8, IfSome}
+use Rattle.std.proofs.Common.{◌≡◌, ◌⊎◌, ℕ, List, [], ◌∷◌, ◌++◌, length, take, drop, Option, Some, None, Result, Ok, Err, refl, sym, ap, subst, ◌∙◌, arith, length-append, length-take, take-append-drop, inl, inr}
 use Rattle.std.proofs.lemmas.Bool.{false≢true}
 use Rattle.std.proofs.Math.Seq.{take-append_seam}
 use Rattle.httparse.specs.Grammar.{ResponseHead, status_code}
 use Rattle.http_wire.specs.Bodies.{Gives, InBody, IsBodyFront}
-use Rattle.http_wire.specs.Fields.{framing_of, is_coded, IsFirstText, IsLocation}
+use Rattle.http_wire.specs.Fields.{framing_of, IsFirstText, IsLocation}
 use Rattle.http_wire.specs.Heads.{HasFinal, fields_of}
 use Rattle.http_wire.specs.Response.{Answers, AtFinal, Cause, Finds, GivesOrStops, GivesReply, HasBadLength, IsInCoding, IsTooMuch, Reply, Response, Tells, reply_of}
 use Rattle.http_wire.specs.declared.fault.WireFault.{WireFault}

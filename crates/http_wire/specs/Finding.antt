@@ -1,13 +1,13 @@
 -- What the reader of heads finds in the octets that have come.
 -- The contracts of its parts cite it.
-use Rattle.std.specs.Prelude.{◌≡◌, ℕ, ◌*◌, ◌+◌, ◌<◌, ◌≤◌, ◌⊎◌, Bool, ◌||◌, false, true, IsTrue, List, [], ◌++◌, length, drop, Option, Some, None, option_map, Result, Ok, Err, ⊤}
+use Rattle.std.specs.Prelude.{◌≡◌, ℕ, ◌*◌, ◌+◌, ◌<◌, ◌≤◌, ◌⊎◌, Bool, ◌||◌, false, true, IsTrue, List, ◌++◌, length, drop, Option, Some, None, option_map, Ok, Err, ⊤}
 use Rattle.std.specs.String.{string_bytes}
 use Rattle.httparse.specs.Grammar.{ResponseHead, status_code, HasNoResponse, NeverHasResponse, MayBecomeResponse}
 use Rattle.httparse.specs.Spans.{IsResponseAt, IsResponseWithin, ResponseOverflows, ResponseExceeds}
 use Rattle.httparse.specs.declared.spans.HeaderSpan.{HeaderSpan}
 use Rattle.httparse.specs.declared.spans.ResponseSpans.{ResponseSpans}
 use Rattle.http_wire.specs.Fields.{Pair, framing_of, is_coded, IsLocation}
-use Rattle.http_wire.specs.Heads.{AfterInterims, HasFinal, HasInterims, IsHead, fields_of, is_interim, is_final}
+use Rattle.http_wire.specs.Heads.{HasFinal, HasInterims, IsHead, fields_of, is_interim, is_final}
 use Rattle.http_wire.specs.Reading.{IsWhole}
 use Rattle.http_wire.specs.Response.{Cause}
 use Rattle.http_wire.specs.declared.fault.WireFault.{WireFault}

@@ -1,6 +1,6 @@
 -- What reads of a source leave, and what the parts of the reader answer of the whole input.
 -- The contracts of the reader's parts cite it.
-use Rattle.std.specs.Prelude.{◌≡◌, ◌≢◌, ℕ, ◌+◌, ◌<◌, ◌≤◌, List, ◌++◌, length, drop, take, Option, IfSome, Result, Ok, Err, ⊤}
+use Rattle.std.specs.Prelude.{◌≡◌, ℕ, ◌+◌, ◌<◌, ◌≤◌, List, ◌++◌, length, drop, take, Option, IfSome, Result, Ok, Err, ⊤}
 use Rattle.std.specs.Io.KnownBytes.{Consumes, IsAtEnd}
 use Rattle.http_wire.specs.Bodies.{Gives, EndsInBody, IsBodyFront, IsBadBody}
 use Rattle.http_wire.specs.declared.body.Body.{Body}
@@ -9,7 +9,6 @@ use Rattle.http_wire.specs.declared.buffer.Fill.TheVariants.{More, Ended, Past}
 use Rattle.http_wire.specs.declared.fault.WireFault.{WireFault}
 use Rattle.http_wire.specs.declared.fault.WireFault.TheVariants.{EarlyEnd, BadHead, HeadTooLong, TooManyInterim, BadLength, BadChunk, Coding, Device, NoMemory, TooMuch}
 use Rattle.http_wire.specs.declared.framing.Framing.{Framing}
-use Rattle.http_wire.specs.declared.framing.Framing.TheVariants.{ToEnd}
 use Rattle.http_wire.specs.declared.limits.TheConstants.{MAX_RAW}
 
 -- the buffer has grown by what the source gave

@@ -1,6 +1,6 @@
 -- What a response gives, and the cause of each fault, both of the whole input.
 -- RFC 9112, sections 2 and 6.
-use Rattle.std.specs.Prelude.{◌≡◌, ◌≢◌, ℕ, ◌+◌, ◌<◌, ◌≤◌, ◌⊎◌, Bool, false, true, List, length, take, Option, IfSome, Result, Ok, Err, ⊤, option_map}
+use Rattle.std.specs.Prelude.{◌≡◌, ℕ, ◌+◌, ◌<◌, ◌≤◌, ◌⊎◌, Bool, false, true, List, length, take, Option, IfSome, Result, Ok, Err, ⊤, option_map}
 use Rattle.httparse.specs.Grammar.{ResponseHead, status_code}
 use Rattle.std.specs.String.{string_bytes}
 use Rattle.counted_io.specs.Device.{one_more}

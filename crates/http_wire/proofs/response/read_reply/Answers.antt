@@ -1,6 +1,6 @@
 -- The answer of the whole input.
 use Rattle.std.proofs.Common.{refl, ap, length, length-take, arith}
-use Rattle.http_wire.proofs.Answered.{reply_told, fault_told, fails_told}
+use Rattle.http_wire.proofs.Answered.{reply_told, fault_told}
 use Rattle.http_wire.proofs.response.read_reply.Goals as goal
 
 pub returns-in-Ok-read_body-clause-tells : goal.returns-in-Ok-read_body-clause-tells
