@@ -12,5 +12,6 @@ mod HeadFacts
 mod LineEnds
 mod Numbers
 mod Pieces
+pub mod RequestPieces
 pub mod SourceReads
 pub mod TrailerFronts

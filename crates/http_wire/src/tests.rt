@@ -1,0 +1,2 @@
+//! Tests of what clauses don't show: real octets, devices that move few of them, and failures.
+mod requests;
