@@ -15,6 +15,7 @@ mod HeadReads
 mod LineEnds
 mod Numbers
 mod Pieces
+mod RequestPieces
 mod ResponseLaws
 mod SourceReads
 mod TrailerFronts

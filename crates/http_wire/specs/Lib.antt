@@ -9,5 +9,6 @@ pub mod Heads
 pub mod Left
 pub mod Messages
 pub mod Reading
+pub mod Request
 pub mod Response
 pub mod Seeing

@@ -13,11 +13,13 @@ mod framing;
 mod head;
 mod limits;
 mod look;
+mod request;
 mod response;
 mod trailers;
 
 pub use fault::WireFault;
 pub use limits::{MAX_HEAD, MAX_HEADER_LINES, MAX_INTERIM_HEADS, MAX_RAW};
+pub use request::write_get;
 pub use response::{HttpReply, read_response};
 
 #[cfg(test)]

@@ -1,4 +1,5 @@
-//! Tests of the crate, a file for each table.
+//! Tests of what clauses don't show: real octets, devices that move few of them, and failures.
 
 mod limits;
+mod requests;
 mod responses;

@@ -1,0 +1,18 @@
+-- The pieces in a row are the request.
+-- The lemma `request_joined` says so over plain lists.
+use Rattle.std.proofs.Common.{◌∙◌, subst, OnOk, OnErr}
+use Rattle.std.specs.Io.KnownBytes.{Appends}
+use Rattle.counted_io.specs.Device.{AppendsPrefix}
+use Rattle.path_normal.specs.PageText.{authority_of, target_of}
+use Rattle.http_wire.proofs.RequestPieces.{request_joined}
+use Rattle.http_wire.proofs.request.write_get.Goals as goal
+
+pub returns-clause-ok : goal.returns-clause-ok
+returns-clause-ok g c =
+    let is = request_joined (target_of c.args.url.now) (authority_of c.args.url.now) c.args.agent.now c.as_bytes.result.now c.as_bytes-2.result.now (c.as_bytes.ensures.value ∙ c.target.ensures.value) (c.as_bytes-2.ensures.value ∙ c.authority.ensures.value) in
+    subst (λ octets. OnOk c.write_pieces.result (Appends (g.W.Sink.written c.args.writer.now) (g.W.Sink.written c.write_pieces.new.writer) octets)) is c.write_pieces.ensures.ok
+
+pub returns-clause-err : goal.returns-clause-err
+returns-clause-err g c =
+    let is = request_joined (target_of c.args.url.now) (authority_of c.args.url.now) c.args.agent.now c.as_bytes.result.now c.as_bytes-2.result.now (c.as_bytes.ensures.value ∙ c.target.ensures.value) (c.as_bytes-2.ensures.value ∙ c.authority.ensures.value) in
+    subst (λ octets. OnErr c.write_pieces.result (AppendsPrefix (g.W.Sink.written c.args.writer.now) (g.W.Sink.written c.write_pieces.new.writer) octets)) is c.write_pieces.ensures.err
