@@ -98,7 +98,8 @@ impl BodyDecoder {
         requires stands { BodyStands self.old bytes.now }
         requires full { length bytes.now ≡ MAX_RAW }
         ensures tells { (more : List ℕ) → 0 < length more
-            → TellsBody (framing_in self.old) self.old.limit self.old.start (bytes.now ++ more) result }
+            → TellsBody (framing_in self.old) self.old.limit self.old.start
+            (bytes.now ++ more) result }
         ensures count { (failures : ℕ) → failures_after_reading failures result ≡ failures }
     {
         match self.see(alloc, bytes, true) {
@@ -133,7 +134,8 @@ impl BodyDecoder {
     fn end_open(&self, alloc: Global, bytes: &[u8]) -> Result<Body, WireFault>
         requires stands { BodyStands self.now bytes.now }
         requires within { length bytes.now ≤ MAX_RAW }
-        requires open { IsOpen (framing_in self.now) self.now.limit (drop self.now.start bytes.now) }
+        requires open { IsOpen (framing_in self.now) self.now.limit
+            (drop self.now.start bytes.now) }
         ensures tells { TellsBody (framing_in self.now) self.now.limit self.now.start
             bytes.now result }
         ensures count { (failures : ℕ) → failures_after_reading failures result ≡ failures }
@@ -149,7 +151,8 @@ impl BodyDecoder {
 }
 
 fn see_counted(alloc: Global, text: &[u8], size: u64, limit: usize) -> Result<BodySeen, WireFault>
-    ensures ok { IfOk result (λ seen. (last : Bool) → Sees (Framing.Counted size) limit text.now last seen) }
+    ensures ok { IfOk result (λ seen. (last : Bool)
+        → Sees (Framing.Counted size) limit text.now last seen) }
     ensures err { IfErr result (λ fault. fault ≡ WireFault.NoMemory) }
 {
     if size > limit as u64 {

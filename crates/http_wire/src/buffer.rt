@@ -67,8 +67,10 @@ impl Buffer {
     pub(crate) fn fill<S: Source>(&mut self, source: &mut S) -> Result<Fill, WireFault>
         ensures ok { IfOk result (λ fill.
             Fills (S.left source.old) (S.left source.new) self.old self.new fill) }
-        ensures count { S.failures source.new ≡ failures_after_reading (S.failures source.old) result }
-        ensures err { OnErr result ((result ≡ Err WireFault.Device) ⊎ (result ≡ Err WireFault.NoMemory)) }
+        ensures count { S.failures source.new
+            ≡ failures_after_reading (S.failures source.old) result }
+        ensures err { OnErr result
+            ((result ≡ Err WireFault.Device) ⊎ (result ≡ Err WireFault.NoMemory)) }
     {
         if self.end == MAX_RAW {
             return self.look_past(source);
@@ -88,7 +90,8 @@ impl Buffer {
         requires { length self.now ≡ MAX_RAW }
         ensures ok { IfOk result (λ fill.
             Fills (S.left source.old) (S.left source.new) self.now self.now fill) }
-        ensures count { S.failures source.new ≡ failures_after_reading (S.failures source.old) result }
+        ensures count { S.failures source.new
+            ≡ failures_after_reading (S.failures source.old) result }
         ensures err { OnErr result (result ≡ Err WireFault.Device) }
     {
         match source.read(&mut [0]) {

@@ -29,7 +29,8 @@ pub(crate) const EMPTY_FIELD: Field<'static> = Field {
 pub(crate) fn cover<'h>(head: &'h [u8], spans: &[HeaderSpan], fields: &mut [Field<'h>])
     requires within { All (IsHeaderWithin (length head.now)) spans.now }
     requires room { length spans.now ≤ length fields.old }
-    ensures covered { pairs (take (length spans.now) fields.new) ≡ map (header_bytes head.now) spans.now }
+    ensures covered { pairs (take (length spans.now) fields.new)
+        ≡ map (header_bytes head.now) spans.now }
     ensures room_kept { length fields.new ≡ length fields.old }
 {
     for i in 0..spans.len() {

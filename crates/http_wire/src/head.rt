@@ -192,7 +192,8 @@ impl HeadFinder {
         requires front { text.now ≡ take MAX_HEAD (drop self.old.at bytes.now) }
         requires at { (head : ResponseHead) × IsHeadAt text.now headers.now spans head }
         requires room { length headers.now ≡ MAX_HEADER_LINES }
-        ensures sees { IfOk result (λ seen. (last : Bool) → Sees bytes.now last self.old.passed self.new seen) }
+        ensures sees { IfOk result (λ seen. (last : Bool)
+            → Sees bytes.now last self.old.passed self.new seen) }
         ensures faults { IfErr result (Faults bytes.now) }
         ensures no_device { result ≢ Err WireFault.Device }
     {

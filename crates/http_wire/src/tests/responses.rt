@@ -264,13 +264,17 @@ const ROWS: [(&str, &str, usize, Want); 52] = [
     ),
     (
         "eight interim heads",
-        "HTTP/1.1 100 a||HTTP/1.1 102 a||HTTP/1.1 103 a||HTTP/1.1 199 a||HTTP/1.1 100 a||HTTP/1.1 100 a||HTTP/1.1 100 a||HTTP/1.1 100 a||HTTP/1.1 200 OK||x",
+        "HTTP/1.1 100 a||HTTP/1.1 102 a||HTTP/1.1 103 a||HTTP/1.1 199 a||\
+HTTP/1.1 100 a||HTTP/1.1 100 a||HTTP/1.1 100 a||HTTP/1.1 100 a||\
+HTTP/1.1 200 OK||x",
         9,
         Whole(200, "x"),
     ),
     (
         "nine interim heads",
-        "HTTP/1.1 100 a||HTTP/1.1 102 a||HTTP/1.1 103 a||HTTP/1.1 199 a||HTTP/1.1 100 a||HTTP/1.1 100 a||HTTP/1.1 100 a||HTTP/1.1 100 a||HTTP/1.1 100 a||x",
+        "HTTP/1.1 100 a||HTTP/1.1 102 a||HTTP/1.1 103 a||HTTP/1.1 199 a||\
+HTTP/1.1 100 a||HTTP/1.1 100 a||HTTP/1.1 100 a||HTTP/1.1 100 a||\
+HTTP/1.1 100 a||x",
         9,
         Fault(TooManyInterim),
     ),
