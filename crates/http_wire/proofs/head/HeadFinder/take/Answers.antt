@@ -10,7 +10,7 @@ pub returns-in-Interim-clause-sees : goal.returns-in-Interim-clause-sees
 returns-in-Interim-clause-sees c last =
     let found = subst (λ (t : List ℕ). IsHeadAt t c.args.headers.now c.args.spans c.requires.at.0) c.requires.front c.requires.at.1 in (
       passes_next c.args.self.now _ c.args.bytes.now c.args.headers.now c.args.spans c.requires.at.0 c.requires.passes found
-          c.in-Interim.ensures (omega (arith, c.if-self-lt-MAX_INTERIM_HEADS.true)) refl refl,
+          c.in-Interim.ensures (omega arith) refl refl,
       refl,
     )
 
@@ -18,7 +18,7 @@ pub returns-in-Interim-2-clause-faults : goal.returns-in-Interim-2-clause-faults
 returns-in-Interim-2-clause-faults c more limit =
     let found = subst (λ (t : List ℕ). IsHeadAt t c.args.headers.now c.args.spans c.requires.at.0) c.requires.front c.requires.at.1 in
     too_many c.args.self.now c.args.bytes.now more c.args.headers.now c.args.spans c.requires.at.0 c.requires.passes found
-    c.in-Interim-2.ensures (omega (arith, c.if-self-lt-MAX_INTERIM_HEADS.false))
+    c.in-Interim-2.ensures (omega arith)
 
 pub returns-in-Ok-clause-sees : goal.returns-in-Ok-clause-sees
 returns-in-Ok-clause-sees c last =
