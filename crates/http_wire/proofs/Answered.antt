@@ -18,15 +18,17 @@ use Rattle.http_wire.specs.declared.head.FinalHead.{FinalHead}
 use Rattle.http_wire.specs.declared.limits.TheConstants.{MAX_RAW}
 use Rattle.http_wire.specs.declared.response.HttpReply.{HttpReply}
 use Rattle.http_wire.proofs.HeadFacts.{final_append}
+use Rattle.http_wire.proofs.SourceReads.{whole_before}
+
+-- where nothing was seen yet, the whole input is what the source has left
+all_left : (left : Option (List ℕ)) (input : List ℕ) → IsWhole left [] input → IfSome left (λ octets. octets ≡ input)
+all_left None input whole = tt
+all_left (Some octets) input whole = whole.known ∙ sym whole.parts
 
 -- what the source had left is what was read, and then what is left now
 whole_input : (left left' : Option (List ℕ)) (seen input : List ℕ) → Grows left left' [] seen → IsWhole left' seen input
     → IfSome left (λ octets. octets ≡ input)
-whole_input None left' seen input grows whole = tt
-whole_input (Some old) None seen input grows whole = absurd grows.read
-whole_input (Some old) (Some new) seen input grows whole =
-    grows.read ∙ ap (λ (t : List ℕ). t ++ new) (sym grows.grown)
-    ∙ ap (λ (t : List ℕ). seen ++ t) whole.known ∙ sym whole.parts
+whole_input left left' seen input grows whole = all_left left input (whole_before left left' [] seen input grows whole)
 
 -- the final head of what was seen is that of the whole input
 final_of : (seen input more : List ℕ) (found : FinalHead) (is : IsFound seen found) → input ≡ seen ++ more
@@ -116,9 +118,6 @@ fault_told left left' seen found limit fault grows is few reads = record {
 pub fails_told : (left : Option (List ℕ)) (limit : ℕ) (fault : WireFault) → Fails left [] fault → Tells left limit (Err fault)
 fails_told left limit fault fails = record {
   input = fails.input;
-  whole = known left fails.whole.known;
+  whole = all_left left fails.input fails.whole;
   answers = fails.cause limit;
-} where
-  known : (left : Option (List ℕ)) → IfSome left (λ octets. octets ≡ fails.whole.more) → IfSome left (λ octets. octets ≡ fails.input)
-  known None is = tt
-  known (Some octets) is = is ∙ sym fails.whole.parts
+}
