@@ -6,7 +6,7 @@ use Rattle.std.specs.String.{string_bytes}
 use Rattle.std.proofs.lemmas.List.{drop-append-le}
 use Rattle.std.proofs.Math.Seq.{take-append-add}
 use Rattle.http_wire.specs.Bodies.{InBody}
-use Rattle.http_wire.specs.Finding.{Fails, IsFound}
+use Rattle.http_wire.specs.Finding.{IsFound}
 use Rattle.http_wire.specs.Heads.{HasFinal}
 use Rattle.http_wire.specs.Reading.{Grows, IsWhole, HasNoBody, ReadsBody}
 use Rattle.http_wire.specs.Response.{Response, Tells, Cause, reply_of}
@@ -113,11 +113,3 @@ fault_told left left' seen found limit fault grows is few reads = record {
   by_fault TooManyInterim none = absurd none
   by_fault BadLength none = absurd none
   by_fault Coding none = absurd none
-
--- a fault of the heads
-pub fails_told : (left : Option (List ℕ)) (limit : ℕ) (fault : WireFault) → Fails left [] fault → Tells left limit (Err fault)
-fails_told left limit fault fails = record {
-  input = fails.input;
-  whole = all_left left fails.input fails.whole;
-  answers = fails.cause limit;
-}

@@ -7,7 +7,7 @@ use Rattle.std.proofs.lemmas.Grind.{flat_map-append}
 use Rattle.std.proofs.lemmas.List.{length-take-le, take-take, drop-append-le}
 use Rattle.std.proofs.lemmas.List.Elements.{All-push}
 use Rattle.httparse.specs.Ascii.{crlf_bytes}
-use Rattle.httparse.specs.Grammar.{ChunkLine, print_chunk_line, chunk_size, ReadsChunkLine, HasNoChunkLine, NeverHasChunkLine, MayBecomeChunkLine, print_section}
+use Rattle.httparse.specs.Grammar.{ChunkLine, print_chunk_line, chunk_size, ReadsChunkLine, HasNoChunkLine, MayBecomeChunkLine, print_section}
 use Rattle.httparse.specs.Spans.{SectionOverflows}
 use Rattle.http_wire.specs.declared.trailers.TheConstants.{MAX_TRAILERS}
 use Rattle.httparse.proofs.ChunkLemmas.{ReadsChunkLine-append}
@@ -15,7 +15,7 @@ use Rattle.httparse.proofs.PieceLemmas.{front-append}
 use Rattle.http_wire.specs.declared.chunked.Place.{Place}
 use Rattle.http_wire.specs.declared.chunked.Place.TheVariants as places
 use Rattle.http_wire.specs.declared.chunked.ChunkDecoder.{ChunkDecoder}
-use Rattle.http_wire.specs.Chunks.{Chunk, print_chunk, IsChunk, print_chunks, joined, ReadsChunks, ReadsTrailers, GivesWhole, GivesCut, AfterLast, AfterOctets, IsOpenEnd, NeverHasEnd, EndsInTrailers, in_line, in_octets, in_end, in_trailers, EndsInChunked, IsTooLong, HasTooManyLines, bad_line, bad_end, bad_trailers, too_long, IsBadChunked, EndsTooLong}
+use Rattle.http_wire.specs.Chunks.{Chunk, print_chunk, IsChunk, print_chunks, joined, ReadsChunks, ReadsTrailers, GivesWhole, GivesCut, AfterLast, AfterOctets, IsOpenEnd, NeverHasEnd, EndsInTrailers, in_line, in_octets, in_end, in_trailers, EndsInChunked, IsTooLong, HasTooManyLines, bad_end, bad_trailers, too_long, IsBadChunked, EndsTooLong}
 use Rattle.http_wire.specs.Decoding.{StandsAt, Decoded, Stands}
 use Rattle.http_wire.proofs.ChunkLists.{regroup}
 
@@ -27,10 +27,6 @@ line_reads limit text octets rest d = subst (ReadsChunks limit text d.chunks) d.
 pub line_ends : (limit : ℕ) (text octets rest : List ℕ) → Decoded limit text octets places.Line rest
     → HasNoChunkLine rest → MayBecomeChunkLine rest → EndsInChunked limit text
 line_ends limit text octets rest d none may = (d.chunks, rest, line_reads limit text octets rest d, in_line none may)
-
-pub line_bad : (limit : ℕ) (text octets rest : List ℕ) → Decoded limit text octets places.Line rest
-    → NeverHasChunkLine rest → IsBadChunked limit text
-line_bad limit text octets rest d never = (d.chunks, rest, line_reads limit text octets rest d, bad_line never)
 
 pub line_read : (limit : ℕ) (text octets rest after : List ℕ) (line : ChunkLine) (size : ℕ) → Decoded limit text octets places.Line rest
     → ReadsChunkLine rest line after → size ≡ chunk_size line → 0 < size → Decoded limit text octets (places.Octets size) after

@@ -9,7 +9,7 @@ use Rattle.std.proofs.lemmas.List.Elements.{All-push}
 use Rattle.std.proofs.lemmas.List.{flat_map_more}
 use Rattle.httparse.specs.Grammar.{ResponseHead, print_response, status_code, ReadsResponse, HasNoResponse, NeverHasResponse, MayBecomeResponse}
 use Rattle.httparse.specs.Spans.{header_bytes, ResponseOverflows, ResponseExceeds}
-use Rattle.http_wire.specs.Heads.{AfterInterims, fields_of, HasFinal, HasInterims, HasHead, HasTooManyInterim, IsBadHead, IsInterim, IsLongHead, EndsInHead, line_ends, is_interim, is_final}
+use Rattle.http_wire.specs.Heads.{AfterInterims, fields_of, HasFinal, HasInterims, HasHead, HasTooManyInterim, IsBadHead, IsInterim, IsLongHead, line_ends, is_interim, is_final}
 use Rattle.http_wire.specs.Finding.{Passes, IsHeadFront, IsHeadAt, IsPlan, IsFound, HasNoPlan, Faults}
 use Rattle.http_wire.specs.Fields.{Pair}
 use Rattle.http_wire.specs.Response.{Cause}
@@ -318,17 +318,6 @@ pub never_bad : (finder : HeadFinder) (bytes front more : List ℕ) → front �
     → Passes finder bytes → NeverHasResponse front → AfterInterims IsBadHead (bytes ++ more)
 never_bad finder bytes front more is passes never =
     after_passed finder bytes more passes (inl (never_front (drop finder.at bytes) more (subst NeverHasResponse is never)))
-
--- the end of the input behind an unfinished head
-pub ends_in_head : (finder : HeadFinder) (bytes : List ℕ) → Passes finder bytes → IsHeadFront (drop finder.at bytes)
-    → line_ends (drop finder.at bytes) ≤ MAX_HEADER_LINES → AfterInterims EndsInHead bytes
-ends_in_head finder bytes passes front lines = record {
-  heads = passes.heads;
-  rest = drop finder.at bytes;
-  few = omega (arith, passes.count, passes.few);
-  passed = passes.passed;
-  fact = record { none = front.none; unfinished = front.unfinished; octets = front.octets; lines = lines };
-}
 
 -- the same with too many lines
 pub ends_long : (finder : HeadFinder) (bytes : List ℕ) → Passes finder bytes → IsHeadFront (drop finder.at bytes)

@@ -30,10 +30,10 @@ pub fails_to_read : {T : Type 0} (left left' : Option (List ℕ)) (octets : List
     → Fails left [] fault
 fails_to_read left left' octets fault grows which =
     elim which [
-      inl device ↦
+      | inl device ↦
           let same : fault ≡ Device = cc in
           subst (Fails left []) (sym same) (fails_ahead left left' octets Device grows (λ _. tt))
-    | inr memory ↦
+      | inr memory ↦
           let same : fault ≡ NoMemory = cc in
           subst (Fails left []) (sym same) (fails_ahead left left' octets NoMemory grows (λ _. tt))
     ]

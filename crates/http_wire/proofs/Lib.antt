@@ -3,7 +3,6 @@ mod Answered
 mod BodyLaws
 mod BodyLooks
 mod BodyReads
-mod ChunkEnds
 mod ChunkLaws
 mod ChunkLists
 mod ChunkMoves

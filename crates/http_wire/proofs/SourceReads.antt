@@ -5,8 +5,6 @@ use Rattle.std.specs.Prelude.{IfSome}
 use Rattle.std.specs.Io.KnownBytes.{Consumes, IsAtEnd}
 use Rattle.http_wire.specs.Reading.{Grows, IsWhole}
 
--- ---- the whole input
-
 -- the octets that a source is known to give
 abbrev pub ahead : Option (List ℕ) → List ℕ
 ahead None = []
@@ -44,28 +42,3 @@ pub whole_past : (left : Option (List ℕ)) (seen : List ℕ) → IfSome left (�
     → (more : List ℕ) × (0 < length more) × IsWhole left seen (seen ++ more)
 whole_past None seen some = (0 ∷ [], omega arith, record { more = 0 ∷ []; parts = refl; known = tt })
 whole_past (Some octets) seen some = (octets, some, record { more = octets; parts = refl; known = refl })
-
--- ---- reads in a row
-
-consumes_none : (left : Option (List ℕ)) → Consumes left left []
-consumes_none None = tt
-consumes_none (Some octets) = refl
-
--- With no read the octets stay.
-pub grows_same : (left : Option (List ℕ)) (octets : List ℕ) → Grows left left octets octets
-grows_same left octets = record { piece = []; read = consumes_none left; grown = sym (append-nil octets) }
-
-consumes_more : (first second third : Option (List ℕ)) (piece next : List ℕ) → Consumes first second piece → Consumes second third next → Consumes first third (piece ++ next)
-consumes_more None second third piece next read then' = tt
-consumes_more (Some xs) None third piece next read then' = absurd read
-consumes_more (Some xs) (Some ys) None piece next read then' = absurd then'
-consumes_more (Some xs) (Some ys) (Some zs) piece next read then' =
-    read ∙ ap (λ t. piece ++ t) then' ∙ sym (append_assoc piece next zs)
-
--- What reads give and what later reads give is what all of them give.
-pub grows_more : (first second third : Option (List ℕ)) (old mid new : List ℕ) → Grows first second old mid → Grows second third mid new → Grows first third old new
-grows_more first second third old mid new one two = record {
-  piece = one.piece ++ two.piece;
-  read = consumes_more first second third one.piece two.piece one.read two.read;
-  grown = two.grown ∙ ap (λ t. t ++ two.piece) one.grown ∙ append_assoc old one.piece two.piece;
-}
