@@ -1,7 +1,7 @@
 //! Responses at the limits, readers without end, and where a redirect leads.
 //! The limits are those of `MAX_HEAD`, `MAX_HEADER_LINES`, `MAX_INTERIM_HEADS` and `MAX_RAW`.
 
-use crate::{WireFault, read_response};
+use crate::{MAX_RAW, WireFault, read_response};
 use counted_io::{DeviceFault, FailAt, Source};
 use std::alloc::{AllocError, Global};
 use std::test::Fail;
@@ -165,6 +165,26 @@ fn cuts_a_body_without_end(rt: HostRuntime) -> Result<(), Fail> {
             assert_eq!(rt; reply.body.len(), 1_048_576);
         }
         Err(fault) => assert!(rt; false, "{fault}"),
+    }
+    Ok(())
+}
+
+// How many octets are too many, and what is given.
+const LENGTHS: [(usize, Option<WireFault>); 2] = [(0, None), (1, Some(WireFault::TooMuch))];
+
+#[test]
+fn takes_as_many_octets_as_a_response_may_have(rt: HostRuntime) -> Result<(), Fail> {
+    let alloc = rt.alloc();
+    for (more, want) in LENGTHS {
+        let mut octets = Vec::from_slice(alloc, b"HTTP/1.0 200 OK\r\n\r\n")?;
+        octets.resize(MAX_RAW.saturating_add(more), b'x')?;
+        match read_response(alloc, &mut FailAt::new(octets, MAX_RAW, None), MAX_RAW) {
+            Ok(reply) => {
+                assert_eq!(rt; want, None, "{more} too many");
+                assert!(rt; !reply.cut, "{more} too many");
+            }
+            Err(fault) => assert_eq!(rt; Some(fault), want, "{more} too many"),
+        }
     }
     Ok(())
 }
