@@ -207,7 +207,7 @@ fn decode_slowly(alloc: Global, text: &[u8], limit: usize) -> Result<(Look, Vec<
 }
 
 #[test]
-fn rows(rt: HostRuntime) {
+fn gives_each_row_octet_by_octet_too(rt: HostRuntime) {
     for row in &ROWS {
         let (look, given) = decode(rt.alloc(), row.text, row.limit).expect(&rt, "memory");
         assert_eq!(rt; look, row.look, "{}", row.name);
@@ -240,63 +240,52 @@ fn with_trailers(
     Ok(text)
 }
 
+// A name, the lines, the octets of each, whether an empty line ends them, the answer.
+const TRAILERS: [(&str, usize, usize, bool, Look); 9] = [
+    ("most lines", MAX_TRAILERS, 4, true, Look::Whole),
+    ("most lines, no end", MAX_TRAILERS, 4, false, Look::Full),
+    (
+        "a line less, no end",
+        MAX_TRAILERS - 1,
+        4,
+        false,
+        Look::More,
+    ),
+    ("a line too many", MAX_TRAILERS + 1, 4, true, Look::Bad),
+    (
+        "a line too many, no end",
+        MAX_TRAILERS + 1,
+        4,
+        false,
+        Look::Bad,
+    ),
+    ("most octets", 1, MAX_TRAILER_BYTES - 2, true, Look::Whole),
+    (
+        "an octet too many",
+        1,
+        MAX_TRAILER_BYTES - 1,
+        true,
+        Look::Bad,
+    ),
+    (
+        "most octets, no end",
+        1,
+        MAX_TRAILER_BYTES,
+        false,
+        Look::Bad,
+    ),
+    (
+        "an octet less, no end",
+        1,
+        MAX_TRAILER_BYTES - 1,
+        false,
+        Look::More,
+    ),
+];
+
 #[test]
-fn trailers(rt: HostRuntime) {
-    // The name, the lines, the octets of each, whether an empty line ends them, the answer.
-    let rows = [
-        ("as many lines", MAX_TRAILERS, 4, true, Look::Whole),
-        (
-            "as many lines with no end",
-            MAX_TRAILERS,
-            4,
-            false,
-            Look::Full,
-        ),
-        (
-            "one line less with no end",
-            MAX_TRAILERS - 1,
-            4,
-            false,
-            Look::More,
-        ),
-        ("a line too many", MAX_TRAILERS + 1, 4, true, Look::Bad),
-        (
-            "a line too many with no end",
-            MAX_TRAILERS + 1,
-            4,
-            false,
-            Look::Bad,
-        ),
-        (
-            "as many octets",
-            1,
-            MAX_TRAILER_BYTES - 2,
-            true,
-            Look::Whole,
-        ),
-        (
-            "an octet too many",
-            1,
-            MAX_TRAILER_BYTES - 1,
-            true,
-            Look::Bad,
-        ),
-        (
-            "as many octets with no end",
-            1,
-            MAX_TRAILER_BYTES,
-            false,
-            Look::Bad,
-        ),
-        (
-            "an octet less with no end",
-            1,
-            MAX_TRAILER_BYTES - 1,
-            false,
-            Look::More,
-        ),
-    ];
-    for (name, lines, len, ended, want) in rows {
+fn counts_the_lines_and_octets_of_trailers(rt: HostRuntime) {
+    for (name, lines, len, ended, want) in TRAILERS {
         let text = with_trailers(rt.alloc(), lines, len, ended).expect(&rt, "memory");
         let (look, _) = decode(rt.alloc(), &text, 0).expect(&rt, "memory");
         assert_eq!(rt; look, want, "{name}");
