@@ -9,7 +9,7 @@ use Rattle.httparse.specs.Spans.{SectionOverflows}
 use Rattle.httparse.proofs.ChunkLemmas.{chunk_line_unique, ReadsChunkLine-append}
 use Rattle.httparse.proofs.GrammarLemmas.{section_unique}
 use Rattle.httparse.proofs.PieceLemmas.{front-append}
-use Rattle.http_wire.specs.declared.trailers.TheConstants.{MAX_TRAILERS, MAX_TRAILER_BYTES}
+use Rattle.http_wire.specs.declared.limits.TheConstants.{MAX_TRAILERS, MAX_TRAILER_BYTES}
 use Rattle.http_wire.specs.Chunks.{Chunk, print_chunks, joined, ReadsChunks, ReadsTrailers, GivesChunked, AfterChunks, AfterLast, AfterOctets, NeverHasEnd, EndsAt, in_line, in_octets, in_end, in_trailers, EndsInChunked, IsTooLong, IsBadAt, bad_line, bad_end, bad_trailers, too_long, IsBadChunked, HasTooManyLines, EndsTooLong, IsRefusedChunked, print_body, print_front}
 use Rattle.http_wire.proofs.ChunkLists.{fronts_same, regroup, line_of, HasNoChunk, same_chunks}
 

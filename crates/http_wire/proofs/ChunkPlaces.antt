@@ -9,7 +9,7 @@ use Rattle.std.proofs.lemmas.List.Elements.{All-push}
 use Rattle.httparse.specs.Ascii.{crlf_bytes}
 use Rattle.httparse.specs.Grammar.{ChunkLine, print_chunk_line, chunk_size, ReadsChunkLine, HasNoChunkLine, MayBecomeChunkLine, print_section}
 use Rattle.httparse.specs.Spans.{SectionOverflows}
-use Rattle.http_wire.specs.declared.trailers.TheConstants.{MAX_TRAILERS}
+use Rattle.http_wire.specs.declared.limits.TheConstants.{MAX_TRAILERS}
 use Rattle.httparse.proofs.ChunkLemmas.{ReadsChunkLine-append}
 use Rattle.httparse.proofs.PieceLemmas.{front-append}
 use Rattle.http_wire.specs.declared.chunked.Place.{Place}

@@ -4,7 +4,7 @@ use Rattle.std.proofs.Common.{◌≢◌, ℕ, ◌<◌, ◌≤◌, List, [], ◌+
 use Rattle.httparse.specs.Grammar.{ReadsSection, LineEnd, Field}
 use Rattle.httparse.specs.Spans.{SectionOverflows}
 use Rattle.httparse.proofs.GrammarLemmas.{ReadsSection-append}
-use Rattle.http_wire.specs.declared.trailers.TheConstants.{MAX_TRAILERS, MAX_TRAILER_BYTES}
+use Rattle.http_wire.specs.declared.limits.TheConstants.{MAX_TRAILERS, MAX_TRAILER_BYTES}
 use Rattle.http_wire.specs.declared.trailers.TrailerSection.{TrailerSection}
 use Rattle.http_wire.specs.declared.trailers.TrailerSection.TheVariants as sections
 use Rattle.http_wire.specs.Chunks.{ReadsTrailers, IsTooLong}

@@ -1,11 +1,12 @@
 -- Bodies in chunks: what is read, what is cut at a limit, and what can't be read.
 -- RFC 9112, section 7.1.
-use Rattle.std.specs.Prelude.{◌≡◌, ℕ, ◌+◌, ◌-◌, ◌<◌, ◌≤◌, ◌==◌, ◌⊎◌, Bool, true, false, List, [], ◌∷◌, ◌++◌, length, take, All, count_by}
+use Rattle.std.specs.Prelude.{◌≡◌, ℕ, ◌+◌, ◌-◌, ◌<◌, ◌≤◌, ◌⊎◌, Bool, true, false, List, [], ◌∷◌, ◌++◌, length, take, All}
 use Rattle.std.specs.List.{flat_map}
-use Rattle.httparse.specs.Ascii.{carriage_return, line_feed, crlf_bytes}
+use Rattle.httparse.specs.Ascii.{carriage_return, crlf_bytes}
 use Rattle.httparse.specs.Grammar.{ChunkLine, print_chunk_line, IsChunkLine, chunk_size, ReadsChunkLine, HasNoChunkLine, NeverHasChunkLine, MayBecomeChunkLine, LineEnd, Field, IsField, print_section, ReadsSection, HasNoSection, MayBecomeSection}
 use Rattle.httparse.specs.Spans.{SectionOverflows}
-use Rattle.http_wire.specs.declared.trailers.TheConstants.{MAX_TRAILERS, MAX_TRAILER_BYTES}
+use Rattle.http_wire.specs.Heads.{line_ends}
+use Rattle.http_wire.specs.declared.limits.TheConstants.{MAX_TRAILERS, MAX_TRAILER_BYTES}
 
 -- chunk = chunk-line chunk-data CRLF, where the line holds the size and the extension
 pub record Chunk : Type 0 where
@@ -131,10 +132,6 @@ AfterOctets room P text =
     × ReadsChunkLine text line (octets ++ after) × (0 < chunk_size line)
     × (length octets ≡ chunk_size line) × (length octets ≤ room) × P after
 
--- the number of line feeds in text
-abbrev pub line_feeds : List ℕ → ℕ
-line_feeds text = count_by (λ octet. octet == line_feed) text
-
 -- the end of a chunk is still to come, or half of it
 abbrev pub IsOpenEnd : List ℕ → Type 0
 IsOpenEnd text = (text ≡ []) ⊎ (text ≡ carriage_return ∷ [])
@@ -148,7 +145,7 @@ pub record EndsInTrailers (text : List ℕ) : Type 0 where
   pub none : HasNoSection text
   pub may : MayBecomeSection text
   pub short : length text < MAX_TRAILER_BYTES
-  pub few : line_feeds text < MAX_TRAILERS
+  pub few : line_ends text < MAX_TRAILERS
 
 -- where text ends: inside a chunk line, a chunk's octets, their end, or the trailers
 pub data EndsAt (room : ℕ) (text : List ℕ) : Type 0 where
@@ -183,7 +180,7 @@ IsBadChunked limit = AfterChunks limit IsBadAt
 -- text ends with no end of the trailers, though as many lines as they may have stand there
 pub record HasTooManyLines (text : List ℕ) : Type 0 where
   pub none : HasNoSection text
-  pub many : MAX_TRAILERS ≤ line_feeds text
+  pub many : MAX_TRAILERS ≤ line_ends text
 
 -- the text ends after a body's last chunk, with as many lines as trailers may have and no end
 abbrev pub EndsTooLong : ℕ → List ℕ → Type 0

@@ -4,7 +4,7 @@ use Rattle.std.specs.Prelude.{◌≡◌, ℕ, ◌<◌, ◌≤◌, ◌⊎◌, Boo
 use Rattle.httparse.specs.Ascii.{crlf_bytes}
 use Rattle.httparse.specs.Grammar.{ChunkLine, ReadsChunkLine, chunk_size, HasNoSection, MayBecomeSection}
 use Rattle.httparse.specs.Spans.{SectionOverflows}
-use Rattle.http_wire.specs.declared.trailers.TheConstants.{MAX_TRAILERS}
+use Rattle.http_wire.specs.declared.limits.TheConstants.{MAX_TRAILERS}
 use Rattle.http_wire.specs.declared.look.Look.{Look}
 use Rattle.http_wire.specs.declared.look.Look.TheVariants.{Whole, Cut, Bad, Full, More}
 use Rattle.http_wire.specs.declared.chunked.Place.{Place}

@@ -3,8 +3,9 @@
 ghost use Rattle.std.specs.Prelude.{◌≡◌, ◌+◌, ◌-◌, ◌<◌, ◌≤◌, ℕ, List, IfOk, drop, length, vec_len};
 ghost use Rattle.http_wire.specs.Decoding.{Decodes, EndTells, Stands, Steps};
 
+use crate::limits::MAX_TRAILER_BYTES;
 use crate::look::Look;
-use crate::trailers::{MAX_TRAILER_BYTES, has_empty_line, look_trailers};
+use crate::trailers::{has_empty_line, look_trailers};
 use httparse::{Status, parse_chunk_size};
 use memchr::memchr;
 use std::alloc::{AllocError, Global};

@@ -286,7 +286,8 @@ fn location_text(alloc: Global, fields: &[Field<'_>]) -> Result<Option<String>, 
     }
 }
 
-fn count_line_ends(text: &[u8]) -> usize
+/// How many lines have ended.
+pub(crate) fn count_line_ends(text: &[u8]) -> usize
     ensures { result ≡ line_ends text.now }
 {
     text.iter().filter(|octet| **octet == b'\n').count()

@@ -18,7 +18,9 @@ mod response;
 mod trailers;
 
 pub use fault::WireFault;
-pub use limits::{MAX_HEAD, MAX_HEADER_LINES, MAX_INTERIM_HEADS, MAX_RAW};
+pub use limits::{
+    MAX_HEAD, MAX_HEADER_LINES, MAX_INTERIM_HEADS, MAX_RAW, MAX_TRAILER_BYTES, MAX_TRAILERS,
+};
 pub use request::write_get;
 pub use response::{HttpReply, read_response};
 

@@ -1,19 +1,15 @@
 //! Trailers of a body in chunks, which are read and dropped.
 //! RFC 9112, section 7.1.2.
 ghost use Rattle.std.specs.Prelude.{◌≡◌, ◌<◌, ◌≤◌, Bool, length};
-ghost use Rattle.http_wire.specs.Chunks.{line_feeds};
+ghost use Rattle.http_wire.specs.Heads.{line_ends};
 ghost use Rattle.http_wire.specs.Decoding.{SectionTells, TrailersTell};
 
+use crate::head::count_line_ends;
+use crate::limits::{MAX_TRAILER_BYTES, MAX_TRAILERS};
 use crate::look::Look;
 use httparse::spans::{EMPTY_HEADER_SPAN, parse_headers};
 use httparse::{Error, Status};
 use memchr::memmem;
-
-/// How many lines trailers may have.
-pub(crate) const MAX_TRAILERS: usize = 100;
-
-/// How many octets trailers may have, their empty line among them.
-pub(crate) const MAX_TRAILER_BYTES: usize = 65536;
 
 /// What octets that trailers may have are.
 #[derive(Clone, Copy, Debug, PartialEq, Eq)]
@@ -61,7 +57,7 @@ fn look_short(text: &[u8], last: bool) -> Look
         TrailerSection::Bad => Look::Bad,
         TrailerSection::Over if last => Look::Bad,
         TrailerSection::Over => Look::More,
-        TrailerSection::Open if last && count_line_feeds(text) >= MAX_TRAILERS => Look::Full,
+        TrailerSection::Open if last && count_line_ends(text) >= MAX_TRAILERS => Look::Full,
         TrailerSection::Open => Look::More,
     }
 }
@@ -75,12 +71,6 @@ fn look_full(text: &[u8]) -> Look
         TrailerSection::Whole => Look::Whole,
         _ => Look::Bad,
     }
-}
-
-fn count_line_feeds(text: &[u8]) -> usize
-    ensures { result ≡ line_feeds text.now }
-{
-    text.iter().filter(|octet| **octet == b'\n').count()
 }
 
 fn read_section(text: &[u8]) -> TrailerSection

@@ -2,8 +2,8 @@
 //! They say what the definitions mean on real octets.
 
 use super::ChunkDecoder;
+use crate::limits::{MAX_TRAILER_BYTES, MAX_TRAILERS};
 use crate::look::Look;
-use crate::trailers::{MAX_TRAILER_BYTES, MAX_TRAILERS};
 use std::alloc::{AllocError, Global};
 use std::process::Abort;
 
