@@ -2,10 +2,10 @@
 -- Cited by the contracts of `arguments` and `calls`.
 use Rattle.std.specs.Prelude.{◌≡◌, ◌⊎◌, ℕ, List, Result, Ok, Err, ok_or}
 use Rattle.robots_text.specs.Token.{token_of}
-use Rattle.path_normal.specs.Authority.{authority_text_of}
+use Rattle.path_normal.specs.Authority.{parsed_authority}
 use Rattle.path_normal.specs.PageUrl.{page_url_of}
-use Rattle.path_normal.specs.declared.page_url.UrlFault.{UrlFault}
-use Rattle.path_normal.specs.declared.page_url.UrlFault.TheVariants as urls
+use Rattle.path_normal.specs.declared.fault.UrlFault.{UrlFault}
+use Rattle.path_normal.specs.declared.fault.UrlFault.TheVariants as urls
 use Rattle.crawlgate.specs.declared.fault.LineFault.{LineFault}
 use Rattle.crawlgate.specs.declared.fault.LineFault.TheVariants as faults
 use Rattle.crawlgate.specs.Number.{number_of}
@@ -44,7 +44,7 @@ token_word word = ok_or (token_of word) faults.Token
 
 -- the authority of a word
 abbrev pub authority_word : List ℕ → Result (List ℕ) LineFault
-authority_word word = ok_or (authority_text_of word) faults.Authority
+authority_word word = ok_or (parsed_authority word) faults.Authority
 
 -- the page URL of a word
 abbrev pub page_word : List ℕ → Result (List ℕ) LineFault

@@ -3,7 +3,7 @@ use Rattle.std.proofs.Common.{◌≡◌, ℕ, ◌+◌, ◌≤◌, Bool, true, fa
 use Rattle.std.specs.Prelude.{Option, Some, None, Result, Ok, Err, MatchBool}
 use Rattle.std.proofs.lemmas.Bool.{ltb-true, ltb-false}
 use Rattle.path_normal.specs.PageText.{authority_of}
-use Rattle.gate_core.specs.declared.config.TheConstants.{LIFE}
+use Rattle.gate_core.specs.Limits.{life}
 use Rattle.gate_core.specs.declared.answer.Answer.{Answer}
 use Rattle.gate_core.specs.declared.answer.Answer.TheVariants as answers
 use Rattle.gate_core.specs.declared.answer.Closure.{Closure}
@@ -44,12 +44,12 @@ says_one (answers.Closed _) token url reason cause allows denies = cc
 
 -- what allows a fetch is an answer in force that says so
 judged_ok : (o : Option Standing) (token url : List ℕ) (m : ℕ) (reason : Reason) → Judges o token url m (Ok reason) →
-    (s : Standing) × ((o ≡ Some s) × ((m ≤ s.begun + LIFE) × Says s.answer token url (Ok reason)))
+    (s : Standing) × ((o ≡ Some s) × ((m ≤ s.begun + life) × Says s.answer token url (Ok reason)))
 judged_ok None token url m reason judged = cc
 judged_ok (Some s) token url m reason judged = step (is_past m s) refl judged
   where
     step : (b : Bool) → is_past m s ≡ b → MatchBool b (outcome_of reason ≡ Err causes.Expired) (Says s.answer token url (Ok reason)) →
-        (s' : Standing) × ((Some s ≡ Some s') × ((m ≤ s'.begun + LIFE) × Says s'.answer token url (Ok reason)))
+        (s' : Standing) × ((Some s ≡ Some s') × ((m ≤ s'.begun + life) × Says s'.answer token url (Ok reason)))
     step true past apart = cc
     step false fresh says = (s, (refl, (ltb-false _ _ fresh, says)))
 
@@ -72,7 +72,7 @@ judged_err (Some s) token url m cause judged = step (is_past m s) refl judged
 
 -- what is denied is not allowed
 not_both : (o : Option Standing) (token url : List ℕ) (m : ℕ) (cause : Cause) → Judges o token url m (Err cause) → (s : Standing) → o ≡ Some s →
-    m ≤ s.begun + LIFE → (reason : Reason) → Says s.answer token url (Ok reason) → ⊥
+    m ≤ s.begun + life → (reason : Reason) → Says s.answer token url (Ok reason) → ⊥
 not_both o token url m cause judged s is fresh reason says =
     step (is_past m s) refl (subst (λ (p : Option Standing). Judges p token url m (Err cause)) is judged)
   where
@@ -134,7 +134,7 @@ ask_told old new token url m (Err ask.PermitsFull) asks = record { granted = tt;
 ask_told old new token url m (Err ask.NoMemory) asks = record { granted = tt; refused = tt }
 
 -- each call tells what the headline says
-step_told : (old : Gate) (call : Call) (reply : Reply) (new : Gate) → Step old call reply new → IsTold old.history call reply
+pub step_told : (old : Gate) (call : Call) (reply : Reply) (new : Gate) → Step old call reply new → IsTold old.history call reply
 step_told old (calls.Start number token url m) (replies.Start r) new step = start_told old new number token url m r step
 step_told old (calls.Ask token url m) (replies.Ask r) new step = ask_told old new token url m r step
 step_told old _ _ new step = tt

@@ -1,6 +1,6 @@
 -- What contracts see of a book: its limits and its history.
 use Rattle.std.specs.Prelude.{◌≡◌, ℕ, ◌+◌, ◌*◌, ◌<◌, ◌≤◌, List, [], ◌∷◌, ◌++◌, length}
-use Rattle.gate_core.specs.declared.config.TheConstants.{LAST_GENERATION, MAX_SLOTS, MAX_LOG, MAX_AUTHORITIES}
+use Rattle.gate_core.specs.Limits.{last_generation, max_slots, max_log, max_authorities}
 use Rattle.gate_core.specs.declared.config.Config.{Config}
 use Rattle.gate_core.specs.declared.entry.Entry.{Entry}
 use Rattle.gate_core.specs.Standing.{in_flight}
@@ -15,13 +15,13 @@ pub record Gate : Type 0 where
 -- the limits are within their bounds
 pub record IsConfig (config : Config) : Type 0 where
   pub some_slot : 1 ≤ config.slots
-  pub slots : config.slots ≤ MAX_SLOTS
+  pub slots : config.slots ≤ max_slots
   pub first : 1 ≤ config.first_generation
-  pub last : config.first_generation ≤ LAST_GENERATION
+  pub last : config.first_generation ≤ last_generation
   pub some_entry : 1 ≤ config.log_limit
-  pub entries : config.log_limit ≤ MAX_LOG
+  pub entries : config.log_limit ≤ max_log
   pub some_authority : 1 ≤ config.authority_limit
-  pub authorities : config.authority_limit ≤ MAX_AUTHORITIES
+  pub authorities : config.authority_limit ≤ max_authorities
 
 -- how many entries the book has made; an entry's place is how many were made before it
 abbrev pub entry_count : Gate → ℕ

@@ -5,7 +5,7 @@
 -- The list is that of the calls in the order in which they were made, by whomever; the moments are any.
 use Rattle.std.specs.Prelude.{◌≡◌, ℕ, ◌+◌, ◌<◌, ◌≤◌, ◌↔◌, true, false, List, [], ◌∷◌, Option, Some, None, Result, Ok, IsOk, IfOk, IfErr}
 use Rattle.path_normal.specs.PageText.{authority_of}
-use Rattle.gate_core.specs.declared.config.TheConstants.{LIFE}
+use Rattle.gate_core.specs.Limits.{life}
 use Rattle.gate_core.specs.declared.answer.Closure.{Closure}
 use Rattle.gate_core.specs.declared.answer.Answer.TheVariants as answers
 use Rattle.gate_core.specs.declared.call.Call.{Call}
@@ -32,7 +32,7 @@ use Rattle.gate_core.specs.Replies.{Step}
 pub record Allows (h : List Entry) (token url : List ℕ) (moment : ℕ) : Type 0 where
   pub answer : Standing
   pub standing : standing_of h (authority_of url) ≡ Some answer
-  pub in_force : moment ≤ answer.begun + LIFE
+  pub in_force : moment ≤ answer.begun + life
   pub reason : Reason
   pub says : Says answer.answer token url (Ok reason)
 
@@ -46,9 +46,9 @@ pub record MayStart (h : List Entry) (number : ℕ) (token url : List ℕ) (mome
 abbrev pub Denies : Option Standing → ℕ → Cause → Type 0
 Denies standing moment causes.Spent = ⊥
 Denies standing moment causes.Unknown = standing ≡ None
-Denies standing moment causes.Expired = (s : Standing) × ((standing ≡ Some s) × (s.begun + LIFE < moment))
+Denies standing moment causes.Expired = (s : Standing) × ((standing ≡ Some s) × (s.begun + life < moment))
 Denies standing moment causes.Closed =
-    (s : Standing) × ((standing ≡ Some s) × ((moment ≤ s.begun + LIFE) × ((why : Closure) × (s.answer ≡ answers.Closed why))))
+    (s : Standing) × ((standing ≡ Some s) × ((moment ≤ s.begun + life) × ((why : Closure) × (s.answer ≡ answers.Closed why))))
 
 -- the cause of a denied start: spent where no such permit stands, else what denies the fetch
 abbrev pub IsCauseOfStart : List Entry → ℕ → List ℕ → List ℕ → ℕ → Cause → Type 0

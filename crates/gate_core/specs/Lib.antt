@@ -1,4 +1,5 @@
 -- What the gate's contracts cite: the history, what stands in it, and what each call may reply.
+pub mod Limits
 pub mod LeftOpen
 pub mod History
 pub mod Standing

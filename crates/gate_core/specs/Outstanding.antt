@@ -3,7 +3,7 @@
 use Rattle.std.specs.Prelude.{◌≡◌, ℕ, ◌+◌, ◌/◌, ◌%◌, ◌<◌, ◌==◌, Bool, true, false, not, ◌&&◌, ◌||◌, nat_lt, max, List, [], ◌∷◌, if◌then◌else◌}
 use Rattle.std.specs.List.{list_any}
 use Rattle.std.specs.Str.{bytes_eq}
-use Rattle.gate_core.specs.declared.config.TheConstants.{LAST_GENERATION, SLOTS_PER_GENERATION}
+use Rattle.gate_core.specs.Limits.{last_generation, slots_per_generation}
 use Rattle.gate_core.specs.declared.config.Config.{Config}
 use Rattle.gate_core.specs.declared.entry.Entry.{Entry}
 use Rattle.gate_core.specs.declared.entry.Entry.TheVariants.{Granted, Started, StartDenied, Returned, Finished}
@@ -12,11 +12,11 @@ use Rattle.gate_core.specs.LeftOpen.{left_open}
 
 -- the slot of a permit number
 abbrev pub slot_of : ℕ → ℕ
-slot_of number = number % SLOTS_PER_GENERATION
+slot_of number = number % slots_per_generation
 
 -- the generation of a permit number
 abbrev pub generation_of : ℕ → ℕ
-generation_of number = number / SLOTS_PER_GENERATION
+generation_of number = number / slots_per_generation
 
 -- a grant opens its permit
 abbrev pub permits_opened : List Entry → Entry → List Permit
@@ -89,7 +89,7 @@ holds_slot permits runs slot = list_any (λ p. slot_of p.number == slot) permits
 
 -- the slot is free: no number of it is out, and its last generation was not granted
 abbrev pub is_free : List Permit → List ℕ → ℕ → ℕ → Bool
-is_free permits runs greatest slot = not (holds_slot permits runs slot) && nat_lt greatest LAST_GENERATION
+is_free permits runs greatest slot = not (holds_slot permits runs slot) && nat_lt greatest last_generation
 
 -- the slot is free after this history
 abbrev pub is_free_in : List Entry → ℕ → Bool

@@ -99,14 +99,16 @@ Sweeps old m (Ok count) new =
 Sweeps old m (Err sweep.LogFull) new = IsFull old 1 × Stays old new
 Sweeps old m (Err sweep.NoMemory) new = HasRoom old 1 × Stays old new
 
--- a call, its reply and what it leaves; no reply of another call is given
+-- a call, its reply, which names what the call names, and what it leaves; no reply of another call is
+-- given
 abbrev pub Step : Gate → Call → Reply → Gate → Type 0
-Step old (calls.Begin authority m) (replies.Begin r) new = Begins old authority m r new
-Step old (calls.Arrive authority turn answer m) (replies.Arrive r) new = Arrives old authority turn answer m r new
+Step old (calls.Begin authority m) (replies.Begin named r) new = (named ≡ authority) × Begins old authority m r new
+Step old (calls.Arrive authority turn answer m) (replies.Arrive named brought r) new =
+    (named ≡ authority) × (brought ≡ answer) × Arrives old authority turn answer m r new
 Step old (calls.Ask token url m) (replies.Ask r) new = Asks old token url m r new
 Step old (calls.Start number token url m) (replies.Start r) new = Starts old number token url m r new
-Step old (calls.Back number) (replies.Back r) new = Returns old number r new
-Step old (calls.Finish number) (replies.Finish r) new = Finishes old number r new
+Step old (calls.Back number) (replies.Back named r) new = (named ≡ number) × Returns old number r new
+Step old (calls.Finish number) (replies.Finish named r) new = (named ≡ number) × Finishes old number r new
 Step old _ _ new = ⊥
 
 -- a list of calls, in order, and their replies

@@ -12,6 +12,7 @@ use Rattle.gate_core.specs.declared.refusal.Denial.{Denial}
 use Rattle.gate_core.specs.declared.refusal.NotOut.{NotOut}
 use Rattle.gate_core.specs.declared.refusal.Started.{Started as Start}
 use Rattle.gate_core.specs.Gate.{Gate}
+use Rattle.gate_core.specs.Limits.{usual_limits}
 
 -- a book with this many slots, this first generation and this history
 abbrev pub book : ℕ → ℕ → List Entry → Gate
@@ -22,7 +23,7 @@ book slots first h = record {
 
 -- a book with the usual limits and this history
 abbrev pub usual : List Entry → Gate
-usual h = book 1024 1 h
+usual h = record { config = usual_limits; history = h }
 
 -- the site of the rows
 abbrev pub site : List ℕ

@@ -2,7 +2,7 @@
 use Rattle.std.specs.Prelude.{ℕ, ◌+◌, ◌==◌, Bool, false, not, ◌&&◌, ◌||◌, nat_lt, List, [], ◌∷◌, length, map, Option}
 use Rattle.std.specs.List.{list_any, filter, find}
 use Rattle.std.specs.Str.{bytes_eq}
-use Rattle.gate_core.specs.declared.config.TheConstants.{LIFE}
+use Rattle.gate_core.specs.Limits.{life}
 use Rattle.gate_core.specs.declared.answer.Answer.{Answer}
 use Rattle.gate_core.specs.declared.entry.Entry.{Entry}
 use Rattle.gate_core.specs.declared.entry.Entry.TheVariants.{Begun, Arrived, Swept}
@@ -47,7 +47,7 @@ answers_opened before _ = []
 
 -- the answer is older than its life at this moment
 abbrev pub is_past : ℕ → Standing → Bool
-is_past moment s = nat_lt (s.begun + LIFE) moment
+is_past moment s = nat_lt (s.begun + life) moment
 
 -- a later arrival of the authority closes an answer, and a sweep when it is past its life
 abbrev pub closes_answer : Entry → Standing → Bool

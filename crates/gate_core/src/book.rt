@@ -3,8 +3,9 @@
 ghost use Rattle.std.specs.Prelude.{◌≡◌, ◌+◌, ◌≤◌, [], length, replicate, IfOk};
 ghost use Rattle.gate_core.specs.Gate.{IsConfig, IsLegal, room};
 ghost use Rattle.gate_core.specs.History.{at_moment};
+ghost use Rattle.gate_core.specs.Limits.{max_log};
 
-use crate::config::{Config, MAX_LOG};
+use crate::config::Config;
 use crate::entry::Entry;
 use crate::numbers::PermitNo;
 use crate::refusal::NoMemory;
@@ -93,7 +94,7 @@ impl Book {
     pub(crate) fn room(&self) -> usize
         ensures room { result ≡ room self.now.history }
         ensures bound { result ≤ self.now.config.log_limit }
-        ensures small { result ≤ MAX_LOG }
+        ensures small { result ≤ max_log }
     {
         self.entries.len() + self.waiting.len() + 2 * self.permits.len() + self.runs.len()
     }

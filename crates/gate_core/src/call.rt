@@ -44,13 +44,37 @@ pub enum Call {
     },
 }
 
-/// What a call was answered: the result of the call of the same name.
+/// What a call was answered: the result of the call of the same name, and what of the call its
+/// reply names.
 #[derive(Debug, Drop)]
 pub enum Reply {
-    Begin(Result<TurnNo, BeginRefusal>),
-    Arrive(Result<(), Stale>),
-    Ask(Result<PermitNo, AskRefusal>),
-    Start(Result<Started, Denial>),
-    Back(Result<(), NotOut>),
-    Finish(Result<(), NotOut>),
+    /// To [`Call::Begin`].
+    Begin {
+        authority: Authority,
+        result: Result<TurnNo, BeginRefusal>,
+    },
+    /// To [`Call::Arrive`].
+    Arrive {
+        authority: Authority,
+        answer: Answer,
+        result: Result<(), Stale>,
+    },
+    /// To [`Call::Ask`].
+    Ask {
+        result: Result<PermitNo, AskRefusal>,
+    },
+    /// To [`Call::Start`].
+    Start {
+        result: Result<Started, Denial>,
+    },
+    /// To [`Call::Back`].
+    Back {
+        number: PermitNo,
+        result: Result<(), NotOut>,
+    },
+    /// To [`Call::Finish`].
+    Finish {
+        number: PermitNo,
+        result: Result<(), NotOut>,
+    },
 }

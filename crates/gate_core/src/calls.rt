@@ -2,7 +2,7 @@
 
 ghost use Rattle.std.specs.Prelude.{◌≡◌, IfOk, OnErr};
 ghost use Rattle.gate_core.specs.Replies.{Step, Replies};
-ghost use Rattle.gate_core.specs.Headline.{RunTells};
+ghost use Rattle.gate_core.specs.Headline.{IsTold, RunTells};
 
 use crate::book::Book;
 use crate::call::{Call, Reply};
@@ -11,26 +11,54 @@ use std::alloc::Global;
 
 impl Book {
     /// Makes a call that is given as a value.
+    #[tactic(auto, using(std::proofs::lemmas::Grind::common_steps, crate::proofs::Headlines::step_told))]
     pub fn answer(&mut self, call: Call) -> Reply
+        ensures step { Step self.old call result self.new }
+        ensures told { IsTold self.old.history call result }
+    {
+        self.make(call)
+    }
+
+    fn make(&mut self, call: Call) -> Reply
         ensures { Step self.old call result self.new }
     {
         match call {
-            Call::Begin { authority, moment } => Reply::Begin(self.begin(&authority, moment)),
+            Call::Begin { authority, moment } => {
+                let result = self.begin(&authority, moment);
+                Reply::Begin { authority, result }
+            }
             Call::Arrive {
                 authority,
                 turn,
                 answer,
                 moment,
-            } => Reply::Arrive(self.arrive(&authority, turn, answer, moment)),
-            Call::Ask { token, url, moment } => Reply::Ask(self.ask(token, url, moment)),
+            } => {
+                let result = self.arrive(&authority, turn, answer, moment);
+                Reply::Arrive {
+                    authority,
+                    answer,
+                    result,
+                }
+            }
+            Call::Ask { token, url, moment } => Reply::Ask {
+                result: self.ask(token, url, moment),
+            },
             Call::Start {
                 number,
                 token,
                 url,
                 moment,
-            } => Reply::Start(self.start(number, &token, url, moment)),
-            Call::Back { number } => Reply::Back(self.back(number)),
-            Call::Finish { number } => Reply::Finish(self.finish(number)),
+            } => Reply::Start {
+                result: self.start(number, &token, url, moment),
+            },
+            Call::Back { number } => Reply::Back {
+                number,
+                result: self.back(number),
+            },
+            Call::Finish { number } => Reply::Finish {
+                number,
+                result: self.finish(number),
+            },
         }
     }
 }

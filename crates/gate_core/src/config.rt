@@ -1,4 +1,8 @@
 //! The limits of a book, which are fixed when it is made.
+//! RFC 9309, section 2.4, for the life of an answer.
+ghost use Rattle.std.specs.Prelude.{◌≡◌};
+ghost use Rattle.gate_core.specs.Limits.{last_generation, life, max_authorities, max_log, max_slots};
+ghost use Rattle.gate_core.specs.Limits.{slots_per_generation, usual_limits};
 
 /// The last generation of a permit slot. A slot whose permit of this generation was freed is retired.
 pub const LAST_GENERATION: u64 = 281474976710655;
@@ -33,10 +37,24 @@ pub struct Config {
 
 impl Config {
     /// The limits that stand where nobody chose others.
-    pub const DEFAULT: Config = Config {
-        slots: 1024,
-        first_generation: 1,
-        log_limit: MAX_LOG,
-        authority_limit: MAX_AUTHORITIES,
-    };
+    pub fn usual() -> Config
+        ensures { result ≡ usual_limits }
+    {
+        Config {
+            slots: 1024,
+            first_generation: 1,
+            log_limit: MAX_LOG,
+            authority_limit: MAX_AUTHORITIES,
+        }
+    }
 }
+
+/// The constants are the numbers that the definitions have.
+pub fn constants_are_the_limits()
+    ensures life { LIFE ≡ life }
+    ensures numbers { SLOTS_PER_GENERATION ≡ slots_per_generation }
+    ensures generation { LAST_GENERATION ≡ last_generation }
+    ensures slots { MAX_SLOTS ≡ max_slots }
+    ensures log { MAX_LOG ≡ max_log }
+    ensures authorities { MAX_AUTHORITIES ≡ max_authorities }
+{}

@@ -29,6 +29,7 @@ pub use call::{Call, Reply};
 pub use calls::run;
 pub use config::{
     Config, LAST_GENERATION, LIFE, MAX_AUTHORITIES, MAX_LOG, MAX_SLOTS, SLOTS_PER_GENERATION,
+    constants_are_the_limits,
 };
 pub use entry::Entry;
 pub use numbers::{PermitNo, TurnNo};

@@ -1,6 +1,7 @@
 //! The numbers that the gate gives out: of a permit, and of a turn to fetch a robots file.
 
 ghost use Rattle.std.specs.Prelude.{◌≡◌, ◌%◌, ◌/◌};
+ghost use Rattle.gate_core.specs.Limits.{slots_per_generation};
 
 use crate::config::SLOTS_PER_GENERATION;
 use std::marker::Model;
@@ -39,14 +40,14 @@ impl PermitNo {
 
     /// The slot in which it was granted, below 65,536.
     pub fn slot(self) -> u64
-        ensures { result ≡ self % SLOTS_PER_GENERATION }
+        ensures { result ≡ self % slots_per_generation }
     {
         self.number % SLOTS_PER_GENERATION
     }
 
     /// Which grant of its slot it is, counted on from the slot's first generation.
     pub fn generation(self) -> u64
-        ensures { result ≡ self / SLOTS_PER_GENERATION }
+        ensures { result ≡ self / slots_per_generation }
     {
         self.number / SLOTS_PER_GENERATION
     }

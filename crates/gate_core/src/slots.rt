@@ -3,6 +3,7 @@
 ghost use Rattle.std.specs.Prelude.{◌≡◌, ◌==◌, ◌<◌, ◌≤◌, ℕ, length, false, MatchOption, slice_index};
 ghost use Rattle.std.specs.List.{list_any};
 ghost use Rattle.gate_core.specs.Outstanding.{slot_of, holds_slot, is_free, generation_after};
+ghost use Rattle.gate_core.specs.Limits.{last_generation};
 ghost use Rattle.gate_core.specs.Slots.{AllTaken, IsLowest};
 
 use crate::config::{LAST_GENERATION, SLOTS_PER_GENERATION};
@@ -46,7 +47,7 @@ pub fn is_free(permits: &[Permit], runs: &[PermitNo], greatest: u64, slot: u64) 
 
 /// The generation of a slot's next grant, where this is its greatest so far.
 pub fn generation_after(first: u64, greatest: u64) -> u64
-    requires { greatest < LAST_GENERATION }
+    requires { greatest < last_generation }
     ensures { result ≡ generation_after first greatest }
 {
     if greatest == 0 { first } else { greatest + 1 }

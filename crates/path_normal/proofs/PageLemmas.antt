@@ -20,12 +20,12 @@ use Rattle.url.specs.Parser.{parse_url}
 use Rattle.url.specs.Path.{IsSegmentList}
 use Rattle.url.proofs.SetLemmas.{passes_from_kept}
 use Rattle.url.proofs.Theorems.{parse_url-serialize_special}
-use Rattle.path_normal.specs.declared.page_url.TheConstants.{MAX_AUTHORITY, MAX_URL}
+use Rattle.path_normal.specs.Limits.{max_authority, max_url}
 use Rattle.url.proofs.PathLemmas.{rooted}
 use Rattle.url.proofs.TextLemmas.{is_host_byte, host_and_port_bytes, All_part, query_byte}
 use Rattle.url.proofs.ValidLemmas.{segment_list_kept, hierarchical, special_has_authority, base_from_authority}
 use Rattle.path_normal.specs.PageText.{authority_of, target_of}
-use Rattle.path_normal.specs.PageUrl.{page_url_of, page_url_of_parsed, page_url_of_parts, authority_text, page_text, port_text, query_text, target_text, HasPartsOf, IsFaultless, IsPage, IsPageParts, IsWritten}
+use Rattle.path_normal.specs.PageUrl.{page_url_of, page_url_of_parsed, page_url_of_parts, authority_of_parts, page_of_parts, port_text, query_text, target_of_parts, HasPartsOf, IsFaultless, IsPage, IsPageParts, IsWritten}
 
 -- ---- the split of a text
 
@@ -64,18 +64,18 @@ query_pieces : (query : Option (List ℕ)) → when (is_some query) (codes "?") 
 query_pieces None = refl
 query_pieces (Some q) = ap (λ t. 63 ∷ t) (append-nil q)
 
-pub authority_pieces : (url : Parts) → text_between url BeforeHost AfterPort ≡ authority_text url
+pub authority_pieces : (url : Parts) → text_between url BeforeHost AfterPort ≡ authority_of_parts url
 authority_pieces url =
     ap (λ t. host_text (host_or_empty url) ++ t) (port_pieces url.port [] ∙ append-nil (port_text url.port))
 
-pub target_pieces : (url : Parts) → text_between url BeforePath AfterQuery ≡ target_text url
+pub target_pieces : (url : Parts) → text_between url BeforePath AfterQuery ≡ target_of_parts url
 target_pieces url = ap (λ t. url.path ++ t) (query_pieces url.query)
 
-pub page_pieces : (url : Parts) → url.scheme ≡ codes "http" → url.username ≡ [] → url.password ≡ [] → has_authority url ≡ true → page_text url ≡ codes "http://" ++ (authority_text url ++ target_text url)
+pub page_pieces : (url : Parts) → url.scheme ≡ codes "http" → url.username ≡ [] → url.password ≡ [] → has_authority url ≡ true → page_of_parts url ≡ codes "http://" ++ (authority_of_parts url ++ target_of_parts url)
 page_pieces url scheme username password authority =
     rw (scheme, username, password, authority) (
     ap (λ t. codes "http://" ++ (host_text (host_or_empty url) ++ t)) (port_pieces url.port _ ∙ ap (λ t. port_text url.port ++ (url.path ++ t)) (query_pieces url.query))
-    ∙ ap (λ t. codes "http://" ++ t) (sym (append_assoc (host_text (host_or_empty url)) (port_text url.port) (target_text url)))
+    ∙ ap (λ t. codes "http://" ++ t) (sym (append_assoc (host_text (host_or_empty url)) (port_text url.port) (target_of_parts url)))
     )
 
 http_is_special : is_special (scheme_type (codes "http")) ≡ true
@@ -85,7 +85,7 @@ http_is_special = refl
 pub special : (url : Parts) → url.scheme ≡ codes "http" → is_special (kind_of url) ≡ true
 special url scheme = ap (λ s. is_special (scheme_type s)) scheme ∙ http_is_special
 
-authority_without_slash : (url : Parts) → IsValid url → All (Passes is_no_slash) (authority_text url)
+authority_without_slash : (url : Parts) → IsValid url → All (Passes is_no_slash) (authority_of_parts url)
 authority_without_slash url valid =
     subst (All (Passes is_no_slash)) (authority_pieces url) (All-weaker (Passes is_host_byte) (Passes is_no_slash) (λ b passes. grind (arith, nat_tests)) _ (host_and_port_bytes url valid.head))
 
@@ -93,7 +93,7 @@ first_of_path : (path rest : List ℕ) → 0 < length path → get_or path 0 0 �
 first_of_path [] rest some first = absurd (omega arith)
 first_of_path (b ∷ path) rest some first = first
 
-target_from_slash : (url : Parts) → IsValid url → url.scheme ≡ codes "http" → get_or (target_text url) 0 0 ≡ 47
+target_from_slash : (url : Parts) → IsValid url → url.scheme ≡ codes "http" → get_or (target_of_parts url) 0 0 ≡ 47
 target_from_slash url valid scheme =
     let authority = special_has_authority url valid.head (special url scheme) in
     let path = hierarchical url valid.path (base_from_authority url authority) in
@@ -106,15 +106,15 @@ pub record Splits (page : List ℕ) (url : Parts) : Type 0 where
   pub parts : HasPartsOf page url
   pub rooted : get_or (target_of page) 0 0 ≡ 47
 
-pub page_splits : (url : Parts) → IsValid url → url.scheme ≡ codes "http" → url.username ≡ [] → url.password ≡ [] → Splits (page_text url) url
+pub page_splits : (url : Parts) → IsValid url → url.scheme ≡ codes "http" → url.username ≡ [] → url.password ≡ [] → Splits (page_of_parts url) url
 page_splits url valid scheme username password =
     let spelled = page_pieces url scheme username password (special_has_authority url valid.head (special url scheme)) in
     let none = authority_without_slash url valid in
     let first = target_from_slash url valid scheme in
-    let target = target_of_text (authority_text url) (target_text url) none first in
+    let target = target_of_text (authority_of_parts url) (target_of_parts url) none first in
     subst (λ page. Splits page url) (sym spelled) (record {
       scheme = refl;
-      parts = record { authority = authority_of_text (authority_text url) (target_text url) none first; target = target };
+      parts = record { authority = authority_of_text (authority_of_parts url) (target_of_parts url) none first; target = target };
       rooted = ap (λ t. get_or t 0 0) target ∙ first;
     })
 
@@ -142,11 +142,11 @@ http_kind : scheme_type (codes "http") ≡ SpecialNotFile
 unfolding scheme_type default_port
 http_kind = refl
 
-pub page_reads_as_itself : (url : Parts) (page : List ℕ) → IsValid url → url.scheme ≡ codes "http" → page_text url ≡ page → page_url_of_parts url ≡ Ok page → length page ≤ MAX_URL → page_url_of page ≡ Ok page
+pub page_reads_as_itself : (url : Parts) (page : List ℕ) → IsValid url → url.scheme ≡ codes "http" → page_of_parts url ≡ page → page_url_of_parts url ≡ Ok page → length page ≤ max_url → page_url_of page ≡ Ok page
 page_reads_as_itself url page valid scheme spelled made limit =
     let kind : kind_of (bare url) ≡ SpecialNotFile = ap scheme_type scheme ∙ http_kind in
     let parsed : parse_url None page ≡ Ok (bare url) = ap (parse_url None) (sym spelled) ∙ parse_url-serialize_special (bare url) None (bare_is_valid url valid) kind in
-    cond-false (ltb MAX_URL (length page)) _ _ (le-ltb MAX_URL (length page) limit) ∙ ap page_url_of_parsed parsed ∙ made
+    cond-false (ltb max_url (length page)) _ _ (le-ltb max_url (length page) limit) ∙ ap page_url_of_parsed parsed ∙ made
 
 -- ---- no octet is a space
 
@@ -165,20 +165,20 @@ visible_path : (kind : SchemeType) (path : List ℕ) → IsSegmentList kind path
 visible_path kind path list =
     All-weaker _ IsVisible (λ b kept. let passes = passes_from_kept PATH (λ x. ltb 32 x) refl b kept in grind (arith, nat_tests)) path (segment_list_kept kind path list)
 
-pub visible_authority : (url : Parts) → IsValid url → All IsVisible (authority_text url)
+pub visible_authority : (url : Parts) → IsValid url → All IsVisible (authority_of_parts url)
 visible_authority url valid =
     subst (All IsVisible) (authority_pieces url) (All-weaker (Passes is_host_byte) IsVisible (λ b passes. grind (arith, nat_tests)) _ (host_and_port_bytes url valid.head))
 
 visible_start : All IsVisible (codes "http://")
 visible_start = search (arith, All-cons, All-nil)
 
-pub page_is_visible : (url : Parts) → IsValid url → url.scheme ≡ codes "http" → url.username ≡ [] → url.password ≡ [] → All IsVisible (page_text url)
+pub page_is_visible : (url : Parts) → IsValid url → url.scheme ≡ codes "http" → url.username ≡ [] → url.password ≡ [] → All IsVisible (page_of_parts url)
 page_is_visible url valid scheme username password =
     let authority = special_has_authority url valid.head (special url scheme) in
     let path = hierarchical url valid.path (base_from_authority url authority) in
-    subst (All IsVisible) (sym (page_pieces url scheme username password authority)) (All-append IsVisible (codes "http://") _ visible_start (All-append IsVisible (authority_text url) _ (visible_authority url valid) (All-append IsVisible url.path _ (visible_path (kind_of url) url.path path.0) (own_query url valid))))
+    subst (All IsVisible) (sym (page_pieces url scheme username password authority)) (All-append IsVisible (codes "http://") _ visible_start (All-append IsVisible (authority_of_parts url) _ (visible_authority url valid) (All-append IsVisible url.path _ (visible_path (kind_of url) url.path path.0) (own_query url valid))))
 
-pub written : (url : Parts) (page : List ℕ) → IsPageParts url → page_text url ≡ page → IsWritten page
+pub written : (url : Parts) (page : List ℕ) → IsPageParts url → page_of_parts url ≡ page → IsWritten page
 unfolding IsWritten
 written url page parts spelled = (url, parts, spelled)
 
@@ -187,28 +187,28 @@ written url page parts spelled = (url, parts, spelled)
 no_credentials : (url : Parts) → IsPageParts url → has_credentials url ≡ false
 no_credentials url parts = rw (parts.username, parts.password)
 
-pub faultless_reads : (url : Parts) → IsFaultless url → page_url_of_parts url ≡ Ok (page_text url)
+pub faultless_reads : (url : Parts) → IsFaultless url → page_url_of_parts url ≡ Ok (page_of_parts url)
 faultless_reads url faultless =
-    let text_fits = le-ltb MAX_URL (length (page_text url)) faultless.limit in
-    let authority_fits = le-ltb MAX_AUTHORITY (length (authority_text url)) faultless.authority_limit in
+    let text_fits = le-ltb max_url (length (page_of_parts url)) faultless.limit in
+    let authority_fits = le-ltb max_authority (length (authority_of_parts url)) faultless.authority_limit in
     cond-false _ _ _ (ap (λ s. not (bytes_eq s (codes "http"))) faultless.parts.scheme)
     ∙ cond-false _ _ _ (no_credentials url faultless.parts)
     ∙ cond-false _ _ _ (λ i. text_fits i || authority_fits i)
 
-pub faultless_splits : (url : Parts) → IsFaultless url → Splits (page_text url) url
+pub faultless_splits : (url : Parts) → IsFaultless url → Splits (page_of_parts url) url
 faultless_splits url faultless =
     page_splits url faultless.parts.valid faultless.parts.scheme faultless.parts.username faultless.parts.password
 
-pub faultless_page : (url : Parts) → IsFaultless url → IsAscii (page_text url) → IsPage (page_text url)
+pub faultless_page : (url : Parts) → IsFaultless url → IsAscii (page_of_parts url) → IsPage (page_of_parts url)
 faultless_page url faultless ascii =
     let parts = faultless.parts in
     let split = faultless_splits url faultless in
     record {
-      own = page_reads_as_itself url (page_text url) parts.valid parts.scheme refl (faultless_reads url faultless) faultless.limit;
-      written = written url (page_text url) parts refl;
+      own = page_reads_as_itself url (page_of_parts url) parts.valid parts.scheme refl (faultless_reads url faultless) faultless.limit;
+      written = written url (page_of_parts url) parts refl;
       scheme = split.scheme;
       limit = faultless.limit;
-      authority_limit = subst (λ a. length a ≤ MAX_AUTHORITY) (sym split.parts.authority) faultless.authority_limit;
+      authority_limit = subst (λ a. length a ≤ max_authority) (sym split.parts.authority) faultless.authority_limit;
       rooted = split.rooted;
       ascii = ascii;
       visible = page_is_visible url parts.valid parts.scheme parts.username parts.password;

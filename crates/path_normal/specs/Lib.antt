@@ -1,5 +1,7 @@
 -- What contracts say of the URL of a page, of its parts and of their normal form.
 -- URL Standard, section 4; RFC 3986, sections 2 and 3; RFC 9309, section 2.2.2.
+pub mod Limits
+pub mod Messages
 pub mod Normal
 pub mod PageText
 pub mod PageUrl

@@ -7,9 +7,9 @@ use Rattle.url.specs.declared.error.ParseError.TheVariants.{Overflow, OutOfMemor
 use Rattle.url.specs.Host.{host_text}
 use Rattle.url.specs.Parser.{Parsed, parse_url}
 use Rattle.url.specs.Parts.{Parts, has_credentials, host_or_empty, serialize, IsValid}
-use Rattle.path_normal.specs.declared.page_url.TheConstants.{MAX_AUTHORITY, MAX_URL}
-use Rattle.path_normal.specs.declared.page_url.UrlFault.{UrlFault}
-use Rattle.path_normal.specs.declared.page_url.UrlFault.TheVariants.{BadUrl, HasUser, NoMemory, NotHttp, TooLong}
+use Rattle.path_normal.specs.Limits.{max_authority, max_url}
+use Rattle.path_normal.specs.declared.fault.UrlFault.{UrlFault}
+use Rattle.path_normal.specs.declared.fault.UrlFault.TheVariants.{BadUrl, HasUser, NoMemory, NotHttp, TooLong}
 use Rattle.path_normal.specs.PageText.{authority_of, target_of}
 
 -- the port behind its `:`, where one is written
@@ -23,21 +23,21 @@ query_text None = []
 query_text (Some query) = codes "?" ++ query
 
 -- the host, and the port where one is written
-abbrev pub authority_text : Parts → List ℕ
-authority_text url = host_text (host_or_empty url) ++ port_text url.port
+abbrev pub authority_of_parts : Parts → List ℕ
+authority_of_parts url = host_text (host_or_empty url) ++ port_text url.port
 
 -- the path, and the query where there is one
-abbrev pub target_text : Parts → List ℕ
-target_text url = url.path ++ query_text url.query
+abbrev pub target_of_parts : Parts → List ℕ
+target_of_parts url = url.path ++ query_text url.query
 
 -- the URL as it is written back: without its fragment
-abbrev pub page_text : Parts → List ℕ
-page_text url = serialize (record url { fragment = None })
+abbrev pub page_of_parts : Parts → List ℕ
+page_of_parts url = serialize (record url { fragment = None })
 
 -- the URL, or its authority, is longer than a page's may be
 abbrev pub is_too_long : Parts → Bool
 is_too_long url =
-    nat_lt MAX_URL (length (page_text url)) || nat_lt MAX_AUTHORITY (length (authority_text url))
+    nat_lt max_url (length (page_of_parts url)) || nat_lt max_authority (length (authority_of_parts url))
 
 -- the page of a URL, or the first fault that it has
 abbrev pub page_url_of_parts : Parts → Result (List ℕ) UrlFault
@@ -45,7 +45,7 @@ page_url_of_parts url =
     if not (bytes_eq url.scheme (codes "http")) then Err NotHttp
     else (if has_credentials url then Err HasUser
     else (if is_too_long url then Err TooLong
-    else Ok (page_text url)))
+    else Ok (page_of_parts url)))
 
 -- the page of what the parser gave, or the fault
 abbrev pub page_url_of_parsed : Parsed Parts → Result (List ℕ) UrlFault
@@ -56,7 +56,7 @@ page_url_of_parsed (Err error) = Err BadUrl
 -- the page that the text reads as, beside a base or by itself, or the first fault that it has
 abbrev pub page_url_from : Option Parts → List ℕ → Result (List ℕ) UrlFault
 page_url_from base text =
-    if nat_lt MAX_URL (length text) then Err TooLong else page_url_of_parsed (parse_url base text)
+    if nat_lt max_url (length text) then Err TooLong else page_url_of_parsed (parse_url base text)
 
 -- the page that the text reads as by itself, or the first fault that it has
 abbrev pub page_url_of : List ℕ → Result (List ℕ) UrlFault
@@ -74,8 +74,8 @@ IsAnswer result expected =
 
 -- the page's authority and target are those of the URL
 pub record HasPartsOf (page : List ℕ) (url : Parts) : Type 0 where
-  pub authority : authority_of page ≡ authority_text url
-  pub target : target_of page ≡ target_text url
+  pub authority : authority_of page ≡ authority_of_parts url
+  pub target : target_of page ≡ target_of_parts url
 
 -- the page has the authority and target of the URL that the text names on another page
 abbrev pub IsNamedOn : List ℕ → List ℕ → List ℕ → Type 0
@@ -83,12 +83,12 @@ IsNamedOn page text named =
     (base url : Parts) × (parse_url None page ≡ Ok base) × (parse_url (Some base) text ≡ Ok url)
     × HasPartsOf named url
 
--- the answer where `url` gives an error: it overflows at 4 GB, to which no text that it is given
--- comes, so that counts as no memory
-abbrev pub answer_to : ParseError → UrlFault
-answer_to Overflow = NoMemory
-answer_to OutOfMemory = NoMemory
-answer_to error = BadUrl
+-- the fault where the parser gives an error. Its contract lets any text overflow, though only 4 GB do,
+-- so that counts as no memory, and `TooLong` is told of no text that isn't
+abbrev pub fault_of : ParseError → UrlFault
+fault_of Overflow = NoMemory
+fault_of OutOfMemory = NoMemory
+fault_of error = BadUrl
 
 -- a valid `http` URL without user
 pub record IsPageParts (url : Parts) : Type 0 where
@@ -100,12 +100,12 @@ pub record IsPageParts (url : Parts) : Type 0 where
 -- a valid `http` URL without user, within the limits
 pub record IsFaultless (url : Parts) : Type 0 where
   pub parts : IsPageParts url
-  pub limit : length (page_text url) ≤ MAX_URL
-  pub authority_limit : length (authority_text url) ≤ MAX_AUTHORITY
+  pub limit : length (page_of_parts url) ≤ max_url
+  pub authority_limit : length (authority_of_parts url) ≤ max_authority
 
 -- a valid URL is written so
 unfoldable pub IsWritten : List ℕ → Type 0
-IsWritten page = (url : Parts) × IsPageParts url × (page_text url ≡ page)
+IsWritten page = (url : Parts) × IsPageParts url × (page_of_parts url ≡ page)
 
 -- the text reads as itself, and is that of a valid URL within the limits: `http://`, an authority
 -- and a target that begins with `/`, with no octet that is a space or a control before it
@@ -113,8 +113,8 @@ pub record IsPage (page : List ℕ) : Type 0 where
   pub own : page_url_of page ≡ Ok page
   pub written : IsWritten page
   pub scheme : take 7 page ≡ codes "http://"
-  pub limit : length page ≤ MAX_URL
-  pub authority_limit : length (authority_of page) ≤ MAX_AUTHORITY
+  pub limit : length page ≤ max_url
+  pub authority_limit : length (authority_of page) ≤ max_authority
   pub rooted : slice_index (target_of page) 0 ≡ 47
   pub ascii : IsAscii page
   pub visible : All (λ octet. 32 < octet) page

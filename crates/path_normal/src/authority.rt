@@ -5,9 +5,10 @@ ghost use Rattle.std.specs.Cmp.{partial_equiv_from_equiv};
 ghost use Rattle.std.specs.Cmp.Lexicographic.{nat_list_eq_equiv};
 ghost use Rattle.std.specs.List.{list_any};
 ghost use Rattle.path_normal.specs.PageText.{authority_of};
-ghost use Rattle.path_normal.specs.Authority.{IsAuthority, authority_text_of, is_delimiter};
+ghost use Rattle.path_normal.specs.Authority.{IsAuthority, parsed_authority, is_delimiter};
 
-use crate::{PageUrl, UrlFault};
+use crate::fault::AuthorityFault;
+use crate::page_url::PageUrl;
 use std::alloc::{AllocError, Global};
 use std::fmt;
 use std::marker::Model;
@@ -33,38 +34,21 @@ impl Model for Authority {
     ghost invariant = { λ authority. IsAuthority (string_bytes authority.text) };
 }
 
-/// Why a text was not taken as an authority.
-#[derive(Clone, Copy, Debug, PartialEq, Eq)]
-pub enum AuthorityFault {
-    /// The text has one of `/ \ ? # @`, or does not make a page's URL between `http://` and `/`.
-    BadAuthority,
-    /// The allocator had no memory.
-    NoMemory,
-}
-
 impl Authority {
     /// Reads an authority as it stands in a URL: the port may be 80, and letters of either case.
     pub fn new(alloc: Global, text: &str) -> Result<Authority, AuthorityFault>
-        ensures ok { IfOk result (λ authority. authority_text_of text.now ≡ Some authority) }
+        ensures ok { IfOk result (λ authority. parsed_authority text.now ≡ Some authority) }
         ensures bad { IfErr result (λ fault. fault ≡ AuthorityFault.BadAuthority
-            → authority_text_of text.now ≡ None) }
+            → parsed_authority text.now ≡ None) }
         ensures delimited { IsTrue (list_any is_delimiter text.now)
             → result ≡ Err AuthorityFault.BadAuthority }
     {
         if has_delimiter(text.as_bytes()) {
             return Err(AuthorityFault::BadAuthority);
         }
-        let Ok(page) = page_text(alloc, text) else {
-            return Err(AuthorityFault::NoMemory);
-        };
-        match PageUrl::parse(alloc, page.as_str()) {
-            Ok(url) => match Authority::of(&url) {
-                Ok(authority) => Ok(authority),
-                Err(_) => Err(AuthorityFault::NoMemory),
-            },
-            Err(UrlFault::NoMemory) => Err(AuthorityFault::NoMemory),
-            Err(_) => Err(AuthorityFault::BadAuthority),
-        }
+        let root = root_text(alloc, text)?;
+        let url = PageUrl::parse(alloc, root.as_str())?;
+        Ok(Authority::of(&url)?)
     }
 
     /// The authority that a page's URL names.
@@ -92,6 +76,11 @@ impl Authority {
     {
         self.text.as_str()
     }
+
+    /// The allocator of the text.
+    pub(crate) fn allocator(&self) -> Global {
+        *self.text.allocator()
+    }
 }
 
 fn has_delimiter(octets: &[u8]) -> bool
@@ -101,7 +90,7 @@ fn has_delimiter(octets: &[u8]) -> bool
 }
 
 // The URL of the root of the authority that the text writes.
-fn page_text(alloc: Global, text: &str) -> Result<String, AllocError>
+fn root_text(alloc: Global, text: &str) -> Result<String, AllocError>
     ensures { IfOk result (λ page. string_bytes page ≡ codes "http://" ++ text.now ++ codes "/") }
 {
     let mut page = String::from_str(alloc, "http://")?;

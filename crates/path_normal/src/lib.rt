@@ -3,12 +3,14 @@
 #![tactic(auto)]
 
 mod authority;
+mod fault;
 mod normal;
 mod page_url;
 
-pub use authority::{Authority, AuthorityFault};
+pub use authority::Authority;
+pub use fault::{AuthorityFault, UrlFault};
 pub use normal::{normal_path, normal_pattern};
-pub use page_url::{MAX_AUTHORITY, MAX_URL, PageUrl, UrlFault};
+pub use page_url::{MAX_AUTHORITY, MAX_URL, PageUrl};
 
 #[cfg(test)]
 mod tests;

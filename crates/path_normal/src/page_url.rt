@@ -1,25 +1,31 @@
 //! The URL of a page: an `http` URL with no user and no fragment.
 //! URL Standard, sections 4.4 and 4.5.
-ghost use Rattle.std.specs.Prelude.{◌≡◌, ◌<◌, ◌≤◌, None, Some, Ok, Err, IfOk, IsAscii, MatchOption, bytes_eq, length, nat_lt};
+ghost use Rattle.std.specs.Prelude.{◌≡◌, ◌<◌, ◌≤◌, None, Some, Ok, Err, IfOk, IsAscii, MatchOption, bytes_eq, length, nat_lt, string_bytes};
 ghost use Rattle.std.specs.Cmp.{partial_equiv_from_equiv};
 ghost use Rattle.std.specs.Cmp.Lexicographic.{nat_list_eq_equiv};
 ghost use Rattle.url.specs.Parser.{parse_url};
 ghost use Rattle.url.specs.Parts.{IsValid, Parts};
+ghost use Rattle.path_normal.specs.Limits.{max_url};
 ghost use Rattle.path_normal.specs.Normal.{normal_path};
-ghost use Rattle.path_normal.specs.PageText.{authority_of, target_of};
-ghost use Rattle.path_normal.specs.PageUrl.{HasPartsOf, IsAnswer, IsFaultless, IsNamedOn, IsPage, answer_to, authority_text, page_text, page_url_of, page_url_of_parts, page_url_on, target_text};
+ghost use Rattle.path_normal.specs.PageText.{authority_of, robots_url_of, target_of};
+ghost use Rattle.path_normal.specs.PageUrl.{HasPartsOf, IsAnswer, IsFaultless, IsNamedOn, IsPage, authority_of_parts, page_of_parts, page_url_of, page_url_of_parts, page_url_on, target_of_parts};
 
+use crate::authority::Authority;
+use crate::fault::UrlFault;
 use crate::normal::normal_path;
 use std::alloc::{AllocError, Global};
 use std::fmt;
 use std::marker::Model;
-use url::{ParseError, Position, Url};
+use url::{Position, Url};
 
 /// The most bytes that the URL of a page has, as handed in and as written back.
 pub const MAX_URL: usize = 4_096;
 
 /// The most bytes that its authority has, with the port where one is written.
 pub const MAX_AUTHORITY: usize = 4_000;
+
+// Where a site keeps its robots file, in normal form.
+const ROBOTS_PATH: &str = "/robots.txt";
 
 /// The URL of a page, as the URL Standard writes it: `http`, no user, no fragment.
 ///
@@ -50,26 +56,10 @@ impl Model for PageUrl {
         × (url.path.items ≡ normal_path (target_of (string_bytes url.text))) };
 }
 
-/// Why a text was not taken as the URL of a page, in the order of the tests.
-#[derive(Clone, Copy, Debug, PartialEq, Eq)]
-pub enum UrlFault {
-    /// The text, or the URL as it would be written back, has more than 4,096 bytes, or the
-    /// authority of the latter more than 4,000.
-    TooLong,
-    /// The URL Standard's parser refuses the text.
-    BadUrl,
-    /// The scheme is not `http`.
-    NotHttp,
-    /// There is a user name or a password that is not empty.
-    HasUser,
-    /// The allocator had no memory.
-    NoMemory,
-}
-
 impl PageUrl {
     /// Reads the URL of a page, and drops its fragment.
     pub fn parse(alloc: Global, text: &str) -> Result<PageUrl, UrlFault>
-        ensures long { MAX_URL < length text.now → result ≡ Err UrlFault.TooLong }
+        ensures long { max_url < length text.now → result ≡ Err UrlFault.TooLong }
         ensures answer { IsAnswer result (page_url_of text.now) }
         ensures parts { IfOk result (λ page. (url : Parts) × (parse_url None text.now ≡ Ok url)
             × HasPartsOf page url) }
@@ -79,14 +69,14 @@ impl PageUrl {
         }
         match Url::parse(alloc, text) {
             Ok(url) => PageUrl::of_parsed(alloc, &url),
-            Err(error) => Err(fault_of(error)),
+            Err(error) => Err(UrlFault::from(error)),
         }
     }
 
     /// Reads the URL of the page that a text names on this one, as a link or a redirect does
     /// (RFC 3986, 5.2).
     pub fn join(&self, text: &str) -> Result<PageUrl, UrlFault>
-        ensures long { MAX_URL < length text.now → result ≡ Err UrlFault.TooLong }
+        ensures long { max_url < length text.now → result ≡ Err UrlFault.TooLong }
         ensures answer { IsAnswer result (page_url_on self.now text.now) }
         ensures parts { IfOk result (IsNamedOn self.now text.now) }
     {
@@ -98,8 +88,21 @@ impl PageUrl {
         };
         match base.join(text) {
             Ok(url) => PageUrl::of_parsed(self.allocator(), &url),
-            Err(error) => Err(fault_of(error)),
+            Err(error) => Err(UrlFault::from(error)),
         }
+    }
+
+    /// The URL of an authority's robots file (RFC 9309, 2.3). It fails for want of memory alone.
+    pub fn of_robots(authority: &Authority) -> Result<PageUrl, AllocError>
+        ensures url { IfOk result (λ url. url ≡ robots_url_of authority.now) }
+        ensures authority { IfOk result (λ url. authority_of url ≡ authority.now) }
+    {
+        let alloc = authority.allocator();
+        Ok(PageUrl {
+            text: robots_text(alloc, authority)?,
+            authority_end: "http://".len() + authority.text().len(),
+            path: Vec::from_slice(alloc, ROBOTS_PATH.as_bytes())?,
+        })
     }
 
     fn of_parsed(alloc: Global, url: &Url) -> Result<PageUrl, UrlFault>
@@ -110,17 +113,12 @@ impl PageUrl {
             return Err(fault);
         }
         let authority = authority_in(url);
-        let Ok(path) = normal_path(alloc, target_in(url).as_bytes()) else {
-            return Err(UrlFault::NoMemory);
-        };
-        match String::from_str(alloc, page_in(url)) {
-            Ok(text) => Ok(PageUrl {
-                text,
-                authority_end: "http://".len() + authority.len(),
-                path,
-            }),
-            Err(_) => Err(UrlFault::NoMemory),
-        }
+        let path = normal_path(alloc, target_in(url).as_bytes())?;
+        Ok(PageUrl {
+            text: String::from_str(alloc, page_in(url))?,
+            authority_end: "http://".len() + authority.len(),
+            path,
+        })
     }
 
     /// A second URL of the same text.
@@ -172,8 +170,18 @@ impl PageUrl {
     }
 }
 
+// The text of the URL of an authority's robots file.
+fn robots_text(alloc: Global, authority: &Authority) -> Result<String, AllocError>
+    ensures { IfOk result (λ text. string_bytes text ≡ robots_url_of authority.now) }
+{
+    let mut text = String::from_str(alloc, "http://")?;
+    text.push_str(authority.text())?;
+    text.push_str(ROBOTS_PATH)?;
+    Ok(text)
+}
+
 fn is_long(text: &str) -> bool
-    ensures { result ≡ nat_lt MAX_URL (length text.now) }
+    ensures { result ≡ nat_lt max_url (length text.now) }
 {
     text.len() > MAX_URL
 }
@@ -196,33 +204,23 @@ fn fault_in(url: &Url) -> Option<UrlFault>
 }
 
 fn page_in(url: &Url) -> &str
-    ensures value { result.now ≡ page_text url.now }
+    ensures value { result.now ≡ page_of_parts url.now }
     ensures ascii { IsAscii result.now }
 {
     url.slice(Position::BeforeScheme, Position::AfterQuery)
 }
 
 fn target_in(url: &Url) -> &str
-    ensures { result.now ≡ target_text url.now }
+    ensures { result.now ≡ target_of_parts url.now }
 {
     url.slice(Position::BeforePath, Position::AfterQuery)
 }
 
 fn authority_in(url: &Url) -> &str
-    ensures value { result.now ≡ authority_text url.now }
+    ensures value { result.now ≡ authority_of_parts url.now }
     ensures valid { IsValid url.now }
 {
     url.slice(Position::BeforeHost, Position::AfterPort)
-}
-
-// `url` answers Overflow for a URL of 4 GB, which `MAX_URL` bytes never come to.
-fn fault_of(error: ParseError) -> UrlFault
-    ensures { result ≡ answer_to error }
-{
-    match error {
-        ParseError::Overflow | ParseError::OutOfMemory => UrlFault::NoMemory,
-        _ => UrlFault::BadUrl,
-    }
 }
 
 impl PartialEq for PageUrl {

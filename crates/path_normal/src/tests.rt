@@ -266,14 +266,17 @@ fn reads_pages_and_authorities(rt: HostRuntime) -> Result<(), Fail> {
     Ok(())
 }
 
-// A page whose copy, or whose authority by itself, reads otherwise gives another line.
+// A page whose copy, authority by itself or robots URL reads otherwise gives another line.
 fn page_line(alloc: Global, given: &str) -> Result<String, AllocError> {
     let page = match PageUrl::parse(alloc, given) {
         Ok(page) => page,
         Err(fault) => return format!(in alloc; "{fault:?}"),
     };
     let authority = Authority::of(&page)?;
-    let same = page == page.copy()? && Ok(authority) == Authority::new(alloc, page.authority());
+    let robots = format!(in alloc; "http://{authority}/robots.txt")?;
+    let same = page == page.copy()?
+        && Ok(PageUrl::of_robots(&authority)?) == PageUrl::parse(alloc, robots.as_str())
+        && Ok(authority) == Authority::new(alloc, page.authority());
     if !same {
         return format!(in alloc; "two readings of {page}");
     }

@@ -1,0 +1,20 @@
+-- What each fault says.
+-- Cited by the `Display` of the faults.
+use Rattle.std.specs.Prelude.{ℕ, List, codes}
+use Rattle.path_normal.specs.declared.fault.AuthorityFault.{AuthorityFault}
+use Rattle.path_normal.specs.declared.fault.AuthorityFault.TheVariants as authorities
+use Rattle.path_normal.specs.declared.fault.UrlFault.{UrlFault}
+use Rattle.path_normal.specs.declared.fault.UrlFault.TheVariants as urls
+
+-- why a text is no page's URL
+abbrev pub url_fault_text : UrlFault → List ℕ
+url_fault_text urls.TooLong = codes "the URL is too long"
+url_fault_text urls.BadUrl = codes "the text is no URL"
+url_fault_text urls.NotHttp = codes "the URL's scheme is not http"
+url_fault_text urls.HasUser = codes "the URL has a user name or a password"
+url_fault_text urls.NoMemory = codes "no memory for the URL"
+
+-- why a text is no authority
+abbrev pub authority_fault_text : AuthorityFault → List ℕ
+authority_fault_text authorities.BadAuthority = codes "the text is no authority"
+authority_fault_text authorities.NoMemory = codes "no memory for the authority"

@@ -1,0 +1,117 @@
+//! Why a text was not taken as the URL of a page, or as an authority.
+//! URL Standard, sections 4.4 and 4.5.
+use std::alloc::AllocError;
+use std::error::Error;
+use std::fmt;
+use url::ParseError;
+
+/// Why a text was not taken as the URL of a page, in the order of the tests.
+#[derive(Clone, Copy, Debug, PartialEq, Eq)]
+pub enum UrlFault {
+    /// The text, or the URL as it would be written back, has more than 4,096 bytes, or the
+    /// authority of the latter more than 4,000.
+    TooLong,
+    /// The URL Standard's parser refuses the text.
+    BadUrl,
+    /// The scheme is not `http`.
+    NotHttp,
+    /// There is a user name or a password that is not empty.
+    HasUser,
+    /// The allocator had no memory.
+    NoMemory,
+}
+
+impl From<AllocError> for UrlFault {
+    ghost use Rattle.std.specs.Prelude.{◌≡◌};
+    ghost use Rattle.path_normal.specs.declared.fault.UrlFault.{UrlFault};
+
+    ghost from_gives = { λ _ fault. fault ≡ UrlFault.NoMemory };
+
+    fn from(_: AllocError) -> UrlFault {
+        UrlFault::NoMemory
+    }
+}
+
+impl From<ParseError> for UrlFault {
+    ghost use Rattle.std.specs.Prelude.{◌≡◌};
+    ghost use Rattle.path_normal.specs.PageUrl.{fault_of};
+
+    ghost from_gives = { λ error fault. fault ≡ fault_of error };
+
+    fn from(error: ParseError) -> UrlFault {
+        match error {
+            // It overflows at 4 GB, but by its contract at any text: `TooLong` has to stay exact.
+            ParseError::Overflow | ParseError::OutOfMemory => UrlFault::NoMemory,
+            _ => UrlFault::BadUrl,
+        }
+    }
+}
+
+impl fmt::Display for UrlFault {
+    ghost use Rattle.std.specs.Prelude.{Some};
+    ghost use Rattle.path_normal.specs.Messages.{url_fault_text};
+
+    ghost output = { λ fault. Some (url_fault_text fault) };
+
+    fn fmt<W: fmt::Write>(&self, f: &mut fmt::Formatter<W>) -> fmt::Result {
+        f.write_str(match self {
+            UrlFault::TooLong => "the URL is too long",
+            UrlFault::BadUrl => "the text is no URL",
+            UrlFault::NotHttp => "the URL's scheme is not http",
+            UrlFault::HasUser => "the URL has a user name or a password",
+            UrlFault::NoMemory => "no memory for the URL",
+        })
+    }
+}
+
+impl Error for UrlFault {}
+
+/// Why a text was not taken as an authority.
+#[derive(Clone, Copy, Debug, PartialEq, Eq)]
+pub enum AuthorityFault {
+    /// The text has one of `/ \ ? # @`, or does not make a page's URL between `http://` and `/`.
+    BadAuthority,
+    /// The allocator had no memory.
+    NoMemory,
+}
+
+impl From<AllocError> for AuthorityFault {
+    ghost use Rattle.std.specs.Prelude.{◌≡◌};
+    ghost use Rattle.path_normal.specs.declared.fault.AuthorityFault.{AuthorityFault};
+
+    ghost from_gives = { λ _ fault. fault ≡ AuthorityFault.NoMemory };
+
+    fn from(_: AllocError) -> AuthorityFault {
+        AuthorityFault::NoMemory
+    }
+}
+
+impl From<UrlFault> for AuthorityFault {
+    ghost use Rattle.std.specs.Prelude.{◌≡◌};
+    ghost use Rattle.path_normal.specs.Authority.{authority_fault};
+
+    ghost from_gives = { λ fault told. told ≡ authority_fault fault };
+
+    fn from(fault: UrlFault) -> AuthorityFault {
+        match fault {
+            UrlFault::NoMemory => AuthorityFault::NoMemory,
+            _ => AuthorityFault::BadAuthority,
+        }
+    }
+}
+
+impl fmt::Display for AuthorityFault {
+    ghost use Rattle.std.specs.Prelude.{Some};
+    ghost use Rattle.path_normal.specs.Messages.{authority_fault_text};
+
+    ghost output = { λ fault. Some (authority_fault_text fault) };
+
+    fn fmt<W: fmt::Write>(&self, f: &mut fmt::Formatter<W>) -> fmt::Result {
+        f.write_str(match self {
+            AuthorityFault::BadAuthority => "the text is no authority",
+            AuthorityFault::NoMemory => "no memory for the authority",
+        })
+    }
+}
+
+impl Error for AuthorityFault {}
