@@ -1,17 +1,3 @@
--- What the contracts of the program cite.
-pub mod FaultText
-pub mod Words
-pub mod Verbs
-pub mod Number
-pub mod Arguments
-pub mod Arrival
-pub mod CallOf
-pub mod Pieces
-pub mod ReplyText
-pub mod Answers
-pub mod Replay
-pub mod Input
-pub mod Session
-pub mod Steps
+-- What contracts say of the text that `lines` writes.
 pub mod LinesText
 pub mod Prints

@@ -1,26 +1,12 @@
 -- The text that `lines` writes, as docs/FORMATS.md has it: one line for each line of a robots text.
 -- Cited by the contracts of `lines` and of the pieces of a line.
-use Rattle.std.specs.Prelude.{ℕ, Bool, ◌/◌, ◌%◌, ◌&&◌, nat_le, true, List, [], ◌∷◌, ◌++◌, codes, decimal, flat_map, if◌then◌else◌}
-use Rattle.std.specs.Fmt.{digit_glyph}
+use Rattle.std.specs.Prelude.{ℕ, List, [], ◌∷◌, ◌++◌, codes, decimal, flat_map}
+use Rattle.line_text.specs.Escapes.{escaped}
 use Rattle.robots_text.specs.Lines.{kept}
 use Rattle.robots_text.specs.Records.{everybody, token, nobody, Record, agent, rule, other, Numbered, numbered_records}
 use Rattle.robots_text.specs.Token.{lower_case}
 use Rattle.robots_text.specs.declared.record.RuleKind.{RuleKind}
 use Rattle.robots_text.specs.declared.record.RuleKind.TheVariants.{Allow, Disallow}
-
--- an octet from 33 to 126
-abbrev pub is_plain : ℕ → Bool
-is_plain octet = nat_le 33 octet && nat_le octet 126
-
--- an octet from 33 to 126 as it stands, any other as "%" and two upper-case hexadecimal digits
-abbrev pub escaped_octet : ℕ → List ℕ
-escaped_octet octet =
-    if is_plain octet then octet ∷ []
-    else 37 ∷ digit_glyph true (octet / 16) ∷ digit_glyph true (octet % 16) ∷ []
-
--- the octets, escaped
-abbrev pub escaped : List ℕ → List ℕ
-escaped octets = flat_map escaped_octet octets
 
 -- the word of a rule
 abbrev pub rule_word : RuleKind → List ℕ

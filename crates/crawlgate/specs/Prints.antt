@@ -6,8 +6,8 @@ use Rattle.counted_io.specs.Device.{AppendsPrefix}
 use Rattle.robots_text.specs.declared.text.TheConstants.{MAX_TEXT}
 use Rattle.robots_text.specs.Lines.{kept}
 use Rattle.crawlgate.specs.LinesText.{lines_text}
-use Rattle.crawlgate.specs.declared.session_fault.SessionFault.{SessionFault}
-use Rattle.crawlgate.specs.declared.session_fault.SessionFault.TheVariants.{LongLine, Lines, Read, Write, NoMemory}
+use Rattle.command_server.specs.declared.session_fault.SessionFault.{SessionFault}
+use Rattle.command_server.specs.declared.session_fault.SessionFault.TheVariants.{LongLine, Lines, Read, Write, NoMemory}
 
 -- of the body is kept what is kept of the whole input, where that is known
 abbrev pub KeepsSame : Option (List ℕ) → List ℕ → Type 0

@@ -2,9 +2,9 @@
 //! `lines` reads its input with it.
 ghost use Rattle.std.specs.Prelude.{◌≡◌, ◌≤◌, ◌<◌, IfOk, IfErr, OnOk, OnErr, length};
 ghost use Rattle.crawlgate.specs.Prints.{IsReadFault, ReadsBody, ReadsLost, ReadsMore, ReadsPart};
-ghost use Rattle.crawlgate.specs.Session.{failures_after_reads};
+ghost use Rattle.command_server.specs.Session.{failures_after_reads};
 
-use crate::session_fault::SessionFault;
+use command_server::SessionFault;
 use counted_io::Source;
 use robots_text::MAX_TEXT;
 use std::alloc::Global;

@@ -6,11 +6,11 @@ ghost use Rattle.counted_io.specs.Output.{Passes};
 ghost use Rattle.robots_text.specs.Left.{records_left};
 ghost use Rattle.crawlgate.specs.LinesText.{numbered_text};
 ghost use Rattle.crawlgate.specs.Prints.{Prints};
-ghost use Rattle.crawlgate.specs.Session.{failures_after_reads, failures_after_writes};
+ghost use Rattle.command_server.specs.Session.{failures_after_reads, failures_after_writes};
 
 use crate::body::read_body;
 use crate::lines_text::record_pieces;
-use crate::session_fault::SessionFault;
+use command_server::SessionFault;
 use counted_io::{DeviceFault, Output, Sink, Source};
 use robots_text::{Records, RobotsText};
 use std::alloc::Global;

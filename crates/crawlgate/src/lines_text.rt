@@ -2,10 +2,11 @@
 //! Its text is that of docs/FORMATS.md.
 ghost use Rattle.std.specs.Prelude.{◌≡◌, ◌++◌};
 ghost use Rattle.robots_text.specs.Records.{agent, agent_seen, line_seen, rule};
-ghost use Rattle.crawlgate.specs.LinesText.{escaped, numbered, numbered_text, value_text};
-ghost use Rattle.crawlgate.specs.Pieces.{pieces_text};
+ghost use Rattle.line_text.specs.Escapes.{escaped};
+ghost use Rattle.crawlgate.specs.LinesText.{numbered, numbered_text, value_text};
+ghost use Rattle.line_text.specs.Pieces.{pieces_text};
 
-use crate::piece::{Piece, Pieces};
+use line_text::{Piece, Pieces};
 use robots_text::{Agent, RecordKind, RecordLine, RuleKind};
 
 /// The line of a record, with its number.

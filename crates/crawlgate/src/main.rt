@@ -1,34 +1,18 @@
 //! The program: its words, its standard streams and its exit statuses.
 #![tactic(auto)]
 
-mod answerer;
-mod arguments;
-mod arrival;
 mod body;
-mod buffers;
-mod calls;
-mod command;
-mod fault;
 mod lines;
 mod lines_text;
-mod numbers;
-mod octets;
 mod options;
-mod piece;
-mod replay;
-mod reply_text;
-mod session;
-mod session_fault;
 #[cfg(test)]
 mod tests;
-mod verbs;
-mod words;
 
 use clap::error::ErrorKind;
+use command_server::{SessionFault, replay};
 use counted_io::Counted;
 use gate_core::{Book, Config};
 use options::{Subcommand, options};
-use session_fault::SessionFault;
 use std::process::ExitCode;
 use std::{env, io};
 
@@ -90,12 +74,12 @@ fn run_words(rt: &HostRuntime, words: &[&str]) -> io::Result<ExitCode> {
 
 // Replays standard input to standard output.
 fn replay_streams(rt: &HostRuntime) -> io::Result<ExitCode> {
-    let Ok(mut book) = Book::new(rt.alloc(), Config::DEFAULT) else {
+    let Ok(mut book) = Book::new(rt.alloc(), Config::usual()) else {
         return no_memory(rt);
     };
     let mut reader = Counted::new(rt.stdin());
     let mut writer = Counted::new(rt.stdout());
-    let end = replay::replay(rt.alloc(), &mut reader, &mut writer, &mut book);
+    let end = replay(rt.alloc(), &mut reader, &mut writer, &mut book);
     report(rt, end)
 }
 

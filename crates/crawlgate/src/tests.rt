@@ -3,8 +3,7 @@
 ghost use Rattle.std.specs.Prelude.{◌<◌};
 ghost use Rattle.gate_core.specs.Gate.{IsConfig};
 
-use crate::replay::replay;
-use crate::session_fault::SessionFault;
+use command_server::{SessionFault, replay};
 use counted_io::FailAt;
 use gate_core::{Book, Config};
 use std::process::Abort;

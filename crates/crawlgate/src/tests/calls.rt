@@ -34,7 +34,7 @@ fn a_site_without_a_robots_file(rt: HostRuntime) -> Result<(), Fail> {
             moment: 120
         },
     ]?;
-    let mut book = Book::new(alloc, Config::DEFAULT)?;
+    let mut book = Book::new(alloc, Config::usual())?;
     let replies = run(alloc, &mut book, calls)?;
     assert_eq!(rt; replies.len(), 4);
     assert!(rt; matches!(&replies[0], Reply::Begin(Ok(turn)) if *turn == TurnNo::new(1)));

@@ -1,7 +1,6 @@
 //! A read or a write that fails, at every call in turn.
 
-use crate::replay::replay;
-use crate::session_fault::SessionFault;
+use command_server::{SessionFault, replay};
 use counted_io::FailAt;
 use gate_core::{Book, Config};
 use std::alloc::Global;
@@ -29,7 +28,7 @@ fn replies(alloc: Global, lines: usize) -> Result<Vec<u8>, Fail> {
 #[test]
 fn a_read_fails(rt: HostRuntime) -> Result<(), Fail> {
     for octets in 0..INPUT.len() {
-        let mut book = Book::new(rt.alloc(), Config::DEFAULT)?;
+        let mut book = Book::new(rt.alloc(), Config::usual())?;
         let fails_at = Some(octets as u64);
         let mut reader = FailAt::new(INPUT.as_bytes().to_vec(rt.alloc())?, 1, fails_at);
         let mut writer = FailAt::new(Vec::new(rt.alloc()), 65536, None);
@@ -50,7 +49,7 @@ fn a_read_fails(rt: HostRuntime) -> Result<(), Fail> {
 fn a_write_fails(rt: HostRuntime) -> Result<(), Fail> {
     let all = replies(rt.alloc(), REPLIES.len())?;
     for call in 0..all.len() as u64 {
-        let mut book = Book::new(rt.alloc(), Config::DEFAULT)?;
+        let mut book = Book::new(rt.alloc(), Config::usual())?;
         let mut reader = FailAt::new(INPUT.as_bytes().to_vec(rt.alloc())?, 65536, None);
         let mut writer = FailAt::new(Vec::new(rt.alloc()), 1, Some(call));
         let result = replay(rt.alloc(), &mut reader, &mut writer, &mut book);

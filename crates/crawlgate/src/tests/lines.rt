@@ -3,7 +3,7 @@
 ghost use Rattle.std.specs.Prelude.{◌<◌};
 
 use crate::lines::lines;
-use crate::session_fault::SessionFault;
+use command_server::SessionFault;
 use counted_io::FailAt;
 use std::process::Abort;
 use std::test::Fail;

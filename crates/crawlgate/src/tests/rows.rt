@@ -1,7 +1,7 @@
 //! Rows: the lines of a session, and what they are answered.
 
 use super::check;
-use crate::session_fault::SessionFault;
+use command_server::SessionFault;
 use gate_core::Config;
 use std::alloc::Global;
 use std::test::Fail;
@@ -74,7 +74,7 @@ fn usual_limits(rt: HostRuntime) -> Result<(), Fail> {
     for (name, input, want) in ROWS {
         for per_read in [1, 7, 65536] {
             let row = (name, input.as_bytes(), want.as_bytes(), Ok(()));
-            check(&rt, Config::DEFAULT, per_read, row)?;
+            check(&rt, Config::usual(), per_read, row)?;
         }
     }
     Ok(())
@@ -188,7 +188,7 @@ fn limits_of_lines(rt: HostRuntime) -> Result<(), Fail> {
         let input = long_line(rt.alloc(), octets, end)?;
         check(
             &rt,
-            Config::DEFAULT,
+            Config::usual(),
             65536,
             (name, input.as_slice(), want.as_bytes(), result),
         )?;
@@ -204,7 +204,7 @@ fn limit_of_a_session(rt: HostRuntime) -> Result<(), Fail> {
     }
     let input = vec![in rt.alloc(); b'\n'; 1000001]?;
     let most = ("a million lines", &input[1..], want.as_slice(), Ok(()));
-    check(&rt, Config::DEFAULT, 65536, most)?;
+    check(&rt, Config::usual(), 65536, most)?;
     want.extend_from_slice(b"ERR lines\n")?;
     let more = (
         "one line more",
@@ -212,5 +212,5 @@ fn limit_of_a_session(rt: HostRuntime) -> Result<(), Fail> {
         want.as_slice(),
         Err(SessionFault::Lines),
     );
-    check(&rt, Config::DEFAULT, 65536, more)
+    check(&rt, Config::usual(), 65536, more)
 }

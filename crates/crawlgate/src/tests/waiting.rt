@@ -2,7 +2,7 @@
 
 ghost use Rattle.std.specs.Prelude.{None};
 
-use crate::replay::replay;
+use command_server::replay;
 use counted_io::{DeviceFault, LINE_BUFFER, Sink, Source};
 use gate_core::{Book, Config};
 use std::cell::Cell;
@@ -76,7 +76,7 @@ fn writes_replies_before_it_waits(rt: HostRuntime) -> Result<(), Fail> {
             failures: 0,
         };
         let mut sink = Tally { written: &written };
-        let mut book = Book::new(rt.alloc(), Config::DEFAULT)?;
+        let mut book = Book::new(rt.alloc(), Config::usual())?;
         let result = replay(rt.alloc(), &mut source, &mut sink, &mut book);
         assert_eq!(rt; result, Ok(()), "at {cut}");
         assert_eq!(rt; written.get(), 5 * REPLY.len(), "at {cut}");

@@ -1,0 +1,4 @@
+-- Lemmas that several proofs share.
+pub mod PlainText
+pub mod Giving
+pub mod Serving

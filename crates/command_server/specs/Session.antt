@@ -1,0 +1,76 @@
+-- What a session took, did and wrote, by its result.
+-- The contract of `run_session` cites it.
+use Rattle.std.specs.Prelude.{◌≡◌, ◌⊎◌, ℕ, ◌≤◌, Bool, true, false, List, [], ◌++◌, length, Option, Result, Ok, Err}
+use Rattle.std.specs.Io.KnownBytes.{Appends}
+use Rattle.counted_io.specs.Device.{one_more, AppendsPrefix}
+use Rattle.counted_io.specs.Lines.{FindsTooLong}
+use Rattle.command_server.specs.declared.fault.LineFault.TheVariants as faults
+use Rattle.command_server.specs.FaultText.{fault_text}
+use Rattle.command_server.specs.Answers.{Answers}
+use Rattle.command_server.specs.Input.{TakesLines, FindsNoMore, FindsLine, FindsPart}
+use Rattle.command_server.specs.declared.session_fault.SessionFault.{SessionFault}
+use Rattle.command_server.specs.declared.session_fault.SessionFault.TheVariants.{LongLine, Lines, Read, Write, NoMemory}
+
+-- what a session writes behind the replies
+abbrev pub last_words : Result (Unit {0}) SessionFault → List ℕ
+last_words (Ok _) = []
+last_words (Err LongLine) = fault_text faults.Long
+last_words (Err Lines) = fault_text faults.Lines
+last_words (Err Read) = []
+last_words (Err Write) = []
+last_words (Err NoMemory) = []
+
+-- what follows the lines taken, by what the session met there
+abbrev pub Meets : (limit most count : ℕ) (ended : Bool) (behind : Option (List ℕ)) (unread : List ℕ) (left : Option (List ℕ)) → Result (Unit {0}) SessionFault → Type 0
+Meets limit most count ended behind unread left (Ok _) = FindsNoMore behind unread left (ended ≡ true)
+Meets limit most count ended behind unread left (Err LongLine) = (ended ≡ false) × FindsTooLong limit behind unread left
+Meets limit most count ended behind unread left (Err Lines) = (ended ≡ false) × (count ≡ most) × FindsLine limit behind unread left
+Meets limit most count ended behind unread left (Err Read) = (ended ≡ false) × FindsPart behind unread left
+Meets limit most count ended behind unread left (Err NoMemory) = (ended ≡ false) × FindsPart behind unread left
+Meets limit most count ended behind unread left (Err Write) = FindsPart behind unread left
+
+-- a session results in what it met, or a write failed by then
+abbrev pub ResultsIn : Result (Unit {0}) SessionFault → Result (Unit {0}) SessionFault → Type 0
+ResultsIn met result = (result ≡ met) ⊎ (result ≡ Err Write)
+
+-- all octets were written, and after a write fault a part of them
+abbrev pub Writes : Option (List ℕ) → Option (List ℕ) → List ℕ → Result (Unit {0}) SessionFault → Type 0
+Writes old new octets (Ok _) = Appends old new octets
+Writes old new octets (Err LongLine) = Appends old new octets
+Writes old new octets (Err Lines) = Appends old new octets
+Writes old new octets (Err Read) = Appends old new octets
+Writes old new octets (Err NoMemory) = Appends old new octets
+Writes old new octets (Err Write) = AppendsPrefix old new octets
+
+-- at most so many lines of the input were taken, each within the limit; they were answered in turn; and the replies were written, and the last words
+pub record Session {S : Type 0} (answers : S → List ℕ → List ℕ → Bool → S → Type 0) (limit most : ℕ) (old new : S) (input left written written_new : Option (List ℕ)) (result : Result (Unit {0}) SessionFault) : Type 0 where
+  pub lines : List (List ℕ)
+  pub text : List ℕ
+  pub ended : Bool
+  pub met : Result (Unit {0}) SessionFault
+  pub behind : Option (List ℕ)
+  pub unread : List ℕ
+  pub took : TakesLines limit input behind lines
+  pub within : length lines ≤ most
+  pub answered : Answers answers old lines text ended new
+  pub stopped : Meets limit most (length lines) ended behind unread left met
+  pub results : ResultsIn met result
+  pub wrote : Writes written written_new (text ++ last_words met) result
+
+-- the source's count of failures after a session: it rises exactly where a read failed
+abbrev pub failures_after_reads : {T : Type 0} → ℕ → Result T SessionFault → ℕ
+failures_after_reads failures (Ok _) = failures
+failures_after_reads failures (Err LongLine) = failures
+failures_after_reads failures (Err Lines) = failures
+failures_after_reads failures (Err Read) = one_more failures
+failures_after_reads failures (Err Write) = failures
+failures_after_reads failures (Err NoMemory) = failures
+
+-- the sink's count of failures after a session: it rises exactly where a write failed
+abbrev pub failures_after_writes : {T : Type 0} → ℕ → Result T SessionFault → ℕ
+failures_after_writes failures (Ok _) = failures
+failures_after_writes failures (Err LongLine) = failures
+failures_after_writes failures (Err Lines) = failures
+failures_after_writes failures (Err Read) = failures
+failures_after_writes failures (Err Write) = one_more failures
+failures_after_writes failures (Err NoMemory) = failures

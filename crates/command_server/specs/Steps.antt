@@ -1,0 +1,16 @@
+-- What the steps of a session leave.
+-- The contracts of `Buffers` cite it.
+use Rattle.std.specs.Prelude.{List, ℕ, Option}
+use Rattle.std.specs.Io.KnownBytes.{Appends}
+use Rattle.counted_io.specs.Device.{AppendsPrefix}
+use Rattle.command_server.specs.Input.{FindsPart}
+use Rattle.command_server.specs.declared.session_fault.SessionFault.{SessionFault}
+use Rattle.command_server.specs.declared.session_fault.SessionFault.TheVariants.{LongLine, Lines, Read, Write, NoMemory}
+
+-- no line was read, though a part of one may be gone, and the pending replies were written, up to a write fault
+abbrev pub FailsToRead : (behind : Option (List ℕ)) (unread : List ℕ) (left : Option (List ℕ)) (pending : List ℕ) (old new : Option (List ℕ)) → SessionFault → Type 0
+FailsToRead behind unread left pending old new LongLine = ⊥
+FailsToRead behind unread left pending old new Lines = ⊥
+FailsToRead behind unread left pending old new Read = FindsPart behind unread left × Appends old new pending
+FailsToRead behind unread left pending old new Write = FindsPart behind unread left × AppendsPrefix old new pending
+FailsToRead behind unread left pending old new NoMemory = FindsPart behind unread left × Appends old new pending

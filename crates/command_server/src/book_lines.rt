@@ -1,0 +1,88 @@
+//! Replay: the lines of a session, answered by a book.
+//! `crawlgate replay` runs it over standard input and output.
+ghost use Rattle.std.specs.Prelude.{◌≡◌, OnErr, OnOk};
+ghost use Rattle.counted_io.specs.Device.{failures_after};
+ghost use Rattle.command_server.specs.Answers.{CutsReply, GivesReply};
+ghost use Rattle.command_server.specs.Limits.{max_line, max_lines};
+ghost use Rattle.command_server.specs.Replay.{AnswersCall, AnswersLine};
+ghost use Rattle.command_server.specs.Session.{Session, failures_after_reads, failures_after_writes};
+
+use crate::answerer::{Answerer, Flow};
+use crate::command::{Command, read_command};
+use crate::reply_text::{bye_pieces, fault_pieces, reply_pieces};
+use crate::session::run_session;
+use crate::session_fault::SessionFault;
+use counted_io::{DeviceFault, Output, Sink, Source};
+use gate_core::{Book, Call};
+use std::alloc::Global;
+
+/// A book answers a line by the call that it makes.
+impl Answerer for Book {
+    ghost use Rattle.command_server.specs.Replay.{AnswersLine};
+
+    ghost answers = { AnswersLine };
+
+    fn answer<W: Sink>(
+        &mut self,
+        alloc: Global,
+        line: &[u8],
+        output: &mut Output,
+        sink: &mut W,
+    ) -> Result<Flow, DeviceFault> {
+        match read_command(alloc, line) {
+            Ok(Command::Call(call)) => {
+                answer_call(self, call, output, sink)?;
+                Ok(Flow::Goes)
+            }
+            Ok(Command::Quit) => {
+                bye_pieces().push(output, sink)?;
+                Ok(Flow::Ends)
+            }
+            Err(fault) => {
+                fault_pieces(fault).push(output, sink)?;
+                Ok(Flow::Goes)
+            }
+        }
+    }
+}
+
+/// The most octets of a line, its end not counted.
+pub const MAX_LINE: usize = 2097152;
+
+/// The most lines of a session.
+pub const MAX_LINES: u64 = 1000000;
+
+/// Reads lines, makes their calls on the book, and writes their replies, before each read that may
+/// wait and at the end. The book keeps what the lines have done, also after a fault.
+pub fn replay<R: Source, W: Sink>(
+    alloc: Global,
+    reader: &mut R,
+    writer: &mut W,
+    book: &mut Book,
+) -> Result<(), SessionFault>
+    ensures session { Session AnswersLine max_line max_lines book.old book.new
+        (R.left reader.old) (R.left reader.new)
+        (W.written writer.old) (W.written writer.new) result }
+    ensures reads { R.failures reader.new ≡ failures_after_reads (R.failures reader.old) result }
+    ensures writes { W.failures writer.new
+        ≡ failures_after_writes (W.failures writer.old) result }
+{
+    run_session(alloc, reader, writer, book, MAX_LINE, MAX_LINES)
+}
+
+// Makes the call, and pushes the text of its reply.
+fn answer_call<W: Sink>(
+    book: &mut Book,
+    call: Call,
+    output: &mut Output,
+    sink: &mut W,
+) -> Result<(), DeviceFault>
+    ensures ok { OnOk result (GivesReply (λ reply. AnswersCall book.old call reply book.new)
+        (W.written sink.old) (W.written sink.new) output.old output.new) }
+    ensures err { OnErr result (CutsReply (λ reply. AnswersCall book.old call reply book.new)
+        (W.written sink.old) (W.written sink.new) output.old) }
+    ensures count { W.failures sink.new ≡ failures_after (W.failures sink.old) result }
+{
+    let reply = book.answer(call);
+    reply_pieces(&reply).push(output, sink)
+}

@@ -1,0 +1,119 @@
+//! The buffers of a session, and what is done with them for each line.
+//! `run_session` runs on them.
+ghost use Rattle.std.specs.Prelude.{◌≡◌, ◌≢◌, ◌++◌, [], IfOk, IfErr, OnOk, OnErr};
+ghost use Rattle.std.specs.Io.KnownBytes.{prepend_known};
+ghost use Rattle.counted_io.specs.Device.{failures_after};
+ghost use Rattle.counted_io.specs.Lines.{Takes};
+ghost use Rattle.counted_io.specs.Output.{Passes};
+ghost use Rattle.command_server.specs.Answers.{is_end, GivesReply, LosesReply};
+ghost use Rattle.command_server.specs.Session.{last_words, ResultsIn, Writes, failures_after_reads, failures_after_writes};
+ghost use Rattle.command_server.specs.Steps.{FailsToRead};
+
+use crate::answerer::{Answerer, Flow};
+use crate::fault::LineFault;
+use crate::session_fault::SessionFault;
+use counted_io::{DeviceFault, LineFault as ReadFault, LineReader, NextLine, Output, Sink, Source};
+use std::alloc::{AllocError, Global};
+
+/// The octets read and not yet taken, the line in hand, and the replies not yet written.
+#[derive(Debug, Drop)]
+pub(crate) struct Buffers {
+    reader: LineReader,
+    line: Vec<u8>,
+    output: Output,
+}
+
+impl Buffers {
+    /// Nothing is read yet, and nothing is pending.
+    pub(crate) fn new(alloc: Global) -> Result<Buffers, AllocError>
+        ensures reader { IfOk result (λ buffers. buffers.reader ≡ []) }
+        ensures output { IfOk result (λ buffers. buffers.output ≡ []) }
+    {
+        Ok(Buffers {
+            reader: LineReader::new(alloc)?,
+            line: Vec::new(alloc),
+            output: Output::new(alloc)?,
+        })
+    }
+
+    /// Takes the next line in hand. The pending replies are written before a read that may wait.
+    pub(crate) fn next<R: Source, W: Sink>(
+        &mut self,
+        reader: &mut R,
+        writer: &mut W,
+        limit: usize,
+    ) -> Result<NextLine, SessionFault>
+        ensures takes { IfOk result (λ next. Takes limit
+            (prepend_known self.old.reader (R.left reader.old)) self.new.reader (R.left reader.new)
+            next self.new.line.items) }
+        ensures passed { OnOk result (Passes (W.written writer.old) (W.written writer.new)
+            self.old.output self.new.output) }
+        ensures fault { IfErr result (FailsToRead
+            (prepend_known self.old.reader (R.left reader.old)) self.new.reader (R.left reader.new)
+            self.old.output (W.written writer.old) (W.written writer.new)) }
+        ensures reads { R.failures reader.new
+            ≡ failures_after_reads (R.failures reader.old) result }
+        ensures writes { W.failures writer.new
+            ≡ failures_after_writes (W.failures writer.old) result }
+    {
+        if !self.reader.has_line() {
+            self.output.flush(writer)?;
+        }
+        match self.reader.next_line(reader, limit, &mut self.line) {
+            Ok(next) => Ok(next),
+            Err(ReadFault::Read) => Err(SessionFault::Read),
+            Err(ReadFault::NoMemory) => {
+                self.output.flush(writer)?;
+                Err(SessionFault::NoMemory)
+            }
+        }
+    }
+
+    /// Has the line in hand answered.
+    pub(crate) fn answer<W: Sink, A: Answerer>(
+        &mut self,
+        alloc: Global,
+        answerer: &mut A,
+        writer: &mut W,
+    ) -> Result<Flow, DeviceFault>
+        ensures ok { IfOk result (λ flow. GivesReply
+            (λ reply. A.answers answerer.old self.old.line.items reply (is_end flow) answerer.new)
+            (W.written writer.old) (W.written writer.new) self.old.output self.new.output) }
+        ensures err { OnErr result (LosesReply
+            (λ reply ended. A.answers answerer.old self.old.line.items reply ended answerer.new)
+            (W.written writer.old) (W.written writer.new) self.old.output) }
+        ensures reader { self.new.reader ≡ self.old.reader }
+        ensures count { W.failures writer.new ≡ failures_after (W.failures writer.old) result }
+    {
+        answerer.answer(alloc, self.line.as_slice(), &mut self.output, writer)
+    }
+
+    /// Writes the pending replies and the last words, and results in `end` if no write fails.
+    pub(crate) fn close<W: Sink>(
+        &mut self,
+        writer: &mut W,
+        end: Result<(), SessionFault>,
+    ) -> Result<(), SessionFault>
+        requires { end ≢ Err SessionFault.Write }
+        ensures results { ResultsIn end result }
+        ensures wrote { Writes (W.written writer.old) (W.written writer.new)
+            (self.old.output ++ last_words end) result }
+        ensures writes { W.failures writer.new
+            ≡ failures_after_writes (W.failures writer.old) result }
+    {
+        self.output.push(writer, words_at(&end))?;
+        self.output.flush(writer)?;
+        end
+    }
+}
+
+// What a session writes behind the replies.
+fn words_at(end: &Result<(), SessionFault>) -> &'static [u8]
+    ensures { result.now ≡ last_words end.now }
+{
+    match end {
+        Err(SessionFault::LongLine) => LineFault::Long.text().as_bytes(),
+        Err(SessionFault::Lines) => LineFault::Lines.text().as_bytes(),
+        _ => b"",
+    }
+}

@@ -1,0 +1,120 @@
+//! One command line as a command, or its first fault.
+//! Used by the session; `CallOf` has the order of the checks.
+ghost use Rattle.std.specs.Prelude.{◌≡◌, IsTrue, MatchOption, false, true};
+ghost use Rattle.command_server.specs.Arguments.{IsReading};
+ghost use Rattle.command_server.specs.CallOf.{arguments_of, command_of, counted_of, is_line_octet};
+ghost use Rattle.command_server.specs.CallOf.{is_plain, takes, timed_words_of, verb_words_of};
+ghost use Rattle.line_text.specs.Words.{words_left};
+
+use crate::calls::{read_arrive, read_ask, read_back, read_begin, read_done, read_start};
+use crate::fault::LineFault;
+use crate::verbs::Verb;
+use gate_core::Call;
+use line_text::{Words, number_of};
+use std::alloc::Global;
+
+/// What a command line asks of a session.
+#[derive(Debug, Drop)]
+pub enum Command {
+    /// A call of the book.
+    Call(Call),
+    /// The end of the session.
+    Quit,
+}
+
+/// Reads a command line, without its line end.
+pub fn read_command(alloc: Global, line: &[u8]) -> Result<Command, LineFault>
+    ensures { IsReading result (command_of line.now) }
+{
+    let Some(text) = plain_text(line) else {
+        return Err(LineFault::Chars);
+    };
+    let words = Words::of(text);
+    if words.has_empty() {
+        return Err(LineFault::Words);
+    }
+    read_timed(alloc, words)
+}
+
+fn plain_text(line: &[u8]) -> Option<&str>
+    ensures { MatchOption result (is_plain line.now ≡ false)
+        (λ text. (is_plain line.now ≡ true) × (text.now ≡ line.now)) }
+{
+    if !is_plain(line) {
+        return None;
+    }
+    std::str::from_utf8(line).ok()
+}
+
+fn is_plain(line: &[u8]) -> bool
+    ensures { result ≡ is_plain line.now }
+{
+    line.iter().all(|octet| is_line_octet(*octet))
+}
+
+fn is_line_octet(octet: u8) -> bool
+    ensures { result ≡ is_line_octet octet }
+{
+    (32..=126).contains(&octet)
+}
+
+fn read_timed(alloc: Global, words: Words<'_>) -> Result<Command, LineFault>
+    ensures { IsReading result (timed_words_of (words_left words.entry)) }
+{
+    let mut words = words;
+    let Some(first) = words.next() else {
+        return Err(LineFault::Moment);
+    };
+    let Some(moment) = number_of(first) else {
+        return Err(LineFault::Moment);
+    };
+    read_verb(alloc, moment, words)
+}
+
+fn read_verb(alloc: Global, moment: u64, words: Words<'_>) -> Result<Command, LineFault>
+    ensures { IsReading result (verb_words_of moment (words_left words.entry)) }
+{
+    let mut words = words;
+    let Some(name) = words.next() else {
+        return Err(LineFault::Verb);
+    };
+    let Some(verb) = Verb::of(name) else {
+        return Err(LineFault::Verb);
+    };
+    read_counted(alloc, verb, moment, words)
+}
+
+fn read_counted(
+    alloc: Global,
+    verb: Verb,
+    moment: u64,
+    words: Words<'_>,
+) -> Result<Command, LineFault>
+    ensures { IsReading result (counted_of verb moment (words_left words.entry)) }
+{
+    let row = verb.row();
+    if !words.count_is_within(row.least, row.most) {
+        return Err(LineFault::Words);
+    }
+    read_arguments(alloc, verb, moment, words)
+}
+
+fn read_arguments(
+    alloc: Global,
+    verb: Verb,
+    moment: u64,
+    words: Words<'_>,
+) -> Result<Command, LineFault>
+    requires { IsTrue (takes verb (words_left words)) }
+    ensures { IsReading result (arguments_of verb moment (words_left words.entry)) }
+{
+    Ok(Command::Call(match verb {
+        Verb::Begin => read_begin(alloc, moment, words)?,
+        Verb::Arrive => read_arrive(alloc, moment, words)?,
+        Verb::Ask => read_ask(alloc, moment, words)?,
+        Verb::Start => read_start(alloc, moment, words)?,
+        Verb::Back => read_back(words)?,
+        Verb::Done => read_done(words)?,
+        Verb::Quit => return Ok(Command::Quit),
+    }))
+}

@@ -1,0 +1,66 @@
+//! Why a command line is no call, and the reply line that says so (docs/FORMATS.md).
+ghost use Rattle.std.specs.Prelude.{◌≡◌};
+ghost use Rattle.command_server.specs.FaultText.{fault_text};
+
+/// The first fault of a command line. No call is made for it.
+#[derive(Clone, Copy, Debug, PartialEq, Eq)]
+pub enum LineFault {
+    /// The line is over the limit, and the session ends.
+    Long,
+    /// The line comes after the last that a session takes, and the session ends.
+    Lines,
+    /// An octet is outside 32 to 126.
+    Chars,
+    /// A word is empty, or the verb takes another number of words.
+    Words,
+    /// The first word is no number.
+    Moment,
+    /// The verb is missing, or no verb of the session.
+    Verb,
+    /// A word is no number below 2 to the 64.
+    Number,
+    /// A word is no product token.
+    Token,
+    /// A word is no authority.
+    Authority,
+    /// A word is no URL.
+    BadUrl,
+    /// A URL has another scheme than http.
+    NotHttp,
+    /// A URL has a user name or a password.
+    HasUser,
+    /// A URL, or its authority, is too long.
+    LongUrl,
+    /// A word is no status that an arrival takes.
+    Status,
+    /// The replies of an arrival are not those of one walk.
+    Replies,
+    /// A growth of memory was refused.
+    Memory,
+}
+
+impl LineFault {
+    /// The reply line, with its line feed.
+    pub fn text(self) -> &'static str
+        ensures { result.now ≡ fault_text self }
+    {
+        match self {
+            LineFault::Long => "ERR long\n",
+            LineFault::Lines => "ERR lines\n",
+            LineFault::Chars => "ERR chars\n",
+            LineFault::Words => "ERR words\n",
+            LineFault::Moment => "ERR moment\n",
+            LineFault::Verb => "ERR verb\n",
+            LineFault::Number => "ERR number\n",
+            LineFault::Token => "ERR token\n",
+            LineFault::Authority => "ERR authority\n",
+            LineFault::BadUrl => "ERR url bad\n",
+            LineFault::NotHttp => "ERR url scheme\n",
+            LineFault::HasUser => "ERR url user\n",
+            LineFault::LongUrl => "ERR url long\n",
+            LineFault::Status => "ERR status\n",
+            LineFault::Replies => "ERR replies\n",
+            LineFault::Memory => "ERR memory\n",
+        }
+    }
+}

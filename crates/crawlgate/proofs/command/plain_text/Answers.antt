@@ -1,9 +1,0 @@
--- A plain line is ASCII, and so it is UTF-8.
-use Rattle.std.proofs.Common.{◌∙◌, sym}
-use Rattle.crawlgate.proofs.PlainText.{text_of_plain}
-use Rattle.crawlgate.proofs.command.plain_text.Goals as goal
-
-pub returns : goal.returns
-returns c =
-    let plain = sym c.is_plain.ensures ∙ c.if-not-is_plain.false in
-    rw c.ok.ensures.value (text_of_plain _ c.args.line.now c.from_utf8.result plain c.from_utf8.ensures.cases)

@@ -1,9 +1,0 @@
--- What `parse` gives for a numeral.
-use Rattle.std.proofs.Common.{◌∙◌, sym}
-use Rattle.crawlgate.proofs.Numerals.{number_parsed}
-use Rattle.crawlgate.proofs.numbers.number_of.Goals as goal
-
-pub returns : goal.returns
-returns c =
-    let numeral = sym c.is_numeral.ensures ∙ c.if-not-is_numeral.false in
-    c.ok.ensures.value ∙ number_parsed c.args.word.now c.parse.result numeral c.parse.ensures.value.0

@@ -1,0 +1,4 @@
+-- Lemmas that several proofs share.
+pub mod WordSplits
+pub mod Numerals
+pub mod Pushing

@@ -1,0 +1,17 @@
+-- The pieces before a fault, and a part of the one at it, are a part of the reply.
+use Rattle.std.proofs.Common.{◌∙◌}
+use Rattle.counted_io.proofs.Writing.{on_err}
+use Rattle.line_text.specs.Pieces.{piece_text}
+use Rattle.line_text.proofs.Pushing.{row_more, row_cut}
+use Rattle.line_text.proofs.piece.push_all.Goals as goal
+
+pub returns-in_err-push-clause-err : goal.returns-in_err-push-clause-err
+returns-in_err-push-clause-err g c =
+    on_err c.from_residual.result
+    (row_cut piece_text c.args.pieces.now c.loop-piece.piece-index _ _ _ _ c.args.output.now _ c.loop-piece-test.true c.loop-piece.invariant.0 c.in_err-push.ensures.err)
+
+pub loop-piece-preserved : goal.loop-piece-preserved
+loop-piece-preserved g c = (
+  row_more piece_text c.args.pieces.now c.loop-piece.piece-index _ _ _ _ c.args.output.now _ _ c.loop-piece-test.true c.loop-piece.invariant.0 c.in_ok-push.ensures.ok,
+  c.in_ok-push.ensures.count ∙ c.loop-piece.invariant.1,
+)

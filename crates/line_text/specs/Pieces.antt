@@ -1,0 +1,24 @@
+-- The text of a line: a line of words, and a line that is kept as pieces.
+-- Cited by the contracts of `piece` and `reply_text`.
+use Rattle.std.specs.Prelude.{◌++◌, ℕ, List, codes, decimal, flat_map}
+use Rattle.std.specs.List.{join_with_byte}
+use Rattle.robots_text.specs.Token.{lower_case}
+use Rattle.line_text.specs.Escapes.{escaped}
+use Rattle.line_text.specs.declared.piece.Piece.{Piece}
+use Rattle.line_text.specs.declared.piece.Piece.TheVariants.{Text, Number, LowerCase, Escaped}
+use Rattle.line_text.specs.declared.piece.Pieces.{Pieces}
+
+-- the text of one piece
+abbrev pub piece_text : Piece → List ℕ
+piece_text (Text text) = text.now
+piece_text (Number number) = decimal number
+piece_text (LowerCase octets) = lower_case octets.now
+piece_text (Escaped octets) = escaped octets.now
+
+-- the text of the pieces, in order
+abbrev pub pieces_text : Pieces → List ℕ
+pieces_text pieces = flat_map piece_text pieces.pieces
+
+-- a line: its words with single spaces between them, and a line feed
+abbrev pub line_of : List (List ℕ) → List ℕ
+line_of words = join_with_byte 32 words ++ codes "\n"

@@ -1,0 +1,29 @@
+//! The numbers of command lines, which have neither sign nor bound on their zeros.
+//! Used by the modules that read a moment, a number or a status.
+ghost use Rattle.std.specs.Prelude.{◌≡◌};
+ghost use Rattle.std.specs.Char.{is_ascii_digit};
+ghost use Rattle.std.specs.List.{list_all};
+ghost use Rattle.line_text.specs.Number.{is_numeral, number_of};
+
+/// The number that a word writes.
+pub fn number_of(word: &str) -> Option<u64>
+    ensures { result ≡ number_of word.now }
+{
+    // `parse` would take a sign.
+    if !is_numeral(word) {
+        return None;
+    }
+    word.parse().ok()
+}
+
+fn is_numeral(word: &str) -> bool
+    ensures { result ≡ is_numeral word.now }
+{
+    !word.is_empty() && are_digits(word.as_bytes())
+}
+
+fn are_digits(octets: &[u8]) -> bool
+    ensures { result ≡ list_all is_ascii_digit octets.now }
+{
+    octets.iter().all(|octet| octet.is_ascii_digit())
+}

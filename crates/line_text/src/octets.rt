@@ -1,0 +1,108 @@
+//! Octets of a robots text as they are written: in lower case, or escaped.
+//! Pushed by the pieces of a line.
+ghost use Rattle.std.specs.Prelude.{◌≡◌, ◌≤◌, ◌<◌, ◌++◌, [], ◌∷◌, true, OnErr, OnOk};
+ghost use Rattle.std.specs.Char.{to_ascii_lowercase};
+ghost use Rattle.std.specs.Fmt.{digit_glyph};
+ghost use Rattle.std.specs.List.{list_all};
+ghost use Rattle.counted_io.specs.Device.{AppendsPrefix, failures_after};
+ghost use Rattle.counted_io.specs.Output.{Passes};
+ghost use Rattle.robots_text.specs.Token.{lower_case};
+ghost use Rattle.line_text.specs.Escapes.{escaped, escaped_octet, is_plain};
+
+use counted_io::{DeviceFault, Output, Sink};
+
+/// Pushes octets with their letters in lower case.
+pub(crate) fn push_lower_case<W: Sink>(
+    octets: &[u8],
+    output: &mut Output,
+    sink: &mut W,
+) -> Result<(), DeviceFault>
+    ensures ok { OnOk result (Passes (W.written sink.old) (W.written sink.new)
+        (output.old ++ lower_case octets.now) output.new) }
+    ensures err { OnErr result (AppendsPrefix (W.written sink.old) (W.written sink.new)
+        (output.old ++ lower_case octets.now)) }
+    ensures count { W.failures sink.new ≡ failures_after (W.failures sink.old) result }
+{
+    for octet in octets {
+        push_lower_octet(*octet, output, sink)?;
+    }
+    Ok(())
+}
+
+fn push_lower_octet<W: Sink>(
+    octet: u8,
+    output: &mut Output,
+    sink: &mut W,
+) -> Result<(), DeviceFault>
+    ensures ok { OnOk result (Passes (W.written sink.old) (W.written sink.new)
+        (output.old ++ to_ascii_lowercase octet ∷ []) output.new) }
+    ensures err { OnErr result (AppendsPrefix (W.written sink.old) (W.written sink.new)
+        (output.old ++ to_ascii_lowercase octet ∷ [])) }
+    ensures count { W.failures sink.new ≡ failures_after (W.failures sink.old) result }
+{
+    output.push(sink, &[octet.to_ascii_lowercase()])
+}
+
+/// Pushes octets, of which those outside 33 to 126 are escaped.
+pub(crate) fn push_escaped<W: Sink>(
+    octets: &[u8],
+    output: &mut Output,
+    sink: &mut W,
+) -> Result<(), DeviceFault>
+    ensures ok { OnOk result (Passes (W.written sink.old) (W.written sink.new)
+        (output.old ++ escaped octets.now) output.new) }
+    ensures err { OnErr result (AppendsPrefix (W.written sink.old) (W.written sink.new)
+        (output.old ++ escaped octets.now)) }
+    ensures count { W.failures sink.new ≡ failures_after (W.failures sink.old) result }
+{
+    // Most values need no escape.
+    if are_plain(octets) {
+        return output.push(sink, octets);
+    }
+    for octet in octets {
+        push_octet(*octet, output, sink)?;
+    }
+    Ok(())
+}
+
+fn push_octet<W: Sink>(octet: u8, output: &mut Output, sink: &mut W) -> Result<(), DeviceFault>
+    ensures ok { OnOk result (Passes (W.written sink.old) (W.written sink.new)
+        (output.old ++ escaped_octet octet) output.new) }
+    ensures err { OnErr result (AppendsPrefix (W.written sink.old) (W.written sink.new)
+        (output.old ++ escaped_octet octet)) }
+    ensures count { W.failures sink.new ≡ failures_after (W.failures sink.old) result }
+{
+    if is_plain(octet) {
+        output.push(sink, &[octet])
+    } else {
+        output.push(
+            sink,
+            &[b'%', upper_digit(octet / 16), upper_digit(octet % 16)],
+        )
+    }
+}
+
+// Whether an octet is written as it stands.
+fn is_plain(octet: u8) -> bool
+    ensures { result ≡ is_plain octet }
+{
+    33 <= octet && octet <= 126
+}
+
+fn are_plain(octets: &[u8]) -> bool
+    ensures { result ≡ list_all is_plain octets.now }
+{
+    octets.iter().all(|octet| is_plain(*octet))
+}
+
+// The hexadecimal digit of a value.
+fn upper_digit(value: u8) -> u8
+    requires { value < 16 }
+    ensures { result ≡ digit_glyph true value }
+{
+    if value < 10 {
+        b'0' + value
+    } else {
+        b'A' + (value - 10)
+    }
+}
