@@ -1,7 +1,9 @@
-//! The program: its words, its standard streams and its exit statuses.
+//! The program: what its words ask for, done over the standard streams.
+//! docs/crawlgate.1.md is its manual page.
 #![tactic(auto)]
 
 mod body;
+mod ending;
 mod lines;
 mod lines_text;
 mod options;
@@ -9,43 +11,35 @@ mod options;
 mod tests;
 
 use clap::error::ErrorKind;
-use command_server::{SessionFault, replay};
+use command_server::replay;
 use counted_io::Counted;
+use ending::Ending;
 use gate_core::{Book, Config};
 use options::{Subcommand, options};
 use std::process::ExitCode;
 use std::{env, io};
 
-// The exit statuses but 0, which says that all was done.
-const BAD_INPUT: u8 = 1;
-
-const BAD_WORDS: u8 = 2;
-
-const NO_MEMORY_OR_DEVICE: u8 = 3;
-
 fn main(rt: HostRuntime) -> ExitCode {
-    match run(&rt) {
-        Ok(code) => code,
-        Err(error) => {
-            let fault = match error.kind() {
-                io::ErrorKind::OutOfMemory => "no memory",
-                _ => "device",
-            };
-            // A standard error that fails too leaves the status alone.
-            let _ = eprintln!(&rt; "crawlgate: {fault}");
-            ExitCode::from(NO_MEMORY_OR_DEVICE)
-        }
+    let ending = match run(&rt) {
+        Ok(ending) => ending,
+        Err(error) if error.kind() == io::ErrorKind::OutOfMemory => Ending::NoMemory,
+        Err(_) => Ending::Device,
+    };
+    if let Some(message) = ending.message() {
+        // A standard error that fails too leaves the status alone.
+        let _ = eprintln!(&rt; "crawlgate: {message}");
     }
+    ExitCode::from(ending.status())
 }
 
 // An error is one of printing, or of memory outside a session.
-fn run(rt: &HostRuntime) -> io::Result<ExitCode> {
+fn run(rt: &HostRuntime) -> io::Result<Ending> {
     let given = match env::args(rt) {
         Ok(given) => given,
-        Err(error) if error.kind() == io::ErrorKind::OutOfMemory => return no_memory(rt),
+        Err(error) if error.kind() == io::ErrorKind::OutOfMemory => return Ok(Ending::NoMemory),
         Err(_) => {
             eprintln!(rt; "crawlgate: an argument is not UTF-8")?;
-            return Ok(ExitCode::from(BAD_WORDS));
+            return Ok(Ending::BadWords);
         }
     };
     let mut owned = Vec::new(rt.alloc());
@@ -60,58 +54,31 @@ fn run(rt: &HostRuntime) -> io::Result<ExitCode> {
 }
 
 // Does what the words ask for.
-fn run_words(rt: &HostRuntime, words: &[&str]) -> io::Result<ExitCode> {
+fn run_words(rt: &HostRuntime, words: &[&str]) -> io::Result<Ending> {
     match options(rt.alloc(), words) {
-        Ok(Subcommand::Replay) => replay_streams(rt),
-        Ok(Subcommand::Lines) => lines_streams(rt),
-        Err(error) if error.kind() == ErrorKind::OutOfMemory => no_memory(rt),
+        Ok(Subcommand::Replay) => Ok(replay_streams(rt)),
+        Ok(Subcommand::Lines) => Ok(lines_streams(rt)),
+        Err(error) if error.kind() == ErrorKind::OutOfMemory => Ok(Ending::NoMemory),
         Err(error) => {
             eprint!(rt; "{}", error.to_string(rt.alloc())?)?;
-            Ok(ExitCode::from(BAD_WORDS))
+            Ok(Ending::BadWords)
         }
     }
 }
 
 // Replays standard input to standard output.
-fn replay_streams(rt: &HostRuntime) -> io::Result<ExitCode> {
+fn replay_streams(rt: &HostRuntime) -> Ending {
     let Ok(mut book) = Book::new(rt.alloc(), Config::usual()) else {
-        return no_memory(rt);
+        return Ending::NoMemory;
     };
     let mut reader = Counted::new(rt.stdin());
     let mut writer = Counted::new(rt.stdout());
-    let end = replay(rt.alloc(), &mut reader, &mut writer, &mut book);
-    report(rt, end)
+    Ending::of(replay(rt.alloc(), &mut reader, &mut writer, &mut book))
 }
 
 // Writes the records of standard input to standard output.
-fn lines_streams(rt: &HostRuntime) -> io::Result<ExitCode> {
+fn lines_streams(rt: &HostRuntime) -> Ending {
     let mut reader = Counted::new(rt.stdin());
     let mut writer = Counted::new(rt.stdout());
-    let end = lines::lines(rt.alloc(), &mut reader, &mut writer);
-    report(rt, end)
-}
-
-// Tells a fault on standard error, and gives the exit status.
-fn report(rt: &HostRuntime, end: Result<(), SessionFault>) -> io::Result<ExitCode> {
-    match end {
-        Ok(()) => Ok(ExitCode::SUCCESS),
-        Err(SessionFault::LongLine) => {
-            eprintln!(rt; "crawlgate: line too long")?;
-            Ok(ExitCode::from(BAD_INPUT))
-        }
-        Err(SessionFault::Lines) => {
-            eprintln!(rt; "crawlgate: too many lines")?;
-            Ok(ExitCode::from(BAD_INPUT))
-        }
-        Err(SessionFault::Read | SessionFault::Write) => {
-            eprintln!(rt; "crawlgate: device")?;
-            Ok(ExitCode::from(NO_MEMORY_OR_DEVICE))
-        }
-        Err(SessionFault::NoMemory) => no_memory(rt),
-    }
-}
-
-fn no_memory(rt: &HostRuntime) -> io::Result<ExitCode> {
-    eprintln!(rt; "crawlgate: no memory")?;
-    Ok(ExitCode::from(NO_MEMORY_OR_DEVICE))
+    Ending::of(lines::lines(rt.alloc(), &mut reader, &mut writer))
 }

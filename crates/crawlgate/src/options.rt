@@ -28,7 +28,8 @@ pub fn options<'a>(alloc: Global, words: &'a [&'a str]) -> Result<Subcommand, Er
         .subcommand(replay)?
         .subcommand(lines)?;
     match program.try_get_matches_from(words)?.subcommand_name() {
-        Some("lines") => Ok(Subcommand::Lines),
-        _ => Ok(Subcommand::Replay),
+        Some("replay") => Ok(Subcommand::Replay),
+        // There is no other subcommand, and one is required.
+        _ => Ok(Subcommand::Lines),
     }
 }

@@ -12,6 +12,7 @@ use std::test::Fail;
 mod calls;
 mod faults;
 mod lines;
+mod options;
 mod rows;
 mod waiting;
 

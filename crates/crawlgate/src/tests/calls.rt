@@ -37,10 +37,16 @@ fn a_site_without_a_robots_file(rt: HostRuntime) -> Result<(), Fail> {
     let mut book = Book::new(alloc, Config::usual())?;
     let replies = run(alloc, &mut book, calls)?;
     assert_eq!(rt; replies.len(), 4);
-    assert!(rt; matches!(&replies[0], Reply::Begin(Ok(turn)) if *turn == TurnNo::new(1)));
-    assert!(rt; matches!(&replies[1], Reply::Arrive(Ok(()))));
-    assert!(rt; matches!(&replies[2], Reply::Ask(Ok(number)) if *number == PermitNo::new(65536)));
-    assert!(rt; matches!(&replies[3], Reply::Start(Ok(started)) if started.reason == Reason::Open));
+    assert!(rt;
+        matches!(&replies[0], Reply::Begin { result: Ok(turn), .. } if *turn == TurnNo::new(1))
+    );
+    assert!(rt; matches!(&replies[1], Reply::Arrive { result: Ok(()), .. }));
+    assert!(rt;
+        matches!(&replies[2], Reply::Ask { result: Ok(number) } if *number == PermitNo::new(65536))
+    );
+    assert!(rt;
+        matches!(&replies[3], Reply::Start { result: Ok(started) } if started.reason == Reason::Open)
+    );
     assert_eq!(rt; book.history().len(), 4);
     Ok(())
 }

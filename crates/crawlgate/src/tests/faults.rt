@@ -6,8 +6,12 @@ use gate_core::{Book, Config};
 use std::alloc::Global;
 use std::test::Fail;
 
-const INPUT: &str =
-    "100 BEGIN a.example\n105 ARRIVE a.example 1 404 -\n110 ASK foobot http://a.example/x\n120 START 65536 foobot http://a.example/x\n";
+const INPUT: &str = "\
+100 BEGIN a.example
+105 ARRIVE a.example 1 404 -
+110 ASK foobot http://a.example/x
+120 START 65536 foobot http://a.example/x
+";
 
 const REPLIES: [&str; 4] = [
     "TURN a.example 1\n",

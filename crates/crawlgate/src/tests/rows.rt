@@ -1,4 +1,5 @@
-//! Rows: the lines of a session, and what they are answered.
+//! Whole sessions: command lines, a line of dashes, and what they are answered.
+//! The rows are those of docs/FORMATS.md.
 
 use super::check;
 use command_server::SessionFault;
@@ -6,157 +7,341 @@ use gate_core::Config;
 use std::alloc::Global;
 use std::test::Fail;
 
-const ROWS: [(&str, &str, &str); 12] = [
+// What the session shows, and its run under the usual limits.
+const ROWS: [(&str, &str); 11] = [
     (
         "a site without a robots file",
-        "100 BEGIN a.example\n105 ARRIVE a.example 1 404 -\n110 ASK foobot http://a.example/x\n120 START 65536 foobot http://a.example/x\n",
-        "TURN a.example 1\nTAKEN a.example open\nPERMIT 65536\nGO 65536 open\n",
+        "
+100 BEGIN a.example
+105 ARRIVE a.example 1 404 -
+110 ASK foobot http://a.example/x
+120 START 65536 foobot http://a.example/x
+----
+TURN a.example 1
+TAKEN a.example open
+PERMIT 65536
+GO 65536 open
+",
     ),
     (
         "the age at the start decides",
-        "100 BEGIN a.example\n105 ARRIVE a.example 1 404 -\n110 ASK foobot http://a.example/x\n111 ASK foobot http://a.example/y\n86500 START 65536 foobot http://a.example/x\n86501 START 65537 foobot http://a.example/y\n86502 START 65537 foobot http://a.example/y\n",
-        "TURN a.example 1\nTAKEN a.example open\nPERMIT 65536\nPERMIT 65537\nGO 65536 open\nNO a.example expired\nNO a.example spent\n",
+        "
+100 BEGIN a.example
+105 ARRIVE a.example 1 404 -
+110 ASK foobot http://a.example/x
+111 ASK foobot http://a.example/y
+86500 START 65536 foobot http://a.example/x
+86501 START 65537 foobot http://a.example/y
+86502 START 65537 foobot http://a.example/y
+----
+TURN a.example 1
+TAKEN a.example open
+PERMIT 65536
+PERMIT 65537
+GO 65536 open
+NO a.example expired
+NO a.example spent
+",
     ),
     (
         "a refresh closes",
-        "100 BEGIN a.example\n105 ARRIVE a.example 1 404 -\n110 ASK foobot http://a.example/x\n120 BEGIN a.example\n125 ARRIVE a.example 2 503 -\n130 START 65536 foobot http://a.example/x\n",
-        "TURN a.example 1\nTAKEN a.example open\nPERMIT 65536\nTURN a.example 2\nTAKEN a.example closed\nNO a.example closed\n",
+        "
+100 BEGIN a.example
+105 ARRIVE a.example 1 404 -
+110 ASK foobot http://a.example/x
+120 BEGIN a.example
+125 ARRIVE a.example 2 503 -
+130 START 65536 foobot http://a.example/x
+----
+TURN a.example 1
+TAKEN a.example open
+PERMIT 65536
+TURN a.example 2
+TAKEN a.example closed
+NO a.example closed
+",
     ),
     (
         "a permit is spent once",
-        "100 BEGIN a.example\n105 ARRIVE a.example 1 404 -\n110 ASK foobot http://a.example/x\n111 START 65536 barbot http://a.example/x\n112 START 65536 foobot http://a.example/x\n113 START 65536 foobot http://a.example/x\n114 BACK 65536\n115 DONE 65536\n116 DONE 65536\n",
-        "TURN a.example 1\nTAKEN a.example open\nPERMIT 65536\nNO a.example spent\nGO 65536 open\nNO a.example spent\nERR notout\nDONE 65536\nERR notout\n",
+        "
+100 BEGIN a.example
+105 ARRIVE a.example 1 404 -
+110 ASK foobot http://a.example/x
+111 START 65536 barbot http://a.example/x
+112 START 65536 foobot http://a.example/x
+113 START 65536 foobot http://a.example/x
+114 BACK 65536
+115 DONE 65536
+116 DONE 65536
+----
+TURN a.example 1
+TAKEN a.example open
+PERMIT 65536
+NO a.example spent
+GO 65536 open
+NO a.example spent
+ERR notout
+DONE 65536
+ERR notout
+",
     ),
     (
         "turns",
-        "100 BEGIN a.example\n101 BEGIN a.example\n102 ARRIVE a.example 2 404 -\n103 ARRIVE a.example 1 404 -\n104 ARRIVE a.example 1 404 -\n",
-        "TURN a.example 1\nERR inflight\nERR stale\nTAKEN a.example open\nERR stale\n",
+        "
+100 BEGIN a.example
+101 BEGIN a.example
+102 ARRIVE a.example 2 404 -
+103 ARRIVE a.example 1 404 -
+104 ARRIVE a.example 1 404 -
+----
+TURN a.example 1
+ERR inflight
+ERR stale
+TAKEN a.example open
+ERR stale
+",
     ),
     (
         "moments that fall",
-        "500 BEGIN a.example\n90 ARRIVE a.example 1 404 -\n90 ASK foobot http://a.example/x\n86900 START 65536 foobot http://a.example/x\n",
-        "TURN a.example 1\nTAKEN a.example open\nPERMIT 65536\nGO 65536 open\n",
+        "
+500 BEGIN a.example
+90 ARRIVE a.example 1 404 -
+90 ASK foobot http://a.example/x
+86900 START 65536 foobot http://a.example/x
+----
+TURN a.example 1
+TAKEN a.example open
+PERMIT 65536
+GO 65536 open
+",
     ),
     (
         "faults of lines",
-        "1 ASK foo2 http://a.example/x\n1 ASK foobot https://a.example/\n1 ASK foobot http://u@a.example/\n1 ASK foobot http://\nx ASK\n1 LOOK\n1 BACK\n\n1 BACK x\n1 BEGIN a/b\n1 ARRIVE a.example 1 99 -\n",
-        "ERR token\nERR url scheme\nERR url user\nERR url bad\nERR moment\nERR verb\nERR words\nERR words\nERR number\nERR authority\nERR status\n",
+        "
+1 ASK foo2 http://a.example/x
+1 ASK foobot https://a.example/
+1 ASK foobot http://u@a.example/
+1 ASK foobot http://
+x ASK
+1 LOOK
+1 BACK
+
+1 BACK x
+1 BEGIN a/b
+1 ARRIVE a.example 1 99 -
+----
+ERR token
+ERR url scheme
+ERR url user
+ERR url bad
+ERR moment
+ERR verb
+ERR words
+ERR words
+ERR number
+ERR authority
+ERR status
+",
     ),
     (
         "replies of an arrival, from left to right",
-        "1 ARRIVE a.example 1\n1 ARRIVE a.example 1 404\n1 ARRIVE a.example 1 404 x 99 -\n1 ARRIVE a.example 1 404 - 99 -\n1 ARRIVE a.example 1 404 - 404 -\n1 ARRIVE a.example 1 0404 -\n1 ARRIVE a.example 1 NET -\n1 ARRIVE a.example 1 399 -\n1 ARRIVE a.example 1 600 -\n1 ARRIVE a.example 1 599 -\n",
-        "ERR replies\nERR replies\nERR replies\nERR status\nERR replies\nERR status\nERR status\nERR status\nERR status\nERR stale\n",
-    ),
-    (
-        "line ends",
-        "1 BACK 7\r\n1 BACK 7\r\r\n1\tBACK 7\n1 BACK 7\n1 BACK 7\r",
-        "ERR notout\nERR chars\nERR chars\nERR notout\nERR chars\n",
+        "
+1 ARRIVE a.example 1
+1 ARRIVE a.example 1 404
+1 ARRIVE a.example 1 404 x 99 -
+1 ARRIVE a.example 1 404 - 99 -
+1 ARRIVE a.example 1 404 - 404 -
+1 ARRIVE a.example 1 0404 -
+1 ARRIVE a.example 1 NET -
+1 ARRIVE a.example 1 399 -
+1 ARRIVE a.example 1 600 -
+1 ARRIVE a.example 1 599 -
+----
+ERR replies
+ERR replies
+ERR replies
+ERR status
+ERR replies
+ERR status
+ERR status
+ERR status
+ERR status
+ERR stale
+",
     ),
     (
         "authorities in lower case",
-        "1 BEGIN A.Example\n1 BEGIN a.example:80\n1 BEGIN A.EXAMPLE:081\n",
-        "TURN a.example 1\nERR inflight\nTURN a.example:81 2\n",
+        "
+1 BEGIN A.Example
+1 BEGIN a.example:80
+1 BEGIN A.EXAMPLE:081
+----
+TURN a.example 1
+ERR inflight
+TURN a.example:81 2
+",
     ),
     (
         "a permit that is given back",
-        "1 BEGIN a.example\n1 ARRIVE a.example 0001 404 -\n1 ASK foobot http://a.example/x\n1 BACK 065536\n1 START 65536 foobot http://a.example/x\n1 ASK foobot http://a.example/x\n",
-        "TURN a.example 1\nTAKEN a.example open\nPERMIT 65536\nBACK 65536\nNO a.example spent\nPERMIT 131072\n",
+        "
+1 BEGIN a.example
+1 ARRIVE a.example 0001 404 -
+1 ASK foobot http://a.example/x
+1 BACK 065536
+1 START 65536 foobot http://a.example/x
+1 ASK foobot http://a.example/x
+----
+TURN a.example 1
+TAKEN a.example open
+PERMIT 65536
+BACK 65536
+NO a.example spent
+PERMIT 131072
+",
     ),
     (
         "nothing after QUIT",
-        "1 QUIT x\n9 START 7 foobot http://a.example/x\n5 BEGIN a.example\n1 QUIT\n1 QUIT\n",
-        "ERR words\nNO a.example spent\nTURN a.example 1\nBYE\n",
+        "
+1 QUIT x
+9 START 7 foobot http://a.example/x
+5 BEGIN a.example
+1 QUIT
+1 QUIT
+----
+ERR words
+NO a.example spent
+TURN a.example 1
+BYE
+",
     ),
 ];
 
+// What the session shows, its slots, first generation, entries and authorities, and its run.
+const LIMITED: [(&str, [u64; 4], &str); 4] = [
+    (
+        "one slot",
+        [1, 1, 1000000, 65536],
+        "
+100 BEGIN a.example
+105 ARRIVE a.example 1 404 -
+110 ASK foobot http://a.example/x
+111 ASK foobot http://a.example/x
+112 START 65536 foobot http://a.example/x
+113 DONE 65536
+114 ASK foobot http://a.example/x
+115 START 65536 foobot http://a.example/x
+----
+TURN a.example 1
+TAKEN a.example open
+PERMIT 65536
+ERR permits
+GO 65536 open
+DONE 65536
+PERMIT 131072
+NO a.example spent
+",
+    ),
+    (
+        "last generation",
+        [1, 281474976710655, 1000000, 65536],
+        "
+100 BEGIN a.example
+105 ARRIVE a.example 1 404 -
+110 ASK foobot http://a.example/x
+111 BACK 18446744073709486080
+112 ASK foobot http://a.example/x
+----
+TURN a.example 1
+TAKEN a.example open
+PERMIT 18446744073709486080
+BACK 18446744073709486080
+ERR permits
+",
+    ),
+    (
+        "full log",
+        [1024, 1, 5, 65536],
+        "
+100 BEGIN a.example
+105 ARRIVE a.example 1 404 -
+110 ASK foobot http://a.example/x
+112 ASK foobot http://a.example/x
+113 BEGIN b.example
+114 START 65536 foobot http://a.example/x
+115 DONE 65536
+----
+TURN a.example 1
+TAKEN a.example open
+PERMIT 65536
+ERR log
+ERR log
+GO 65536 open
+DONE 65536
+",
+    ),
+    (
+        "one authority",
+        [1024, 1, 1000000, 1],
+        "
+100 BEGIN a.example
+105 ARRIVE a.example 1 404 -
+106 BEGIN b.example
+107 BEGIN a.example
+----
+TURN a.example 1
+TAKEN a.example open
+ERR authorities
+TURN a.example 2
+",
+    ),
+];
+
+// The command lines of a run, and the replies to them.
+fn split(run: &str) -> (&[u8], &[u8]) {
+    match run.split_once("----\n") {
+        Some((input, replies)) => (
+            input.trim_start_matches('\n').as_bytes(),
+            replies.as_bytes(),
+        ),
+        None => (b"", b"a run without dashes"),
+    }
+}
+
 #[test]
 fn usual_limits(rt: HostRuntime) -> Result<(), Fail> {
-    for (name, input, want) in ROWS {
+    for (name, run) in ROWS {
+        let (input, want) = split(run);
         for per_read in [1, 7, 65536] {
-            let row = (name, input.as_bytes(), want.as_bytes(), Ok(()));
-            check(&rt, Config::usual(), per_read, row)?;
+            check(&rt, Config::usual(), per_read, (name, input, want, Ok(())))?;
         }
     }
     Ok(())
 }
 
 #[test]
-fn one_slot(rt: HostRuntime) -> Result<(), Fail> {
-    let config = Config {
-        slots: 1,
-        first_generation: 1,
-        log_limit: 1000000,
-        authority_limit: 65536,
-    };
-    let input =
-        b"100 BEGIN a.example\n105 ARRIVE a.example 1 404 -\n110 ASK foobot http://a.example/x\n111 ASK foobot http://a.example/x\n112 START 65536 foobot http://a.example/x\n113 DONE 65536\n114 ASK foobot http://a.example/x\n115 START 65536 foobot http://a.example/x\n";
-    let want =
-        b"TURN a.example 1\nTAKEN a.example open\nPERMIT 65536\nERR permits\nGO 65536 open\nDONE 65536\nPERMIT 131072\nNO a.example spent\n";
-    check(
-        &rt,
-        config,
-        65536,
-        ("one slot", input.as_slice(), want.as_slice(), Ok(())),
-    )
+fn line_ends(rt: HostRuntime) -> Result<(), Fail> {
+    let input = b"1 BACK 7\r\n1 BACK 7\r\r\n1\tBACK 7\n1 BACK 7\n1 BACK 7\r";
+    let want = b"ERR notout\nERR chars\nERR chars\nERR notout\nERR chars\n";
+    for per_read in [1, 7, 65536] {
+        let row = ("line ends", input.as_slice(), want.as_slice(), Ok(()));
+        check(&rt, Config::usual(), per_read, row)?;
+    }
+    Ok(())
 }
 
 #[test]
-fn last_generation(rt: HostRuntime) -> Result<(), Fail> {
-    let config = Config {
-        slots: 1,
-        first_generation: 281474976710655,
-        log_limit: 1000000,
-        authority_limit: 65536,
-    };
-    let input =
-        b"100 BEGIN a.example\n105 ARRIVE a.example 1 404 -\n110 ASK foobot http://a.example/x\n111 BACK 18446744073709486080\n112 ASK foobot http://a.example/x\n";
-    let want =
-        b"TURN a.example 1\nTAKEN a.example open\nPERMIT 18446744073709486080\nBACK 18446744073709486080\nERR permits\n";
-    check(
-        &rt,
-        config,
-        65536,
-        ("last generation", input.as_slice(), want.as_slice(), Ok(())),
-    )
-}
-
-#[test]
-fn full_log(rt: HostRuntime) -> Result<(), Fail> {
-    let config = Config {
-        slots: 1024,
-        first_generation: 1,
-        log_limit: 5,
-        authority_limit: 65536,
-    };
-    let input =
-        b"100 BEGIN a.example\n105 ARRIVE a.example 1 404 -\n110 ASK foobot http://a.example/x\n112 ASK foobot http://a.example/x\n113 BEGIN b.example\n114 START 65536 foobot http://a.example/x\n115 DONE 65536\n";
-    let want =
-        b"TURN a.example 1\nTAKEN a.example open\nPERMIT 65536\nERR log\nERR log\nGO 65536 open\nDONE 65536\n";
-    check(
-        &rt,
-        config,
-        65536,
-        ("full log", input.as_slice(), want.as_slice(), Ok(())),
-    )
-}
-
-#[test]
-fn one_authority(rt: HostRuntime) -> Result<(), Fail> {
-    let config = Config {
-        slots: 1024,
-        first_generation: 1,
-        log_limit: 1000000,
-        authority_limit: 1,
-    };
-    let input =
-        b"100 BEGIN a.example\n105 ARRIVE a.example 1 404 -\n106 BEGIN b.example\n107 BEGIN a.example\n";
-    let want = b"TURN a.example 1\nTAKEN a.example open\nERR authorities\nTURN a.example 2\n";
-    check(
-        &rt,
-        config,
-        65536,
-        ("one authority", input.as_slice(), want.as_slice(), Ok(())),
-    )
+fn other_limits(rt: HostRuntime) -> Result<(), Fail> {
+    for (name, [slots, first_generation, log_limit, authority_limit], run) in LIMITED {
+        let (input, want) = split(run);
+        let config = Config {
+            slots,
+            first_generation,
+            log_limit,
+            authority_limit,
+        };
+        check(&rt, config, 65536, (name, input, want, Ok(())))?;
+    }
+    Ok(())
 }
 
 // A line of so many octets `x`, then this end.
@@ -194,6 +379,21 @@ fn limits_of_lines(rt: HostRuntime) -> Result<(), Fail> {
         )?;
     }
     Ok(())
+}
+
+#[test]
+fn a_url_of_4097_bytes(rt: HostRuntime) -> Result<(), Fail> {
+    let mut input = String::from_str(rt.alloc(), "1 ASK foobot http://a.example/")?;
+    for _ in 0..4080 {
+        input.push('x')?;
+    }
+    let row = (
+        "one byte more",
+        input.as_bytes(),
+        b"ERR url long\n".as_slice(),
+        Ok(()),
+    );
+    check(&rt, Config::usual(), 65536, row)
 }
 
 #[test]
