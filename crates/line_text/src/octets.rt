@@ -1,8 +1,7 @@
 //! Octets of a robots text as they are written: in lower case, or escaped.
 //! Pushed by the pieces of a line.
-ghost use Rattle.std.specs.Prelude.{◌≡◌, ◌≤◌, ◌<◌, ◌++◌, [], ◌∷◌, true, OnErr, OnOk};
+ghost use Rattle.std.specs.Prelude.{◌≡◌, ◌++◌, [], ◌∷◌, OnErr, OnOk};
 ghost use Rattle.std.specs.Char.{to_ascii_lowercase};
-ghost use Rattle.std.specs.Fmt.{digit_glyph};
 ghost use Rattle.std.specs.List.{list_all};
 ghost use Rattle.counted_io.specs.Device.{AppendsPrefix, failures_after};
 ghost use Rattle.counted_io.specs.Output.{Passes};
@@ -10,6 +9,7 @@ ghost use Rattle.robots_text.specs.Token.{lower_case};
 ghost use Rattle.line_text.specs.Escapes.{escaped, escaped_octet, is_plain};
 
 use counted_io::{DeviceFault, Output, Sink};
+use percent_encoding::percent_encode_byte;
 
 /// Pushes octets with their letters in lower case.
 pub(crate) fn push_lower_case<W: Sink>(
@@ -75,10 +75,7 @@ fn push_octet<W: Sink>(octet: u8, output: &mut Output, sink: &mut W) -> Result<(
     if is_plain(octet) {
         output.push(sink, &[octet])
     } else {
-        output.push(
-            sink,
-            &[b'%', upper_digit(octet / 16), upper_digit(octet % 16)],
-        )
+        output.push(sink, percent_encode_byte(octet).as_bytes())
     }
 }
 
@@ -93,16 +90,4 @@ fn are_plain(octets: &[u8]) -> bool
     ensures { result ≡ list_all is_plain octets.now }
 {
     octets.iter().all(|octet| is_plain(*octet))
-}
-
-// The hexadecimal digit of a value.
-fn upper_digit(value: u8) -> u8
-    requires { value < 16 }
-    ensures { result ≡ digit_glyph true value }
-{
-    if value < 10 {
-        b'0' + value
-    } else {
-        b'A' + (value - 10)
-    }
 }
