@@ -12,7 +12,7 @@ ghost use Rattle.command_server.specs.Steps.{FailsToRead};
 use crate::answerer::{Answerer, Flow};
 use crate::fault::LineFault;
 use crate::session_fault::SessionFault;
-use counted_io::{DeviceFault, LineFault as ReadFault, LineReader, NextLine, Output, Sink, Source};
+use counted_io::{DeviceFault, LineReader, NextLine, Output, ReadLineFault, Sink, Source};
 use std::alloc::{AllocError, Global};
 
 /// The octets read and not yet taken, the line in hand, and the replies not yet written.
@@ -61,8 +61,8 @@ impl Buffers {
         }
         match self.reader.next_line(reader, limit, &mut self.line) {
             Ok(next) => Ok(next),
-            Err(ReadFault::Read) => Err(SessionFault::Read),
-            Err(ReadFault::NoMemory) => {
+            Err(ReadLineFault::Read) => Err(SessionFault::Read),
+            Err(ReadLineFault::NoMemory) => {
                 self.output.flush(writer)?;
                 Err(SessionFault::NoMemory)
             }

@@ -7,7 +7,9 @@ use Rattle.std.proofs.lemmas.List.Elements.{All-append}
 use Rattle.std.proofs.Math.Seq.{take-add, take-append_seam}
 use Rattle.std.specs.Io.KnownBytes.{Appends, Consumes, prepend_known}
 use Rattle.std.proofs.KnownBytes.{Appends-trans, Consumes-trans}
-use Rattle.counted_io.specs.Lines.{HasNoLineFeed, without_cr, MovesPart, MovesLine, MovesTooLong, TakesLine, FindsTooLong}
+use Rattle.counted_io.specs.Lines.{HasNoLineFeed, without_cr, without_end, MovesOpen, MovesLine, MovesTooLong, TakesLineTo, FindsTooLongTo}
+use Rattle.counted_io.specs.declared.line_end.LineEnd.{LineEnd}
+use Rattle.counted_io.specs.declared.line_end.LineEnd.TheVariants as ends
 
 -- skipping octets of a range moves its start
 pub range-skip : (xs : List ℕ) (start end count : ℕ) → count ≤ end - start → drop count (slice_range xs start end) ≡ slice_range xs (start + count) end
@@ -18,41 +20,41 @@ range-skip xs start end count h =
     ∙ ap (take (end - (start + count))) (drop-drop count start xs)
 
 -- what leaves the buffer is consumed of what it and the source hold together
-pub prepend_known-taken : (left : Option (List ℕ)) (old new piece : List ℕ) → old ≡ piece ++ new
-    → Consumes (prepend_known old left) (prepend_known new left) piece
-prepend_known-taken None old new piece e = tt
-prepend_known-taken (Some xs) old new piece e = ap (λ l. l ++ xs) e ∙ append_assoc piece new xs
+pub prepend_known-taken : (left : Option (List ℕ)) (old new part : List ℕ) → old ≡ part ++ new
+    → Consumes (prepend_known old left) (prepend_known new left) part
+prepend_known-taken None old new part e = tt
+prepend_known-taken (Some xs) old new part e = ap (λ l. l ++ xs) e ∙ append_assoc part new xs
 
 -- the same after a line's front was consumed
-pub taken-more : (all left : Option (List ℕ)) (old new line piece : List ℕ) → Consumes all (prepend_known old left) line → old ≡ piece ++ new
-    → Consumes all (prepend_known new left) (line ++ piece)
-taken-more all left old new line piece p e =
-    Consumes-trans all (prepend_known old left) (prepend_known new left) line piece p (prepend_known-taken left old new piece e)
+pub taken-more : (all left : Option (List ℕ)) (old new line part : List ℕ) → Consumes all (prepend_known old left) line → old ≡ part ++ new
+    → Consumes all (prepend_known new left) (line ++ part)
+taken-more all left old new line part p e =
+    Consumes-trans all (prepend_known old left) (prepend_known new left) line part p (prepend_known-taken left old new part e)
 
 -- a step that takes nothing keeps what was consumed
 pub taken-still : (a b c : Option (List ℕ)) (line : List ℕ) → Consumes a b line → Consumes b c [] → Consumes a c line
 taken-still a b c line p q = subst (Consumes a c) (append-nil line) (Consumes-trans a b c line [] p q)
 
-pub moves_line-takes : (limit : ℕ) (all left : Option (List ℕ)) (old new line added : List ℕ) → Consumes all (prepend_known old left) line → HasNoLineFeed line
-    → MovesLine limit old new line added → TakesLine limit all (prepend_known new left) added
-moves_line-takes limit all left old new line added p clear m = record {
-  raw = line ++ m.piece;
-  no_line_feed = All-append (λ octet. octet ≢ 10) line m.piece clear m.no_line_feed;
+pub moves_line-takes : (end : LineEnd) (limit : ℕ) (all left : Option (List ℕ)) (old new line added : List ℕ) → Consumes all (prepend_known old left) line → HasNoLineFeed line
+    → MovesLine end limit old new line added → TakesLineTo end limit all (prepend_known new left) added
+moves_line-takes end limit all left old new line added p clear m = record {
+  raw = line ++ m.part;
+  no_line_feed = All-append (λ octet. octet ≢ 10) line m.part clear m.no_line_feed;
   line_is = m.added_is;
   fits = m.fits;
   consumed =
-      subst (Consumes all (prepend_known new left)) (sym (append_assoc line m.piece (10 ∷ [])))
-      (taken-more all left old new line (m.piece ++ 10 ∷ []) p m.taken);
+      subst (Consumes all (prepend_known new left)) (sym (append_assoc line m.part (10 ∷ [])))
+      (taken-more all left old new line (m.part ++ 10 ∷ []) p m.taken);
 }
 
-pub moves_too_long-finds : (limit : ℕ) (all left : Option (List ℕ)) (old new line : List ℕ) → Consumes all (prepend_known old left) line → HasNoLineFeed line
-    → length line ≤ limit + 1 → MovesTooLong limit old new line → FindsTooLong limit all new left
-moves_too_long-finds limit all left old new line p clear short m = record {
-  raw = line ++ m.piece;
-  no_line_feed = All-append (λ octet. octet ≢ 10) line m.piece clear m.no_line_feed;
+pub moves_too_long-finds : (end : LineEnd) (limit : ℕ) (all left : Option (List ℕ)) (old new line : List ℕ) → Consumes all (prepend_known old left) line → HasNoLineFeed line
+    → length line ≤ limit + 1 → MovesTooLong end limit old new line → FindsTooLongTo end limit all new left
+moves_too_long-finds end limit all left old new line p clear short m = record {
+  raw = line ++ m.part;
+  no_line_feed = All-append (λ octet. octet ≢ 10) line m.part clear m.no_line_feed;
   too_long = inl m.too_long;
-  soon = omega (arith, length-append line m.piece, m.within);
-  consumed = taken-more all left old new line m.piece p m.taken;
+  soon = omega (arith, length-append line m.part, m.within);
+  consumed = taken-more all left old new line m.part p m.taken;
 }
 
 -- a range whose start is moved past some of its octets
@@ -87,13 +89,17 @@ read_nothing bytes unread at n per_call room is count moves none some =
     let back : drop (at + n) bytes ≡ drop n unread = sym (ap (drop n) is ∙ drop-drop n at bytes) in
     back ∙ nil_of (drop n unread) (omega (arith, length-drop n unread))
 
--- a line that is longer than the limit and a carriage return is too long
-pub long_without_cr : (limit : ℕ) (raw : List ℕ) → limit < length raw - 1 → limit < length (without_cr raw)
+long_without_cr : (limit : ℕ) (raw : List ℕ) → limit < length raw - 1 → limit < length (without_cr raw)
 long_without_cr limit raw h =
     elim (slice_index raw (length raw - 1) == 13) as (λ b. limit < length (if b then take (length raw - 1) raw else raw)) [
       | true ↦ omega (arith, length-take (length raw - 1) raw)
       | false ↦ omega arith
     ]
+
+-- a line that is longer than the limit and a carriage return is too long
+pub long_without_end : (end : LineEnd) (limit : ℕ) (raw : List ℕ) → limit < length raw - 1 → limit < length (without_end end raw)
+long_without_end ends.Lf limit raw h = omega arith
+long_without_end ends.LfOrCrLf limit raw h = long_without_cr limit raw h
 
 -- octets up to a line feed, the line feed, and the rest
 pub line_taken : (old mid new : List ℕ) (count : ℕ) → count < length old → slice_index old count ≡ 10 → mid ≡ drop count old → new ≡ drop 1 mid
@@ -106,7 +112,7 @@ line_taken old mid new count h feed mid_is new_is =
 
 -- a line that got all that the buffer held
 pub part_taken : (limit : ℕ) (all left : Option (List ℕ)) (old new line added : List ℕ) → Consumes all (prepend_known old left) line → HasNoLineFeed line
-    → MovesPart limit old new line added → Consumes all (prepend_known new left) added × HasNoLineFeed added
+    → MovesOpen limit old new line added → Consumes all (prepend_known new left) added × HasNoLineFeed added
 part_taken limit all left old new line added p clear m =
     let whole : old ≡ old ++ new = sym (append-nil old) ∙ ap (λ l. old ++ l) (sym m.empty) in (
       subst (Consumes all (prepend_known new left)) (sym m.added_is) (taken-more all left old new line old p whole),

@@ -4,6 +4,7 @@ pub use Rattle.std.specs.Io.KnownBytes
 pub mod Counted
 pub mod Device
 pub mod FailAt
+pub mod Limits
 pub mod Lines
 pub mod Messages
 pub mod Output

@@ -1,10 +1,10 @@
 -- The text of each fault.
 -- `Display` of the faults cites it.
 use Rattle.std.specs.Prelude.{ℕ, List, codes}
-use Rattle.counted_io.specs.declared.next_line.LineFault.{LineFault}
-use Rattle.counted_io.specs.declared.next_line.LineFault.TheVariants.{Read, NoMemory}
+use Rattle.counted_io.specs.declared.next_line.ReadLineFault.{ReadLineFault}
+use Rattle.counted_io.specs.declared.next_line.ReadLineFault.TheVariants.{Read, NoMemory}
 
 -- why no line was read
-abbrev pub line_fault_text : LineFault → List ℕ
-line_fault_text Read = codes "a read failed"
-line_fault_text NoMemory = codes "no memory for a line"
+abbrev pub read_line_fault_text : ReadLineFault → List ℕ
+read_line_fault_text Read = codes "a read failed"
+read_line_fault_text NoMemory = codes "no memory for a line"

@@ -5,10 +5,11 @@
 mod counted;
 mod fail_at;
 mod fault;
+mod line_end;
+mod line_part;
 mod line_reader;
 mod next_line;
 mod output;
-mod piece;
 mod sink;
 mod source;
 #[cfg(test)]
@@ -17,8 +18,9 @@ mod tests;
 pub use crate::counted::Counted;
 pub use crate::fail_at::FailAt;
 pub use crate::fault::DeviceFault;
+pub use crate::line_end::LineEnd;
 pub use crate::line_reader::{LINE_BUFFER, LineReader};
-pub use crate::next_line::{LineFault, NextLine};
+pub use crate::next_line::{NextLine, ReadLineFault};
 pub use crate::output::{OUTPUT_BUFFER, Output};
 pub use crate::sink::{Sink, write_all};
 pub use crate::source::Source;

@@ -3,11 +3,13 @@
 ghost use Rattle.std.specs.Prelude.{◌≡◌, ◌<◌, ◌≤◌, ◌+◌, ◌↔◌, [], length, drop, Contains, IsTrue, IfOk, OnOk, OnErr, MatchBool, vec_len};
 ghost use Rattle.std.specs.Io.KnownBytes.{Consumes, IsAtEnd, prepend_known};
 ghost use Rattle.counted_io.specs.Device.{failures_after};
-ghost use Rattle.counted_io.specs.Lines.{IsDrained, Moves, Takes, TakesPart, failures_after_line};
+ghost use Rattle.counted_io.specs.Limits.{line_buffer};
+ghost use Rattle.counted_io.specs.Lines.{IsDrained, Moves, Takes, TakesPart, TakesTo, failures_after_line};
 
 use crate::fault::DeviceFault;
-use crate::next_line::{LineFault, NextLine};
-use crate::piece::{Piece, drop_carriage_return, piece_len};
+use crate::line_end::{LineEnd, drop_end};
+use crate::line_part::{LinePart, part_len};
+use crate::next_line::{NextLine, ReadLineFault};
 use crate::source::Source;
 use std::alloc::{AllocError, Global};
 use std::marker::Model;
@@ -38,7 +40,8 @@ impl Model for LineReader {
 impl LineReader {
     /// An empty buffer of `LINE_BUFFER` octets, which is all the memory that a reader takes.
     pub fn new(alloc: Global) -> Result<LineReader, AllocError>
-        ensures { IfOk result (λ reader. reader ≡ []) }
+        ensures empty { IfOk result (λ reader. reader ≡ []) }
+        ensures size { LINE_BUFFER ≡ line_buffer }
     {
         let mut buffer = Vec::new(alloc);
         buffer.resize(LINE_BUFFER, 0)?;
@@ -54,21 +57,41 @@ impl LineReader {
         ensures { IsTrue result ↔ Contains self.now 10 }
     {
         let pending = self.pending();
-        piece_len(pending) < pending.len()
+        part_len(pending) < pending.len()
     }
 
-    /// Puts the next line into `line`, in the place of what it held, with no line end. A line ends
-    /// with LF or CR LF; a last line needs no end, and keeps a CR at its end. It reads the source,
-    /// at most `LINE_BUFFER` octets a read, only while no LF is in the buffer, and stops once the
-    /// line is longer than `limit` octets. `line` then has a part of it, of at most `limit + 1`
-    /// octets; after a fault `line` has what was taken.
+    /// `next_line_to` where a line ends with LF or CR LF.
     pub fn next_line<S: Source>(
         &mut self,
         source: &mut S,
         limit: usize,
         line: &mut Vec<u8>,
-    ) -> Result<NextLine, LineFault>
+    ) -> Result<NextLine, ReadLineFault>
         ensures takes { IfOk result (λ next. Takes limit
+            (prepend_known self.old (S.left source.old)) self.new (S.left source.new)
+            next line.new.items) }
+        ensures fault { OnErr result (TakesPart
+            (prepend_known self.old (S.left source.old))
+            (prepend_known self.new (S.left source.new)) line.new.items) }
+        ensures count { S.failures source.new ≡ failures_after_line (S.failures source.old) result }
+        ensures buffered { Contains self.old 10 → source.new ≡ source.old }
+    {
+        self.next_line_to(source, LineEnd::LfOrCrLf, limit, line)
+    }
+
+    /// Puts the next line into `line`, in the place of what it held, without what ends it. A last
+    /// line needs no end, and keeps a CR at its end. It reads the source, at most `LINE_BUFFER`
+    /// octets a read, only while no LF is in the buffer, and stops once the line is longer than
+    /// `limit` octets. `line` then has a part of it, of at most `limit + 1` octets; after a fault
+    /// `line` has what was taken.
+    pub fn next_line_to<S: Source>(
+        &mut self,
+        source: &mut S,
+        end: LineEnd,
+        limit: usize,
+        line: &mut Vec<u8>,
+    ) -> Result<NextLine, ReadLineFault>
+        ensures takes { IfOk result (λ next. TakesTo end limit
             (prepend_known self.old (S.left source.old)) self.new (S.left source.new)
             next line.new.items) }
         ensures fault { OnErr result (TakesPart
@@ -79,10 +102,10 @@ impl LineReader {
     {
         line.clear();
         while self.has_more(source)? {
-            match self.move_piece(limit, line)? {
-                Piece::Part => {}
-                Piece::Whole => return Ok(NextLine::Line),
-                Piece::TooLong => return Ok(NextLine::TooLong),
+            match self.move_part(end, limit, line)? {
+                LinePart::Open => {}
+                LinePart::Whole => return Ok(NextLine::Line),
+                LinePart::TooLong => return Ok(NextLine::TooLong),
             }
         }
         if line.is_empty() {
@@ -141,29 +164,34 @@ impl LineReader {
     }
 
     // Moves the octets up to a line feed, or all, from the buffer to the end of the line.
-    fn move_piece(&mut self, limit: usize, line: &mut Vec<u8>) -> Result<Piece, AllocError>
+    fn move_part(
+        &mut self,
+        end: LineEnd,
+        limit: usize,
+        line: &mut Vec<u8>,
+    ) -> Result<LinePart, AllocError>
         requires { vec_len line.old ≤ limit + 1 }
         ensures moves { IfOk result
-            (Moves limit self.old self.new line.old.items line.new.items) }
+            (Moves end limit self.old self.new line.old.items line.new.items) }
         ensures err { OnErr result
             ((self.new ≡ self.old) × (line.new.items ≡ line.old.items)) }
     {
-        let count = piece_len(self.pending());
+        let count = part_len(self.pending());
         let ends = count < self.pending().len();
         if (line.len() + count).saturating_sub(1) > limit {
             self.skip(count);
-            return Ok(Piece::TooLong);
+            return Ok(LinePart::TooLong);
         }
         line.extend_from_slice(&self.pending()[..count])?;
         self.skip(count);
         if !ends {
-            return Ok(Piece::Part);
+            return Ok(LinePart::Open);
         }
-        drop_carriage_return(line);
+        drop_end(end, line);
         if line.len() > limit {
-            return Ok(Piece::TooLong);
+            return Ok(LinePart::TooLong);
         }
         self.skip(1);
-        Ok(Piece::Whole)
+        Ok(LinePart::Whole)
     }
 }

@@ -20,47 +20,47 @@ pub enum NextLine {
 
 /// Why no line was read. The octets consumed by then are lost.
 #[derive(Clone, Copy, Debug, PartialEq, Eq)]
-pub enum LineFault {
+pub enum ReadLineFault {
     /// The source failed.
     Read,
     /// There is no memory for the line.
     NoMemory,
 }
 
-impl fmt::Display for LineFault {
+impl fmt::Display for ReadLineFault {
     ghost use Rattle.std.specs.Prelude.{Some};
-    ghost use Rattle.counted_io.specs.Messages.{line_fault_text};
+    ghost use Rattle.counted_io.specs.Messages.{read_line_fault_text};
 
-    ghost output = { λ fault. Some (line_fault_text fault) };
+    ghost output = { λ fault. Some (read_line_fault_text fault) };
 
     fn fmt<W: fmt::Write>(&self, f: &mut fmt::Formatter<W>) -> fmt::Result {
         match self {
-            LineFault::Read => f.write_str("a read failed"),
-            LineFault::NoMemory => f.write_str("no memory for a line"),
+            ReadLineFault::Read => f.write_str("a read failed"),
+            ReadLineFault::NoMemory => f.write_str("no memory for a line"),
         }
     }
 }
 
-impl Error for LineFault {}
+impl Error for ReadLineFault {}
 
-impl From<AllocError> for LineFault {
+impl From<AllocError> for ReadLineFault {
     ghost use Rattle.std.specs.Prelude.{◌≡◌};
-    ghost use Rattle.counted_io.specs.declared.next_line.LineFault.TheVariants.{NoMemory};
+    ghost use Rattle.counted_io.specs.declared.next_line.ReadLineFault.TheVariants.{NoMemory};
 
     ghost from_gives = { λ _ fault. fault ≡ NoMemory };
 
-    fn from(_: AllocError) -> LineFault {
-        LineFault::NoMemory
+    fn from(_: AllocError) -> ReadLineFault {
+        ReadLineFault::NoMemory
     }
 }
 
-impl From<DeviceFault> for LineFault {
+impl From<DeviceFault> for ReadLineFault {
     ghost use Rattle.std.specs.Prelude.{◌≡◌};
-    ghost use Rattle.counted_io.specs.declared.next_line.LineFault.TheVariants.{Read};
+    ghost use Rattle.counted_io.specs.declared.next_line.ReadLineFault.TheVariants.{Read};
 
     ghost from_gives = { λ _ fault. fault ≡ Read };
 
-    fn from(_: DeviceFault) -> LineFault {
-        LineFault::Read
+    fn from(_: DeviceFault) -> ReadLineFault {
+        ReadLineFault::Read
     }
 }

@@ -3,7 +3,8 @@
 ghost use Rattle.std.specs.Prelude.{◌≡◌, ◌<◌, ◌≤◌, ◌+◌, ◌-◌, ◌++◌, [], length, IfOk, OnOk, OnErr};
 ghost use Rattle.std.specs.Io.KnownBytes.{Appends};
 ghost use Rattle.counted_io.specs.Device.{failures_after, AppendsPrefix};
-ghost use Rattle.counted_io.specs.Output.{Passes};
+ghost use Rattle.counted_io.specs.Limits.{output_buffer};
+ghost use Rattle.counted_io.specs.Output.{Passes, Pushes};
 
 use crate::fault::DeviceFault;
 use crate::sink::{Sink, write_all};
@@ -35,7 +36,8 @@ impl Model for Output {
 impl Output {
     /// An empty buffer of `OUTPUT_BUFFER` octets, which is all the memory that an output takes.
     pub fn new(alloc: Global) -> Result<Output, AllocError>
-        ensures { IfOk result (λ output. output ≡ []) }
+        ensures empty { IfOk result (λ output. output ≡ []) }
+        ensures size { OUTPUT_BUFFER ≡ output_buffer }
     {
         let mut buffer = Vec::new(alloc);
         buffer.resize(OUTPUT_BUFFER, 0)?;
@@ -53,6 +55,9 @@ impl Output {
         ensures buffered { length self.old + length bytes.now ≤ OUTPUT_BUFFER
             → sink.new ≡ sink.old }
         ensures count { W.failures sink.new ≡ failures_after (W.failures sink.old) result }
+        ensures pushes { Pushes (W.written sink.old) (W.written sink.new)
+            (W.failures sink.old) (W.failures sink.new)
+            self.old self.new bytes.now result }
     {
         if bytes.len() <= self.room() {
             self.hold(bytes);

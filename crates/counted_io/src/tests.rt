@@ -3,8 +3,8 @@
 ghost use Rattle.std.specs.Prelude.{◌<◌};
 
 use crate::{
-    Counted, DeviceFault, FailAt, LINE_BUFFER, LineFault, LineReader, NextLine, OUTPUT_BUFFER,
-    Output, Sink, Source, write_all,
+    Counted, DeviceFault, FailAt, LINE_BUFFER, LineEnd, LineReader, NextLine, OUTPUT_BUFFER,
+    Output, ReadLineFault, Sink, Source, write_all,
 };
 use std::alloc::Global;
 use std::io;
@@ -110,14 +110,57 @@ const ROWS: [Row; 12] = [
     },
 ];
 
-fn check_row(rt: &impl Abort, alloc: Global, row: &Row, per_call: usize) -> Result<(), LineFault>
+// The same where LF alone ends a line.
+const LF_ROWS: [Row; 4] = [
+    Row {
+        name: "a carriage return before the line feed stays",
+        input: b"ab\r\n\r\n",
+        limit: 3,
+        lines: &[
+            (NextLine::Line, b"ab\r"),
+            (NextLine::Line, b"\r"),
+            (NextLine::End, b""),
+        ],
+    },
+    Row {
+        name: "no carriage return",
+        input: b"ab\n\nc",
+        limit: 2,
+        lines: &[
+            (NextLine::Line, b"ab"),
+            (NextLine::Line, b""),
+            (NextLine::Last, b"c"),
+            (NextLine::End, b""),
+        ],
+    },
+    Row {
+        name: "as long as the limit, with a carriage return",
+        input: b"ab\r\n",
+        limit: 3,
+        lines: &[(NextLine::Line, b"ab\r"), (NextLine::End, b"")],
+    },
+    Row {
+        name: "the carriage return is one more",
+        input: b"abc\r\n",
+        limit: 3,
+        lines: &[(NextLine::TooLong, b"")],
+    },
+];
+
+fn check_row(
+    rt: &impl Abort,
+    alloc: Global,
+    row: &Row,
+    end: LineEnd,
+    per_call: usize,
+) -> Result<(), ReadLineFault>
     requires { 0 < per_call }
 {
     let mut source = FailAt::new(Vec::from_slice(alloc, row.input)?, per_call, None);
     let mut reader = LineReader::new(alloc)?;
     let mut line = Vec::new(alloc);
     for (want, text) in row.lines {
-        let next = reader.next_line(&mut source, row.limit, &mut line)?;
+        let next = reader.next_line_to(&mut source, end, row.limit, &mut line)?;
         assert_eq!(rt; next, *want, "{}", row.name);
         if next != NextLine::TooLong {
             assert_eq!(rt; line.as_slice(), *text, "{}", row.name);
@@ -127,18 +170,29 @@ fn check_row(rt: &impl Abort, alloc: Global, row: &Row, per_call: usize) -> Resu
 }
 
 #[test]
-fn reads_lines(rt: HostRuntime) -> Result<(), LineFault> {
+fn reads_lines(rt: HostRuntime) -> Result<(), ReadLineFault> {
     for row in &ROWS {
         for per_call in 1..8 {
-            check_row(&rt, rt.alloc(), row, per_call)?;
+            check_row(&rt, rt.alloc(), row, LineEnd::LfOrCrLf, per_call)?;
         }
-        check_row(&rt, rt.alloc(), row, LINE_BUFFER)?;
+        check_row(&rt, rt.alloc(), row, LineEnd::LfOrCrLf, LINE_BUFFER)?;
     }
     Ok(())
 }
 
 #[test]
-fn tells_each_failed_read(rt: HostRuntime) -> Result<(), LineFault> {
+fn keeps_carriage_returns_where_told(rt: HostRuntime) -> Result<(), ReadLineFault> {
+    for row in &LF_ROWS {
+        for per_call in 1..8 {
+            check_row(&rt, rt.alloc(), row, LineEnd::Lf, per_call)?;
+        }
+        check_row(&rt, rt.alloc(), row, LineEnd::Lf, LINE_BUFFER)?;
+    }
+    Ok(())
+}
+
+#[test]
+fn tells_each_failed_read(rt: HostRuntime) -> Result<(), ReadLineFault> {
     for fails_at in 0..4 {
         let input = Vec::from_slice(rt.alloc(), b"ab\nc\n")?;
         let mut source = FailAt::new(input, 2, Some(fails_at));
@@ -147,7 +201,7 @@ fn tells_each_failed_read(rt: HostRuntime) -> Result<(), LineFault> {
         let mut faults = 0u64;
         for _ in 0..4 {
             let next = reader.next_line(&mut source, 9, &mut line);
-            if next == Err(LineFault::Read) {
+            if next == Err(ReadLineFault::Read) {
                 faults = faults.wrapping_add(1);
             }
         }
@@ -158,7 +212,7 @@ fn tells_each_failed_read(rt: HostRuntime) -> Result<(), LineFault> {
 }
 
 #[test]
-fn tells_a_line_that_lies_in_the_buffer(rt: HostRuntime) -> Result<(), LineFault> {
+fn tells_a_line_that_lies_in_the_buffer(rt: HostRuntime) -> Result<(), ReadLineFault> {
     let mut source = FailAt::new(Vec::from_slice(rt.alloc(), b"a\nb\nc")?, 9, None);
     let mut reader = LineReader::new(rt.alloc())?;
     let mut line = Vec::new(rt.alloc());
@@ -170,7 +224,7 @@ fn tells_a_line_that_lies_in_the_buffer(rt: HostRuntime) -> Result<(), LineFault
 }
 
 #[test]
-fn keeps_what_was_written_before_a_failure(rt: HostRuntime) -> Result<(), LineFault> {
+fn keeps_what_was_written_before_a_failure(rt: HostRuntime) -> Result<(), ReadLineFault> {
     let text = b"abcdefgh";
     let rows = [(0, 0), (1, 3), (2, 6), (3, 8)];
     for (fails_at, want) in rows {
@@ -187,7 +241,7 @@ fn keeps_what_was_written_before_a_failure(rt: HostRuntime) -> Result<(), LineFa
 const LARGE: usize = 65537;
 
 #[test]
-fn writes_once_the_buffer_is_full(rt: HostRuntime) -> Result<(), LineFault> {
+fn writes_once_the_buffer_is_full(rt: HostRuntime) -> Result<(), ReadLineFault> {
     let large = [7; LARGE];
     let mut sink = FailAt::new(Vec::new(rt.alloc()), OUTPUT_BUFFER, None);
     let mut output = Output::new(rt.alloc())?;
@@ -220,7 +274,7 @@ impl Write for Stuck {
 }
 
 #[test]
-fn counts_failures_of_std(rt: HostRuntime) -> Result<(), LineFault> {
+fn counts_failures_of_std(rt: HostRuntime) -> Result<(), ReadLineFault> {
     let mut stuck = Counted::new(Stuck);
     assert_eq!(rt; stuck.write(b"a"), Err(DeviceFault));
     assert_eq!(rt; stuck.write(b""), Ok(0));
@@ -240,10 +294,10 @@ fn counts_failures_of_std(rt: HostRuntime) -> Result<(), LineFault> {
 }
 
 #[test]
-fn names_the_faults(rt: HostRuntime) -> Result<(), LineFault> {
+fn names_the_faults(rt: HostRuntime) -> Result<(), ReadLineFault> {
     let rows = [
-        (LineFault::Read, "a read failed"),
-        (LineFault::NoMemory, "no memory for a line"),
+        (ReadLineFault::Read, "a read failed"),
+        (ReadLineFault::NoMemory, "no memory for a line"),
     ];
     for (fault, text) in rows {
         assert_eq!(rt; fault.to_string(rt.alloc())?.as_str(), text);

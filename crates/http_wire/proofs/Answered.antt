@@ -15,7 +15,7 @@ use Rattle.http_wire.specs.declared.fault.WireFault.{WireFault}
 use Rattle.http_wire.specs.declared.fault.WireFault.TheVariants.{EarlyEnd, BadHead, HeadTooLong, TooManyInterim, BadLength, BadChunk, Coding, Device, NoMemory, TooMuch}
 use Rattle.http_wire.specs.declared.framing.Framing.{Framing}
 use Rattle.http_wire.specs.declared.head.FinalHead.{FinalHead}
-use Rattle.http_wire.specs.declared.limits.TheConstants.{MAX_RAW}
+use Rattle.http_wire.specs.Limits.{max_raw}
 use Rattle.http_wire.specs.declared.response.HttpReply.{HttpReply}
 use Rattle.http_wire.proofs.HeadFacts.{final_append}
 use Rattle.http_wire.proofs.SourceReads.{whole_before}
@@ -77,7 +77,7 @@ in_body seen input more found is parts fact = record {
 
 -- the fault of the whole input
 pub fault_told : (left left' : Option (List ℕ)) (seen : List ℕ) (found : FinalHead) (limit : ℕ) (fault : WireFault)
-    → Grows left left' [] seen → IsFound seen found → length seen ≤ MAX_RAW
+    → Grows left left' [] seen → IsFound seen found → length seen ≤ max_raw
     → ReadsBody found.framing limit found.end left' seen (Err fault) → Tells left limit (Err fault)
 fault_told left left' seen found limit fault grows is few reads = record {
   input = reads.input;
@@ -90,21 +90,21 @@ fault_told left left' seen found limit fault grows is few reads = record {
   more : List ℕ
   more = reads.whole.more
 
-  sum : MAX_RAW ≡ length seen + (MAX_RAW - length seen)
+  sum : max_raw ≡ length seen + (max_raw - length seen)
   sum = omega (arith, few)
 
-  front : take MAX_RAW input ≡ seen ++ take (MAX_RAW - length seen) more
-  front =
-      ap (take MAX_RAW) reads.whole.parts
+  prefix : take max_raw input ≡ seen ++ take (max_raw - length seen) more
+  prefix =
+      ap (take max_raw) reads.whole.parts
       ∙ ap (λ n. take n (seen ++ more)) sum
-      ∙ take-append-add seen more (MAX_RAW - length seen)
+      ∙ take-append-add seen more (max_raw - length seen)
 
   by_fault : (fault : WireFault) → HasNoBody fault found.framing limit found.end input → Cause fault input limit
   by_fault EarlyEnd ends = inr (in_body seen input more found is reads.whole.parts ends)
   by_fault BadChunk bad = in_body seen input more found is reads.whole.parts bad
   by_fault TooMuch on = record {
     more = on.more;
-    front = in_body seen (take MAX_RAW input) (take (MAX_RAW - length seen) more) found is front on.front;
+    prefix = in_body seen (take max_raw input) (take (max_raw - length seen) more) found is prefix on.prefix;
   }
   by_fault Device _ = tt
   by_fault NoMemory _ = tt

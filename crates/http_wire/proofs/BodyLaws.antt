@@ -4,9 +4,9 @@ use Rattle.std.proofs.Common.{◌⊎◌, inl, inr, ◌≡◌, ℕ, ◌+◌, ◌-
 use Rattle.std.proofs.lemmas.List.{length-take-le}
 use Rattle.http_wire.specs.declared.framing.Framing.{Framing}
 use Rattle.http_wire.specs.declared.framing.Framing.TheVariants.{Counted, Chunked, ToEnd}
-use Rattle.http_wire.specs.Bodies.{GivesFirst, GivesCounted, GivesToEnd, Gives, EndsInBody, IsBodyFront, IsBadBody}
+use Rattle.http_wire.specs.Bodies.{GivesFirst, GivesCounted, GivesToEnd, Gives, EndsInBody, IsBodyPrefix, IsBadBody}
 use Rattle.http_wire.specs.Chunks.{GivesChunked, EndsInChunked, EndsTooLong}
-use Rattle.http_wire.proofs.ChunkLists.{fronts_same}
+use Rattle.http_wire.proofs.ChunkLists.{prefixes_same}
 use Rattle.http_wire.proofs.ChunkLaws.{gives_unique, gives_used, gives_append, ends_excludes, refused_excludes, long_excludes, take_within}
 
 -- ---- how long a text is that gives octets
@@ -23,12 +23,12 @@ whole_length text given rest parts = ap length parts ∙ length-append given res
 
 first_unique : (limit : ℕ) (text a b ra rb : List ℕ) → GivesFirst limit text a ra → GivesFirst limit text b rb → a ≡ b
 first_unique limit text a b ra rb x y =
-    let same = fronts_same a b (x.last ∷ ra) (y.last ∷ rb) (x.full ∙ sym y.full) (sym x.parts ∙ y.parts) in same.0
+    let same = prefixes_same a b (x.last ∷ ra) (y.last ∷ rb) (x.full ∙ sym y.full) (sym x.parts ∙ y.parts) in same.0
 
 counted_unique : (size limit : ℕ) (text a b : List ℕ) (ca cb : Bool) (ra rb : List ℕ) → GivesCounted size limit text a ca ra → GivesCounted size limit text b cb rb
     → (a ≡ b) × (ca ≡ cb)
 counted_unique size limit text a b false false ra rb (fits, len, parts) (_, len_b, parts_b) =
-    let same = fronts_same a b ra rb (len ∙ sym len_b) (sym parts ∙ parts_b) in (same.0, refl)
+    let same = prefixes_same a b ra rb (len ∙ sym len_b) (sym parts ∙ parts_b) in (same.0, refl)
 counted_unique size limit text a b false true ra rb (fits, len, parts) (past, first) = absurd (omega (arith, fits, past))
 counted_unique size limit text a b true false ra rb (past, first) (fits, len, parts) = absurd (omega (arith, fits, past))
 counted_unique size limit text a b true true ra rb (_, x) (_, y) = (first_unique limit text a b ra rb x y, refl)
@@ -71,19 +71,19 @@ body_bad (Counted size) limit text given cut rest bad gives = bad
 body_bad Chunked limit text given cut rest bad gives = refused_excludes limit text given cut rest bad gives
 body_bad ToEnd limit text given cut rest bad gives = bad
 
--- ---- none within a front
+-- ---- none within a prefix
 
-counted_front : (size limit n : ℕ) (text given : List ℕ) (cut : Bool) (rest : List ℕ) → n < size → n ≤ limit → length text ≤ n + length rest
+counted_prefix : (size limit n : ℕ) (text given : List ℕ) (cut : Bool) (rest : List ℕ) → n < size → n ≤ limit → length text ≤ n + length rest
     → GivesCounted size limit text given cut rest → ⊥
-counted_front size limit n text given false rest less few within (fits, len, parts) =
+counted_prefix size limit n text given false rest less few within (fits, len, parts) =
     omega (arith, less, within, len, whole_length text given rest parts)
-counted_front size limit n text given true rest less few within (past, first) =
+counted_prefix size limit n text given true rest less few within (past, first) =
     omega (arith, few, within, first_length limit text given rest first)
 
-end_front : (limit n : ℕ) (text given : List ℕ) (cut : Bool) (rest : List ℕ) → n ≤ limit → n < length text → length text ≤ n + length rest
+end_prefix : (limit n : ℕ) (text given : List ℕ) (cut : Bool) (rest : List ℕ) → n ≤ limit → n < length text → length text ≤ n + length rest
     → GivesToEnd limit text given cut rest → ⊥
-end_front limit n text given false rest few more within (fits, is, none) = omega (arith, more, within, ap length none)
-end_front limit n text given true rest few more within first =
+end_prefix limit n text given false rest few more within (fits, is, none) = omega (arith, more, within, ap length none)
+end_prefix limit n text given true rest few more within first =
     omega (arith, few, within, first_length limit text given rest first)
 
 -- a body in chunks that ends within the first octets stands in them
@@ -93,26 +93,26 @@ chunks_within limit n text given cut rest within gives =
     let (used, parts, used_gives) = gives_used limit text given cut rest gives in
     let fits : length used ≤ n = omega (arith, within, whole_length text used rest parts) in
     let after = take (n - length used) rest in
-    let front : used ++ after ≡ take n text = sym (ap (take n) parts ∙ take_within n used rest fits) in
-    (after, subst (λ t. GivesChunked limit t given cut after) front (gives_append limit used given cut [] after used_gives))
+    let prefix : used ++ after ≡ take n text = sym (ap (take n) parts ∙ take_within n used rest fits) in
+    (after, subst (λ t. GivesChunked limit t given cut after) prefix (gives_append limit used given cut [] after used_gives))
 
-chunks_front : (limit n : ℕ) (text given : List ℕ) (cut : Bool) (rest : List ℕ) → EndsInChunked limit (take n text) ⊎ EndsTooLong limit (take n text)
+chunks_prefix : (limit n : ℕ) (text given : List ℕ) (cut : Bool) (rest : List ℕ) → EndsInChunked limit (take n text) ⊎ EndsTooLong limit (take n text)
     → length text ≤ n + length rest → GivesChunked limit text given cut rest → ⊥
-chunks_front limit n text given cut rest front within gives =
+chunks_prefix limit n text given cut rest prefix within gives =
     let (after, stands) = chunks_within limit n text given cut rest within gives in
-    elim front [
+    elim prefix [
       | inl ends ↦ ends_excludes limit (take n text) given cut after ends stands
       | inr long ↦ long_excludes limit (take n text) given cut after long stands
     ]
 
--- A text whose first octets are a front of the body gives none that ends within them.
-pub body_front : (framing : Framing) (limit n : ℕ) (text given : List ℕ) (cut : Bool) (rest : List ℕ) → IsBodyFront framing limit (take n text) → n < length text
+-- A text whose first octets are a prefix of the body gives none that ends within them.
+pub body_prefix : (framing : Framing) (limit n : ℕ) (text given : List ℕ) (cut : Bool) (rest : List ℕ) → IsBodyPrefix framing limit (take n text) → n < length text
     → length text ≤ n + length rest → Gives framing limit text given cut rest → ⊥
-body_front (Counted size) limit n text given cut rest (less, few) more within gives =
+body_prefix (Counted size) limit n text given cut rest (less, few) more within gives =
     let len : length (take n text) ≡ n = length-take-le n text (omega arith) in
-    counted_front size limit n text given cut rest (omega (arith, less, len)) (omega (arith, few, len)) within gives
-body_front Chunked limit n text given cut rest front more within gives =
-    chunks_front limit n text given cut rest front within gives
-body_front ToEnd limit n text given cut rest few more within gives =
+    counted_prefix size limit n text given cut rest (omega (arith, less, len)) (omega (arith, few, len)) within gives
+body_prefix Chunked limit n text given cut rest prefix more within gives =
+    chunks_prefix limit n text given cut rest prefix within gives
+body_prefix ToEnd limit n text given cut rest few more within gives =
     let len : length (take n text) ≡ n = length-take-le n text (omega arith) in
-    end_front limit n text given cut rest (omega (arith, few, len)) more within gives
+    end_prefix limit n text given cut rest (omega (arith, few, len)) more within gives

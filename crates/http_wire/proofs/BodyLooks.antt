@@ -1,7 +1,6 @@
 -- What a look at the octets of a body tells of the whole input.
 -- The answers of `BodyDecoder` and of `read_body` cite it.
-use Rattle.std.proofs.Common.{◌≡◌, ℕ, suc, ◌<◌, ◌≤◌, Bool, true, false, List, [], ◌∷◌, ◌++◌, length, take, drop, get_or, refl, sym, ap, subst, ◌∙◌, arith, append-nil, length-append, take-append-drop, inl, inr, Result, Ok, Err}
-use Rattle.std.specs.Prelude.{IfOk}
+use Rattle.std.proofs.Common.{◌≡◌, ℕ, suc, ◌<◌, ◌≤◌, Bool, true, false, List, [], ◌∷◌, ◌++◌, length, take, drop, get_or, refl, sym, ap, subst, ◌∙◌, arith, append-nil, length-append, take-append-drop, inl, inr}
 use Rattle.std.proofs.Math.Seq.{drop-cons}
 use Rattle.std.proofs.lemmas.List.{drop-append-le, take-append-le, take_all, length-take-le}
 use Rattle.httparse.proofs.PieceLemmas.{front-append}
@@ -12,24 +11,24 @@ use Rattle.http_wire.specs.declared.fault.WireFault.{WireFault}
 use Rattle.http_wire.specs.declared.fault.WireFault.TheVariants.{BadChunk}
 use Rattle.http_wire.specs.declared.framing.Framing.{Framing}
 use Rattle.http_wire.specs.declared.framing.Framing.TheVariants.{Counted, Chunked, ToEnd}
-use Rattle.http_wire.specs.declared.limits.TheConstants.{MAX_RAW}
-use Rattle.http_wire.specs.Bodies.{Gives, GivesCounted, IsBodyFront, IsBadBody}
+use Rattle.http_wire.specs.Limits.{max_raw}
+use Rattle.http_wire.specs.Bodies.{Gives, GivesCounted, IsBodyPrefix, IsBadBody}
 use Rattle.http_wire.specs.Chunks.{IsBadChunked}
 use Rattle.http_wire.specs.Reading.{HasBody, GoesOn, HasNoBody}
-use Rattle.http_wire.specs.Seeing.{GivesBody, IsFull, IsOpen, Sees, SeesFront, IsGiven, Refuses}
+use Rattle.http_wire.specs.Seeing.{GivesBody, IsFull, IsOpen, SeesBody, SeesPrefix, IsGiven, Refuses}
 use Rattle.http_wire.proofs.ChunkLaws.{bad_append}
 
 -- ---- the octets that are given
 
 -- a text with more octets than the limit, at its parts
-front_parts : (limit : ℕ) (text : List ℕ) → limit < length text → text ≡ take limit text ++ (get_or text limit 0 ∷ drop (suc limit) text)
-front_parts limit text past =
+prefix_parts : (limit : ℕ) (text : List ℕ) → limit < length text → text ≡ take limit text ++ (get_or text limit 0 ∷ drop (suc limit) text)
+prefix_parts limit text past =
     sym (take-append-drop limit text) ∙ ap (λ t. take limit text ++ t) (drop-cons text limit 0 past)
 
-front_seen : (limit : ℕ) (text : List ℕ) (seen : BodySeen) → limit < length text → IsGiven (take limit text) true seen → SeesFront limit text seen
-front_seen limit text (Given body) past given =
+pub prefix_seen : (limit : ℕ) (text : List ℕ) (seen : BodySeen) → limit < length text → IsGiven (take limit text) true seen → SeesPrefix limit text seen
+prefix_seen limit text (Given body) past given =
     let next = get_or text limit 0 ∷ drop (suc limit) text in
-    let parts : text ≡ body.octets.items ++ next = front_parts limit text past ∙ ap (λ t. t ++ next) (sym given.0) in
+    let parts : text ≡ body.octets.items ++ next = prefix_parts limit text past ∙ ap (λ t. t ++ next) (sym given.0) in
     record {
       cut = given.1;
       rest = drop (suc limit) text;
@@ -39,30 +38,20 @@ front_seen limit text (Given body) past given =
         full = ap length given.0 ∙ length-take-le limit text (omega arith);
       };
     }
-front_seen limit text Full past given = absurd given
-front_seen limit text More past given = absurd given
+prefix_seen limit text Full past given = absurd given
+prefix_seen limit text More past given = absurd given
 
-pub front_given : (limit : ℕ) (text : List ℕ) (result : Result BodySeen WireFault) → limit < length text
-    → IfOk result (IsGiven (take limit text) true) → IfOk result (SeesFront limit text)
-front_given limit text (Ok seen) past given = front_seen limit text seen past given
-front_given limit text (Err fault) past given = tt
-
-counted_cut : (size limit : ℕ) (text : List ℕ) (seen : BodySeen) → limit < size → SeesFront limit text seen
-    → (last : Bool) → Sees (Counted size) limit text last seen
-counted_cut size limit text (Given body) past front last = record {
-  rest = front.rest;
-  gives = λ more. subst (λ cut. GivesCounted size limit (text ++ more) body.octets.items cut (front.rest ++ more)) (sym front.cut) (past, front.first more);
+pub counted_cut : (size limit : ℕ) (text : List ℕ) (seen : BodySeen) → limit < size → SeesPrefix limit text seen
+    → (last : Bool) → SeesBody (Counted size) limit text last seen
+counted_cut size limit text (Given body) past prefix last = record {
+  rest = prefix.rest;
+  gives = λ more. subst (λ cut. GivesCounted size limit (text ++ more) body.octets.items cut (prefix.rest ++ more)) (sym prefix.cut) (past, prefix.first more);
 }
-counted_cut size limit text Full past front last = absurd front
+counted_cut size limit text Full past prefix last = absurd prefix
 counted_cut size limit text More past few last = λ _. (omega arith, few)
 
-pub counted_past : (size limit : ℕ) (text : List ℕ) (result : Result BodySeen WireFault) → limit < size
-    → IfOk result (SeesFront limit text) → IfOk result (λ seen. (last : Bool) → Sees (Counted size) limit text last seen)
-counted_past size limit text (Ok seen) past front = counted_cut size limit text seen past front
-counted_past size limit text (Err fault) past front = tt
-
-counted_seen : (size limit : ℕ) (text : List ℕ) (seen : BodySeen) → size ≤ limit → size ≤ length text → IsGiven (take size text) false seen
-    → (last : Bool) → Sees (Counted size) limit text last seen
+pub counted_seen : (size limit : ℕ) (text : List ℕ) (seen : BodySeen) → size ≤ limit → size ≤ length text → IsGiven (take size text) false seen
+    → (last : Bool) → SeesBody (Counted size) limit text last seen
 counted_seen size limit text (Given body) fits stand given last =
     let parts : text ≡ body.octets.items ++ drop size text = sym (take-append-drop size text) ∙ ap (λ t. t ++ drop size text) (sym given.0) in
     let size_is : length body.octets.items ≡ size = ap length given.0 ∙ length-take-le size text stand in
@@ -74,11 +63,6 @@ counted_seen size limit text (Given body) fits stand given last =
     }
 counted_seen size limit text Full fits stand given last = absurd given
 counted_seen size limit text More fits stand given last = absurd given
-
-pub counted_given : (size limit : ℕ) (text : List ℕ) (result : Result BodySeen WireFault) → size ≤ limit → size ≤ length text
-    → IfOk result (IsGiven (take size text) false) → IfOk result (λ seen. (last : Bool) → Sees (Counted size) limit text last seen)
-counted_given size limit text (Ok seen) fits stand given = counted_seen size limit text seen fits stand given
-counted_given size limit text (Err fault) fits stand given = tt
 
 -- chunks that can't be read can't be with more bytes behind
 pub bad_chunks : (limit start limit' start' : ℕ) (bytes : List ℕ) → limit' ≡ limit → start' ≡ start → IsBadChunked limit' (drop start' bytes)
@@ -94,7 +78,7 @@ drop_more : (start : ℕ) (bytes more : List ℕ) → start ≤ length bytes →
 drop_more start bytes more within = sym (drop-append-le start bytes more within)
 
 -- a body that stands, whatever follows, stands in the bytes with more behind them
-pub given_past : (framing : Framing) (limit start : ℕ) (bytes more : List ℕ) (body : Body) → start ≤ length bytes → length bytes ≤ MAX_RAW
+pub given_past : (framing : Framing) (limit start : ℕ) (bytes more : List ℕ) (body : Body) → start ≤ length bytes → length bytes ≤ max_raw
     → GivesBody framing limit (drop start bytes) body → HasBody framing limit start (bytes ++ more) body
 given_past framing limit start bytes more body within few given = record {
   rest = given.rest ++ more;
@@ -112,7 +96,7 @@ refused_past framing limit start bytes more fault within refuses =
     ]
 
 -- the same with nothing behind
-pub given_end : (framing : Framing) (limit start : ℕ) (bytes : List ℕ) (body : Body) → start ≤ length bytes → length bytes ≤ MAX_RAW
+pub given_end : (framing : Framing) (limit start : ℕ) (bytes : List ℕ) (body : Body) → start ≤ length bytes → length bytes ≤ max_raw
     → GivesBody framing limit (drop start bytes) body → HasBody framing limit start bytes body
 given_end framing limit start bytes body within few given =
     subst (λ input. HasBody framing limit start input body) (append-nil bytes) (given_past framing limit start bytes [] body within few given)
@@ -122,32 +106,32 @@ pub refused_end : (framing : Framing) (limit start : ℕ) (bytes : List ℕ) (fa
 refused_end framing limit start bytes fault within refuses =
     subst (HasNoBody fault framing limit start) (append-nil bytes) (refused_past framing limit start bytes [] fault within refuses)
 
--- what is open or full is a front of the body
-open_front : (framing : Framing) (limit : ℕ) (text : List ℕ) → IsOpen framing limit text → IsBodyFront framing limit text
-open_front (Counted size) limit text open' = open'
-open_front Chunked limit text open' = inl open'
-open_front ToEnd limit text open' = open'
+-- what is open or full is a prefix of the body
+open_prefix : (framing : Framing) (limit : ℕ) (text : List ℕ) → IsOpen framing limit text → IsBodyPrefix framing limit text
+open_prefix (Counted size) limit text open' = open'
+open_prefix Chunked limit text open' = inl open'
+open_prefix ToEnd limit text open' = open'
 
-full_front : (framing : Framing) (limit : ℕ) (text : List ℕ) → IsFull framing limit text → IsBodyFront framing limit text
-full_front (Counted size) limit text full = absurd full
-full_front Chunked limit text full = inr full
-full_front ToEnd limit text full = absurd full
+full_prefix : (framing : Framing) (limit : ℕ) (text : List ℕ) → IsFull framing limit text → IsBodyPrefix framing limit text
+full_prefix (Counted size) limit text full = absurd full
+full_prefix Chunked limit text full = inr full
+full_prefix ToEnd limit text full = absurd full
 
-goes_on : (framing : Framing) (limit start : ℕ) (bytes more : List ℕ) → length bytes ≡ MAX_RAW → 0 < length more
-    → IsBodyFront framing limit (drop start bytes) → GoesOn framing limit start (bytes ++ more)
-goes_on framing limit start bytes more full some front =
-    let whole : bytes ≡ take MAX_RAW (bytes ++ more) = sym (take-append-le MAX_RAW bytes more (omega arith) ∙ take_all MAX_RAW bytes (omega arith)) in
+goes_on : (framing : Framing) (limit start : ℕ) (bytes more : List ℕ) → length bytes ≡ max_raw → 0 < length more
+    → IsBodyPrefix framing limit (drop start bytes) → GoesOn framing limit start (bytes ++ more)
+goes_on framing limit start bytes more full some prefix =
+    let whole : bytes ≡ take max_raw (bytes ++ more) = sym (take-append-le max_raw bytes more (omega arith) ∙ take_all max_raw bytes (omega arith)) in
     record {
       more = omega (arith, full, some, length-append bytes more);
-      front = subst (λ t. IsBodyFront framing limit (drop start t)) whole front;
+      prefix = subst (λ t. IsBodyPrefix framing limit (drop start t)) whole prefix;
     }
 
 -- an open body goes on behind the last octet that a response may have
-pub open_past : (framing : Framing) (limit start : ℕ) (bytes more : List ℕ) → length bytes ≡ MAX_RAW → 0 < length more
+pub open_past : (framing : Framing) (limit start : ℕ) (bytes more : List ℕ) → length bytes ≡ max_raw → 0 < length more
     → IsOpen framing limit (drop start bytes) → GoesOn framing limit start (bytes ++ more)
-open_past framing limit start bytes more full some open' = goes_on framing limit start bytes more full some (open_front framing limit (drop start bytes) open')
+open_past framing limit start bytes more full some open' = goes_on framing limit start bytes more full some (open_prefix framing limit (drop start bytes) open')
 
 -- and so does one with as many lines as trailers may have
-pub full_past : (framing : Framing) (limit start : ℕ) (bytes more : List ℕ) → length bytes ≡ MAX_RAW → 0 < length more
+pub full_past : (framing : Framing) (limit start : ℕ) (bytes more : List ℕ) → length bytes ≡ max_raw → 0 < length more
     → IsFull framing limit (drop start bytes) → GoesOn framing limit start (bytes ++ more)
-full_past framing limit start bytes more full some lines = goes_on framing limit start bytes more full some (full_front framing limit (drop start bytes) lines)
+full_past framing limit start bytes more full some lines = goes_on framing limit start bytes more full some (full_prefix framing limit (drop start bytes) lines)

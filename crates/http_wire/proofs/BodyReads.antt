@@ -8,7 +8,7 @@ use Rattle.http_wire.specs.declared.body_decoder.BodyDecoder.{BodyDecoder}
 use Rattle.http_wire.specs.declared.fault.WireFault.{WireFault}
 use Rattle.http_wire.specs.declared.fault.WireFault.TheVariants.{Device, NoMemory}
 use Rattle.http_wire.specs.declared.framing.Framing.{Framing}
-use Rattle.http_wire.specs.declared.limits.TheConstants.{MAX_RAW}
+use Rattle.http_wire.specs.Limits.{max_raw}
 use Rattle.http_wire.specs.Reading.{Grows, IsWhole, HasNoBody, TellsBody, ReadsBody}
 use Rattle.http_wire.specs.Seeing.{GivesBody, Refuses, framing_in}
 use Rattle.http_wire.proofs.BodyLooks.{given_past, refused_past}
@@ -39,7 +39,7 @@ reads_for framing limit start left left' old seen input decoder result is grows 
 
 -- A look gave the body.
 pub some_read : (framing : Framing) (limit start : ℕ) (left left' : Option (List ℕ)) (old seen bytes : List ℕ) (decoder : BodyDecoder) (body : Body)
-    → IsFor framing limit start decoder → Grows left left' old seen → bytes ≡ seen → decoder.start ≤ length seen → length seen ≤ MAX_RAW
+    → IsFor framing limit start decoder → Grows left left' old seen → bytes ≡ seen → decoder.start ≤ length seen → length seen ≤ max_raw
     → GivesBody (framing_in decoder) decoder.limit (drop decoder.start bytes) body → ReadsBody framing limit start left old (Ok body)
 some_read framing limit start left left' old seen bytes decoder body is grows same within few given =
     let here = subst (λ t. GivesBody (framing_in decoder) decoder.limit (drop decoder.start t) body) same given in

@@ -9,32 +9,32 @@ use Rattle.httparse.specs.Spans.{SectionOverflows}
 use Rattle.httparse.proofs.ChunkLemmas.{chunk_line_unique, ReadsChunkLine-append}
 use Rattle.httparse.proofs.GrammarLemmas.{section_unique}
 use Rattle.httparse.proofs.PieceLemmas.{front-append}
-use Rattle.http_wire.specs.declared.limits.TheConstants.{MAX_TRAILERS, MAX_TRAILER_BYTES}
-use Rattle.http_wire.specs.Chunks.{Chunk, print_chunks, joined, ReadsChunks, ReadsTrailers, GivesChunked, AfterChunks, AfterLast, AfterOctets, NeverHasEnd, EndsAt, in_line, in_octets, in_end, in_trailers, EndsInChunked, IsTooLong, IsBadAt, bad_line, bad_end, bad_trailers, too_long, IsBadChunked, HasTooManyLines, EndsTooLong, IsRefusedChunked, print_body, print_front}
-use Rattle.http_wire.proofs.ChunkLists.{fronts_same, regroup, line_of, HasNoChunk, same_chunks}
+use Rattle.http_wire.specs.Limits.{max_trailers, max_trailer_octets}
+use Rattle.http_wire.specs.Chunks.{Chunk, print_chunks, joined, ReadsChunks, ReadsTrailers, GivesChunked, AfterChunks, AfterLast, AfterOctets, NeverHasEnd, EndsAt, in_line, in_octets, in_end, in_trailers, EndsInChunked, IsTooLong, IsBadAt, bad_line, bad_end, bad_trailers, too_long, IsBadChunked, HasTooManyLines, EndsTooLong, IsRefusedChunked, print_body, print_prefix}
+use Rattle.http_wire.proofs.ChunkLists.{prefixes_same, regroup, line_of, HasNoChunk, same_chunks}
 
 -- ---- a body by its parts: chunks, and what follows the last of them
 
 -- text is a chunk's line and its octets up to the first past the room, and then rest
-pub record ReadsPast (room : ℕ) (text front rest : List ℕ) : Type 0 where
+pub record ReadsPast (room : ℕ) (text prefix rest : List ℕ) : Type 0 where
   pub line : ChunkLine
-  pub reads : ReadsChunkLine text line (front ++ rest)
-  pub within : length front ≤ chunk_size line
-  pub past : length front ≡ room + 1
+  pub reads : ReadsChunkLine text line (prefix ++ rest)
+  pub within : length prefix ≤ chunk_size line
+  pub past : length prefix ≡ room + 1
 
 -- what follows the chunks of a body that is given, and the octets of it that stand there
 abbrev pub GivesAt : ℕ → List ℕ → List ℕ → Bool → List ℕ → Type 0
-GivesAt room text front false rest = (front ≡ []) × AfterLast (λ after. ReadsTrailers after rest) text
-GivesAt room text front true rest = ReadsPast room text front rest
+GivesAt room text prefix false rest = (prefix ≡ []) × AfterLast (λ after. ReadsTrailers after rest) text
+GivesAt room text prefix true rest = ReadsPast room text prefix rest
 
 -- the parts of a body that is given
 pub record Parts (limit : ℕ) (text given : List ℕ) (cut : Bool) (rest : List ℕ) : Type 0 where
   pub chunks : List Chunk
   pub middle : List ℕ
-  pub front : List ℕ
+  pub prefix : List ℕ
   pub reads : ReadsChunks limit text chunks middle
-  pub at : GivesAt (limit - length (joined chunks)) middle front cut rest
-  pub given_is : given ≡ take limit (joined chunks ++ front)
+  pub at : GivesAt (limit - length (joined chunks)) middle prefix cut rest
+  pub given_is : given ≡ take limit (joined chunks ++ prefix)
 
 pub parts : (limit : ℕ) (text given : List ℕ) (cut : Bool) (rest : List ℕ)
     → GivesChunked limit text given cut rest → Parts limit text given cut rest
@@ -45,7 +45,7 @@ parts limit text given false rest g =
     record {
       chunks = b.chunks;
       middle = print_chunk_line b.last ++ (section ++ rest);
-      front = [];
+      prefix = [];
       reads = record {
         valid = g.valid.chunks;
         fits = fits;
@@ -70,12 +70,12 @@ parts limit text given false rest g =
       given_is = g.given_is ∙ sym (take_all limit (joined b.chunks) fits) ∙ ap (take limit) (sym (append-nil (joined b.chunks)));
     }
 parts limit text given true rest g =
-    let b = g.front in
+    let b = g.prefix in
     let fits = g.valid.fits in
     record {
       chunks = b.chunks;
       middle = print_chunk_line b.line ++ (b.octets ++ rest);
-      front = b.octets;
+      prefix = b.octets;
       reads = record {
         valid = g.valid.chunks;
         fits = fits;
@@ -104,16 +104,16 @@ octets_no_chunk : (P : List ℕ → Type 0) (bound room : ℕ) (text : List ℕ)
 octets_no_chunk P bound room text (line, octets, after, reads, some, size, fits, p) never = record {
   none = λ c rest valid _ e.
       let same = chunk_line_unique text line c.line _ _ reads (line_of text rest c valid e) in
-      let tails = fronts_same octets c.octets after (crlf_bytes ++ rest) (size ∙ ap chunk_size same.0 ∙ sym valid.size) same.1 in
+      let tails = prefixes_same octets c.octets after (crlf_bytes ++ rest) (size ∙ ap chunk_size same.0 ∙ sym valid.size) same.1 in
       never rest (subst P tails.1 p);
 }
 
 line_no_chunk : (room : ℕ) (text : List ℕ) → HasNoChunkLine text → HasNoChunk room text
 line_no_chunk room text none = record { none = λ c rest valid _ e. none c.line _ (line_of text rest c valid e) }
 
-gives_no_chunk : (room : ℕ) (text front : List ℕ) (cut : Bool) (rest : List ℕ) → GivesAt room text front cut rest → HasNoChunk room text
-gives_no_chunk room text front false rest g = last_no_chunk (λ after. ReadsTrailers after rest) room text g.1
-gives_no_chunk room text front true rest g = record {
+gives_no_chunk : (room : ℕ) (text prefix : List ℕ) (cut : Bool) (rest : List ℕ) → GivesAt room text prefix cut rest → HasNoChunk room text
+gives_no_chunk room text prefix false rest g = last_no_chunk (λ after. ReadsTrailers after rest) room text g.1
+gives_no_chunk room text prefix true rest g = record {
   none = λ c after valid fits e.
       let same = chunk_line_unique text g.line c.line _ _ g.reads (line_of text after c valid e) in
       omega (arith, g.within, g.past, valid.size, fits, ap chunk_size same.0);
@@ -148,89 +148,89 @@ bad_no_chunk room text (too_long x) = last_no_chunk _ room text x
 
 -- ---- what a body excludes, after the chunks
 
-line_against : (room : ℕ) (text front : List ℕ) (cut : Bool) (rest : List ℕ) → HasNoChunkLine text → GivesAt room text front cut rest → ⊥
-line_against room text front false rest none (is, (line, after, reads, zero, p)) = none line after reads
-line_against room text front true rest none g = none g.line _ g.reads
+line_against : (room : ℕ) (text prefix : List ℕ) (cut : Bool) (rest : List ℕ) → HasNoChunkLine text → GivesAt room text prefix cut rest → ⊥
+line_against room text prefix false rest none (is, (line, after, reads, zero, p)) = none line after reads
+line_against room text prefix true rest none g = none g.line _ g.reads
 
-octets_against : (P : List ℕ → Type 0) (room : ℕ) (text front : List ℕ) (cut : Bool) (rest : List ℕ) → AfterOctets room P text → GivesAt room text front cut rest → ⊥
-octets_against P room text front false rest (line, octets, after, reads, some, size, fits, p) (is, (last, end, reads_last, zero, q)) =
+octets_against : (P : List ℕ → Type 0) (room : ℕ) (text prefix : List ℕ) (cut : Bool) (rest : List ℕ) → AfterOctets room P text → GivesAt room text prefix cut rest → ⊥
+octets_against P room text prefix false rest (line, octets, after, reads, some, size, fits, p) (is, (last, end, reads_last, zero, q)) =
     let same = chunk_line_unique text line last _ _ reads reads_last in
     omega (arith, some, zero, ap chunk_size same.0)
-octets_against P room text front true rest (line, octets, after, reads, some, size, fits, p) g =
+octets_against P room text prefix true rest (line, octets, after, reads, some, size, fits, p) g =
     let same = chunk_line_unique text line g.line _ _ reads g.reads in
     omega (arith, size, fits, g.within, g.past, ap chunk_size same.0)
 
-last_against : (P : List ℕ → Type 0) (room : ℕ) (text front : List ℕ) (cut : Bool) (rest : List ℕ) → AfterLast P text
-    → ((after : List ℕ) → P after → ReadsTrailers after rest → ⊥) → GivesAt room text front cut rest → ⊥
-last_against P room text front false rest (line, after, reads, zero, p) never (is, (last, end, reads_last, _, q)) =
+last_against : (P : List ℕ → Type 0) (room : ℕ) (text prefix : List ℕ) (cut : Bool) (rest : List ℕ) → AfterLast P text
+    → ((after : List ℕ) → P after → ReadsTrailers after rest → ⊥) → GivesAt room text prefix cut rest → ⊥
+last_against P room text prefix false rest (line, after, reads, zero, p) never (is, (last, end, reads_last, _, q)) =
     let same = chunk_line_unique text line last _ _ reads reads_last in
     never end (subst P same.1 p) q
-last_against P room text front true rest (line, after, reads, zero, p) never g =
+last_against P room text prefix true rest (line, after, reads, zero, p) never g =
     let same = chunk_line_unique text line g.line _ _ reads g.reads in
     omega (arith, zero, g.within, g.past, ap chunk_size same.0)
 
-part_against : (room : ℕ) (text part : List ℕ) (line : ChunkLine) (front : List ℕ) (cut : Bool) (rest : List ℕ) → ReadsChunkLine text line part
-    → length part < chunk_size line → length part ≤ room → GivesAt room text front cut rest → ⊥
-part_against room text part line front false rest reads less fits (is, (last, end, reads_last, zero, q)) =
+part_against : (room : ℕ) (text part : List ℕ) (line : ChunkLine) (prefix : List ℕ) (cut : Bool) (rest : List ℕ) → ReadsChunkLine text line part
+    → length part < chunk_size line → length part ≤ room → GivesAt room text prefix cut rest → ⊥
+part_against room text part line prefix false rest reads less fits (is, (last, end, reads_last, zero, q)) =
     let same = chunk_line_unique text line last _ _ reads reads_last in
     omega (arith, less, zero, ap chunk_size same.0)
-part_against room text part line front true rest reads less fits g =
+part_against room text part line prefix true rest reads less fits g =
     let same = chunk_line_unique text line g.line _ _ reads g.reads in
-    omega (arith, fits, g.past, ap length same.1, length-append front rest)
+    omega (arith, fits, g.past, ap length same.1, length-append prefix rest)
 
-ends_at : (room : ℕ) (text front : List ℕ) (cut : Bool) (rest : List ℕ) → EndsAt room text → GivesAt room text front cut rest → ⊥
-ends_at room text front cut rest (in_line none may) g = line_against room text front cut rest none g
-ends_at room text front cut rest (in_octets line part reads less fits) g = part_against room text part line front cut rest reads less fits g
-ends_at room text front cut rest (in_end x) g = octets_against _ room text front cut rest x g
-ends_at room text front cut rest (in_trailers x) g =
-    last_against _ room text front cut rest x (λ after p t. p.none t.fields t.last rest t.reads) g
+ends_at : (room : ℕ) (text prefix : List ℕ) (cut : Bool) (rest : List ℕ) → EndsAt room text → GivesAt room text prefix cut rest → ⊥
+ends_at room text prefix cut rest (in_line none may) g = line_against room text prefix cut rest none g
+ends_at room text prefix cut rest (in_octets line part reads less fits) g = part_against room text part line prefix cut rest reads less fits g
+ends_at room text prefix cut rest (in_end x) g = octets_against _ room text prefix cut rest x g
+ends_at room text prefix cut rest (in_trailers x) g =
+    last_against _ room text prefix cut rest x (λ after p t. p.none t.fields t.last rest t.reads) g
 
-pub take_within : (n : ℕ) (front rest : List ℕ) → length front ≤ n → take n (front ++ rest) ≡ front ++ take (n - length front) rest
-take_within n front rest fits =
-    let whole : length front + (n - length front) ≡ n = omega arith in
-    subst (λ m. take m (front ++ rest) ≡ front ++ take (n - length front) rest) whole (take-append-add front rest (n - length front))
+pub take_within : (n : ℕ) (prefix rest : List ℕ) → length prefix ≤ n → take n (prefix ++ rest) ≡ prefix ++ take (n - length prefix) rest
+take_within n prefix rest fits =
+    let whole : length prefix + (n - length prefix) ≡ n = omega arith in
+    subst (λ m. take m (prefix ++ rest) ≡ prefix ++ take (n - length prefix) rest) whole (take-append-add prefix rest (n - length prefix))
 
 -- trailers within their limits stand in the first bytes of the text
-trailers_front : (text rest : List ℕ) (t : ReadsTrailers text rest)
-    → ReadsSection (take MAX_TRAILER_BYTES text) t.fields t.last (take (MAX_TRAILER_BYTES - length (print_section t.fields t.last)) rest)
-trailers_front text rest t =
-    (t.reads.0, ap (take MAX_TRAILER_BYTES) t.reads.1 ∙ take_within MAX_TRAILER_BYTES (print_section t.fields t.last) rest t.short)
+trailers_prefix : (text rest : List ℕ) (t : ReadsTrailers text rest)
+    → ReadsSection (take max_trailer_octets text) t.fields t.last (take (max_trailer_octets - length (print_section t.fields t.last)) rest)
+trailers_prefix text rest t =
+    (t.reads.0, ap (take max_trailer_octets) t.reads.1 ∙ take_within max_trailer_octets (print_section t.fields t.last) rest t.short)
 
-bad_at : (room : ℕ) (text front : List ℕ) (cut : Bool) (rest : List ℕ) → IsBadAt room text → GivesAt room text front cut rest → ⊥
-bad_at room text front cut rest (bad_line never) g = line_against room text front cut rest (never_now text never) g
-bad_at room text front cut rest (bad_end x) g = octets_against _ room text front cut rest x g
-bad_at room text front cut rest (bad_trailers x) g =
-    last_against _ room text front cut rest x
+bad_at : (room : ℕ) (text prefix : List ℕ) (cut : Bool) (rest : List ℕ) → IsBadAt room text → GivesAt room text prefix cut rest → ⊥
+bad_at room text prefix cut rest (bad_line never) g = line_against room text prefix cut rest (never_now text never) g
+bad_at room text prefix cut rest (bad_end x) g = octets_against _ room text prefix cut rest x g
+bad_at room text prefix cut rest (bad_trailers x) g =
+    last_against _ room text prefix cut rest x
     (λ after p t. let over = p [] t.fields t.last rest (subst (λ s. ReadsSection s t.fields t.last rest) (sym (append-nil after)) t.reads) in omega (arith, over, t.few)) g
-bad_at room text front cut rest (too_long x) g =
-    last_against _ room text front cut rest x
-    (λ after p t. let over = p.none t.fields t.last _ (trailers_front after rest t) in omega (arith, over, t.few)) g
+bad_at room text prefix cut rest (too_long x) g =
+    last_against _ room text prefix cut rest x
+    (λ after p t. let over = p.none t.fields t.last _ (trailers_prefix after rest t) in omega (arith, over, t.few)) g
 
 -- ---- the laws
 
 against : (P : ℕ → List ℕ → Type 0) (limit : ℕ) (text given : List ℕ) (cut : Bool) (rest : List ℕ) → AfterChunks limit P text → GivesChunked limit text given cut rest
-    → ((room : ℕ) (t : List ℕ) → P room t → HasNoChunk room t) → ((room : ℕ) (t front : List ℕ) → P room t → GivesAt room t front cut rest → ⊥) → ⊥
+    → ((room : ℕ) (t : List ℕ) → P room t → HasNoChunk room t) → ((room : ℕ) (t prefix : List ℕ) → P room t → GivesAt room t prefix cut rest → ⊥) → ⊥
 against P limit text given cut rest (chunks, after, reads, p) gives stops never =
     let g = parts limit text given cut rest gives in
     let same = same_chunks limit text chunks g.chunks after g.middle reads g.reads (stops _ _ p) (gives_no_chunk _ _ _ cut rest g.at) in
-    never (limit - length (joined g.chunks)) g.middle g.front (subst (λ cs. P (limit - length (joined cs)) g.middle) same.0 (subst (P (limit - length (joined chunks))) same.1 p)) g.at
+    never (limit - length (joined g.chunks)) g.middle g.prefix (subst (λ cs. P (limit - length (joined cs)) g.middle) same.0 (subst (P (limit - length (joined chunks))) same.1 p)) g.at
 
 -- A text that ends inside a body gives none.
 pub ends_excludes : (limit : ℕ) (text given : List ℕ) (cut : Bool) (rest : List ℕ) → EndsInChunked limit text → GivesChunked limit text given cut rest → ⊥
 ends_excludes limit text given cut rest ends gives =
-    against EndsAt limit text given cut rest ends gives ends_no_chunk (λ room t front p g. ends_at room t front cut rest p g)
+    against EndsAt limit text given cut rest ends gives ends_no_chunk (λ room t prefix p g. ends_at room t prefix cut rest p g)
 
 -- A text that can't be read gives none.
 pub bad_excludes : (limit : ℕ) (text given : List ℕ) (cut : Bool) (rest : List ℕ) → IsBadChunked limit text → GivesChunked limit text given cut rest → ⊥
 bad_excludes limit text given cut rest bad gives =
-    against IsBadAt limit text given cut rest bad gives bad_no_chunk (λ room t front p g. bad_at room t front cut rest p g)
+    against IsBadAt limit text given cut rest bad gives bad_no_chunk (λ room t prefix p g. bad_at room t prefix cut rest p g)
 
 -- A text that ends with too many lines gives none.
 pub long_excludes : (limit : ℕ) (text given : List ℕ) (cut : Bool) (rest : List ℕ) → EndsTooLong limit text → GivesChunked limit text given cut rest → ⊥
 long_excludes limit text given cut rest long gives =
     against (λ room. AfterLast HasTooManyLines) limit text given cut rest long gives
     (λ room t p. last_no_chunk HasTooManyLines room t p)
-    (λ room t front p g. last_against HasTooManyLines room t front cut rest p (λ after q s. q.none s.fields s.last rest s.reads) g)
+    (λ room t prefix p g. last_against HasTooManyLines room t prefix cut rest p (λ after q s. q.none s.fields s.last rest s.reads) g)
 
 -- More bytes after a body change nothing of what it gives.
 pub gives_append : (limit : ℕ) (text given : List ℕ) (cut : Bool) (rest more : List ℕ) → GivesChunked limit text given cut rest
@@ -243,9 +243,9 @@ gives_append limit text given false rest more g = record {
   fits = g.fits;
 }
 gives_append limit text given true rest more g = record {
-  front = g.front;
+  prefix = g.prefix;
   valid = g.valid;
-  text_is = front-append text (print_front g.front) rest more g.text_is;
+  text_is = front-append text (print_prefix g.prefix) rest more g.text_is;
   given_is = g.given_is;
 }
 
@@ -264,12 +264,12 @@ gives_used limit text given false rest g = (
   },
 )
 gives_used limit text given true rest g = (
-  print_front g.front,
+  print_prefix g.prefix,
   g.text_is,
   record {
-    front = g.front;
+    prefix = g.prefix;
     valid = g.valid;
-    text_is = sym (append-nil (print_front g.front));
+    text_is = sym (append-nil (print_prefix g.prefix));
     given_is = g.given_is;
   },
 )
@@ -288,8 +288,8 @@ unique_at room text a b true false r q x (is, (line, after, reads, zero, t)) =
     absurd (omega (arith, zero, x.within, x.past, ap chunk_size same.0))
 unique_at room text a b true true r q x y =
     let same = chunk_line_unique text x.line y.line _ _ x.reads y.reads in
-    let fronts = fronts_same a b r q (x.past ∙ sym y.past) same.1 in
-    (fronts.0, refl, fronts.1)
+    let prefixes = prefixes_same a b r q (x.past ∙ sym y.past) same.1 in
+    (prefixes.0, refl, prefixes.1)
 
 -- A text gives one body at most.
 pub gives_unique : (limit : ℕ) (text a b : List ℕ) (ca cb : Bool) (ra rb : List ℕ) → GivesChunked limit text a ca ra → GivesChunked limit text b cb rb
@@ -298,10 +298,10 @@ gives_unique limit text a b ca cb ra rb x y =
     let p = parts limit text a ca ra x in
     let q = parts limit text b cb rb y in
     let same = same_chunks limit text p.chunks q.chunks p.middle q.middle p.reads q.reads (gives_no_chunk _ _ _ ca ra p.at) (gives_no_chunk _ _ _ cb rb q.at) in
-    let moved = subst (λ cs. GivesAt (limit - length (joined cs)) q.middle p.front ca ra) same.0
-    (subst (λ t. GivesAt (limit - length (joined p.chunks)) t p.front ca ra) same.1 p.at) in
-    let ends = unique_at (limit - length (joined q.chunks)) q.middle p.front q.front ca cb ra rb moved q.at in
-    let octets : joined p.chunks ++ p.front ≡ joined q.chunks ++ q.front = λ i. joined (same.0 i) ++ ends.0 i in
+    let moved = subst (λ cs. GivesAt (limit - length (joined cs)) q.middle p.prefix ca ra) same.0
+    (subst (λ t. GivesAt (limit - length (joined p.chunks)) t p.prefix ca ra) same.1 p.at) in
+    let ends = unique_at (limit - length (joined q.chunks)) q.middle p.prefix q.prefix ca cb ra rb moved q.at in
+    let octets : joined p.chunks ++ p.prefix ≡ joined q.chunks ++ q.prefix = λ i. joined (same.0 i) ++ ends.0 i in
     (p.given_is ∙ ap (take limit) octets ∙ sym q.given_is, ends.1, ends.2)
 
 -- ---- more bytes after what can't be read
@@ -342,13 +342,13 @@ long_append : (text more : List ℕ) → IsTooLong text → IsTooLong (text ++ m
 long_append text more x = record {
   long = omega (arith, x.long, length-append text more);
   none = λ fields last rest reads.
-      x.none fields last rest (subst (λ t. ReadsSection t fields last rest) (take-append-le MAX_TRAILER_BYTES text more x.long) reads);
+      x.none fields last rest (subst (λ t. ReadsSection t fields last rest) (take-append-le max_trailer_octets text more x.long) reads);
 }
 
 bad_more : (room : ℕ) (text more : List ℕ) → IsBadAt room text → IsBadAt room (text ++ more)
 bad_more room text more (bad_line never) = bad_line (line_append text more never)
 bad_more room text more (bad_end x) = bad_end (octets_append _ room text more x (λ t p. end_append t more p))
-bad_more room text more (bad_trailers x) = bad_trailers (last_append _ text more x (λ t p. over_append MAX_TRAILERS t more p))
+bad_more room text more (bad_trailers x) = bad_trailers (last_append _ text more x (λ t p. over_append max_trailers t more p))
 bad_more room text more (too_long x) = too_long (last_append IsTooLong text more x (λ t p. long_append t more p))
 
 -- More bytes make nothing readable that can't be read.

@@ -7,13 +7,13 @@ use Rattle.httparse.specs.Grammar.{print_chunk_line, chunk_size, ReadsChunkLine}
 use Rattle.httparse.proofs.ChunkLemmas.{chunk_line_unique}
 use Rattle.http_wire.specs.Chunks.{Chunk, print_chunk, IsChunk, print_chunks, joined, ReadsChunks}
 
--- two fronts of one length of the same text
-pub fronts_same : (a b r q : List ℕ) → length a ≡ length b → a ++ r ≡ b ++ q → (a ≡ b) × (r ≡ q)
-fronts_same [] [] r q len e = (refl, e)
-fronts_same [] (y ∷ b) r q len e = absurd (omega arith)
-fronts_same (x ∷ a) [] r q len e = absurd (omega arith)
-fronts_same (x ∷ a) (y ∷ b) r q len e =
-    let tails = fronts_same a b r q (omega arith) (cc) in
+-- two prefixes of one length of the same text
+pub prefixes_same : (a b r q : List ℕ) → length a ≡ length b → a ++ r ≡ b ++ q → (a ≡ b) × (r ≡ q)
+prefixes_same [] [] r q len e = (refl, e)
+prefixes_same [] (y ∷ b) r q len e = absurd (omega arith)
+prefixes_same (x ∷ a) [] r q len e = absurd (omega arith)
+prefixes_same (x ∷ a) (y ∷ b) r q len e =
+    let tails = prefixes_same a b r q (omega arith) (cc) in
     (cc, tails.1)
 
 pub regroup : (a b c r : List ℕ) → (a ++ (b ++ c)) ++ r ≡ a ++ (b ++ (c ++ r))
@@ -29,7 +29,7 @@ pub same_chunk : (text : List ℕ) (c d : Chunk) (r q : List ℕ) → IsChunk c 
     → text ≡ print_chunk c ++ r → text ≡ print_chunk d ++ q → (c ≡ d) × (r ≡ q)
 same_chunk text c d r q x y e f =
     let lines = chunk_line_unique text c.line d.line _ _ (line_of text r c x e) (line_of text q d y f) in
-    let octets = fronts_same c.octets d.octets (crlf_bytes ++ r) (crlf_bytes ++ q)
+    let octets = prefixes_same c.octets d.octets (crlf_bytes ++ r) (crlf_bytes ++ q)
     (x.size ∙ ap chunk_size lines.0 ∙ sym y.size) lines.1 in
     (λ i. record { line = lines.0 i; octets = octets.0 i }, cc (octets.1))
 

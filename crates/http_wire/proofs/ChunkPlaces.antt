@@ -9,7 +9,7 @@ use Rattle.std.proofs.lemmas.List.Elements.{All-push}
 use Rattle.httparse.specs.Ascii.{crlf_bytes}
 use Rattle.httparse.specs.Grammar.{ChunkLine, print_chunk_line, chunk_size, ReadsChunkLine, HasNoChunkLine, MayBecomeChunkLine, print_section}
 use Rattle.httparse.specs.Spans.{SectionOverflows}
-use Rattle.http_wire.specs.declared.limits.TheConstants.{MAX_TRAILERS}
+use Rattle.http_wire.specs.Limits.{max_trailers}
 use Rattle.httparse.proofs.ChunkLemmas.{ReadsChunkLine-append}
 use Rattle.httparse.proofs.PieceLemmas.{front-append}
 use Rattle.http_wire.specs.declared.chunked.Place.{Place}
@@ -66,23 +66,23 @@ pub octets_cut : (limit size room : ℕ) (text octets rest : List ℕ) → Decod
     → GivesCut limit text (octets ++ take room rest) (drop (room + 1) rest)
 octets_cut limit size room text octets rest d full past more =
     let (line, reads, is, some) = d.at in
-    let front = take (room + 1) rest in
-    let len : length front ≡ room + 1 = length-take-le (room + 1) rest (omega arith) in
+    let prefix = take (room + 1) rest in
+    let len : length prefix ≡ room + 1 = length-take-le (room + 1) rest (omega arith) in
     let kept : length octets ≡ length (joined d.chunks) = ap length d.octets_are in
     let whole : length (joined d.chunks) + room ≡ limit = omega arith in
-    let cut : take limit (joined d.chunks ++ front) ≡ joined d.chunks ++ take room front = subst (λ n. take n (joined d.chunks ++ front) ≡ joined d.chunks ++ take room front) whole (take-append-add (joined d.chunks) front room) in
-    let same : take room front ≡ take room rest = take-take room (room + 1) rest (omega arith) in
-    let ends : d.middle ≡ print_chunk_line line ++ (front ++ drop (room + 1) rest) = reads.1 ∙ ap (λ t. print_chunk_line line ++ t) (sym (take-append-drop (room + 1) rest)) in
+    let cut : take limit (joined d.chunks ++ prefix) ≡ joined d.chunks ++ take room prefix = subst (λ n. take n (joined d.chunks ++ prefix) ≡ joined d.chunks ++ take room prefix) whole (take-append-add (joined d.chunks) prefix room) in
+    let same : take room prefix ≡ take room rest = take-take room (room + 1) rest (omega arith) in
+    let ends : d.middle ≡ print_chunk_line line ++ (prefix ++ drop (room + 1) rest) = reads.1 ∙ ap (λ t. print_chunk_line line ++ t) (sym (take-append-drop (room + 1) rest)) in
     record {
-      front = record { chunks = d.chunks; line = line; octets = front };
+      prefix = record { chunks = d.chunks; line = line; octets = prefix };
       valid = record {
         chunks = d.reads.valid;
         fits = d.reads.fits;
         line = reads.0;
         within = omega (arith, len, past, is);
-        past = omega (arith, len, whole, length-append (joined d.chunks) front);
+        past = omega (arith, len, whole, length-append (joined d.chunks) prefix);
       };
-      text_is = d.reads.text_is ∙ ap (λ t. print_chunks d.chunks ++ t) ends ∙ sym (regroup (print_chunks d.chunks) (print_chunk_line line) front (drop (room + 1) rest));
+      text_is = d.reads.text_is ∙ ap (λ t. print_chunks d.chunks ++ t) ends ∙ sym (regroup (print_chunks d.chunks) (print_chunk_line line) prefix (drop (room + 1) rest));
       given_is = ap (λ t. t ++ take room rest) d.octets_are ∙ ap (λ t. joined d.chunks ++ t) (sym same) ∙ sym cut;
     }
 
@@ -174,10 +174,10 @@ trailers_end limit text octets rest d ends =
     (d.chunks, d.middle, d.reads, in_trailers (after_last EndsInTrailers limit text octets rest d ends))
 
 pub trailers_bad : (limit : ℕ) (text octets rest : List ℕ) → Decoded limit text octets places.Trailers rest
-    → SectionOverflows MAX_TRAILERS rest ⊎ IsTooLong rest → IsBadChunked limit text
+    → SectionOverflows max_trailers rest ⊎ IsTooLong rest → IsBadChunked limit text
 trailers_bad limit text octets rest d tells =
     elim tells [
-      | inl over ↦ (d.chunks, d.middle, d.reads, bad_trailers (after_last (SectionOverflows MAX_TRAILERS) limit text octets rest d over))
+      | inl over ↦ (d.chunks, d.middle, d.reads, bad_trailers (after_last (SectionOverflows max_trailers) limit text octets rest d over))
       | inr long ↦ (d.chunks, d.middle, d.reads, too_long (after_last IsTooLong limit text octets rest d long))
     ]
 
@@ -213,13 +213,13 @@ stands_append decoder bytes more s = record {
   within = omega (arith, s.within, length-append bytes more);
   decoded =
       let d = decoded_append decoder.limit (drop decoder.start bytes) decoder.octets.items decoder.place (drop decoder.at bytes) more s.decoded in
-      let front : drop decoder.start bytes ++ more ≡ drop decoder.start (bytes ++ more) = sym (drop-append-le decoder.start bytes more (omega (arith, s.started, s.within))) in
+      let prefix : drop decoder.start bytes ++ more ≡ drop decoder.start (bytes ++ more) = sym (drop-append-le decoder.start bytes more (omega (arith, s.started, s.within))) in
       let rest : drop decoder.at bytes ++ more ≡ drop decoder.at (bytes ++ more) = sym (drop-append-le decoder.at bytes more s.within) in
-      subst (λ t. Decoded decoder.limit t decoder.octets.items decoder.place (drop decoder.at (bytes ++ more))) front
+      subst (λ t. Decoded decoder.limit t decoder.octets.items decoder.place (drop decoder.at (bytes ++ more))) prefix
       (subst (Decoded decoder.limit (drop decoder.start bytes ++ more) decoder.octets.items decoder.place) rest d);
 }
 
--- The same where the bytes are the front of a text.
+-- The same where the bytes are the prefix of a text.
 pub stands_longer : (decoder : ChunkDecoder) (text : List ℕ) (n m : ℕ) → n ≤ m → Stands decoder (take n text) → Stands decoder (take m text)
 stands_longer decoder text n m le s =
     let whole : take n text ++ drop n (take m text) ≡ take m text = ap (λ t. t ++ drop n (take m text)) (sym (take-take n m text le)) ∙ take-append-drop n (take m text) in

@@ -10,7 +10,7 @@ use Rattle.std.proofs.lemmas.List.{flat_map_more}
 use Rattle.httparse.specs.Grammar.{ResponseHead, print_response, status_code, ReadsResponse, HasNoResponse, NeverHasResponse, MayBecomeResponse}
 use Rattle.httparse.specs.Spans.{header_bytes, ResponseOverflows, ResponseExceeds}
 use Rattle.http_wire.specs.Heads.{AfterInterims, fields_of, HasFinal, HasInterims, HasHead, HasTooManyInterim, IsBadHead, IsInterim, IsLongHead, line_ends, is_interim, is_final}
-use Rattle.http_wire.specs.Finding.{Passes, IsHeadFront, IsHeadAt, IsPlan, IsFound, HasNoPlan, Faults}
+use Rattle.http_wire.specs.Finding.{Passes, IsHeadPrefix, IsHeadAt, IsPlan, IsFound, HasNoPlan, Faults}
 use Rattle.http_wire.specs.Fields.{Pair}
 use Rattle.http_wire.specs.Response.{Cause}
 use Rattle.http_wire.specs.declared.fault.WireFault.{WireFault}
@@ -19,13 +19,13 @@ use Rattle.http_wire.specs.declared.head.FinalHead.{FinalHead}
 use Rattle.httparse.specs.declared.spans.HeaderSpan.{HeaderSpan}
 use Rattle.httparse.specs.declared.spans.ResponseSpans.{ResponseSpans}
 use Rattle.http_wire.specs.declared.head.HeadFinder.{HeadFinder}
-use Rattle.http_wire.specs.declared.limits.TheConstants.{MAX_HEADER_LINES, MAX_HEAD, MAX_INTERIM_HEADS}
-use Rattle.http_wire.proofs.LineEnds.{lines_in_front, exceeds_lines}
+use Rattle.http_wire.specs.Limits.{max_header_lines, max_head, max_interim_heads}
+use Rattle.http_wire.proofs.LineEnds.{lines_in_prefix, exceeds_lines}
 
 -- ---- more octets behind a text
 
-pub parts_append : (text front rest more : List ℕ) → text ≡ front ++ rest → text ++ more ≡ front ++ (rest ++ more)
-parts_append text front rest more parts = ap (λ (t : List ℕ). t ++ more) parts ∙ append_assoc front rest more
+pub parts_append : (text prefix rest more : List ℕ) → text ≡ prefix ++ rest → text ++ more ≡ prefix ++ (rest ++ more)
+parts_append text prefix rest more parts = ap (λ (t : List ℕ). t ++ more) parts ∙ append_assoc prefix rest more
 
 pub head_append : (text : List ℕ) (head : ResponseHead) (rest more : List ℕ) → HasHead text head rest
     → HasHead (text ++ more) head (rest ++ more)
@@ -48,68 +48,68 @@ after_passed finder bytes more passes fact = record {
   fact = fact;
 }
 
--- ---- the front of a text
+-- ---- the prefix of a text
 
-pub front_split : (text : List ℕ) (n : ℕ) (more : List ℕ) → text ++ more ≡ take n text ++ (drop n text ++ more)
-front_split text n more = parts_append text (take n text) (drop n text) more (sym (take-append-drop n text))
+pub prefix_split : (text : List ℕ) (n : ℕ) (more : List ℕ) → text ++ more ≡ take n text ++ (drop n text ++ more)
+prefix_split text n more = parts_append text (take n text) (drop n text) more (sym (take-append-drop n text))
 
 -- what never becomes a head never does with more behind it
-pub never_front : (text more : List ℕ) → NeverHasResponse (take MAX_HEAD text) → NeverHasResponse (text ++ more)
-never_front text more never later head rest reads =
-    never (drop MAX_HEAD text ++ (more ++ later)) head rest
+pub never_prefix : (text more : List ℕ) → NeverHasResponse (take max_head text) → NeverHasResponse (text ++ more)
+never_prefix text more never later head rest reads =
+    never (drop max_head text ++ (more ++ later)) head rest
     (subst (λ (t : List ℕ). ReadsResponse t head rest)
-    (append_assoc text more later ∙ front_split text MAX_HEAD (more ++ later)) reads)
+    (append_assoc text more later ∙ prefix_split text max_head (more ++ later)) reads)
 
--- a head that stands in a text of a full front stands in that front
-in_front : (text more : List ℕ) (head : ResponseHead) (rest : List ℕ) → MAX_HEAD ≤ length text → HasHead (text ++ more) head rest
-    → (tail : List ℕ) × ReadsResponse (take MAX_HEAD text) head tail
-in_front text more head rest full has =
+-- a head that stands in a text of a full prefix stands in that prefix
+in_prefix : (text more : List ℕ) (head : ResponseHead) (rest : List ℕ) → max_head ≤ length text → HasHead (text ++ more) head rest
+    → (tail : List ℕ) × ReadsResponse (take max_head text) head tail
+in_prefix text more head rest full has =
     let print = print_response head in
-    let same : take MAX_HEAD (text ++ more) ≡ take MAX_HEAD text = take-append-le MAX_HEAD text more full in
-    let room = MAX_HEAD - length print in
-    let whole : length print + room ≡ MAX_HEAD = omega (arith, has.is.octets) in
-    let front : take MAX_HEAD (text ++ more) ≡ print ++ take room rest =
-    ap (take MAX_HEAD) has.parts ∙ ap (λ n. take n (print ++ rest)) (sym whole) ∙ take-append-add print rest room in
-    (take room rest, (has.is.valid, sym same ∙ front))
+    let same : take max_head (text ++ more) ≡ take max_head text = take-append-le max_head text more full in
+    let room = max_head - length print in
+    let whole : length print + room ≡ max_head = omega (arith, has.is.octets) in
+    let prefix : take max_head (text ++ more) ≡ print ++ take room rest =
+    ap (take max_head) has.parts ∙ ap (λ n. take n (print ++ rest)) (sym whole) ∙ take-append-add print rest room in
+    (take room rest, (has.is.valid, sym same ∙ prefix))
 
--- no head in a full front
-pub long_open : (text more : List ℕ) → MAX_HEAD ≤ length text → HasNoResponse (take MAX_HEAD text) → IsLongHead (text ++ more)
+-- no head in a full prefix
+pub long_open : (text more : List ℕ) → max_head ≤ length text → HasNoResponse (take max_head text) → IsLongHead (text ++ more)
 long_open text more full none = record {
-  none = λ head rest has. let inside = in_front text more head rest full has in none head inside.0 inside.1;
+  none = λ head rest has. let inside = in_prefix text more head rest full has in none head inside.0 inside.1;
   long = inl (omega (arith, full, length-append text more));
 }
 
--- too many lines in a front that is full, or is the whole text
-pub long_many : (text more : List ℕ) → ResponseOverflows MAX_HEADER_LINES (take MAX_HEAD text)
-    → ResponseExceeds MAX_HEADER_LINES (take MAX_HEAD text) → IsLongHead (text ++ more)
+-- too many lines in a prefix that is full, or is the whole text
+pub long_many : (text more : List ℕ) → ResponseOverflows max_header_lines (take max_head text)
+    → ResponseExceeds max_header_lines (take max_head text) → IsLongHead (text ++ more)
 long_many text more over exceeds = record {
   none = λ head rest has.
-      let many = over (drop MAX_HEAD text ++ more) head rest
-      (has.is.valid, sym (front_split text MAX_HEAD more) ∙ has.parts) in
+      let many = over (drop max_head text ++ more) head rest
+      (has.is.valid, sym (prefix_split text max_head more) ∙ has.parts) in
       omega (arith, many, has.is.lines);
-  long = inr (omega (arith, exceeds_lines (take MAX_HEAD text) exceeds, front_lines));
+  long = inr (omega (arith, exceeds_lines (take max_head text) exceeds, prefix_lines));
 } where
-  front_lines : line_ends (take MAX_HEAD text) ≤ line_ends (take MAX_HEAD (text ++ more))
-  front_lines =
+  prefix_lines : line_ends (take max_head text) ≤ line_ends (take max_head (text ++ more))
+  prefix_lines =
       omega (
         arith,
-        lines_in_front (take MAX_HEAD text) (drop MAX_HEAD text ++ more) (omega (arith, length-take MAX_HEAD text)),
-        ap (λ (t : List ℕ). line_ends (take MAX_HEAD t)) (front_split text MAX_HEAD more),
+        lines_in_prefix (take max_head text) (drop max_head text ++ more) (omega (arith, length-take max_head text)),
+        ap (λ (t : List ℕ). line_ends (take max_head t)) (prefix_split text max_head more),
       )
 
 -- ---- a head that was parsed
 
 -- the head that the spans tell, in the whole text
 pub head_found : (text : List ℕ) (headers : List HeaderSpan) (spans : ResponseSpans) (head : ResponseHead)
-    → IsHeadAt (take MAX_HEAD text) headers spans head → HasHead text head (drop spans.len text)
+    → IsHeadAt (take max_head text) headers spans head → HasHead text head (drop spans.len text)
 head_found text headers spans head found =
-    let front = take MAX_HEAD text in
+    let prefix = take max_head text in
     let print = print_response head in
     let len : spans.len ≡ length print = found.at.len in
-    let split : text ≡ print ++ (drop spans.len front ++ drop MAX_HEAD text) =
-    sym (take-append-drop MAX_HEAD text) ∙ parts_append front print (drop spans.len front) (drop MAX_HEAD text) found.at.reads.1 in
-    let tail : drop spans.len text ≡ drop spans.len front ++ drop MAX_HEAD text =
-    ap (λ n. drop n text) len ∙ ap (drop (length print)) split ∙ drop-append_seam print (drop spans.len front ++ drop MAX_HEAD text) in
+    let split : text ≡ print ++ (drop spans.len prefix ++ drop max_head text) =
+    sym (take-append-drop max_head text) ∙ parts_append prefix print (drop spans.len prefix) (drop max_head text) found.at.reads.1 in
+    let tail : drop spans.len text ≡ drop spans.len prefix ++ drop max_head text =
+    ap (λ n. drop n text) len ∙ ap (drop (length print)) split ∙ drop-append_seam print (drop spans.len prefix ++ drop max_head text) in
     record { is = found.is; parts = split ∙ ap (λ (t : List ℕ). print ++ t) (sym tail) }
 
 -- one interim head more
@@ -126,8 +126,8 @@ interims_push heads head text middle rest has next interim = record {
 
 -- the finder passes over an interim head
 pub passes_next : (finder new : HeadFinder) (bytes : List ℕ) (headers : List HeaderSpan) (spans : ResponseSpans) (head : ResponseHead)
-    → Passes finder bytes → IsHeadAt (take MAX_HEAD (drop finder.at bytes)) headers spans head
-    → IsTrue (is_interim spans.code) → finder.passed < MAX_INTERIM_HEADS
+    → Passes finder bytes → IsHeadAt (take max_head (drop finder.at bytes)) headers spans head
+    → IsTrue (is_interim spans.code) → finder.passed < max_interim_heads
     → new.at ≡ finder.at + spans.len → new.passed ≡ finder.passed + 1 → Passes new bytes
 passes_next finder new bytes headers spans head passes found interim few at passed =
     let text = drop finder.at bytes in
@@ -135,7 +135,7 @@ passes_next finder new bytes headers spans head passes found interim few at pass
     let status : IsTrue (is_interim (status_code head)) = subst (λ code. IsTrue (is_interim code)) found.at.code interim in
     let place : drop spans.len text ≡ drop new.at bytes =
     drop-drop spans.len finder.at bytes ∙ ap (λ n. drop n bytes) (sym at) in
-    let len = length-take MAX_HEAD text in
+    let len = length-take max_head text in
     record {
       heads = passes.heads ++ head ∷ [];
       passed = subst (HasInterims (passes.heads ++ head ∷ []) bytes) place
@@ -150,8 +150,8 @@ passes_next finder new bytes headers spans head passes found interim few at pass
 
 -- a ninth interim head
 pub too_many : (finder : HeadFinder) (bytes more : List ℕ) (headers : List HeaderSpan) (spans : ResponseSpans) (head : ResponseHead)
-    → Passes finder bytes → IsHeadAt (take MAX_HEAD (drop finder.at bytes)) headers spans head
-    → IsTrue (is_interim spans.code) → MAX_INTERIM_HEADS ≤ finder.passed → HasTooManyInterim (bytes ++ more)
+    → Passes finder bytes → IsHeadAt (take max_head (drop finder.at bytes)) headers spans head
+    → IsTrue (is_interim spans.code) → max_interim_heads ≤ finder.passed → HasTooManyInterim (bytes ++ more)
 too_many finder bytes more headers spans head passes found interim many =
     let text = drop finder.at bytes in
     let has = head_found text headers spans head found in
@@ -166,7 +166,7 @@ too_many finder bytes more headers spans head passes found interim many =
 
 -- a status that is neither interim nor final
 pub strange : (finder : HeadFinder) (bytes more : List ℕ) (headers : List HeaderSpan) (spans : ResponseSpans) (head : ResponseHead)
-    → Passes finder bytes → IsHeadAt (take MAX_HEAD (drop finder.at bytes)) headers spans head
+    → Passes finder bytes → IsHeadAt (take max_head (drop finder.at bytes)) headers spans head
     → (is_interim spans.code || is_final spans.code) ≡ false → AfterInterims IsBadHead (bytes ++ more)
 strange finder bytes more headers spans head passes found status =
     let text = drop finder.at bytes in
@@ -179,7 +179,7 @@ strange finder bytes more headers spans head passes found status =
 
 -- the final head
 final_found : (finder : HeadFinder) (bytes : List ℕ) (headers : List HeaderSpan) (spans : ResponseSpans) (head : ResponseHead)
-    → Passes finder bytes → IsHeadAt (take MAX_HEAD (drop finder.at bytes)) headers spans head
+    → Passes finder bytes → IsHeadAt (take max_head (drop finder.at bytes)) headers spans head
     → IsTrue (is_final spans.code) → HasFinal bytes head (drop (finder.at + spans.len) bytes)
 final_found finder bytes headers spans head passes found final =
     let text = drop finder.at bytes in
@@ -206,23 +206,23 @@ final_append text head after more final = record {
 }
 
 -- the fields that the spans cover, and the status
-told : (Fact : ℕ → List Pair → Type 0) (front : List ℕ) (headers : List HeaderSpan) (spans : ResponseSpans) (head : ResponseHead) → IsHeadAt front headers spans head
-    → Fact spans.code (map (header_bytes front) (take spans.headers headers))
+told : (Fact : ℕ → List Pair → Type 0) (prefix : List ℕ) (headers : List HeaderSpan) (spans : ResponseSpans) (head : ResponseHead) → IsHeadAt prefix headers spans head
+    → Fact spans.code (map (header_bytes prefix) (take spans.headers headers))
     → Fact (status_code head) (fields_of head)
-told Fact front headers spans head found fact =
+told Fact prefix headers spans head found fact =
     subst (λ code. Fact code (fields_of head)) found.at.code (subst (Fact spans.code) found.at.fields fact)
 
 -- what was read off the final head
 pub planned : (finder : HeadFinder) (bytes : List ℕ) (headers : List HeaderSpan) (spans : ResponseSpans) (head : ResponseHead)
-    (plan : FinalHead) → Passes finder bytes → IsHeadAt (take MAX_HEAD (drop finder.at bytes)) headers spans head
+    (plan : FinalHead) → Passes finder bytes → IsHeadAt (take max_head (drop finder.at bytes)) headers spans head
     → IsTrue (is_final spans.code)
-    → IsPlan spans.code (map (header_bytes (take MAX_HEAD (drop finder.at bytes))) (take spans.headers headers)) (finder.at + spans.len) plan
+    → IsPlan spans.code (map (header_bytes (take max_head (drop finder.at bytes))) (take spans.headers headers)) (finder.at + spans.len) plan
     → IsFound bytes plan
 planned finder bytes headers spans head plan passes found final is =
     let own : IsPlan (status_code head) (fields_of head) (finder.at + spans.len) plan =
     told (λ code fields. IsPlan code fields (finder.at + spans.len) plan)
-    (take MAX_HEAD (drop finder.at bytes)) headers spans head found is in
-    let len = length-take MAX_HEAD (drop finder.at bytes) in
+    (take max_head (drop finder.at bytes)) headers spans head found is in
+    let len = length-take max_head (drop finder.at bytes) in
     record {
       head = head;
       final = subst (λ n. HasFinal bytes head (drop n bytes)) (sym own.end_is) (final_found finder bytes headers spans head passes found final);
@@ -235,13 +235,13 @@ planned finder bytes headers spans head plan passes found final is =
 
 -- why nothing was read off it
 pub unplanned : (finder : HeadFinder) (bytes : List ℕ) (headers : List HeaderSpan) (spans : ResponseSpans) (head : ResponseHead)
-    (fault : WireFault) → Passes finder bytes → IsHeadAt (take MAX_HEAD (drop finder.at bytes)) headers spans head
+    (fault : WireFault) → Passes finder bytes → IsHeadAt (take max_head (drop finder.at bytes)) headers spans head
     → IsTrue (is_final spans.code)
-    → HasNoPlan spans.code (map (header_bytes (take MAX_HEAD (drop finder.at bytes))) (take spans.headers headers)) fault
+    → HasNoPlan spans.code (map (header_bytes (take max_head (drop finder.at bytes))) (take spans.headers headers)) fault
     → Faults bytes fault
 unplanned finder bytes headers spans head fault passes found final none more limit =
     by_fault fault
-    (told (λ code fields. HasNoPlan code fields fault) (take MAX_HEAD (drop finder.at bytes)) headers spans head found none)
+    (told (λ code fields. HasNoPlan code fields fault) (take max_head (drop finder.at bytes)) headers spans head found none)
   where
     after : List ℕ
     after = drop (finder.at + spans.len) bytes ++ more
@@ -263,19 +263,19 @@ unplanned finder bytes headers spans head fault passes found final none more lim
 
 -- ---- what the parser tells
 
--- a front that is short is the whole text
-short_front : (text : List ℕ) → length (take MAX_HEAD text) < MAX_HEAD → length text < MAX_HEAD
-short_front text short = omega (arith, length-take MAX_HEAD text, short)
+-- a prefix that is short is the whole text
+short_prefix : (text : List ℕ) → length (take max_head text) < max_head → length text < max_head
+short_prefix text short = omega (arith, length-take max_head text, short)
 
 -- an unfinished head, short of the longest
-pub front_open : (finder new : HeadFinder) (bytes front : List ℕ) → front ≡ take MAX_HEAD (drop finder.at bytes)
-    → new.at ≡ finder.at → HasNoResponse front → MayBecomeResponse front → length front < MAX_HEAD
-    → IsHeadFront (drop new.at bytes)
-front_open finder new bytes front is at none unfinished short =
+pub prefix_open : (finder new : HeadFinder) (bytes prefix : List ℕ) → prefix ≡ take max_head (drop finder.at bytes)
+    → new.at ≡ finder.at → HasNoResponse prefix → MayBecomeResponse prefix → length prefix < max_head
+    → IsHeadPrefix (drop new.at bytes)
+prefix_open finder new bytes prefix is at none unfinished short =
     let text = drop finder.at bytes in
-    let less = short_front text (subst (λ (t : List ℕ). length t < MAX_HEAD) is short) in
-    let whole : front ≡ text = is ∙ take_all MAX_HEAD text (omega (arith, less)) in
-    subst (λ n. IsHeadFront (drop n bytes)) (sym at) (record {
+    let less = short_prefix text (subst (λ (t : List ℕ). length t < max_head) is short) in
+    let whole : prefix ≡ text = is ∙ take_all max_head text (omega (arith, less)) in
+    subst (λ n. IsHeadPrefix (drop n bytes)) (sym at) (record {
       none = subst HasNoResponse whole none;
       unfinished = subst MayBecomeResponse whole unfinished;
       octets = less;
@@ -290,39 +290,39 @@ passes_same finder new bytes at passed passes = record {
   count = passes.count ∙ sym passed;
   few = omega (arith, passes.few, passed);
   within = omega (arith, passes.within, at);
-  soon = subst (λ n. n ≤ new.passed * MAX_HEAD) (sym at) (subst (λ n. finder.at ≤ n * MAX_HEAD) (sym passed) passes.soon);
+  soon = subst (λ n. n ≤ new.passed * max_head) (sym at) (subst (λ n. finder.at ≤ n * max_head) (sym passed) passes.soon);
 }
 
 -- fewer octets are there than a head may have
-pub short_of : (finder new : HeadFinder) (bytes front : List ℕ) → front ≡ take MAX_HEAD (drop finder.at bytes)
-    → new.at ≡ finder.at → Passes finder bytes → length front < MAX_HEAD → length bytes < new.at + MAX_HEAD
-short_of finder new bytes front is at passes short =
-    let less = short_front (drop finder.at bytes) (subst (λ (t : List ℕ). length t < MAX_HEAD) is short) in
+pub short_of : (finder new : HeadFinder) (bytes prefix : List ℕ) → prefix ≡ take max_head (drop finder.at bytes)
+    → new.at ≡ finder.at → Passes finder bytes → length prefix < max_head → length bytes < new.at + max_head
+short_of finder new bytes prefix is at passes short =
+    let less = short_prefix (drop finder.at bytes) (subst (λ (t : List ℕ). length t < max_head) is short) in
     omega (arith, less, length-drop finder.at bytes, at, passes.within)
 
-pub open_long : (finder : HeadFinder) (bytes front more : List ℕ) → front ≡ take MAX_HEAD (drop finder.at bytes)
-    → Passes finder bytes → HasNoResponse front → MAX_HEAD ≤ length front → AfterInterims IsLongHead (bytes ++ more)
-open_long finder bytes front more is passes none full =
+pub open_long : (finder : HeadFinder) (bytes prefix more : List ℕ) → prefix ≡ take max_head (drop finder.at bytes)
+    → Passes finder bytes → HasNoResponse prefix → max_head ≤ length prefix → AfterInterims IsLongHead (bytes ++ more)
+open_long finder bytes prefix more is passes none full =
     let text = drop finder.at bytes in
-    let long : MAX_HEAD ≤ length text = omega (arith, full, ap length is, length-take MAX_HEAD text) in
+    let long : max_head ≤ length text = omega (arith, full, ap length is, length-take max_head text) in
     after_passed finder bytes more passes (long_open text more long (subst HasNoResponse is none))
 
-pub many_long : (finder : HeadFinder) (bytes front more : List ℕ) → front ≡ take MAX_HEAD (drop finder.at bytes)
-    → Passes finder bytes → ResponseOverflows MAX_HEADER_LINES front → ResponseExceeds MAX_HEADER_LINES front
+pub many_long : (finder : HeadFinder) (bytes prefix more : List ℕ) → prefix ≡ take max_head (drop finder.at bytes)
+    → Passes finder bytes → ResponseOverflows max_header_lines prefix → ResponseExceeds max_header_lines prefix
     → AfterInterims IsLongHead (bytes ++ more)
-many_long finder bytes front more is passes over exceeds =
+many_long finder bytes prefix more is passes over exceeds =
     after_passed finder bytes more passes (long_many (drop finder.at bytes) more
-    (subst (ResponseOverflows MAX_HEADER_LINES) is over) (subst (ResponseExceeds MAX_HEADER_LINES) is exceeds))
+    (subst (ResponseOverflows max_header_lines) is over) (subst (ResponseExceeds max_header_lines) is exceeds))
 
-pub never_bad : (finder : HeadFinder) (bytes front more : List ℕ) → front ≡ take MAX_HEAD (drop finder.at bytes)
-    → Passes finder bytes → NeverHasResponse front → AfterInterims IsBadHead (bytes ++ more)
-never_bad finder bytes front more is passes never =
-    after_passed finder bytes more passes (inl (never_front (drop finder.at bytes) more (subst NeverHasResponse is never)))
+pub never_bad : (finder : HeadFinder) (bytes prefix more : List ℕ) → prefix ≡ take max_head (drop finder.at bytes)
+    → Passes finder bytes → NeverHasResponse prefix → AfterInterims IsBadHead (bytes ++ more)
+never_bad finder bytes prefix more is passes never =
+    after_passed finder bytes more passes (inl (never_prefix (drop finder.at bytes) more (subst NeverHasResponse is never)))
 
 -- the same with too many lines
-pub ends_long : (finder : HeadFinder) (bytes : List ℕ) → Passes finder bytes → IsHeadFront (drop finder.at bytes)
-    → MAX_HEADER_LINES < line_ends (drop finder.at bytes) → AfterInterims IsLongHead bytes
-ends_long finder bytes passes front many =
+pub ends_long : (finder : HeadFinder) (bytes : List ℕ) → Passes finder bytes → IsHeadPrefix (drop finder.at bytes)
+    → max_header_lines < line_ends (drop finder.at bytes) → AfterInterims IsLongHead bytes
+ends_long finder bytes passes prefix many =
     let text = drop finder.at bytes in
     record {
       heads = passes.heads;
@@ -330,7 +330,7 @@ ends_long finder bytes passes front many =
       few = omega (arith, passes.count, passes.few);
       passed = passes.passed;
       fact = record {
-        none = λ head rest has. front.none head rest (has.is.valid, has.parts);
-        long = inr (omega (arith, many, ap line_ends (take_all MAX_HEAD text (omega (arith, front.octets)))));
+        none = λ head rest has. prefix.none head rest (has.is.valid, has.parts);
+        long = inr (omega (arith, many, ap line_ends (take_all max_head text (omega (arith, prefix.octets)))));
       };
     }

@@ -7,6 +7,7 @@ mod ChunkLaws
 mod ChunkLists
 mod ChunkMoves
 mod ChunkPlaces
+mod Faults
 mod Filling
 mod HeadFacts
 mod HeadLaws
@@ -17,4 +18,4 @@ mod Pieces
 mod RequestPieces
 mod ResponseLaws
 mod SourceReads
-mod TrailerFronts
+mod TrailerPrefixes

@@ -7,7 +7,7 @@ use Rattle.std.proofs.lemmas.List.Sums.{sum_by-append}
 use Rattle.httparse.specs.Grammar.{LineEnd, crlf, lf, print_end, Field, print_field, print_section, ResponseHead, print_response, print_blank, print_version, print_reason}
 use Rattle.httparse.specs.Spans.{ResponseExceeds}
 use Rattle.http_wire.specs.Heads.{line_ends}
-use Rattle.http_wire.specs.declared.limits.TheConstants.{MAX_HEADER_LINES, MAX_HEAD}
+use Rattle.http_wire.specs.Limits.{max_header_lines, max_head}
 
 pub line_ends-append : (a b : List ℕ) → line_ends (a ++ b) ≡ line_ends a + line_ends b
 line_ends-append a b = sum_by-append (λ (octet : ℕ). cond (octet == 10) 1 0) a b
@@ -43,26 +43,26 @@ head_has head =
     line_ends-append before (print_end head.line_end) in
     omega (arith, all, line, section_has head.fields head.last, end_has head.line_end)
 
--- a text whose front and an empty line are a head of too many lines has that many line ends
-pub exceeds_lines : (text : List ℕ) → ResponseExceeds MAX_HEADER_LINES text → MAX_HEADER_LINES < line_ends text
-exceeds_lines text (front, rest, split, head, reads, many) =
+-- a text whose prefix and an empty line are a head of too many lines has that many line ends
+pub exceeds_lines : (text : List ℕ) → ResponseExceeds max_header_lines text → max_header_lines < line_ends text
+exceeds_lines text (prefix, rest, split, head, reads, many) =
     omega (
       arith,
       head_has head,
       many,
       ap line_ends reads.1,
       ap line_ends split,
-      line_ends-append front rest,
-      line_ends-append front (print_end lf),
+      line_ends-append prefix rest,
+      line_ends-append prefix (print_end lf),
       line_ends-append (print_response head) [],
       end_has lf,
     )
 
 -- line ends of a short text are among those of its continuations that a head may have
-pub lines_in_front : (text more : List ℕ) → length text ≤ MAX_HEAD → line_ends text ≤ line_ends (take MAX_HEAD (text ++ more))
-lines_in_front text more short =
-    let room = MAX_HEAD - length text in
-    let whole : length text + room ≡ MAX_HEAD = omega (arith, short) in
-    let front : take MAX_HEAD (text ++ more) ≡ text ++ take room more =
+pub lines_in_prefix : (text more : List ℕ) → length text ≤ max_head → line_ends text ≤ line_ends (take max_head (text ++ more))
+lines_in_prefix text more short =
+    let room = max_head - length text in
+    let whole : length text + room ≡ max_head = omega (arith, short) in
+    let prefix : take max_head (text ++ more) ≡ text ++ take room more =
     ap (λ n. take n (text ++ more)) (sym whole) ∙ take-append-add text more room in
-    omega (arith, ap line_ends front, line_ends-append text (take room more))
+    omega (arith, ap line_ends prefix, line_ends-append text (take room more))

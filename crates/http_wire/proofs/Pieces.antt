@@ -20,18 +20,18 @@ pieces_whole (octet ∷ text) plain =
     ∙ ap (onto_first octet) (pieces_whole text (All-tail is_plain octet text plain))
 
 -- what stands before the first comma is the first piece
-pieces_split : (front after : List ℕ) → HasNoComma front → pieces (front ++ 44 ∷ after) ≡ front ∷ pieces after
+pieces_split : (prefix after : List ℕ) → HasNoComma prefix → pieces (prefix ++ 44 ∷ after) ≡ prefix ∷ pieces after
 pieces_split [] after plain = refl
-pieces_split (octet ∷ front) after plain =
-    step octet (front ++ 44 ∷ after) (All-head is_plain octet front plain)
-    ∙ ap (onto_first octet) (pieces_split front after (All-tail is_plain octet front plain))
+pieces_split (octet ∷ prefix) after plain =
+    step octet (prefix ++ 44 ∷ after) (All-head is_plain octet prefix plain)
+    ∙ ap (onto_first octet) (pieces_split prefix after (All-tail is_plain octet prefix plain))
 
 -- the same of members
 pub members_whole : (text : List ℕ) → HasNoComma text → members text ≡ trim_ows text ∷ []
 unfolding members
 members_whole text plain = ap (map trim_ows) (pieces_whole text plain)
 
-pub members_split : (front after : List ℕ) → HasNoComma front
-    → members (front ++ 44 ∷ after) ≡ trim_ows front ∷ members after
+pub members_split : (prefix after : List ℕ) → HasNoComma prefix
+    → members (prefix ++ 44 ∷ after) ≡ trim_ows prefix ∷ members after
 unfolding members
-members_split front after plain = ap (map trim_ows) (pieces_split front after plain)
+members_split prefix after plain = ap (map trim_ows) (pieces_split prefix after plain)

@@ -54,19 +54,19 @@ pieces_at pieces i d inside =
     let split : pieces ≡ take i pieces ++ (get_or pieces i d ∷ drop (suc i) pieces) = sym (take-append-drop i pieces) ∙ ap (λ t. take i pieces ++ t) (drop-cons pieces i d inside) in
     ap joined_pieces split ∙ flat_map-append (λ (piece : Bor (List ℕ)). piece.now) (take i pieces) (get_or pieces i d ∷ drop (suc i) pieces)
 
--- a front of the second text behind the first is a front of all
-front_more : (first second rest : List ℕ) (n : ℕ) → take (length first + min n (length second)) (first ++ (second ++ rest)) ≡ first ++ take n second
-front_more first second rest n =
+-- a prefix of the second text behind the first is a prefix of all
+prefix_more : (first second rest : List ℕ) (n : ℕ) → take (length first + min n (length second)) (first ++ (second ++ rest)) ≡ first ++ take n second
+prefix_more first second rest n =
     take-append-add first (second ++ rest) (min n (length second))
     ∙ ap (λ t. first ++ t) (take-append-le (min n (length second)) second rest (omega arith) ∙ take_min n second)
 
--- What was written where a piece was not written whole is a front of all the pieces.
-pub prefix_more : (old mid new : Option (List ℕ)) (pieces : List (Bor (List ℕ))) (i : ℕ) (d : Bor (List ℕ)) → i < length pieces
+-- What was written where a piece was not written whole is a prefix of all the pieces.
+pub cut_piece : (old mid new : Option (List ℕ)) (pieces : List (Bor (List ℕ))) (i : ℕ) (d : Bor (List ℕ)) → i < length pieces
     → Appends old mid (joined_pieces (take i pieces)) → AppendsPrefix mid new (get_or pieces i d).now → AppendsPrefix old new (joined_pieces pieces)
-prefix_more old mid new pieces i d inside before part =
+cut_piece old mid new pieces i d inside before part =
     let first = joined_pieces (take i pieces) in
     let piece = (get_or pieces i d).now in
     let rest = joined_pieces (drop (suc i) pieces) in
     let n = length first + min part.0 (length piece) in
-    let front : first ++ take part.0 piece ≡ take n (joined_pieces pieces) = sym (ap (take n) (pieces_at pieces i d inside) ∙ front_more first piece rest part.0) in
-    (n, subst (Appends old new) front (Appends-trans old mid new first (take part.0 piece) before part.1))
+    let prefix : first ++ take part.0 piece ≡ take n (joined_pieces pieces) = sym (ap (take n) (pieces_at pieces i d inside) ∙ prefix_more first piece rest part.0) in
+    (n, subst (Appends old new) prefix (Appends-trans old mid new first (take part.0 piece) before part.1))

@@ -4,7 +4,7 @@ use Rattle.std.proofs.Common.{◌≡◌, ◌⊎◌, ℕ, List, [], ◌∷◌, �
 use Rattle.std.proofs.lemmas.Bool.{false≢true}
 use Rattle.std.proofs.Math.Seq.{take-append_seam}
 use Rattle.httparse.specs.Grammar.{ResponseHead, status_code}
-use Rattle.http_wire.specs.Bodies.{Gives, InBody, IsBodyFront}
+use Rattle.http_wire.specs.Bodies.{Gives, InBody, IsBodyPrefix}
 use Rattle.http_wire.specs.Fields.{framing_of, IsFirstText, IsLocation}
 use Rattle.http_wire.specs.Heads.{HasFinal, fields_of}
 use Rattle.http_wire.specs.Response.{Answers, AtFinal, Cause, Finds, GivesOrStops, GivesReply, HasBadLength, IsInCoding, IsTooMuch, Reply, Response, Tells, reply_of}
@@ -12,9 +12,9 @@ use Rattle.http_wire.specs.declared.fault.WireFault.{WireFault}
 use Rattle.http_wire.specs.declared.fault.WireFault.TheVariants.{EarlyEnd, BadHead, HeadTooLong, TooManyInterim, BadLength, BadChunk, Coding, Device, NoMemory, TooMuch}
 use Rattle.http_wire.specs.declared.framing.Framing.{Framing}
 use Rattle.http_wire.specs.declared.framing.Unframed.{Unframed}
-use Rattle.http_wire.specs.declared.limits.TheConstants.{MAX_RAW}
+use Rattle.http_wire.specs.Limits.{max_raw}
 use Rattle.http_wire.specs.declared.response.HttpReply.{HttpReply}
-use Rattle.http_wire.proofs.BodyLaws.{body_unique, body_ends, body_bad, body_front}
+use Rattle.http_wire.proofs.BodyLaws.{body_unique, body_ends, body_bad, body_prefix}
 use Rattle.http_wire.proofs.HeadFacts.{final_append}
 use Rattle.http_wire.proofs.HeadLaws.{final_unique, ends_in_head_excludes, long_head_excludes, bad_head_excludes, many_interim_excludes}
 
@@ -74,23 +74,23 @@ not_unframed result framing why ok err =
 too_much_excludes : (input : List ℕ) (limit : ℕ) (reply : Reply) → Response input limit reply → IsTooMuch input limit → ⊥
 too_much_excludes input limit reply response much =
     let gives = response.gives in
-    let front = much.front in
-    let behind = drop MAX_RAW input in
-    let whole : take MAX_RAW input ++ behind ≡ input = take-append-drop MAX_RAW input in
-    let final : HasFinal input front.head (front.text ++ behind) =
-    subst (λ (t : List ℕ). HasFinal t front.head (front.text ++ behind)) whole
-    (final_append (take MAX_RAW input) front.head front.text behind front.final) in
-    let heads = final_unique input front.head gives.head (front.text ++ behind) gives.text final gives.final in
-    let framing = same_framing front.head gives.head front.framing gives.framing heads.0 front.framed gives.framed in
-    let n = length front.text in
-    let cut : take n gives.text ≡ front.text = ap (take n) (sym heads.1) ∙ take-append_seam front.text behind in
+    let prefix = much.prefix in
+    let behind = drop max_raw input in
+    let whole : take max_raw input ++ behind ≡ input = take-append-drop max_raw input in
+    let final : HasFinal input prefix.head (prefix.text ++ behind) =
+    subst (λ (t : List ℕ). HasFinal t prefix.head (prefix.text ++ behind)) whole
+    (final_append (take max_raw input) prefix.head prefix.text behind prefix.final) in
+    let heads = final_unique input prefix.head gives.head (prefix.text ++ behind) gives.text final gives.final in
+    let framing = same_framing prefix.head gives.head prefix.framing gives.framing heads.0 prefix.framed gives.framed in
+    let n = length prefix.text in
+    let cut : take n gives.text ≡ prefix.text = ap (take n) (sym heads.1) ∙ take-append_seam prefix.text behind in
     let lengths = ap length heads.1 in
-    let sum = length-append front.text behind in
+    let sum = length-append prefix.text behind in
     let total = ap length whole in
-    let parts = length-append (take MAX_RAW input) behind in
-    let taken = length-take MAX_RAW input in
-    body_front gives.framing limit n gives.text reply.body reply.cut response.rest
-    (subst (λ (t : List ℕ). IsBodyFront gives.framing limit t) (sym cut) (subst (λ f. IsBodyFront f limit front.text) framing front.fact))
+    let parts = length-append (take max_raw input) behind in
+    let taken = length-take max_raw input in
+    body_prefix gives.framing limit n gives.text reply.body reply.cut response.rest
+    (subst (λ (t : List ℕ). IsBodyPrefix gives.framing limit t) (sym cut) (subst (λ f. IsBodyPrefix f limit prefix.text) framing prefix.fact))
     (omega (arith, much.more, lengths, sum, total, parts, taken))
     (omega (arith, response.within, much.more, lengths, sum, total, parts, taken))
     gives.gives

@@ -36,11 +36,11 @@ EndsInBody (Counted size) limit text = (length text < size) × (length text ≤ 
 EndsInBody Chunked limit text = EndsInChunked limit text
 EndsInBody ToEnd limit text = ⊥
 
--- the text is a front of the body, with no more octets of it than the limit, and what follows belongs to it
-abbrev pub IsBodyFront : Framing → ℕ → List ℕ → Type 0
-IsBodyFront (Counted size) limit text = (length text < size) × (length text ≤ limit)
-IsBodyFront Chunked limit text = EndsInChunked limit text ⊎ EndsTooLong limit text
-IsBodyFront ToEnd limit text = length text ≤ limit
+-- the text is a prefix of the body, with no more octets of it than the limit, and what follows belongs to it
+abbrev pub IsBodyPrefix : Framing → ℕ → List ℕ → Type 0
+IsBodyPrefix (Counted size) limit text = (length text < size) × (length text ≤ limit)
+IsBodyPrefix Chunked limit text = EndsInChunked limit text ⊎ EndsTooLong limit text
+IsBodyPrefix ToEnd limit text = length text ≤ limit
 
 -- the body can't be read, and no more octets than the limit come before
 abbrev pub IsBadBody : Framing → ℕ → List ℕ → Type 0

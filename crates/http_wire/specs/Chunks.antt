@@ -6,7 +6,7 @@ use Rattle.httparse.specs.Ascii.{carriage_return, crlf_bytes}
 use Rattle.httparse.specs.Grammar.{ChunkLine, print_chunk_line, IsChunkLine, chunk_size, ReadsChunkLine, HasNoChunkLine, NeverHasChunkLine, MayBecomeChunkLine, LineEnd, Field, IsField, print_section, ReadsSection, HasNoSection, MayBecomeSection}
 use Rattle.httparse.specs.Spans.{SectionOverflows}
 use Rattle.http_wire.specs.Heads.{line_ends}
-use Rattle.http_wire.specs.declared.limits.TheConstants.{MAX_TRAILERS, MAX_TRAILER_BYTES}
+use Rattle.http_wire.specs.Limits.{max_trailers, max_trailer_octets}
 
 -- chunk = chunk-line chunk-data CRLF, where the line holds the size and the extension
 pub record Chunk : Type 0 where
@@ -56,16 +56,16 @@ pub record IsChunkedBody (b : ChunkedBody) : Type 0 where
   pub last : IsChunkLine b.last
   pub size : chunk_size b.last ≡ 0
   pub trailers : All IsField b.trailers
-  pub few : length b.trailers ≤ MAX_TRAILERS
-  pub short : length (print_section b.trailers b.end) ≤ MAX_TRAILER_BYTES
+  pub few : length b.trailers ≤ max_trailers
+  pub short : length (print_section b.trailers b.end) ≤ max_trailer_octets
 
 -- text is trailers within their two limits, and then rest
 pub record ReadsTrailers (text rest : List ℕ) : Type 0 where
   pub fields : List Field
   pub last : LineEnd
   pub reads : ReadsSection text fields last rest
-  pub few : length fields ≤ MAX_TRAILERS
-  pub short : length (print_section fields last) ≤ MAX_TRAILER_BYTES
+  pub few : length fields ≤ max_trailers
+  pub short : length (print_section fields last) ≤ max_trailer_octets
 
 -- text is a body of at most limit octets, which are given, and then rest
 pub record GivesWhole (limit : ℕ) (text given rest : List ℕ) : Type 0 where
@@ -78,33 +78,33 @@ pub record GivesWhole (limit : ℕ) (text given rest : List ℕ) : Type 0 where
 -- ---- bodies that are cut
 
 -- a body up to an octet of a chunk
-pub record BodyFront : Type 0 where
+pub record BodyPrefix : Type 0 where
   pub chunks : List Chunk
   pub line : ChunkLine
   pub octets : List ℕ
 
--- the bytes of a body's front
-abbrev pub print_front : BodyFront → List ℕ
-print_front b = print_chunks b.chunks ++ (print_chunk_line b.line ++ b.octets)
+-- the bytes of a body's prefix
+abbrev pub print_prefix : BodyPrefix → List ℕ
+print_prefix b = print_chunks b.chunks ++ (print_chunk_line b.line ++ b.octets)
 
--- the octets that stand in a body's front
-abbrev pub front_octets : BodyFront → List ℕ
-front_octets b = joined b.chunks ++ b.octets
+-- the octets that stand in a body's prefix
+abbrev pub prefix_octets : BodyPrefix → List ℕ
+prefix_octets b = joined b.chunks ++ b.octets
 
 -- it ends with octet limit + 1, which its last line still counts
-pub record IsFrontPast (limit : ℕ) (b : BodyFront) : Type 0 where
+pub record IsPrefixPast (limit : ℕ) (b : BodyPrefix) : Type 0 where
   pub chunks : All IsChunk b.chunks
   pub fits : length (joined b.chunks) ≤ limit
   pub line : IsChunkLine b.line
   pub within : length b.octets ≤ chunk_size b.line
-  pub past : length (front_octets b) ≡ limit + 1
+  pub past : length (prefix_octets b) ≡ limit + 1
 
--- text begins with a body's front up to octet limit + 1, and the first limit octets are given
+-- text begins with a body's prefix up to octet limit + 1, and the first limit octets are given
 pub record GivesCut (limit : ℕ) (text given rest : List ℕ) : Type 0 where
-  pub front : BodyFront
-  pub valid : IsFrontPast limit front
-  pub text_is : text ≡ print_front front ++ rest
-  pub given_is : given ≡ take limit (front_octets front)
+  pub prefix : BodyPrefix
+  pub valid : IsPrefixPast limit prefix
+  pub text_is : text ≡ print_prefix prefix ++ rest
+  pub given_is : given ≡ take limit (prefix_octets prefix)
 
 -- what the body that text begins with gives, and what stands after the last octet looked at
 abbrev pub GivesChunked : ℕ → List ℕ → List ℕ → Bool → List ℕ → Type 0
@@ -144,8 +144,8 @@ NeverHasEnd text = (more after : List ℕ) → text ++ more ≡ crlf_bytes ++ af
 pub record EndsInTrailers (text : List ℕ) : Type 0 where
   pub none : HasNoSection text
   pub may : MayBecomeSection text
-  pub short : length text < MAX_TRAILER_BYTES
-  pub few : line_ends text < MAX_TRAILERS
+  pub short : length text < max_trailer_octets
+  pub few : line_ends text < max_trailers
 
 -- where text ends: inside a chunk line, a chunk's octets, their end, or the trailers
 pub data EndsAt (room : ℕ) (text : List ℕ) : Type 0 where
@@ -161,16 +161,16 @@ EndsInChunked limit = AfterChunks limit EndsAt
 
 -- the bytes that trailers may have stand there, and have no trailers of at most the lines allowed
 pub record IsTooLong (text : List ℕ) : Type 0 where
-  pub long : MAX_TRAILER_BYTES ≤ length text
+  pub long : max_trailer_octets ≤ length text
   pub none : (fields : List Field) (last : LineEnd) (rest : List ℕ)
-      → ReadsSection (take MAX_TRAILER_BYTES text) fields last rest → MAX_TRAILERS < length fields
+      → ReadsSection (take max_trailer_octets text) fields last rest → max_trailers < length fields
 
 -- what can't be read, whatever follows: a chunk line, the end of a chunk, or trailers within their
 -- two limits
 pub data IsBadAt (room : ℕ) (text : List ℕ) : Type 0 where
   bad_line : NeverHasChunkLine text → IsBadAt room text
   bad_end : AfterOctets room NeverHasEnd text → IsBadAt room text
-  bad_trailers : AfterLast (SectionOverflows MAX_TRAILERS) text → IsBadAt room text
+  bad_trailers : AfterLast (SectionOverflows max_trailers) text → IsBadAt room text
   too_long : AfterLast IsTooLong text → IsBadAt room text
 
 -- no bytes can follow that make text begin with a body that can be read
@@ -180,7 +180,7 @@ IsBadChunked limit = AfterChunks limit IsBadAt
 -- text ends with no end of the trailers, though as many lines as they may have stand there
 pub record HasTooManyLines (text : List ℕ) : Type 0 where
   pub none : HasNoSection text
-  pub many : MAX_TRAILERS ≤ line_ends text
+  pub many : max_trailers ≤ line_ends text
 
 -- the text ends after a body's last chunk, with as many lines as trailers may have and no end
 abbrev pub EndsTooLong : ℕ → List ℕ → Type 0

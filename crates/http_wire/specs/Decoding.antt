@@ -2,9 +2,9 @@
 -- The contracts of `ChunkDecoder` cite it.
 use Rattle.std.specs.Prelude.{◌≡◌, ℕ, ◌<◌, ◌≤◌, ◌⊎◌, Bool, true, false, List, ◌++◌, length, drop, IsTrue, Option, Some, None}
 use Rattle.httparse.specs.Ascii.{crlf_bytes}
-use Rattle.httparse.specs.Grammar.{ChunkLine, ReadsChunkLine, chunk_size, HasNoSection, MayBecomeSection}
-use Rattle.httparse.specs.Spans.{SectionOverflows}
-use Rattle.http_wire.specs.declared.limits.TheConstants.{MAX_TRAILERS}
+use Rattle.httparse.specs.Grammar.{ChunkLine, ReadsChunkLine, chunk_size, HasNoSection, NeverHasSection, MayBecomeSection}
+use Rattle.httparse.specs.Spans.{SectionOverflows, SectionExceeds}
+use Rattle.http_wire.specs.Limits.{max_trailers}
 use Rattle.http_wire.specs.declared.look.Look.{Look}
 use Rattle.http_wire.specs.declared.look.Look.TheVariants.{Whole, Cut, Bad, Full, More}
 use Rattle.http_wire.specs.declared.chunked.Place.{Place}
@@ -28,14 +28,14 @@ EndTells text ends.Bad = NeverHasEnd text
 abbrev pub SectionTells : List ℕ → TrailerSection → Type 0
 SectionTells text sections.Whole = (rest : List ℕ) × ReadsTrailers text rest
 SectionTells text sections.Open = HasNoSection text × MayBecomeSection text
-SectionTells text sections.Over = SectionOverflows MAX_TRAILERS text
-SectionTells text sections.Bad = SectionOverflows MAX_TRAILERS text
+SectionTells text sections.Over = SectionOverflows max_trailers text × SectionExceeds max_trailers text
+SectionTells text sections.Bad = NeverHasSection text
 
 -- what the octets after the last chunk's line are
 abbrev pub TrailersTell : List ℕ → Bool → Look → Type 0
 TrailersTell text last Whole = (rest : List ℕ) × ReadsTrailers text rest
 TrailersTell text last Cut = ⊥
-TrailersTell text last Bad = SectionOverflows MAX_TRAILERS text ⊎ IsTooLong text
+TrailersTell text last Bad = SectionOverflows max_trailers text ⊎ IsTooLong text
 TrailersTell text last Full = IsTrue last × HasTooManyLines text
 TrailersTell text last More = IsTrue last → EndsInTrailers text
 

@@ -4,6 +4,7 @@ use Rattle.std.specs.Prelude.{◌≡◌, ℕ, ◌^◌, Bool, ◌&&◌, ◌||◌,
 use Rattle.std.specs.List.{list_all, list_any}
 use Rattle.std.specs.Char.{is_ascii_digit, to_ascii_lowercase}
 use Rattle.std.specs.Str.Parse.{digits_value}
+use Rattle.httparse.specs.Ascii.{comma}
 use Rattle.httparse.specs.Grammar.{trim_ows}
 use Rattle.http_wire.specs.declared.framing.Framing.{Framing}
 use Rattle.http_wire.specs.declared.framing.Framing.TheVariants.{Counted, Chunked, ToEnd}
@@ -34,7 +35,7 @@ onto_first octet (piece ∷ pieces) = (octet ∷ piece) ∷ pieces
 -- the pieces between commas
 abbrev pub pieces : List ℕ → List (List ℕ)
 pieces [] = [] ∷ []
-pieces (octet ∷ value) = if octet == 44 then [] ∷ pieces value else onto_first octet (pieces value)
+pieces (octet ∷ value) = if octet == comma then [] ∷ pieces value else onto_first octet (pieces value)
 
 -- the members of a list, without the white space around each; an empty one is a member
 unfoldable pub members : List ℕ → List (List ℕ)

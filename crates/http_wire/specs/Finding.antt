@@ -21,7 +21,7 @@ use Rattle.http_wire.specs.declared.head.Parsed.{Parsed}
 use Rattle.http_wire.specs.declared.head.Parsed.TheVariants as parsed
 use Rattle.http_wire.specs.declared.head.Seen.{Seen}
 use Rattle.http_wire.specs.declared.head.Seen.TheVariants as seen
-use Rattle.http_wire.specs.declared.limits.TheConstants.{MAX_HEAD, MAX_HEADER_LINES, MAX_INTERIM_HEADS}
+use Rattle.http_wire.specs.Limits.{max_head, max_header_lines, max_interim_heads}
 
 -- a head within the limits stands at the front, and the spans cover its parts
 pub record IsHeadAt (text : List ℕ) (headers : List HeaderSpan) (spans : ResponseSpans) (head : ResponseHead) : Type 0 where
@@ -33,7 +33,7 @@ pub record IsHeadAt (text : List ℕ) (headers : List HeaderSpan) (spans : Respo
 abbrev pub Parses : List ℕ → List HeaderSpan → Parsed → Type 0
 Parses text headers (parsed.Head spans) = (head : ResponseHead) × IsHeadAt text headers spans head
 Parses text headers parsed.Open = HasNoResponse text × MayBecomeResponse text
-Parses text headers parsed.TooMany = ResponseOverflows MAX_HEADER_LINES text × ResponseExceeds MAX_HEADER_LINES text
+Parses text headers parsed.TooMany = ResponseOverflows max_header_lines text × ResponseExceeds max_header_lines text
 Parses text headers parsed.Bad = NeverHasResponse text
 
 -- what the status makes of its head
@@ -47,15 +47,15 @@ pub record Passes (finder : HeadFinder) (bytes : List ℕ) : Type 0 where
   pub heads : List ResponseHead
   pub passed : HasInterims heads bytes (drop finder.at bytes)
   pub count : length heads ≡ finder.passed
-  pub few : finder.passed ≤ MAX_INTERIM_HEADS
+  pub few : finder.passed ≤ max_interim_heads
   pub within : finder.at ≤ length bytes
-  pub soon : finder.at ≤ finder.passed * MAX_HEAD
+  pub soon : finder.at ≤ finder.passed * max_head
 
--- the text is a front of a head, and short of the longest
-pub record IsHeadFront (text : List ℕ) : Type 0 where
+-- the text is a prefix of a head, and short of the longest
+pub record IsHeadPrefix (text : List ℕ) : Type 0 where
   pub none : HasNoResponse text
   pub unfinished : MayBecomeResponse text
-  pub octets : length text < MAX_HEAD
+  pub octets : length text < max_head
 
 -- the finder has found this final head in the bytes
 pub record IsFound (bytes : List ℕ) (found : FinalHead) : Type 0 where
@@ -72,19 +72,19 @@ abbrev pub Faults : List ℕ → WireFault → Type 0
 Faults bytes fault = (more : List ℕ) (limit : ℕ) → Cause fault (bytes ++ more) limit
 
 -- what one look at the bytes sees
-abbrev pub Sees : List ℕ → Bool → ℕ → HeadFinder → Seen → Type 0
-Sees bytes last passed finder (seen.Final found) = IsFound bytes found
-Sees bytes last passed finder seen.Interim = Passes finder bytes × (finder.passed ≡ passed + 1)
-Sees bytes last passed finder seen.More =
-    Passes finder bytes × (length bytes < finder.at + MAX_HEAD)
-    × (IsTrue last → IsHeadFront (drop finder.at bytes))
+abbrev pub SeesHead : List ℕ → Bool → ℕ → HeadFinder → Seen → Type 0
+SeesHead bytes last passed finder (seen.Final found) = IsFound bytes found
+SeesHead bytes last passed finder seen.Interim = Passes finder bytes × (finder.passed ≡ passed + 1)
+SeesHead bytes last passed finder seen.More =
+    Passes finder bytes × (length bytes < finder.at + max_head)
+    × (IsTrue last → IsHeadPrefix (drop finder.at bytes))
 
 -- what looks at the bytes find: the final head, or that more octets are needed
-abbrev pub Finds : List ℕ → Bool → HeadFinder → Option FinalHead → Type 0
-Finds bytes last finder (Some found) = IsFound bytes found
-Finds bytes last finder None =
-    Passes finder bytes × (length bytes < finder.at + MAX_HEAD)
-    × (IsTrue last → IsHeadFront (drop finder.at bytes))
+abbrev pub FindsHead : List ℕ → Bool → HeadFinder → Option FinalHead → Type 0
+FindsHead bytes last finder (Some found) = IsFound bytes found
+FindsHead bytes last finder None =
+    Passes finder bytes × (length bytes < finder.at + max_head)
+    × (IsTrue last → IsHeadPrefix (drop finder.at bytes))
 
 -- the fault of some input that the source gives, whatever the limit
 pub record Fails (left : Option (List ℕ)) (seen : List ℕ) (fault : WireFault) : Type 0 where

@@ -1,10 +1,11 @@
 -- Heads of responses: interim heads, which are passed over, and the final one.
 -- RFC 9112, sections 2 to 5; RFC 9110, section 15.2.
 use Rattle.std.specs.Prelude.{◌≡◌, ℕ, ◌+◌, ◌<◌, ◌≤◌, ◌⊎◌, Bool, ◌&&◌, ◌||◌, nat_lt, nat_le, ◌==◌, IsTrue, false, List, ◌++◌, length, map, take, All, count_by, flat_map}
+use Rattle.httparse.specs.Ascii.{line_feed}
 use Rattle.httparse.specs.Grammar.{ResponseHead, IsResponseHead, print_response, status_code, HasNoResponse, NeverHasResponse, MayBecomeResponse}
 use Rattle.httparse.specs.Spans.{name_and_value}
 use Rattle.http_wire.specs.Fields.{Pair}
-use Rattle.http_wire.specs.declared.limits.TheConstants.{MAX_HEAD, MAX_HEADER_LINES, MAX_INTERIM_HEADS}
+use Rattle.http_wire.specs.Limits.{max_head, max_header_lines, max_interim_heads}
 
 -- the names and the values of a head's fields
 abbrev pub fields_of : ResponseHead → List Pair
@@ -13,8 +14,8 @@ fields_of head = map name_and_value head.fields
 -- a head within the limits
 pub record IsHead (head : ResponseHead) : Type 0 where
   pub valid : IsResponseHead head
-  pub lines : length head.fields ≤ MAX_HEADER_LINES
-  pub octets : length (print_response head) ≤ MAX_HEAD
+  pub lines : length head.fields ≤ max_header_lines
+  pub octets : length (print_response head) ≤ max_head
 
 -- the text is that head and then the rest
 pub record HasHead (text : List ℕ) (head : ResponseHead) (rest : List ℕ) : Type 0 where
@@ -43,7 +44,7 @@ pub record HasInterims (heads : List ResponseHead) (text rest : List ℕ) : Type
 pub record AfterInterims (Fact : List ℕ → Type 0) (text : List ℕ) : Type 0 where
   pub heads : List ResponseHead
   pub rest : List ℕ
-  pub few : length heads ≤ MAX_INTERIM_HEADS
+  pub few : length heads ≤ max_interim_heads
   pub passed : HasInterims heads text rest
   pub fact : Fact rest
 
@@ -69,23 +70,23 @@ IsBadHead text = NeverHasResponse text ⊎ HasStrangeStatus text
 
 -- how many lines have ended
 abbrev pub line_ends : List ℕ → ℕ
-line_ends text = count_by (λ octet. octet == 10) text
+line_ends text = count_by (λ octet. octet == line_feed) text
 
 -- no head within the limits stands here, and so many octets or lines do
 pub record IsLongHead (text : List ℕ) : Type 0 where
   pub none : (head : ResponseHead) (rest : List ℕ) → ¬ (HasHead text head rest)
-  pub long : (MAX_HEAD ≤ length text) ⊎ (MAX_HEADER_LINES < line_ends (take MAX_HEAD text))
+  pub long : (max_head ≤ length text) ⊎ (max_header_lines < line_ends (take max_head text))
 
 -- the text ends inside a head that may still end within the limits
 pub record EndsInHead (text : List ℕ) : Type 0 where
   pub none : HasNoResponse text
   pub unfinished : MayBecomeResponse text
-  pub octets : length text < MAX_HEAD
-  pub lines : line_ends text ≤ MAX_HEADER_LINES
+  pub octets : length text < max_head
+  pub lines : line_ends text ≤ max_header_lines
 
 -- the text begins with one interim head more than the limit
 pub record HasTooManyInterim (text : List ℕ) : Type 0 where
   pub heads : List ResponseHead
   pub rest : List ℕ
-  pub many : length heads ≡ MAX_INTERIM_HEADS + 1
+  pub many : length heads ≡ max_interim_heads + 1
   pub passed : HasInterims heads text rest

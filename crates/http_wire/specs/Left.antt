@@ -2,6 +2,7 @@
 -- Their `next` cites it.
 use Rattle.std.specs.Prelude.{List, [], ◌++◌, ℕ, map, drop, flat_map, All, ◌≡◌, ◌==◌, ◌∷◌, false, Option, None, Some}
 use Rattle.std.specs.Borrow.{Bor}
+use Rattle.httparse.specs.Ascii.{comma}
 use Rattle.http_wire.specs.Fields.{Pair, members, values_of}
 use Rattle.http_wire.specs.declared.fields.Field.{Field}
 use Rattle.http_wire.specs.declared.fields.Values.{Values}
@@ -30,12 +31,12 @@ members_left list = members_after list.rest ++ flat_map members (values_left lis
 
 -- no comma stands in the text
 abbrev pub HasNoComma : List ℕ → Type 0
-HasNoComma text = All (λ octet. (octet == 44) ≡ false) text
+HasNoComma text = All (λ octet. (octet == comma) ≡ false) text
 
 -- the first comma of the list stands between the member and the rest
 pub record IsSplitAtComma (list member rest : List ℕ) : Type 0 where
   pub plain : HasNoComma member
-  pub parts : list ≡ member ++ 44 ∷ rest
+  pub parts : list ≡ member ++ comma ∷ rest
 
 -- the octets of a text, if there is one
 abbrev pub text_of : Option (Bor (List ℕ)) → Option (List ℕ)

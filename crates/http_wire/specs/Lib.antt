@@ -7,6 +7,7 @@ pub mod Fields
 pub mod Finding
 pub mod Heads
 pub mod Left
+pub mod Limits
 pub mod Messages
 pub mod Reading
 pub mod Request

@@ -2,14 +2,14 @@
 -- The contracts of the reader's parts cite it.
 use Rattle.std.specs.Prelude.{◌≡◌, ℕ, ◌+◌, ◌<◌, ◌≤◌, List, ◌++◌, length, drop, take, Option, IfSome, Result, Ok, Err, ⊤}
 use Rattle.std.specs.Io.KnownBytes.{Consumes, IsAtEnd}
-use Rattle.http_wire.specs.Bodies.{Gives, EndsInBody, IsBodyFront, IsBadBody}
+use Rattle.http_wire.specs.Bodies.{Gives, EndsInBody, IsBodyPrefix, IsBadBody}
 use Rattle.http_wire.specs.declared.body.Body.{Body}
 use Rattle.http_wire.specs.declared.buffer.Fill.{Fill}
 use Rattle.http_wire.specs.declared.buffer.Fill.TheVariants.{More, Ended, Past}
 use Rattle.http_wire.specs.declared.fault.WireFault.{WireFault}
 use Rattle.http_wire.specs.declared.fault.WireFault.TheVariants.{EarlyEnd, BadHead, HeadTooLong, TooManyInterim, BadLength, BadChunk, Coding, Device, NoMemory, TooMuch}
 use Rattle.http_wire.specs.declared.framing.Framing.{Framing}
-use Rattle.http_wire.specs.declared.limits.TheConstants.{MAX_RAW}
+use Rattle.http_wire.specs.Limits.{max_raw}
 
 -- the buffer has grown by what the source gave
 pub record Grows (left left' : Option (List ℕ)) (old new : List ℕ) : Type 0 where
@@ -22,7 +22,7 @@ abbrev pub Fills : Option (List ℕ) → Option (List ℕ) → List ℕ → List
 Fills left left' old new More = Grows left left' old new × (length old < length new)
 Fills left left' old new Ended = IsAtEnd left × (new ≡ old) × Grows left left' old new
 Fills left left' old new Past =
-    IfSome left (λ octets. 0 < length octets) × (length old ≡ MAX_RAW) × (new ≡ old)
+    IfSome left (λ octets. 0 < length octets) × (length old ≡ max_raw) × (new ≡ old)
 
 -- the input is what was seen and then what the source has left, where that is known
 pub record IsWhole (left : Option (List ℕ)) (seen input : List ℕ) : Type 0 where
@@ -34,12 +34,12 @@ pub record IsWhole (left : Option (List ℕ)) (seen input : List ℕ) : Type 0 w
 pub record HasBody (framing : Framing) (limit start : ℕ) (input : List ℕ) (body : Body) : Type 0 where
   pub rest : List ℕ
   pub gives : Gives framing limit (drop start input) body.octets.items body.cut rest
-  pub within : length input ≤ MAX_RAW + length rest
+  pub within : length input ≤ max_raw + length rest
 
 -- the input goes on where the body from a place on would have to have ended
 pub record GoesOn (framing : Framing) (limit start : ℕ) (input : List ℕ) : Type 0 where
-  pub more : MAX_RAW < length input
-  pub front : IsBodyFront framing limit (drop start (take MAX_RAW input))
+  pub more : max_raw < length input
+  pub prefix : IsBodyPrefix framing limit (drop start (take max_raw input))
 
 -- why the input gives no body from a place on, by the fault
 abbrev pub HasNoBody : WireFault → Framing → ℕ → ℕ → List ℕ → Type 0

@@ -6,12 +6,12 @@ use Rattle.std.specs.String.{string_bytes}
 use Rattle.counted_io.specs.Device.{one_more}
 use Rattle.http_wire.specs.Fields.{framing_of, is_coded, IsLocation}
 use Rattle.http_wire.specs.Heads.{AfterInterims, HasFinal, IsBadHead, IsLongHead, EndsInHead, HasTooManyInterim, fields_of}
-use Rattle.http_wire.specs.Bodies.{Gives, EndsInBody, IsBodyFront, IsBadBody, InBody}
+use Rattle.http_wire.specs.Bodies.{Gives, EndsInBody, IsBodyPrefix, IsBadBody, InBody}
 use Rattle.http_wire.specs.declared.fault.WireFault.{WireFault}
 use Rattle.http_wire.specs.declared.fault.WireFault.TheVariants.{EarlyEnd, BadHead, HeadTooLong, TooManyInterim, BadLength, BadChunk, Coding, Device, NoMemory, TooMuch}
 use Rattle.http_wire.specs.declared.framing.Framing.{Framing}
 use Rattle.http_wire.specs.declared.framing.Unframed.TheVariants as Unframed
-use Rattle.http_wire.specs.declared.limits.TheConstants.{MAX_RAW}
+use Rattle.http_wire.specs.Limits.{max_raw}
 use Rattle.http_wire.specs.declared.response.HttpReply.{HttpReply}
 
 -- what a reader of the response is told
@@ -37,7 +37,7 @@ pub record GivesReply (input : List ℕ) (limit : ℕ) (reply : Reply) (rest : L
 pub record Response (input : List ℕ) (limit : ℕ) (reply : Reply) : Type 0 where
   pub rest : List ℕ
   pub gives : GivesReply input limit reply rest
-  pub within : length input ≤ MAX_RAW + length rest
+  pub within : length input ≤ max_raw + length rest
 
 -- the fact holds of the final head
 pub record AtFinal (Fact : ResponseHead → Type 0) (input : List ℕ) : Type 0 where
@@ -64,8 +64,8 @@ EndsEarly input limit =
 
 -- the input goes on where a response would have to have ended
 pub record IsTooMuch (input : List ℕ) (limit : ℕ) : Type 0 where
-  pub more : MAX_RAW < length input
-  pub front : InBody (λ framing after. IsBodyFront framing limit after) (take MAX_RAW input)
+  pub more : max_raw < length input
+  pub prefix : InBody (λ framing after. IsBodyPrefix framing limit after) (take max_raw input)
 
 -- why no reply is given, by the fault
 abbrev pub Cause : WireFault → List ℕ → ℕ → Type 0

@@ -58,29 +58,29 @@ IsFull (Counted size) limit text = ⊥
 IsFull Chunked limit text = EndsTooLong limit text
 IsFull ToEnd limit text = ⊥
 
--- the text is a front of the body, and more octets of the body can follow
+-- the text is a prefix of the body, and more octets of the body can follow
 abbrev pub IsOpen : Framing → ℕ → List ℕ → Type 0
 IsOpen (Counted size) limit text = (length text < size) × (length text ≤ limit)
 IsOpen Chunked limit text = EndsInChunked limit text
 IsOpen ToEnd limit text = length text ≤ limit
 
 -- what a look sees in the text: of an open one the last look alone tells
-abbrev pub Sees : Framing → ℕ → List ℕ → Bool → BodySeen → Type 0
-Sees framing limit text last (Given body) = GivesBody framing limit text body
-Sees framing limit text last Full = IsTrue last × IsFull framing limit text
-Sees framing limit text last More = IsTrue last → IsOpen framing limit text
+abbrev pub SeesBody : Framing → ℕ → List ℕ → Bool → BodySeen → Type 0
+SeesBody framing limit text last (Given body) = GivesBody framing limit text body
+SeesBody framing limit text last Full = IsTrue last × IsFull framing limit text
+SeesBody framing limit text last More = IsTrue last → IsOpen framing limit text
 
 -- the body is the first octets of the text up to the limit, and more stand there
-pub record GivesFront (limit : ℕ) (text : List ℕ) (body : Body) : Type 0 where
+pub record GivesPrefix (limit : ℕ) (text : List ℕ) (body : Body) : Type 0 where
   pub cut : body.cut ≡ true
   pub rest : List ℕ
   pub first : (more : List ℕ) → GivesFirst limit (text ++ more) body.octets.items (rest ++ more)
 
 -- whether more octets stand there than the limit
-abbrev pub SeesFront : ℕ → List ℕ → BodySeen → Type 0
-SeesFront limit text (Given body) = GivesFront limit text body
-SeesFront limit text Full = ⊥
-SeesFront limit text More = length text ≤ limit
+abbrev pub SeesPrefix : ℕ → List ℕ → BodySeen → Type 0
+SeesPrefix limit text (Given body) = GivesPrefix limit text body
+SeesPrefix limit text Full = ⊥
+SeesPrefix limit text More = length text ≤ limit
 
 -- it is a body of these octets
 abbrev pub IsGiven : List ℕ → Bool → BodySeen → Type 0
@@ -88,10 +88,16 @@ IsGiven octets cut (Given body) = (body.octets.items ≡ octets) × (body.cut �
 IsGiven octets cut Full = ⊥
 IsGiven octets cut More = ⊥
 
--- what a look at the bytes gives: the body, or a decoder that stands for them
-abbrev pub Looks : List ℕ → BodyDecoder → Option Body → Type 0
-Looks bytes decoder (Some body) = GivesBody (framing_in decoder) decoder.limit (drop decoder.start bytes) body
-Looks bytes decoder None = BodyStands decoder bytes
+-- a look that gives nothing leaves the buffer as it was
+abbrev pub Leaves : List ℕ → List ℕ → BodySeen → Type 0
+Leaves old new (Given body) = ⊤
+Leaves old new Full = new ≡ old
+Leaves old new More = new ≡ old
+
+-- what a look at the bytes finds: the body, or a decoder that stands for them
+abbrev pub FindsBody : List ℕ → BodyDecoder → Option Body → Type 0
+FindsBody bytes decoder (Some body) = GivesBody (framing_in decoder) decoder.limit (drop decoder.start bytes) body
+FindsBody bytes decoder None = BodyStands decoder bytes
 
 -- why a look gives nothing: the text can't be read, whatever follows, or there was no memory
 abbrev pub Refuses : Framing → ℕ → List ℕ → WireFault → Type 0

@@ -8,6 +8,7 @@ use crate::body_decoder::BodyDecoder;
 use crate::buffer::{Buffer, Fill};
 use crate::fault::WireFault;
 use crate::framing::Framing;
+use crate::limits::MAX_RAW;
 use counted_io::Source;
 use std::alloc::Global;
 
@@ -19,7 +20,8 @@ pub(crate) struct Body {
     pub cut: bool,
 }
 
-/// Reads the body that begins at `start`, and gives at most `limit` octets of it.
+/// Reads the body that begins at `start`, and gives at most `limit` octets of it. The buffer may be
+/// handed out with them.
 pub(crate) fn read_body<S: Source>(
     alloc: Global,
     source: &mut S,
@@ -28,22 +30,21 @@ pub(crate) fn read_body<S: Source>(
     start: usize,
     limit: usize,
 ) -> Result<Body, WireFault>
-    requires { start ≤ length buffer.old }
+    requires start { start ≤ length buffer.old }
+    requires within { length buffer.old ≤ MAX_RAW }
     ensures reads { ReadsBody framing limit start (S.left source.old) buffer.old result }
     ensures count { S.failures source.new ≡ failures_after_reading (S.failures source.old) result }
 {
     let mut decoder = BodyDecoder::new(alloc, framing, start, limit);
     loop {
-        match decoder.look(alloc, buffer.octets()) {
-            Ok(Some(body)) => return Ok(body),
-            Ok(None) => {}
-            Err(fault) => return Err(fault),
+        match decoder.look(alloc, buffer)? {
+            Some(body) => return Ok(body),
+            None => {}
         }
-        match buffer.fill(source) {
-            Ok(Fill::More) => {}
-            Ok(Fill::Ended) => return decoder.end(alloc, buffer.octets()),
-            Ok(Fill::Past) => return decoder.past(alloc, buffer.octets()),
-            Err(fault) => return Err(fault),
+        match buffer.fill(source)? {
+            Fill::More => {}
+            Fill::Ended => return decoder.end(alloc, buffer),
+            Fill::Past => return decoder.past(alloc, buffer),
         }
     }
 }

@@ -1,18 +1,19 @@
 //! A body, decoded by its framing from all the octets that have come.
 //! RFC 9112, section 6.3.
-ghost use Rattle.std.specs.Prelude.{◌≡◌, ◌≤◌, ◌<◌, ◌++◌, ℕ, List, Bool, true, Ok, IfOk, IfErr, drop, length};
+ghost use Rattle.std.specs.Prelude.{◌≡◌, ◌≤◌, ◌<◌, ◌+◌, ◌++◌, ℕ, List, Bool, true, None, Ok, IfOk, IfErr, drop, length, take};
 ghost use Rattle.http_wire.specs.Reading.{TellsBody};
 ghost use Rattle.http_wire.specs.Response.{failures_after_reading};
 ghost use Rattle.http_wire.specs.Decoding.{Stands};
-ghost use Rattle.http_wire.specs.Seeing.{BodyStands, IsGiven, IsOpen, Looks, Refuses, Sees, SeesFront, framing_in};
+ghost use Rattle.http_wire.specs.Seeing.{BodyStands, FindsBody, IsGiven, IsOpen, Leaves, Refuses, SeesBody, SeesPrefix, framing_in};
 
 use crate::body::Body;
+use crate::buffer::Buffer;
 use crate::chunked::ChunkDecoder;
 use crate::fault::WireFault;
 use crate::framing::Framing;
 use crate::limits::MAX_RAW;
 use crate::look::Look;
-use std::alloc::{AllocError, Global};
+use std::alloc::Global;
 
 /// A body by its framing, as far as it was decoded.
 #[derive(Debug, Drop)]
@@ -61,168 +62,171 @@ impl BodyDecoder {
     }
 
     /// Looks at what has come, and gives the body that stands there whatever follows.
-    pub(crate) fn look(&mut self, alloc: Global, bytes: &[u8]) -> Result<Option<Body>, WireFault>
-        requires { BodyStands self.old bytes.now }
+    pub(crate) fn look(
+        &mut self,
+        alloc: Global,
+        buffer: &mut Buffer,
+    ) -> Result<Option<Body>, WireFault>
+        requires { BodyStands self.old buffer.old }
         ensures framing { framing_in self.new ≡ framing_in self.old }
         ensures start { self.new.start ≡ self.old.start }
         ensures limit { self.new.limit ≡ self.old.limit }
-        ensures ok { IfOk result (Looks bytes.now self.new) }
+        ensures ok { IfOk result (FindsBody buffer.old self.new) }
+        ensures left { result ≡ Ok None → buffer.new ≡ buffer.old }
         ensures err { IfErr result
-            (Refuses (framing_in self.old) self.old.limit (drop self.old.start bytes.now)) }
+            (Refuses (framing_in self.old) self.old.limit (drop self.old.start buffer.old)) }
     {
-        match self.see(alloc, bytes, false) {
-            Ok(BodySeen::Given(body)) => Ok(Some(body)),
-            Ok(BodySeen::Full | BodySeen::More) => Ok(None),
-            Err(fault) => Err(fault),
+        match self.see(alloc, buffer, false)? {
+            BodySeen::Given(body) => Ok(Some(body)),
+            BodySeen::Full | BodySeen::More => Ok(None),
         }
     }
 
     /// The last look, where nothing follows what has come.
-    pub(crate) fn end(&mut self, alloc: Global, bytes: &[u8]) -> Result<Body, WireFault>
-        requires stands { BodyStands self.old bytes.now }
-        requires within { length bytes.now ≤ MAX_RAW }
+    pub(crate) fn end(&mut self, alloc: Global, buffer: &mut Buffer) -> Result<Body, WireFault>
+        requires stands { BodyStands self.old buffer.old }
+        requires within { length buffer.old ≤ MAX_RAW }
         ensures tells { TellsBody (framing_in self.old) self.old.limit self.old.start
-            bytes.now result }
+            buffer.old result }
         ensures count { (failures : ℕ) → failures_after_reading failures result ≡ failures }
     {
-        match self.see(alloc, bytes, true) {
-            Ok(BodySeen::Given(body)) => Ok(body),
-            Ok(BodySeen::Full) => Err(WireFault::BadChunk),
-            Ok(BodySeen::More) => self.end_open(alloc, bytes),
-            Err(fault) => Err(fault),
+        match self.see(alloc, buffer, true)? {
+            BodySeen::Given(body) => Ok(body),
+            BodySeen::Full => Err(WireFault::BadChunk),
+            BodySeen::More => self.end_open(alloc, buffer),
         }
     }
 
     /// The last look, where more follows than a response may have.
-    pub(crate) fn past(&mut self, alloc: Global, bytes: &[u8]) -> Result<Body, WireFault>
-        requires stands { BodyStands self.old bytes.now }
-        requires full { length bytes.now ≡ MAX_RAW }
+    pub(crate) fn past(&mut self, alloc: Global, buffer: &mut Buffer) -> Result<Body, WireFault>
+        requires stands { BodyStands self.old buffer.old }
+        requires full { length buffer.old ≡ MAX_RAW }
         ensures tells { (more : List ℕ) → 0 < length more
             → TellsBody (framing_in self.old) self.old.limit self.old.start
-            (bytes.now ++ more) result }
+            (buffer.old ++ more) result }
         ensures count { (failures : ℕ) → failures_after_reading failures result ≡ failures }
     {
-        match self.see(alloc, bytes, true) {
-            Ok(BodySeen::Given(body)) => Ok(body),
-            Ok(BodySeen::Full) => Err(WireFault::TooMuch),
-            Ok(BodySeen::More) => Err(WireFault::TooMuch),
-            Err(fault) => Err(fault),
+        match self.see(alloc, buffer, true)? {
+            BodySeen::Given(body) => Ok(body),
+            BodySeen::Full => Err(WireFault::TooMuch),
+            BodySeen::More => Err(WireFault::TooMuch),
         }
     }
 
     // What the octets from the body's start on are.
-    fn see(&mut self, alloc: Global, bytes: &[u8], last: bool) -> Result<BodySeen, WireFault>
-        requires { BodyStands self.old bytes.now }
+    fn see(&mut self, alloc: Global, buffer: &mut Buffer, last: bool) -> Result<BodySeen, WireFault>
+        requires { BodyStands self.old buffer.old }
         ensures framing { framing_in self.new ≡ framing_in self.old }
         ensures start { self.new.start ≡ self.old.start }
         ensures limit { self.new.limit ≡ self.old.limit }
         ensures sees { IfOk result
-            (Sees (framing_in self.old) self.old.limit (drop self.old.start bytes.now) last) }
-        ensures stands { result ≡ Ok BodySeen.More → BodyStands self.new bytes.now }
+            (SeesBody (framing_in self.old) self.old.limit (drop self.old.start buffer.old) last) }
+        ensures stands { result ≡ Ok BodySeen.More → BodyStands self.new buffer.old }
+        ensures left { IfOk result (Leaves buffer.old buffer.new) }
         ensures err { IfErr result
-            (Refuses (framing_in self.old) self.old.limit (drop self.old.start bytes.now)) }
+            (Refuses (framing_in self.old) self.old.limit (drop self.old.start buffer.old)) }
     {
-        let text = &bytes[self.start..];
         match &mut self.form {
-            Form::Counted(size) => see_counted(alloc, text, *size, self.limit),
-            Form::Chunked(decoder) => see_chunked(alloc, decoder, bytes, last),
-            Form::ToEnd => see_front(alloc, text, self.limit),
+            Form::Counted(size) => { Ok(see_counted(alloc, buffer, self.start, *size, self.limit)) }
+            Form::Chunked(decoder) => see_chunked(alloc, decoder, buffer, last),
+            Form::ToEnd => Ok(see_prefix(alloc, buffer, self.start, self.limit)),
         }
     }
 
     // The answer to a part of a body, where nothing follows it.
-    fn end_open(&self, alloc: Global, bytes: &[u8]) -> Result<Body, WireFault>
-        requires stands { BodyStands self.now bytes.now }
-        requires within { length bytes.now ≤ MAX_RAW }
+    fn end_open(&self, alloc: Global, buffer: &mut Buffer) -> Result<Body, WireFault>
+        requires stands { BodyStands self.now buffer.old }
+        requires within { length buffer.old ≤ MAX_RAW }
         requires open { IsOpen (framing_in self.now) self.now.limit
-            (drop self.now.start bytes.now) }
+            (drop self.now.start buffer.old) }
         ensures tells { TellsBody (framing_in self.now) self.now.limit self.now.start
-            bytes.now result }
+            buffer.old result }
         ensures count { (failures : ℕ) → failures_after_reading failures result ≡ failures }
     {
         match self.form {
-            Form::ToEnd => match keep(alloc, &bytes[self.start..], false) {
-                Ok(body) => Ok(body),
-                Err(_) => Err(WireFault::NoMemory),
-            },
+            Form::ToEnd => {
+                let len = buffer.octets().len() - self.start;
+                Ok(Body {
+                    octets: buffer.hand_out(alloc, self.start, len),
+                    cut: false,
+                })
+            }
             _ => Err(WireFault::EarlyEnd),
         }
     }
 }
 
-fn see_counted(alloc: Global, text: &[u8], size: u64, limit: usize) -> Result<BodySeen, WireFault>
-    ensures ok { IfOk result (λ seen. (last : Bool)
-        → Sees (Framing.Counted size) limit text.now last seen) }
-    ensures err { IfErr result (λ fault. fault ≡ WireFault.NoMemory) }
+fn see_counted(
+    alloc: Global,
+    buffer: &mut Buffer,
+    start: usize,
+    size: u64,
+    limit: usize,
+) -> BodySeen
+    requires { start ≤ length buffer.old }
+    ensures sees { (last : Bool)
+        → SeesBody (Framing.Counted size) limit (drop start buffer.old) last result }
+    ensures left { Leaves buffer.old buffer.new result }
 {
     if size > limit as u64 {
-        return see_front(alloc, text, limit);
+        return see_prefix(alloc, buffer, start, limit);
     }
-    if (text.len() as u64) < size {
-        return Ok(BodySeen::More);
+    let come = buffer.octets().len() - start;
+    if (come as u64) < size {
+        return BodySeen::More;
     }
-    give(alloc, &text[..size as usize], false)
+    give(alloc, buffer, start, size as usize, false)
 }
 
 // The first octets up to the limit, where one more stands there.
-fn see_front(alloc: Global, text: &[u8], limit: usize) -> Result<BodySeen, WireFault>
-    ensures ok { IfOk result (SeesFront limit text.now) }
-    ensures err { IfErr result (λ fault. fault ≡ WireFault.NoMemory) }
+fn see_prefix(alloc: Global, buffer: &mut Buffer, start: usize, limit: usize) -> BodySeen
+    requires { start ≤ length buffer.old }
+    ensures sees { SeesPrefix limit (drop start buffer.old) result }
+    ensures left { Leaves buffer.old buffer.new result }
 {
-    if text.len() <= limit {
-        return Ok(BodySeen::More);
+    if buffer.octets().len() - start <= limit {
+        return BodySeen::More;
     }
-    give(alloc, &text[..limit], true)
+    give(alloc, buffer, start, limit, true)
 }
 
 fn see_chunked(
     alloc: Global,
     decoder: &mut ChunkDecoder,
-    bytes: &[u8],
+    buffer: &Buffer,
     last: bool,
 ) -> Result<BodySeen, WireFault>
-    requires { Stands decoder.old bytes.now }
+    requires { Stands decoder.old buffer.now }
     ensures start { decoder.new.start ≡ decoder.old.start }
     ensures limit { decoder.new.limit ≡ decoder.old.limit }
     ensures sees { IfOk result
-        (Sees Framing.Chunked decoder.old.limit (drop decoder.old.start bytes.now) last) }
-    ensures stands { result ≡ Ok BodySeen.More → Stands decoder.new bytes.now }
+        (SeesBody Framing.Chunked decoder.old.limit (drop decoder.old.start buffer.now) last) }
+    ensures stands { result ≡ Ok BodySeen.More → Stands decoder.new buffer.now }
     ensures err { IfErr result
-        (Refuses Framing.Chunked decoder.old.limit (drop decoder.old.start bytes.now)) }
+        (Refuses Framing.Chunked decoder.old.limit (drop decoder.old.start buffer.now)) }
 {
-    match decoder.look(bytes, last) {
-        Ok(Look::Whole) => Ok(BodySeen::Given(Body {
+    match decoder.look(buffer.octets(), last)? {
+        Look::Whole => Ok(BodySeen::Given(Body {
             octets: decoder.take_octets(alloc),
             cut: false,
         })),
-        Ok(Look::Cut) => Ok(BodySeen::Given(Body {
+        Look::Cut => Ok(BodySeen::Given(Body {
             octets: decoder.take_octets(alloc),
             cut: true,
         })),
-        Ok(Look::Bad) => Err(WireFault::BadChunk),
-        Ok(Look::Full) => Ok(BodySeen::Full),
-        Ok(Look::More) => Ok(BodySeen::More),
-        Err(_) => Err(WireFault::NoMemory),
+        Look::Bad => Err(WireFault::BadChunk),
+        Look::Full => Ok(BodySeen::Full),
+        Look::More => Ok(BodySeen::More),
     }
 }
 
-// Gives octets that were seen, copied.
-fn give(alloc: Global, octets: &[u8], cut: bool) -> Result<BodySeen, WireFault>
-    ensures ok { IfOk result (IsGiven octets.now cut) }
-    ensures err { IfErr result (λ fault. fault ≡ WireFault.NoMemory) }
+// Gives octets of the buffer.
+fn give(alloc: Global, buffer: &mut Buffer, start: usize, len: usize, cut: bool) -> BodySeen
+    requires { start + len ≤ length buffer.old }
+    ensures { IsGiven (take len (drop start buffer.old)) cut result }
 {
-    match keep(alloc, octets, cut) {
-        Ok(body) => Ok(BodySeen::Given(body)),
-        Err(_) => Err(WireFault::NoMemory),
-    }
-}
-
-fn keep(alloc: Global, octets: &[u8], cut: bool) -> Result<Body, AllocError>
-    ensures { IfOk result (λ body. (body.octets.items ≡ octets.now) × (body.cut ≡ cut)) }
-{
-    let mut kept = Vec::new(alloc);
-    match kept.extend_from_slice(octets) {
-        Ok(()) => Ok(Body { octets: kept, cut }),
-        Err(error) => Err(error),
-    }
+    BodySeen::Given(Body {
+        octets: buffer.hand_out(alloc, start, len),
+        cut,
+    })
 }

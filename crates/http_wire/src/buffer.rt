@@ -1,15 +1,17 @@
 //! The octets that have come, and reads of more.
 //! A response is read into one buffer, so that what was read can be looked at again.
 ghost use Rattle.std.specs.Io.KnownBytes.{IsAtEnd};
-ghost use Rattle.std.specs.Prelude.{◌≡◌, ◌≤◌, ◌<◌, ◌+◌, Ok, ◌⊎◌, [], Err, length, take, IfOk, OnOk, OnErr, vec_len};
+ghost use Rattle.std.specs.Prelude.{◌≡◌, ◌≤◌, ◌<◌, ◌+◌, Ok, ◌⊎◌, [], Err, length, drop, take, IfOk, OnOk, OnErr, vec_len};
+ghost use Rattle.counted_io.specs.Device.{failures_after};
 ghost use Rattle.http_wire.specs.Reading.{Fills, Grows};
 ghost use Rattle.http_wire.specs.Response.{failures_after_reading};
 
 use crate::fault::WireFault;
 use crate::limits::MAX_RAW;
-use counted_io::Source;
+use counted_io::{DeviceFault, Source};
 use std::alloc::{AllocError, Global};
 use std::marker::Model;
+use std::mem;
 
 /// How many octets the first read asks for.
 const FIRST_READ: usize = 16_384;
@@ -71,6 +73,7 @@ impl Buffer {
             ≡ failures_after_reading (S.failures source.old) result }
         ensures err { OnErr result
             ((result ≡ Err WireFault.Device) ⊎ (result ≡ Err WireFault.NoMemory)) }
+        ensures within { length self.new ≤ MAX_RAW }
     {
         if self.end == MAX_RAW {
             return self.look_past(source);
@@ -85,6 +88,18 @@ impl Buffer {
         }
     }
 
+    /// Hands out `len` of the octets from `start` on, in the memory that held all of them.
+    pub(crate) fn hand_out(&mut self, alloc: Global, start: usize, len: usize) -> Vec<u8>
+        requires { start + len ≤ length self.old }
+        ensures { result.items ≡ take len (drop start self.old) }
+    {
+        let mut octets = mem::replace(&mut self.room, Vec::new(alloc));
+        self.end = 0;
+        octets.as_mut_slice().copy_within(start..start + len, 0);
+        octets.truncate(len);
+        octets
+    }
+
     // Whether the input goes on behind a full buffer.
     fn look_past<S: Source>(&self, source: &mut S) -> Result<Fill, WireFault>
         requires { length self.now ≡ MAX_RAW }
@@ -94,10 +109,9 @@ impl Buffer {
             ≡ failures_after_reading (S.failures source.old) result }
         ensures err { OnErr result (result ≡ Err WireFault.Device) }
     {
-        match source.read(&mut [0]) {
-            Ok(0) => Ok(Fill::Ended),
-            Ok(_) => Ok(Fill::Past),
-            Err(_) => Err(WireFault::Device),
+        match source.read(&mut [0])? {
+            0 => Ok(Fill::Ended),
+            _ => Ok(Fill::Past),
         }
     }
 }
@@ -118,18 +132,14 @@ fn make_room(room: &mut Vec<u8>, end: usize) -> Result<(), AllocError>
 }
 
 // Reads into the room behind the first `end` octets, and says how many octets came.
-fn read_behind<S: Source>(source: &mut S, room: &mut [u8], end: usize) -> Result<usize, WireFault>
+fn read_behind<S: Source>(source: &mut S, room: &mut [u8], end: usize) -> Result<usize, DeviceFault>
     requires { end < length room.old }
     ensures ok { IfOk result (λ count. end + count ≤ length room.new
         × Grows (S.left source.old) (S.left source.new)
         (take end room.old) (take (end + count) room.new)) }
     ensures ended { result ≡ Ok 0 → IsAtEnd (S.left source.old) }
     ensures kept { (length room.new ≡ length room.old) × (take end room.new ≡ take end room.old) }
-    ensures count { S.failures source.new ≡ failures_after_reading (S.failures source.old) result }
-    ensures err { OnErr result (result ≡ Err WireFault.Device) }
+    ensures count { S.failures source.new ≡ failures_after (S.failures source.old) result }
 {
-    match source.read(&mut room[end..]) {
-        Ok(count) => Ok(count),
-        Err(_) => Err(WireFault::Device),
-    }
+    source.read(&mut room[end..])
 }

@@ -4,10 +4,10 @@ ghost use Rattle.std.specs.Prelude.{◌≡◌, ◌+◌, ◌-◌, ◌<◌, ◌≤
 ghost use Rattle.http_wire.specs.Decoding.{Decodes, EndTells, Stands, Steps};
 
 use crate::limits::MAX_TRAILER_BYTES;
+use crate::line_ends::{begins_with_line_end, has_empty_line, has_line_end};
 use crate::look::Look;
-use crate::trailers::{has_empty_line, look_trailers};
+use crate::trailers::look_trailers;
 use httparse::{Status, parse_chunk_size};
-use memchr::memchr;
 use std::alloc::{AllocError, Global};
 use std::mem;
 
@@ -70,10 +70,8 @@ impl ChunkDecoder {
         ensures decodes { IfOk result (Decodes bytes.now last self.new) }
     {
         loop {
-            match self.step(bytes, last) {
-                Ok(None) => {}
-                Ok(Some(look)) => return Ok(look),
-                Err(error) => return Err(error),
+            if let Some(look) = self.step(bytes, last)? {
+                return Ok(look);
             }
         }
     }
@@ -109,7 +107,7 @@ impl ChunkDecoder {
         ensures steps { Steps bytes.now last self.old.at self.new result }
     {
         // A line that comes octet by octet is parsed once.
-        if !last && !has_line_feed(bytes, self.scanned) {
+        if !last && !has_line_end(bytes, self.scanned) {
             self.scanned = bytes.len();
             return Some(Look::More);
         }
@@ -164,10 +162,8 @@ impl ChunkDecoder {
         if text.len() <= room {
             return Ok(Some(Look::More));
         }
-        match self.octets.extend_from_slice(&text[..room]) {
-            Ok(()) => Ok(Some(Look::Cut)),
-            Err(error) => Err(error),
-        }
+        self.octets.extend_from_slice(&text[..room])?;
+        Ok(Some(Look::Cut))
     }
 
     // The limit has room for the octets of the chunk.
@@ -189,10 +185,10 @@ impl ChunkDecoder {
             return Ok(Some(Look::More));
         }
         match chunk_end(&text[size..]) {
-            ChunkEnd::Whole => match self.take_chunk(size, bytes) {
-                Ok(()) => Ok(None),
-                Err(error) => Err(error),
-            },
+            ChunkEnd::Whole => {
+                self.take_chunk(size, bytes)?;
+                Ok(None)
+            }
             ChunkEnd::Open => Ok(Some(Look::More)),
             ChunkEnd::Bad => Ok(Some(Look::Bad)),
         }
@@ -210,13 +206,9 @@ impl ChunkDecoder {
         ensures moves { IfOk result (λ _. (self.old.at < self.new.at) × Stands self.new bytes.now) }
     {
         let text = &bytes[self.at..];
-        match self.octets.extend_from_slice(&text[..size]) {
-            Ok(()) => {
-                self.pass(size + 2, Place::Line);
-                Ok(())
-            }
-            Err(error) => Err(error),
-        }
+        self.octets.extend_from_slice(&text[..size])?;
+        self.pass(size + 2, Place::Line);
+        Ok(())
     }
 
     fn look_end(&mut self, bytes: &[u8], last: bool) -> Look
@@ -228,7 +220,8 @@ impl ChunkDecoder {
     {
         let text = &bytes[self.at..];
         let open = !last && text.len() < MAX_TRAILER_BYTES;
-        if open && !has_empty_line(text, self.scanned.saturating_sub(self.at)) {
+        let seen = self.scanned.saturating_sub(self.at);
+        if open && !begins_with_line_end(text) && !has_empty_line(text, seen) {
             self.scanned = self.scanned.max(bytes.len());
             return Look::More;
         }
@@ -250,13 +243,6 @@ impl ChunkDecoder {
         self.at += len;
         self.scanned = self.at;
         self.place = place;
-    }
-}
-
-fn has_line_feed(bytes: &[u8], from: usize) -> bool {
-    match bytes.get(from..) {
-        Some(new) => memchr(b'\n', new).is_some(),
-        None => false,
     }
 }
 

@@ -1,4 +1,5 @@
 //! Why no response was read.
+use counted_io::DeviceFault;
 use std::alloc::AllocError;
 use std::error::Error;
 use std::fmt;
@@ -36,6 +37,17 @@ impl From<AllocError> for WireFault {
 
     fn from(_: AllocError) -> WireFault {
         WireFault::NoMemory
+    }
+}
+
+impl From<DeviceFault> for WireFault {
+    ghost use Rattle.std.specs.Prelude.{◌≡◌};
+    ghost use Rattle.http_wire.specs.declared.fault.WireFault.{WireFault};
+
+    ghost from_gives = { λ _ fault. fault ≡ WireFault.Device };
+
+    fn from(_: DeviceFault) -> WireFault {
+        WireFault::Device
     }
 }
 

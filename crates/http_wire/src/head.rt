@@ -5,16 +5,16 @@ ghost use Rattle.std.specs.String.{string_bytes};
 ghost use Rattle.httparse.specs.Grammar.{ResponseHead};
 ghost use Rattle.httparse.specs.Spans.{IsResponseWithin, header_bytes};
 ghost use Rattle.http_wire.specs.Fields.{IsLocation};
-ghost use Rattle.http_wire.specs.Finding.{Faults, Finds, HasNoPlan, IsClass, IsFound, IsHeadAt, IsPlan, Parses, Passes, Sees};
-ghost use Rattle.http_wire.specs.Heads.{line_ends};
+ghost use Rattle.http_wire.specs.Finding.{Faults, FindsHead, HasNoPlan, IsClass, IsFound, IsHeadAt, IsPlan, Parses, Passes, SeesHead};
 ghost use Rattle.http_wire.specs.Left.{pairs};
 ghost use Rattle.http_wire.specs.Response.{Cause};
 
-use crate::empty_line::EmptyLine;
 use crate::fault::WireFault;
 use crate::fields::{EMPTY_FIELD, Field, cover};
 use crate::framing::{Framing, Unframed, framing_of, is_coded, location_of};
+use crate::head_scan::HeadScan;
 use crate::limits::{MAX_HEAD, MAX_HEADER_LINES, MAX_INTERIM_HEADS};
+use crate::line_ends::count_line_ends;
 use httparse::spans::{EMPTY_HEADER_SPAN, HeaderSpan, ResponseSpans, parse_response};
 use httparse::{Error, Status};
 use std::alloc::{AllocError, Global};
@@ -34,7 +34,7 @@ pub(crate) struct FinalHead {
 pub(crate) enum Parsed {
     /// It begins with a head.
     Head(ResponseSpans),
-    /// It is a front of a head.
+    /// It is a prefix of a head.
     Open,
     /// It has more header lines than a head may have.
     TooMany,
@@ -80,7 +80,7 @@ pub(crate) struct HeadFinder {
     at: usize,
     passed: usize,
     // When to parse: no answer rests on it.
-    line: EmptyLine,
+    scan: HeadScan,
 }
 
 fn parse(text: &[u8], headers: &mut [HeaderSpan]) -> Parsed
@@ -105,7 +105,7 @@ impl HeadFinder {
         HeadFinder {
             at: 0,
             passed: 0,
-            line: EmptyLine::new(),
+            scan: HeadScan::new(),
         }
     }
 
@@ -117,16 +117,15 @@ impl HeadFinder {
         last: bool,
     ) -> Result<Option<FinalHead>, WireFault>
         requires { Passes self.old bytes.now }
-        ensures finds { IfOk result (Finds bytes.now last self.new) }
+        ensures finds { IfOk result (FindsHead bytes.now last self.new) }
         ensures faults { IfErr result (Faults bytes.now) }
         ensures no_device { result ≢ Err WireFault.Device }
     {
         loop {
-            match self.step(alloc, bytes, last) {
-                Ok(Seen::Final(head)) => return Ok(Some(head)),
-                Ok(Seen::More) => return Ok(None),
-                Ok(Seen::Interim) => {}
-                Err(fault) => return Err(fault),
+            match self.step(alloc, bytes, last)? {
+                Seen::Final(head) => return Ok(Some(head)),
+                Seen::More => return Ok(None),
+                Seen::Interim => {}
             }
         }
     }
@@ -138,24 +137,23 @@ impl HeadFinder {
         ensures faults { IfErr result (λ fault. (limit : ℕ) → Cause fault bytes.now limit) }
         ensures no_device { result ≢ Err WireFault.Device }
     {
-        match self.look(alloc, bytes, true) {
-            Ok(Some(head)) => Ok(head),
-            Ok(None) if count_line_ends(&bytes[self.at..]) > MAX_HEADER_LINES => {
+        match self.look(alloc, bytes, true)? {
+            Some(head) => Ok(head),
+            None if count_line_ends(&bytes[self.at..]) > MAX_HEADER_LINES => {
                 Err(WireFault::HeadTooLong)
             }
-            Ok(None) => Err(WireFault::EarlyEnd),
-            Err(fault) => Err(fault),
+            None => Err(WireFault::EarlyEnd),
         }
     }
 
     // Looks at one head.
     fn step(&mut self, alloc: Global, bytes: &[u8], last: bool) -> Result<Seen, WireFault>
         requires { Passes self.old bytes.now }
-        ensures sees { IfOk result (Sees bytes.now last self.old.passed self.new) }
+        ensures sees { IfOk result (SeesHead bytes.now last self.old.passed self.new) }
         ensures faults { IfErr result (Faults bytes.now) }
         ensures no_device { result ≢ Err WireFault.Device }
     {
-        let text = front_of(bytes, self.at);
+        let text = prefix_of(bytes, self.at);
         if self.waits(text, last) {
             return Ok(Seen::More);
         }
@@ -164,7 +162,10 @@ impl HeadFinder {
             Parsed::Head(spans) => self.take(alloc, bytes, text, spans, &headers),
             Parsed::Open if text.len() < MAX_HEAD => Ok(Seen::More),
             Parsed::Open => Err(WireFault::HeadTooLong),
-            Parsed::TooMany if text.len() < MAX_HEAD && !last => Ok(Seen::More),
+            Parsed::TooMany if text.len() < MAX_HEAD && !last => {
+                self.scan.stop();
+                Ok(Seen::More)
+            }
             Parsed::TooMany => Err(WireFault::HeadTooLong),
             Parsed::Bad => Err(WireFault::BadHead),
         }
@@ -176,7 +177,7 @@ impl HeadFinder {
         ensures at { self.new.at ≡ self.old.at }
         ensures passed { self.new.passed ≡ self.old.passed }
     {
-        !last && text.len() < MAX_HEAD && !self.line.ends_in(text)
+        !last && text.len() < MAX_HEAD && !self.scan.may_tell(text)
     }
 
     // Takes a head that was parsed, by its status.
@@ -189,11 +190,11 @@ impl HeadFinder {
         headers: &[HeaderSpan],
     ) -> Result<Seen, WireFault>
         requires passes { Passes self.old bytes.now }
-        requires front { text.now ≡ take MAX_HEAD (drop self.old.at bytes.now) }
+        requires prefix { text.now ≡ take MAX_HEAD (drop self.old.at bytes.now) }
         requires at { (head : ResponseHead) × IsHeadAt text.now headers.now spans head }
         requires room { length headers.now ≡ MAX_HEADER_LINES }
         ensures sees { IfOk result (λ seen. (last : Bool)
-            → Sees bytes.now last self.old.passed self.new seen) }
+            → SeesHead bytes.now last self.old.passed self.new seen) }
         ensures faults { IfErr result (Faults bytes.now) }
         ensures no_device { result ≢ Err WireFault.Device }
     {
@@ -201,21 +202,21 @@ impl HeadFinder {
             Class::Interim if self.passed < MAX_INTERIM_HEADS => {
                 self.at += spans.len;
                 self.passed += 1;
-                self.line = EmptyLine::new();
+                self.scan = HeadScan::new();
                 Ok(Seen::Interim)
             }
             Class::Interim => Err(WireFault::TooManyInterim),
-            Class::Final => match plan(alloc, text, spans, headers, self.at + spans.len) {
-                Ok(head) => Ok(Seen::Final(head)),
-                Err(fault) => Err(fault),
-            },
+            Class::Final => {
+                let end = self.at + spans.len;
+                Ok(Seen::Final(plan(alloc, text, spans, headers, end)?))
+            }
             Class::Strange => Err(WireFault::BadHead),
         }
     }
 }
 
 // The octets from a place on that a head may have.
-fn front_of(bytes: &[u8], at: usize) -> &[u8]
+fn prefix_of(bytes: &[u8], at: usize) -> &[u8]
     requires { at ≤ length bytes.now }
     ensures { result.now ≡ take MAX_HEAD (drop at bytes.now) }
 {
@@ -265,15 +266,13 @@ fn plan_of(
         Err(Unframed::BadLength) => return Err(WireFault::BadLength),
         Err(Unframed::OtherCoding) => return Err(WireFault::Coding),
     };
-    match location_text(alloc, fields) {
-        Ok(location) => Ok(FinalHead {
-            status,
-            framing,
-            location,
-            end,
-        }),
-        Err(_) => Err(WireFault::NoMemory),
-    }
+    let location = location_text(alloc, fields)?;
+    Ok(FinalHead {
+        status,
+        framing,
+        location,
+        end,
+    })
 }
 
 fn location_text(alloc: Global, fields: &[Field<'_>]) -> Result<Option<String>, AllocError>
@@ -284,11 +283,4 @@ fn location_text(alloc: Global, fields: &[Field<'_>]) -> Result<Option<String>, 
         Some(text) => Ok(Some(String::from_str(alloc, text)?)),
         None => Ok(None),
     }
-}
-
-/// How many lines have ended.
-pub(crate) fn count_line_ends(text: &[u8]) -> usize
-    ensures { result ≡ line_ends text.now }
-{
-    text.iter().filter(|octet| **octet == b'\n').count()
 }

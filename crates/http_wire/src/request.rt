@@ -1,17 +1,22 @@
 //! Requests for pages.
 //! RFC 9112, section 3.
-ghost use Rattle.std.specs.Prelude.{◌≡◌, ◌≤◌, All, Err, OnOk, OnErr};
+ghost use Rattle.std.specs.Prelude.{◌≡◌, ◌≤◌, All, length, take, Err, IfSome, OnOk, OnErr};
 ghost use Rattle.std.specs.Io.KnownBytes.{Appends};
 ghost use Rattle.counted_io.specs.Device.{failures_after, AppendsPrefix};
 ghost use Rattle.path_normal.specs.PageText.{authority_of, target_of};
 ghost use Rattle.http_wire.specs.Request.{joined_pieces, request};
 
 use crate::fault::WireFault;
-use counted_io::{Sink, write_all};
+use counted_io::{DeviceFault, Sink, write_all};
 use path_normal::PageUrl;
 
+/// How many octets of a request are gathered, so that they go out in one write: those of the longest
+/// page, and as many of an agent.
+const REQUEST_ROOM: usize = 8_192;
+
 /// Writes a GET request for the page, after which the connection closes. `agent` is the value of
-/// User-Agent. Takes no memory.
+/// User-Agent. It is one write, where the device takes that whole and all is at most 8,192 octets.
+/// Takes no memory.
 pub fn write_get<W: Sink>(writer: &mut W, url: &PageUrl, agent: &[u8]) -> Result<(), WireFault>
     // No octet of the agent ends its line.
     requires { All (λ octet. (32 ≤ octet) × (octet ≤ 126)) agent.now }
@@ -31,11 +36,11 @@ pub fn write_get<W: Sink>(writer: &mut W, url: &PageUrl, agent: &[u8]) -> Result
         agent,
         b"\r\nAccept: */*\r\nAccept-Encoding: identity\r\nConnection: close\r\n\r\n",
     ];
-    write_pieces(writer, &pieces)
+    write_gathered(writer, &pieces)
 }
 
-// Writes one piece after the other, and stops at the first write that fails.
-fn write_pieces<W: Sink>(writer: &mut W, pieces: &[&[u8]]) -> Result<(), WireFault>
+// Writes the pieces as one octets' text, where there is room to gather them.
+fn write_gathered<W: Sink>(writer: &mut W, pieces: &[&[u8]]) -> Result<(), WireFault>
     ensures ok { OnOk result (Appends (W.written writer.old) (W.written writer.new)
         (joined_pieces pieces.now)) }
     ensures err { OnErr result (AppendsPrefix (W.written writer.old) (W.written writer.new)
@@ -43,11 +48,42 @@ fn write_pieces<W: Sink>(writer: &mut W, pieces: &[&[u8]]) -> Result<(), WireFau
     ensures fault { OnErr result (result ≡ Err WireFault.Device) }
     ensures count { W.failures writer.new ≡ failures_after (W.failures writer.old) result }
 {
+    let mut room = [0; REQUEST_ROOM];
+    match gather(pieces, &mut room) {
+        Some(len) => write_all(writer, &room[..len])?,
+        None => write_pieces(writer, pieces)?,
+    }
+    Ok(())
+}
+
+// Puts the pieces into the room, one behind the other, and says how many octets they have. None
+// where they don't fit.
+fn gather(pieces: &[&[u8]], room: &mut [u8]) -> Option<usize>
+    ensures { IfSome result (λ len. (take len room.new ≡ joined_pieces pieces.now)
+        × (len ≤ length room.new)) }
+{
+    let mut end = 0;
     for piece in pieces {
-        match write_all(writer, piece) {
-            Ok(()) => {}
-            Err(_) => return Err(WireFault::Device),
+        let next = end + piece.len();
+        if next > room.len() {
+            return None;
         }
+        room[end..next].copy_from_slice(piece);
+        end = next;
+    }
+    Some(end)
+}
+
+// Writes one piece after the other, and stops at the first write that fails.
+fn write_pieces<W: Sink>(writer: &mut W, pieces: &[&[u8]]) -> Result<(), DeviceFault>
+    ensures ok { OnOk result (Appends (W.written writer.old) (W.written writer.new)
+        (joined_pieces pieces.now)) }
+    ensures err { OnErr result (AppendsPrefix (W.written writer.old) (W.written writer.new)
+        (joined_pieces pieces.now)) }
+    ensures count { W.failures writer.new ≡ failures_after (W.failures writer.old) result }
+{
+    for piece in pieces {
+        write_all(writer, piece)?;
     }
     Ok(())
 }

@@ -1,7 +1,8 @@
 //! Responses, read from a source.
 //! RFC 9112, sections 2 and 6.
-ghost use Rattle.std.specs.Prelude.{◌≡◌, [], IfErr, IfOk};
+ghost use Rattle.std.specs.Prelude.{◌≡◌, ◌≤◌, [], length, IfErr, IfOk};
 ghost use Rattle.http_wire.specs.Finding.{Fails, IsFound};
+ghost use Rattle.http_wire.specs.Limits.{AreLimits};
 ghost use Rattle.http_wire.specs.Reading.{Grows};
 ghost use Rattle.http_wire.specs.Response.{Finds, Tells, failures_after_reading};
 
@@ -9,6 +10,7 @@ use crate::body::read_body;
 use crate::buffer::{Buffer, Fill};
 use crate::fault::WireFault;
 use crate::head::{FinalHead, HeadFinder};
+use crate::limits::MAX_RAW;
 use counted_io::Source;
 use std::alloc::Global;
 
@@ -25,9 +27,13 @@ pub struct HttpReply {
     pub cut: bool,
 }
 
-/// Reads one response, and gives at most `limit` octets of its body. Octets that follow the
-/// response may be read too. It may wait for the source, and takes memory for what it reads, at
-/// most `MAX_RAW` octets.
+/// Reads one response, and gives at most `limit` octets of its body. It asks for no more once the
+/// response or its fault stands; octets that follow may have come with the last read. It may wait
+/// for the source. The octets that came are held in one buffer of 16,384 octets, which doubles up to
+/// `MAX_RAW`; a body that is counted or goes to the end is handed out in that memory, and one in
+/// chunks takes as much memory again as it has octets, at most `limit`, and the room of a growing
+/// list. Beside these there is the text of Location. While the buffer grows, the old and the new one
+/// may both be held.
 pub fn read_response<S: Source>(
     alloc: Global,
     source: &mut S,
@@ -35,6 +41,7 @@ pub fn read_response<S: Source>(
 ) -> Result<HttpReply, WireFault>
     ensures tells { Tells (S.left source.old) limit result }
     ensures found { Finds (S.left source.old) limit result }
+    ensures limits { AreLimits }
     ensures count { S.failures source.new ≡ failures_after_reading (S.failures source.old) result }
 {
     read_reply(alloc, source, limit)
@@ -50,19 +57,14 @@ fn read_reply<S: Source>(
     ensures count { S.failures source.new ≡ failures_after_reading (S.failures source.old) result }
 {
     let mut buffer = Buffer::new(alloc);
-    let head = match read_final(alloc, source, &mut buffer) {
-        Ok(head) => head,
-        Err(fault) => return Err(fault),
-    };
-    match read_body(alloc, source, &mut buffer, head.framing, head.end, limit) {
-        Ok(body) => Ok(HttpReply {
-            status: head.status,
-            location: head.location,
-            body: body.octets,
-            cut: body.cut,
-        }),
-        Err(fault) => Err(fault),
-    }
+    let head = read_final(alloc, source, &mut buffer)?;
+    let body = read_body(alloc, source, &mut buffer, head.framing, head.end, limit)?;
+    Ok(HttpReply {
+        status: head.status,
+        location: head.location,
+        body: body.octets,
+        cut: body.cut,
+    })
 }
 
 // Reads up to the final head.
@@ -74,22 +76,20 @@ fn read_final<S: Source>(
     requires { buffer.old ≡ [] }
     ensures found { IfOk result (IsFound buffer.new) }
     ensures grows { IfOk result (λ _. Grows (S.left source.old) (S.left source.new) [] buffer.new) }
+    ensures few { length buffer.new ≤ MAX_RAW }
     ensures fails { IfErr result (Fails (S.left source.old) []) }
     ensures count { S.failures source.new ≡ failures_after_reading (S.failures source.old) result }
 {
     let mut finder = HeadFinder::new();
     loop {
-        match finder.look(alloc, buffer.octets(), false) {
-            Ok(Some(head)) => return Ok(head),
-            Ok(None) => {}
-            Err(fault) => return Err(fault),
+        if let Some(head) = finder.look(alloc, buffer.octets(), false)? {
+            return Ok(head);
         }
-        match buffer.fill(source) {
-            Ok(Fill::More) => {}
-            Ok(Fill::Ended) => return finder.end(alloc, buffer.octets()),
+        match buffer.fill(source)? {
+            Fill::More => {}
+            Fill::Ended => return finder.end(alloc, buffer.octets()),
             // More octets than eight interim heads and a final one may have are in the buffer.
-            Ok(Fill::Past) => return Err(WireFault::TooMuch),
-            Err(fault) => return Err(fault),
+            Fill::Past => return Err(WireFault::TooMuch),
         }
     }
 }

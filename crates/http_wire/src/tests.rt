@@ -3,3 +3,4 @@
 mod limits;
 mod requests;
 mod responses;
+mod stops;

@@ -4,12 +4,11 @@ ghost use Rattle.std.specs.Prelude.{◌≡◌, ◌<◌, ◌≤◌, Bool, length}
 ghost use Rattle.http_wire.specs.Heads.{line_ends};
 ghost use Rattle.http_wire.specs.Decoding.{SectionTells, TrailersTell};
 
-use crate::head::count_line_ends;
 use crate::limits::{MAX_TRAILER_BYTES, MAX_TRAILERS};
+use crate::line_ends::count_line_ends;
 use crate::look::Look;
 use httparse::spans::{EMPTY_HEADER_SPAN, parse_headers};
 use httparse::{Error, Status};
-use memchr::memmem;
 
 /// What octets that trailers may have are.
 #[derive(Clone, Copy, Debug, PartialEq, Eq)]
@@ -22,18 +21,6 @@ enum TrailerSection {
     Over,
     /// No trailers, whatever follows.
     Bad,
-}
-
-/// Whether an empty line ends after the first `from` octets, or begins the text.
-pub(crate) fn has_empty_line(text: &[u8], from: usize) -> bool {
-    if matches!(text, [b'\n', ..] | [b'\r', b'\n', ..]) {
-        return true;
-    }
-    // The end of the line before it may stand among the octets that were seen.
-    match text.get(from.saturating_sub(2)..) {
-        Some(new) => memmem::find(new, b"\n\n").is_some() || memmem::find(new, b"\n\r\n").is_some(),
-        None => false,
-    }
 }
 
 /// What the octets after the last chunk's line are. `last`: no look follows.

@@ -2,14 +2,14 @@
 //! In the text of a row `|` stands for CR LF.
 
 use crate::{WireFault, read_response};
-use counted_io::FailAt;
+use counted_io::{FailAt, Source};
 use std::alloc::{AllocError, Global};
 use std::process::Abort;
 use std::test::Fail;
 
 /// What a row gives: a status and a body, whole or cut, or a fault.
 #[derive(Clone, Copy, Debug)]
-enum Want {
+pub(super) enum Want {
     Whole(u16, &'static str),
     Cut(u16, &'static str),
     Fault(WireFault),
@@ -25,7 +25,7 @@ const CHUNKED: &str = "HTTP/1.1 200 OK|Transfer-Encoding: chunked||5|hello|0||";
 const NO_CONTENT: &str = "HTTP/1.1 100 Continue||HTTP/1.1 204 No Content||";
 
 // A name, the text, the limit, and what is given.
-const ROWS: [(&str, &str, usize, Want); 52] = [
+const ROWS: [(&str, &str, usize, Want); 53] = [
     ("counted", COUNTED, 9, Whole(200, "hello")),
     ("counted, over the limit", COUNTED, 3, Cut(200, "hel")),
     (
@@ -239,6 +239,12 @@ const ROWS: [(&str, &str, usize, Want); 52] = [
         Whole(200, "hello"),
     ),
     (
+        "a line feed in a chunk extension",
+        "HTTP/1.1 200 OK|Transfer-Encoding: chunked||5;a\nb|hello|0||",
+        9,
+        Fault(BadChunk),
+    ),
+    (
         "a bare line feed behind a size",
         "HTTP/1.1 200 OK|Transfer-Encoding: chunked||5\nhello|0||",
         9,
@@ -295,7 +301,7 @@ HTTP/1.1 100 a||x",
 ];
 
 // The octets of a row's text.
-fn octets_of(alloc: Global, text: &str) -> Result<Vec<u8>, AllocError> {
+pub(super) fn octets_of(alloc: Global, text: &str) -> Result<Vec<u8>, AllocError> {
     let mut octets = Vec::new(alloc);
     for octet in text.as_bytes() {
         if *octet == b'|' {
@@ -307,7 +313,33 @@ fn octets_of(alloc: Global, text: &str) -> Result<Vec<u8>, AllocError> {
     Ok(octets)
 }
 
-// Reads the octets, so many a read, and compares what is given.
+// Reads a response, and compares what is given.
+pub(super) fn check_read<S: Source>(
+    rt: &impl Abort,
+    alloc: Global,
+    name: &str,
+    source: &mut S,
+    limit: usize,
+    want: Want,
+) {
+    match (read_response(alloc, source, limit), want) {
+        (Ok(reply), Whole(status, body)) => {
+            assert_eq!(rt; reply.status, status, "{name}");
+            assert_eq!(rt; reply.body.as_slice(), body.as_bytes(), "{name}");
+            assert!(rt; !reply.cut, "{name}");
+        }
+        (Ok(reply), Cut(status, body)) => {
+            assert_eq!(rt; reply.status, status, "{name}");
+            assert_eq!(rt; reply.body.as_slice(), body.as_bytes(), "{name}");
+            assert!(rt; reply.cut, "{name}");
+        }
+        (Err(fault), Fault(want)) => assert_eq!(rt; fault, want, "{name}"),
+        (Ok(_), Fault(want)) => assert!(rt; false, "{name}: no {want}"),
+        (Err(fault), _) => assert!(rt; false, "{name}: {fault}"),
+    }
+}
+
+// The same of octets, so many a read.
 fn check(
     rt: &impl Abort,
     alloc: Global,
@@ -318,21 +350,7 @@ fn check(
     want: Want,
 ) {
     let mut source = FailAt::new(octets, step.max(1), None);
-    match (read_response(alloc, &mut source, limit), want) {
-        (Ok(reply), Whole(status, body)) => {
-            assert_eq!(rt; reply.status, status, "{name} by {step}");
-            assert_eq!(rt; reply.body.as_slice(), body.as_bytes(), "{name} by {step}");
-            assert!(rt; !reply.cut, "{name} by {step}");
-        }
-        (Ok(reply), Cut(status, body)) => {
-            assert_eq!(rt; reply.status, status, "{name} by {step}");
-            assert_eq!(rt; reply.body.as_slice(), body.as_bytes(), "{name} by {step}");
-            assert!(rt; reply.cut, "{name} by {step}");
-        }
-        (Err(fault), Fault(want)) => assert_eq!(rt; fault, want, "{name} by {step}"),
-        (Ok(_), Fault(want)) => assert!(rt; false, "{name} by {step}: no {want}"),
-        (Err(fault), _) => assert!(rt; false, "{name} by {step}: {fault}"),
-    }
+    check_read(rt, alloc, name, &mut source, limit, want);
     assert_eq!(rt; source.failures(), 0, "{name} by {step}");
 }
 
@@ -348,13 +366,13 @@ fn gives_each_row_whatever_the_reads(rt: HostRuntime) -> Result<(), Fail> {
 }
 
 #[test]
-fn ends_early_in_each_front(rt: HostRuntime) -> Result<(), Fail> {
+fn ends_early_in_each_prefix(rt: HostRuntime) -> Result<(), Fail> {
     let alloc = rt.alloc();
     for text in [COUNTED, CHUNKED, NO_CONTENT] {
         let octets = octets_of(alloc, text)?;
         for end in 0..octets.len() {
-            let front = Vec::from_slice(alloc, &octets[..end])?;
-            check(&rt, alloc, text, front, 7, 9, Fault(EarlyEnd));
+            let prefix = Vec::from_slice(alloc, &octets[..end])?;
+            check(&rt, alloc, text, prefix, 7, 9, Fault(EarlyEnd));
         }
     }
     Ok(())

@@ -1,11 +1,12 @@
 -- A counted body is cut at the limit, or given whole.
 -- The lemmas of `BodyLooks` say so over plain lists.
-use Rattle.std.proofs.Common.{arith}
-use Rattle.http_wire.proofs.BodyLooks.{counted_past, counted_given}
+use Rattle.std.proofs.Common.{arith, ap, length, length-drop}
+use Rattle.http_wire.proofs.BodyLooks.{counted_cut, counted_seen}
 use Rattle.http_wire.proofs.body_decoder.see_counted.Goals as goal
 
-pub returns-then-size-limit-clause-ok : goal.returns-then-size-limit-clause-ok
-returns-then-size-limit-clause-ok c = counted_past _ _ _ _ (omega arith) c.see_front.ensures.ok
+pub returns-then-size-limit-clause-sees : goal.returns-then-size-limit-clause-sees
+returns-then-size-limit-clause-sees c = counted_cut _ _ _ _ (omega arith) c.see_prefix.ensures.sees
 
-pub returns-clause-ok : goal.returns-clause-ok
-returns-clause-ok c = counted_given _ _ _ _ (omega arith) (omega arith) c.give.ensures.ok
+pub returns-clause-sees : goal.returns-clause-sees
+returns-clause-sees c = counted_seen _ _ _ _ (omega arith)
+    (omega (arith, c.if-come-size.false, ap length c.octets.ensures.value, length-drop c.args.start c.args.buffer.now)) c.give.ensures

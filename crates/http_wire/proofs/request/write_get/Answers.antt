@@ -10,9 +10,9 @@ use Rattle.http_wire.proofs.request.write_get.Goals as goal
 pub returns-clause-ok : goal.returns-clause-ok
 returns-clause-ok g c =
     let is = request_joined (target_of c.args.url.now) (authority_of c.args.url.now) c.args.agent.now c.as_bytes.result.now c.as_bytes-2.result.now (c.as_bytes.ensures.value ∙ c.target.ensures.value) (c.as_bytes-2.ensures.value ∙ c.authority.ensures.value) in
-    subst (λ octets. OnOk c.write_pieces.result (Appends (g.W.Sink.written c.args.writer.now) (g.W.Sink.written c.write_pieces.new.writer) octets)) is c.write_pieces.ensures.ok
+    subst (λ octets. OnOk c.write_gathered.result (Appends (g.W.Sink.written c.args.writer.now) (g.W.Sink.written c.write_gathered.new.writer) octets)) is c.write_gathered.ensures.ok
 
 pub returns-clause-err : goal.returns-clause-err
 returns-clause-err g c =
     let is = request_joined (target_of c.args.url.now) (authority_of c.args.url.now) c.args.agent.now c.as_bytes.result.now c.as_bytes-2.result.now (c.as_bytes.ensures.value ∙ c.target.ensures.value) (c.as_bytes-2.ensures.value ∙ c.authority.ensures.value) in
-    subst (λ octets. OnErr c.write_pieces.result (AppendsPrefix (g.W.Sink.written c.args.writer.now) (g.W.Sink.written c.write_pieces.new.writer) octets)) is c.write_pieces.ensures.err
+    subst (λ octets. OnErr c.write_gathered.result (AppendsPrefix (g.W.Sink.written c.args.writer.now) (g.W.Sink.written c.write_gathered.new.writer) octets)) is c.write_gathered.ensures.err

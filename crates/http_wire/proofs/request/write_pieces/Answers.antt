@@ -1,8 +1,9 @@
 -- What was written of a piece stands behind the pieces before it.
--- The lemma `prefix_more` says so over plain lists.
-use Rattle.http_wire.proofs.RequestPieces.{prefix_more}
+-- The lemma `cut_piece` says so over plain lists.
+use Rattle.counted_io.proofs.Writing.{on_err}
+use Rattle.http_wire.proofs.RequestPieces.{cut_piece}
 use Rattle.http_wire.proofs.request.write_pieces.Goals as goal
 
-pub returns-in-Err-clause-err : goal.returns-in-Err-clause-err
-returns-in-Err-clause-err g c =
-    prefix_more _ _ _ _ _ _ c.loop-piece-test.true c.loop-piece.invariant.appended c.in-Err.ensures.err
+pub returns-in_err-write_all-clause-err : goal.returns-in_err-write_all-clause-err
+returns-in_err-write_all-clause-err g c =
+    on_err c.from_residual.result (cut_piece _ _ _ _ _ _ c.loop-piece-test.true c.loop-piece.invariant.appended c.in_err-write_all.ensures.err)

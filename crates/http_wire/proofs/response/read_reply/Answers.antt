@@ -1,16 +1,17 @@
 -- The answer of the whole input.
-use Rattle.std.proofs.Common.{refl, ap, length, length-take, arith}
+use Rattle.std.proofs.Common.{refl, sym, subst}
+use Rattle.http_wire.specs.Response.{Tells}
 use Rattle.http_wire.proofs.Answered.{reply_told, fault_told}
+use Rattle.http_wire.proofs.Faults.{same_fault}
 use Rattle.http_wire.proofs.response.read_reply.Goals as goal
-
-pub returns-in-Ok-read_body-clause-tells : goal.returns-in-Ok-read_body-clause-tells
-returns-in-Ok-read_body-clause-tells g c =
-    reply_told (g.S.Source.left c.args.source.now) (g.S.Source.left c.read_final.new.source) c.read_final.new.buffer c.in-Ok.head c.args.limit
-    c.in-Ok-read_body.body _ c.in-Ok.ensures.grows c.in-Ok.ensures.found c.in-Ok-read_body.ensures.reads refl
 
 pub returns-clause-tells : goal.returns-clause-tells
 returns-clause-tells g c =
-    fault_told (g.S.Source.left c.args.source.now) (g.S.Source.left c.read_final.new.source) c.read_final.new.buffer c.in-Ok.head c.args.limit
-    c.in-Err-read_body.fault c.in-Ok.ensures.grows c.in-Ok.ensures.found
-    (omega (arith, c.buffer.invariant, ap length c.buffer.view_is, length-take c.buffer.inside.end c.buffer.inside.room.items))
-    c.in-Err-read_body.ensures.reads
+    reply_told (g.S.Source.left c.args.source.now) (g.S.Source.left c.read_final.new.source) c.read_final.new.buffer c.in_ok-head.head c.args.limit
+    c.in_ok-body.body _ c.in_ok-head.ensures.grows c.in_ok-head.ensures.found c.in_ok-body.ensures.reads refl
+
+pub returns-in_err-body-clause-tells : goal.returns-in_err-body-clause-tells
+returns-in_err-body-clause-tells g c =
+    subst (Tells (g.S.Source.left c.args.source.now) c.args.limit) (sym (same_fault _ _ c.from_residual-in_err-body.ensures.1))
+    (fault_told (g.S.Source.left c.args.source.now) (g.S.Source.left c.read_final.new.source) c.read_final.new.buffer c.in_ok-head.head c.args.limit
+    c.in_err-body.field-0.0 c.in_ok-head.ensures.grows c.in_ok-head.ensures.found c.in_ok-head.ensures.few c.in_err-body.ensures.reads)

@@ -1,8 +1,8 @@
 -- The octets that trailers may have stand there, so what they lack is too long.
--- The lemmas of `TrailerFronts` say so over plain lists.
+-- The lemmas of `TrailerPrefixes` say so over plain lists.
 use Rattle.std.proofs.Common.{arith, inr, ◌++◌, drop}
 use Rattle.std.proofs.lemmas.List.{length-take}
-use Rattle.http_wire.proofs.TrailerFronts.{front_whole, front_bad}
+use Rattle.http_wire.proofs.TrailerPrefixes.{prefix_whole, prefix_bad}
 use Rattle.http_wire.proofs.trailers.look_full.Goals as goal
 
 pub read_section-requires : goal.read_section-requires
@@ -11,8 +11,8 @@ read_section-requires c = omega (arith, length-take 65536 c.args.text.now)
 pub returns-in-Whole : goal.returns-in-Whole
 returns-in-Whole c = λ last.
     let whole = c.in-Whole.ensures in
-    (whole.0 ++ drop 65536 c.args.text.now, front_whole 65536 c.args.text.now whole.0 whole.1)
+    (whole.0 ++ drop 65536 c.args.text.now, prefix_whole 65536 c.args.text.now whole.0 whole.1)
 
 pub returns-in_default : goal.returns-in_default
 returns-in_default c = λ last.
-    inr (front_bad c.args.text.now c.read_section.result c.requires c.read_section.ensures c.in_default.not-Whole)
+    inr (prefix_bad c.args.text.now c.read_section.result c.requires c.read_section.ensures c.in_default.not-Whole)

@@ -1,5 +1,6 @@
 -- Octets that don't fit go to the sink behind the pending ones.
 -- The lemmas of `Writing` say so over plain lists.
+use Rattle.std.proofs.Common.{rules}
 use Rattle.std.proofs.lemmas.Result.{on_ok_weaker, on_err_weaker}
 use Rattle.counted_io.proofs.Writing.{prefix_after, prefix_longer, passes_straight, on_err}
 use Rattle.counted_io.proofs.output.Output.push.Goals as goal
@@ -18,3 +19,18 @@ pub returns-then-bytes-gt-OUTPUT_BUFFER-clause-err :
     goal.returns-then-bytes-gt-OUTPUT_BUFFER-clause-err
 returns-then-bytes-gt-OUTPUT_BUFFER-clause-err g c =
     on_err_weaker c.write_all.result (λ cut. prefix_after _ _ _ _ _ c.in_ok-flush.ensures.ok cut) c.write_all.ensures.err
+
+pub returns-in_err-flush-clause-pushes : goal.returns-in_err-flush-clause-pushes
+returns-in_err-flush-clause-pushes g c = record {
+  ok = search rules;
+  err = returns-in_err-flush-clause-err g c;
+  count = search rules;
+}
+
+pub returns-then-bytes-gt-OUTPUT_BUFFER-clause-pushes :
+    goal.returns-then-bytes-gt-OUTPUT_BUFFER-clause-pushes
+returns-then-bytes-gt-OUTPUT_BUFFER-clause-pushes g c = record {
+  ok = returns-then-bytes-gt-OUTPUT_BUFFER-clause-ok g c;
+  err = returns-then-bytes-gt-OUTPUT_BUFFER-clause-err g c;
+  count = search rules;
+}

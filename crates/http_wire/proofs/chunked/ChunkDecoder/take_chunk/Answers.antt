@@ -9,8 +9,8 @@ use Rattle.http_wire.proofs.ChunkPlaces.{chunk_read}
 use Rattle.http_wire.proofs.ChunkMoves.{at_place, moved}
 use Rattle.http_wire.proofs.chunked.ChunkDecoder.take_chunk.Goals as goal
 
-pub returns-in-Ok-clause-moves : goal.returns-in-Ok-clause-moves
-returns-in-Ok-clause-moves c =
+pub returns-clause-moves : goal.returns-clause-moves
+returns-clause-moves c =
     let old = c.args.self.now in
     let rest = drop old.at c.args.bytes.now in
     let size = c.args.size in
@@ -19,7 +19,7 @@ returns-in-Ok-clause-moves c =
     let ends = c.requires.ends in
     let behind : drop (size + 2) rest ≡ ends.0 = sym (drop-drop 2 size rest) ∙ ap (drop 2) ends.1 in
     let two : size + 2 ≤ length rest = omega (arith, stand, length-drop size rest, ap length ends.1, length-append crlf_bytes ends.0) in
-    let kept : c.extend_from_slice.new.self.items ≡ old.octets.items ++ take size rest = c.in-Ok.ensures.items ∙ ap (λ t. old.octets.items ++ take size t) (take_rest c.args.bytes.now old.at) in
+    let kept : c.extend_from_slice.new.self.items ≡ old.octets.items ++ take size rest = c.in_ok-extend_from_slice.ensures.items ∙ ap (λ t. old.octets.items ++ take size t) (take_rest c.args.bytes.now old.at) in
     let read = chunk_read old.limit size _ old.octets.items rest ends.0 d (omega (arith, c.requires.fits, old.octets.ok)) stand ends.1 in
     let to = c.pass.ensures in
     moved old c.pass.new.self c.args.bytes.now (size + 2) places.Line (old.octets.items ++ take size rest) c.requires.stands

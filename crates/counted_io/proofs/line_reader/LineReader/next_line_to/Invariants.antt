@@ -1,10 +1,10 @@
 -- The line's front was consumed, with no line feed in it and within the limit and a carriage return.
--- The proof of `next_line` rests on it.
+-- The proof of `next_line_to` rests on it.
 use Rattle.std.proofs.Common.{◌≡◌, ◌≤◌, ◌+◌, ◌-◌, vec_len}
 use Rattle.std.specs.Prelude.{Contains}
 use Rattle.std.specs.Io.KnownBytes.{Consumes, prepend_known}
 use Rattle.counted_io.specs.Lines.{HasNoLineFeed}
-use Rattle.counted_io.proofs.line_reader.LineReader.next_line.Given as goal
+use Rattle.counted_io.proofs.line_reader.LineReader.next_line_to.Given as goal
 
 abbrev pub invariant-loop-self : goal.invariant-loop-self
 invariant-loop-self g l = record {
