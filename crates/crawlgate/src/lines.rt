@@ -1,8 +1,7 @@
 //! `lines`: the records of a robots text, a line for each.
 //! `crawlgate lines` runs it over standard input and output.
-ghost use Rattle.std.specs.Prelude.{◌≡◌, ◌++◌, OnErr, OnOk, flat_map};
-ghost use Rattle.counted_io.specs.Device.{AppendsPrefix, failures_after};
-ghost use Rattle.counted_io.specs.Output.{Passes};
+ghost use Rattle.std.specs.Prelude.{◌≡◌, flat_map};
+ghost use Rattle.counted_io.specs.Output.{Pushes};
 ghost use Rattle.robots_text.specs.Left.{records_left};
 ghost use Rattle.crawlgate.specs.LinesText.{numbered_text};
 ghost use Rattle.crawlgate.specs.Prints.{Prints};
@@ -42,11 +41,9 @@ fn push_records<W: Sink>(
     output: &mut Output,
     sink: &mut W,
 ) -> Result<(), DeviceFault>
-    ensures ok { OnOk result (Passes (W.written sink.old) (W.written sink.new)
-        (output.old ++ flat_map numbered_text (records_left records.entry)) output.new) }
-    ensures err { OnErr result (AppendsPrefix (W.written sink.old) (W.written sink.new)
-        (output.old ++ flat_map numbered_text (records_left records.entry))) }
-    ensures count { W.failures sink.new ≡ failures_after (W.failures sink.old) result }
+    ensures { Pushes (W.written sink.old) (W.written sink.new)
+        (W.failures sink.old) (W.failures sink.new) output.old output.new
+        (flat_map numbered_text (records_left records.entry)) result }
 {
     let mut left = records;
     while let Some(item) = left.next() {

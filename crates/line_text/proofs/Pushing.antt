@@ -1,9 +1,11 @@
--- What passes to an output of a row of texts: used by the proof of `Pieces::push`.
-use Rattle.std.proofs.Common.{◌≡◌, ◌<◌, ◌+◌, ℕ, suc, List, ◌++◌, Option, length, take, drop, get_or, flat_map, ap, sym, ◌∙◌, subst, append_assoc, drop-cons}
+-- What passes to an output of a row of texts.
+-- Used by the answers of all that pushes one text after another.
+use Rattle.std.proofs.Common.{◌≡◌, ◌<◌, ◌+◌, ℕ, suc, List, ◌++◌, Option, length, take, drop, get_or, flat_map, ap, sym, ◌∙◌, subst, append_assoc, drop-cons, rules}
 use Rattle.std.proofs.lemmas.List.{take-append-drop, flat_map_more, take_more}
 use Rattle.std.proofs.lemmas.List.Concat.{flat_map-append}
-use Rattle.counted_io.specs.Device.{AppendsPrefix}
-use Rattle.counted_io.specs.Output.{Passes}
+use Rattle.std.specs.Prelude.{Result, Ok, Err, IsErr}
+use Rattle.counted_io.specs.Device.{AppendsPrefix, one_more}
+use Rattle.counted_io.specs.Output.{Passes, Pushes}
 use Rattle.counted_io.proofs.Writing.{Passes-push, Passes-cut, prefix_longer}
 
 -- the texts of a row, cut at one of them
@@ -33,3 +35,9 @@ row_cut f xs i d a b c first pending within before this =
     subst (AppendsPrefix a c)
     (append_assoc text piece later ∙ append_assoc first (flat_map f (take i xs)) (piece ++ later) ∙ ap (λ l. first ++ l) (sym (cut_at f xs i d within)))
     (prefix_longer a c (text ++ piece) later (Passes-cut a b c text pending piece before this))
+
+-- a call that failed, with a prefix of all octets written
+pub pushes_cut : {T E : Type 0} (a c : Option (List ℕ)) (failures failures' : ℕ) (pending left octets : List ℕ) (result : Result T E) → IsErr result →
+    AppendsPrefix a c (pending ++ octets) → failures' ≡ one_more failures → Pushes a c failures failures' pending left octets result
+pushes_cut a c failures failures' pending left octets (Ok x) failed cut count = search rules
+pushes_cut a c failures failures' pending left octets (Err e) failed cut count = record { ok = tt; err = cut; count = count }

@@ -1,10 +1,9 @@
 //! Octets of a robots text as they are written: in lower case, or escaped.
 //! Pushed by the pieces of a line.
-ghost use Rattle.std.specs.Prelude.{◌≡◌, ◌++◌, [], ◌∷◌, OnErr, OnOk};
+ghost use Rattle.std.specs.Prelude.{◌≡◌, [], ◌∷◌};
 ghost use Rattle.std.specs.Char.{to_ascii_lowercase};
 ghost use Rattle.std.specs.List.{list_all};
-ghost use Rattle.counted_io.specs.Device.{AppendsPrefix, failures_after};
-ghost use Rattle.counted_io.specs.Output.{Passes};
+ghost use Rattle.counted_io.specs.Output.{Pushes};
 ghost use Rattle.robots_text.specs.Token.{lower_case};
 ghost use Rattle.line_text.specs.Escapes.{escaped, escaped_octet, is_plain};
 
@@ -17,11 +16,9 @@ pub(crate) fn push_lower_case<W: Sink>(
     output: &mut Output,
     sink: &mut W,
 ) -> Result<(), DeviceFault>
-    ensures ok { OnOk result (Passes (W.written sink.old) (W.written sink.new)
-        (output.old ++ lower_case octets.now) output.new) }
-    ensures err { OnErr result (AppendsPrefix (W.written sink.old) (W.written sink.new)
-        (output.old ++ lower_case octets.now)) }
-    ensures count { W.failures sink.new ≡ failures_after (W.failures sink.old) result }
+    ensures { Pushes (W.written sink.old) (W.written sink.new)
+        (W.failures sink.old) (W.failures sink.new) output.old output.new
+        (lower_case octets.now) result }
 {
     for octet in octets {
         push_lower_octet(*octet, output, sink)?;
@@ -34,11 +31,9 @@ fn push_lower_octet<W: Sink>(
     output: &mut Output,
     sink: &mut W,
 ) -> Result<(), DeviceFault>
-    ensures ok { OnOk result (Passes (W.written sink.old) (W.written sink.new)
-        (output.old ++ to_ascii_lowercase octet ∷ []) output.new) }
-    ensures err { OnErr result (AppendsPrefix (W.written sink.old) (W.written sink.new)
-        (output.old ++ to_ascii_lowercase octet ∷ [])) }
-    ensures count { W.failures sink.new ≡ failures_after (W.failures sink.old) result }
+    ensures { Pushes (W.written sink.old) (W.written sink.new)
+        (W.failures sink.old) (W.failures sink.new) output.old output.new
+        (to_ascii_lowercase octet ∷ []) result }
 {
     output.push(sink, &[octet.to_ascii_lowercase()])
 }
@@ -49,11 +44,9 @@ pub(crate) fn push_escaped<W: Sink>(
     output: &mut Output,
     sink: &mut W,
 ) -> Result<(), DeviceFault>
-    ensures ok { OnOk result (Passes (W.written sink.old) (W.written sink.new)
-        (output.old ++ escaped octets.now) output.new) }
-    ensures err { OnErr result (AppendsPrefix (W.written sink.old) (W.written sink.new)
-        (output.old ++ escaped octets.now)) }
-    ensures count { W.failures sink.new ≡ failures_after (W.failures sink.old) result }
+    ensures { Pushes (W.written sink.old) (W.written sink.new)
+        (W.failures sink.old) (W.failures sink.new) output.old output.new
+        (escaped octets.now) result }
 {
     // Most values need no escape.
     if are_plain(octets) {
@@ -66,11 +59,9 @@ pub(crate) fn push_escaped<W: Sink>(
 }
 
 fn push_octet<W: Sink>(octet: u8, output: &mut Output, sink: &mut W) -> Result<(), DeviceFault>
-    ensures ok { OnOk result (Passes (W.written sink.old) (W.written sink.new)
-        (output.old ++ escaped_octet octet) output.new) }
-    ensures err { OnErr result (AppendsPrefix (W.written sink.old) (W.written sink.new)
-        (output.old ++ escaped_octet octet)) }
-    ensures count { W.failures sink.new ≡ failures_after (W.failures sink.old) result }
+    ensures { Pushes (W.written sink.old) (W.written sink.new)
+        (W.failures sink.old) (W.failures sink.new) output.old output.new
+        (escaped_octet octet) result }
 {
     if is_plain(octet) {
         output.push(sink, &[octet])

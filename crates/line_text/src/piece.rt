@@ -1,8 +1,7 @@
 //! A line of output as a few borrowed pieces, so that it needs no memory before it is written.
 //! Made by `reply_text` and `lines_text`, written by the session and by `lines`.
-ghost use Rattle.std.specs.Prelude.{◌≡◌, ◌++◌, [], ◌∷◌, OnErr, OnOk, codes, decimal, flat_map};
-ghost use Rattle.counted_io.specs.Device.{AppendsPrefix, failures_after};
-ghost use Rattle.counted_io.specs.Output.{Passes};
+ghost use Rattle.std.specs.Prelude.{◌≡◌, ◌++◌, [], ◌∷◌, codes, decimal, flat_map};
+ghost use Rattle.counted_io.specs.Output.{Pushes};
 ghost use Rattle.line_text.specs.Pieces.{line_of, piece_text, pieces_text};
 
 use crate::octets::{push_escaped, push_lower_case};
@@ -93,11 +92,9 @@ impl<'a> Pieces<'a> {
 
     /// Pushes the line to the output.
     pub fn push<W: Sink>(&self, output: &mut Output, sink: &mut W) -> Result<(), DeviceFault>
-        ensures ok { OnOk result (Passes (W.written sink.old) (W.written sink.new)
-            (output.old ++ pieces_text self.now) output.new) }
-        ensures err { OnErr result (AppendsPrefix (W.written sink.old) (W.written sink.new)
-            (output.old ++ pieces_text self.now)) }
-        ensures count { W.failures sink.new ≡ failures_after (W.failures sink.old) result }
+        ensures { Pushes (W.written sink.old) (W.written sink.new)
+            (W.failures sink.old) (W.failures sink.new) output.old output.new
+            (pieces_text self.now) result }
     {
         push_all(&self.pieces, output, sink)
     }
@@ -108,11 +105,9 @@ fn push_all<W: Sink>(
     output: &mut Output,
     sink: &mut W,
 ) -> Result<(), DeviceFault>
-    ensures ok { OnOk result (Passes (W.written sink.old) (W.written sink.new)
-        (output.old ++ flat_map piece_text pieces.now) output.new) }
-    ensures err { OnErr result (AppendsPrefix (W.written sink.old) (W.written sink.new)
-        (output.old ++ flat_map piece_text pieces.now)) }
-    ensures count { W.failures sink.new ≡ failures_after (W.failures sink.old) result }
+    ensures { Pushes (W.written sink.old) (W.written sink.new)
+        (W.failures sink.old) (W.failures sink.new) output.old output.new
+        (flat_map piece_text pieces.now) result }
 {
     for piece in pieces {
         piece.push(output, sink)?;
@@ -122,11 +117,9 @@ fn push_all<W: Sink>(
 
 impl<'a> Piece<'a> {
     fn push<W: Sink>(&self, output: &mut Output, sink: &mut W) -> Result<(), DeviceFault>
-        ensures ok { OnOk result (Passes (W.written sink.old) (W.written sink.new)
-            (output.old ++ piece_text self.now) output.new) }
-        ensures err { OnErr result (AppendsPrefix (W.written sink.old) (W.written sink.new)
-            (output.old ++ piece_text self.now)) }
-        ensures count { W.failures sink.new ≡ failures_after (W.failures sink.old) result }
+        ensures { Pushes (W.written sink.old) (W.written sink.new)
+            (W.failures sink.old) (W.failures sink.new) output.old output.new
+            (piece_text self.now) result }
     {
         match self {
             Piece::Text(text) => output.push(sink, text.as_bytes()),

@@ -1,9 +1,10 @@
 -- The lines before a fault, and a part of the one at it, are a part of all lines.
 use Rattle.std.proofs.Common.{◌≡◌, ℕ, List, ◌∷◌, ◌++◌, Option, flat_map, append_assoc, sym, subst, ap, ◌∙◌}
-use Rattle.counted_io.specs.Device.{AppendsPrefix}
+use Rattle.counted_io.specs.Device.{AppendsPrefix, one_more}
 use Rattle.counted_io.specs.Output.{Passes}
-use Rattle.counted_io.proofs.Writing.{on_err, Passes-pieces, Passes-cut-piece, prefix_piece}
+use Rattle.counted_io.proofs.Writing.{Passes-pieces, Passes-cut-piece, prefix_piece}
 use Rattle.robots_text.specs.Records.{Numbered, line_seen}
+use Rattle.line_text.proofs.Pushing.{pushes_cut}
 use Rattle.crawlgate.specs.LinesText.{numbered_text}
 use Rattle.crawlgate.proofs.lines.push_records.Goals as goal
 
@@ -32,10 +33,11 @@ loop-item-preserved g c =
       count = c.in_ok-push.ensures.count ∙ so_far.count;
     }
 
-pub returns-in_err-push-clause-err : goal.returns-in_err-push-clause-err
-returns-in_err-push-clause-err g c =
+pub returns-in_err-push : goal.returns-in_err-push
+returns-in_err-push g c =
     let so_far = c.loop-item.invariant in
-    on_err c.from_residual.result
+    pushes_cut _ _ _ _ _ _ _ c.from_residual.result c.from_residual.ensures.0
     (subst (λ (l : List ℕ). AppendsPrefix (g.W.Sink.written c.args.sink.now) (g.W.Sink.written c.push.new.sink) (c.args.output.now ++ l))
     (sym (next_text _ _ _ _ so_far.done so_far.all c.in-Some.ensures.steps))
     (one_is_cut _ _ _ c.args.output.now so_far.done _ _ _ _ c.record_pieces.ensures so_far.passed c.in_err-push.ensures.err))
+    (c.in_err-push.ensures.count ∙ ap one_more so_far.count)

@@ -1,11 +1,10 @@
 -- The octets before a fault, and a part of the one at it, are a part of all.
 use Rattle.std.proofs.Common.{◌≡◌, ◌<◌, ℕ, ◌+◌, List, [], ◌∷◌, ◌++◌, Option, flat_map, length, get_or, take, refl, sym, subst, ap, ◌∙◌}
 use Rattle.std.specs.Char.{to_ascii_lowercase}
-use Rattle.counted_io.specs.Device.{AppendsPrefix}
+use Rattle.counted_io.specs.Device.{AppendsPrefix, one_more}
 use Rattle.counted_io.specs.Output.{Passes}
-use Rattle.counted_io.proofs.Writing.{on_err}
 use Rattle.robots_text.specs.Token.{lower_case}
-use Rattle.line_text.proofs.Pushing.{row_more, row_cut}
+use Rattle.line_text.proofs.Pushing.{row_more, row_cut, pushes_cut}
 use Rattle.line_text.proofs.octets.push_lower_case.Goals as goal
 
 abbrev lower_octet : ℕ → List ℕ
@@ -31,10 +30,11 @@ lower_cut xs i d a b c first pending within before this =
     (row_cut lower_octet xs i d a b c first pending within
     (subst (λ (l : List ℕ). Passes a b (first ++ l) pending) (sym (one_by_one (take i xs))) before) this)
 
-pub returns-in_err-push_lower_octet-clause-err : goal.returns-in_err-push_lower_octet-clause-err
-returns-in_err-push_lower_octet-clause-err g c =
-    on_err c.from_residual.result
+pub returns-in_err-push_lower_octet : goal.returns-in_err-push_lower_octet
+returns-in_err-push_lower_octet g c =
+    pushes_cut _ _ _ _ _ _ _ c.from_residual.result c.from_residual.ensures.0
     (lower_cut c.args.octets.now c.loop-octet.octet-index _ _ _ _ c.args.output.now _ c.loop-octet-test.true c.loop-octet.invariant.0 c.in_err-push_lower_octet.ensures.err)
+    (c.in_err-push_lower_octet.ensures.count ∙ ap one_more c.loop-octet.invariant.1)
 
 pub loop-octet-preserved : goal.loop-octet-preserved
 loop-octet-preserved g c = (
