@@ -4,6 +4,10 @@ use Rattle.std.specs.Prelude.{◌≡◌, ◌⊎◌, ℕ, List, Result, Ok, Err, 
 use Rattle.robots_text.specs.Token.{token_of}
 use Rattle.path_normal.specs.Authority.{parsed_authority}
 use Rattle.path_normal.specs.PageUrl.{page_url_of}
+use Rattle.robots_text.specs.declared.token.TokenFault.{TokenFault}
+use Rattle.robots_text.specs.declared.token.TokenFault.TheVariants as tokens
+use Rattle.path_normal.specs.declared.fault.AuthorityFault.{AuthorityFault}
+use Rattle.path_normal.specs.declared.fault.AuthorityFault.TheVariants as authorities
 use Rattle.path_normal.specs.declared.fault.UrlFault.{UrlFault}
 use Rattle.path_normal.specs.declared.fault.UrlFault.TheVariants as urls
 use Rattle.command_server.specs.declared.fault.LineFault.{LineFault}
@@ -20,6 +24,16 @@ abbrev pub read_on : {A B : Type 0}
     → Result A LineFault → (A → Result B LineFault) → Result B LineFault
 read_on (Ok value) next = next value
 read_on (Err fault) next = Err fault
+
+-- the line's fault where a word is no token
+abbrev pub token_fault : TokenFault → LineFault
+token_fault tokens.BadToken = faults.Token
+token_fault tokens.NoMemory = faults.Memory
+
+-- the line's fault where a word is no authority
+abbrev pub authority_fault : AuthorityFault → LineFault
+authority_fault authorities.BadAuthority = faults.Authority
+authority_fault authorities.NoMemory = faults.Memory
 
 -- the line's fault where a word is no page URL
 abbrev pub url_fault : UrlFault → LineFault

@@ -2,12 +2,12 @@
 //! Used by `calls`, in the order of the words.
 ghost use Rattle.std.specs.Prelude.{◌≡◌};
 ghost use Rattle.command_server.specs.Arguments.{IsReading, authority_word, number_word, page_word};
-ghost use Rattle.command_server.specs.Arguments.{token_word, url_fault};
+ghost use Rattle.command_server.specs.Arguments.{token_word};
 
 use crate::fault::LineFault;
 use line_text::number_of;
-use path_normal::{Authority, AuthorityFault, PageUrl, UrlFault};
-use robots_text::{Token, TokenFault};
+use path_normal::{Authority, PageUrl};
+use robots_text::Token;
 use std::alloc::Global;
 
 /// Reads a number.
@@ -21,42 +21,22 @@ pub fn read_number(word: &str) -> Result<u64, LineFault>
 pub fn read_token(alloc: Global, word: &str) -> Result<Token, LineFault>
     ensures { IsReading result (token_word word.now) }
 {
-    match Token::new(alloc, word.as_bytes()) {
-        Ok(token) => Ok(token),
-        Err(TokenFault::BadToken) => Err(LineFault::Token),
-        Err(TokenFault::NoMemory) => Err(LineFault::Memory),
-    }
+    let token = Token::new(alloc, word.as_bytes())?;
+    Ok(token)
 }
 
 /// Reads an authority.
 pub fn read_authority(alloc: Global, word: &str) -> Result<Authority, LineFault>
     ensures { IsReading result (authority_word word.now) }
 {
-    match Authority::new(alloc, word) {
-        Ok(authority) => Ok(authority),
-        Err(AuthorityFault::BadAuthority) => Err(LineFault::Authority),
-        Err(AuthorityFault::NoMemory) => Err(LineFault::Memory),
-    }
+    let authority = Authority::new(alloc, word)?;
+    Ok(authority)
 }
 
 /// Reads the URL of a page.
 pub fn read_page(alloc: Global, word: &str) -> Result<PageUrl, LineFault>
     ensures { IsReading result (page_word word.now) }
 {
-    match PageUrl::parse(alloc, word) {
-        Ok(url) => Ok(url),
-        Err(fault) => Err(line_fault(fault)),
-    }
-}
-
-fn line_fault(fault: UrlFault) -> LineFault
-    ensures { result ≡ url_fault fault }
-{
-    match fault {
-        UrlFault::TooLong => LineFault::LongUrl,
-        UrlFault::BadUrl => LineFault::BadUrl,
-        UrlFault::NotHttp => LineFault::NotHttp,
-        UrlFault::HasUser => LineFault::HasUser,
-        UrlFault::NoMemory => LineFault::Memory,
-    }
+    let url = PageUrl::parse(alloc, word)?;
+    Ok(url)
 }

@@ -2,6 +2,9 @@
 ghost use Rattle.std.specs.Prelude.{◌≡◌};
 ghost use Rattle.command_server.specs.FaultText.{fault_text};
 
+use path_normal::{AuthorityFault, UrlFault};
+use robots_text::TokenFault;
+
 /// The first fault of a command line. No call is made for it.
 #[derive(Clone, Copy, Debug, PartialEq, Eq)]
 pub enum LineFault {
@@ -37,6 +40,51 @@ pub enum LineFault {
     Replies,
     /// A growth of memory was refused.
     Memory,
+}
+
+impl From<TokenFault> for LineFault {
+    ghost use Rattle.std.specs.Prelude.{◌≡◌};
+    ghost use Rattle.command_server.specs.Arguments.{token_fault};
+
+    ghost from_gives = { λ fault told. told ≡ token_fault fault };
+
+    fn from(fault: TokenFault) -> LineFault {
+        match fault {
+            TokenFault::BadToken => LineFault::Token,
+            TokenFault::NoMemory => LineFault::Memory,
+        }
+    }
+}
+
+impl From<AuthorityFault> for LineFault {
+    ghost use Rattle.std.specs.Prelude.{◌≡◌};
+    ghost use Rattle.command_server.specs.Arguments.{authority_fault};
+
+    ghost from_gives = { λ fault told. told ≡ authority_fault fault };
+
+    fn from(fault: AuthorityFault) -> LineFault {
+        match fault {
+            AuthorityFault::BadAuthority => LineFault::Authority,
+            AuthorityFault::NoMemory => LineFault::Memory,
+        }
+    }
+}
+
+impl From<UrlFault> for LineFault {
+    ghost use Rattle.std.specs.Prelude.{◌≡◌};
+    ghost use Rattle.command_server.specs.Arguments.{url_fault};
+
+    ghost from_gives = { λ fault told. told ≡ url_fault fault };
+
+    fn from(fault: UrlFault) -> LineFault {
+        match fault {
+            UrlFault::TooLong => LineFault::LongUrl,
+            UrlFault::BadUrl => LineFault::BadUrl,
+            UrlFault::NotHttp => LineFault::NotHttp,
+            UrlFault::HasUser => LineFault::HasUser,
+            UrlFault::NoMemory => LineFault::Memory,
+        }
+    }
 }
 
 impl LineFault {
