@@ -1,5 +1,5 @@
 -- The sizes of the buffers, in octets.
--- `LineReader` and `Output` say that their constants are these.
+-- `LineReader::next_line_to` and `Output::push` say that their constants are these.
 use Rattle.std.specs.Prelude.{ℕ}
 
 -- what one read of a reader of lines asks for at most

@@ -40,8 +40,7 @@ impl Model for LineReader {
 impl LineReader {
     /// An empty buffer of `LINE_BUFFER` octets, which is all the memory that a reader takes.
     pub fn new(alloc: Global) -> Result<LineReader, AllocError>
-        ensures empty { IfOk result (λ reader. reader ≡ []) }
-        ensures size { LINE_BUFFER ≡ line_buffer }
+        ensures { IfOk result (λ reader. reader ≡ []) }
     {
         let mut buffer = Vec::new(alloc);
         buffer.resize(LINE_BUFFER, 0)?;
@@ -99,6 +98,7 @@ impl LineReader {
             (prepend_known self.new (S.left source.new)) line.new.items) }
         ensures count { S.failures source.new ≡ failures_after_line (S.failures source.old) result }
         ensures buffered { Contains self.old 10 → source.new ≡ source.old }
+        ensures size { LINE_BUFFER ≡ line_buffer }
     {
         line.clear();
         while self.has_more(source)? {

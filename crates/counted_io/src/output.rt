@@ -36,8 +36,7 @@ impl Model for Output {
 impl Output {
     /// An empty buffer of `OUTPUT_BUFFER` octets, which is all the memory that an output takes.
     pub fn new(alloc: Global) -> Result<Output, AllocError>
-        ensures empty { IfOk result (λ output. output ≡ []) }
-        ensures size { OUTPUT_BUFFER ≡ output_buffer }
+        ensures { IfOk result (λ output. output ≡ []) }
     {
         let mut buffer = Vec::new(alloc);
         buffer.resize(OUTPUT_BUFFER, 0)?;
@@ -58,6 +57,7 @@ impl Output {
         ensures pushes { Pushes (W.written sink.old) (W.written sink.new)
             (W.failures sink.old) (W.failures sink.new)
             self.old self.new bytes.now result }
+        ensures size { OUTPUT_BUFFER ≡ output_buffer }
     {
         if bytes.len() <= self.room() {
             self.hold(bytes);
