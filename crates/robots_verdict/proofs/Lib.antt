@@ -1,2 +1,4 @@
 -- Lemmas on the definitions of `specs/`.
 -- Used by the answers beside them.
+pub mod Weighing
+pub mod OneVerdict

@@ -3,3 +3,5 @@
 pub mod Answer
 pub mod Kept
 pub mod Spares
+pub mod Verdict
+pub mod Weights

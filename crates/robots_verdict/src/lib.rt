@@ -3,9 +3,13 @@
 #![tactic(auto)]
 
 mod answer;
+mod decision;
+pub mod laws;
 mod policy;
 mod rules;
+mod weight;
 
 pub use answer::{Answer, Closure, Opening};
+pub use decision::{Allowed, Verdict};
 pub use policy::Policy;
 pub use rules::Rules;
