@@ -2,3 +2,4 @@
 -- Used by the answers beside them.
 pub mod Weighing
 pub mod OneVerdict
+pub mod Walking

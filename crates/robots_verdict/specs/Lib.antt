@@ -3,5 +3,6 @@
 pub mod Answer
 pub mod Kept
 pub mod Spares
+pub mod Strongest
 pub mod Verdict
 pub mod Weights

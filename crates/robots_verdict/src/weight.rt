@@ -1,7 +1,7 @@
 //! How the rule lines that match a path rank.
 //! RFC 9309, section 2.2.2.
 ghost use Rattle.std.specs.Prelude.{◌≡◌};
-ghost use Rattle.robots_verdict.specs.Weights.{falling, kind_place};
+ghost use Rattle.robots_verdict.specs.Weights.{falling, is_above, kind_place};
 ghost use Rattle.std.specs.Ordering.{nat_cmp};
 
 use robots_text::RuleKind;
@@ -26,6 +26,12 @@ impl Weight {
             .cmp(&self.octets)
             .then(compare_kinds(self.kind, other.kind))
             .then(self.line.cmp(&other.line))
+    }
+
+    pub(crate) fn is_above(&self, other: &Weight) -> bool
+        ensures { result ≡ is_above self.now other.now }
+    {
+        self.falling(other).is_lt()
     }
 }
 
