@@ -7,7 +7,7 @@ mod normal;
 mod page_url;
 
 pub use authority::{Authority, AuthorityFault};
-pub use normal::{normal_path, normal_pattern};
+pub use normal::{normal_path, normal_pattern, push_normal_pattern};
 pub use page_url::{MAX_AUTHORITY, MAX_URL, PageUrl, UrlFault};
 
 #[cfg(test)]
