@@ -1,13 +1,14 @@
 -- A text in normal form is its own normal form.
 -- Used by `normal_path` and `normal_pattern`.
-use Rattle.std.proofs.Common.{◌≡◌, ℕ, ◌+◌, ◌-◌, ◌*◌, ◌/◌, ◌%◌, ◌<◌, Bool, true, false, not, ◌&&◌, ◌||◌, ◌==◌, List, [], ◌∷◌, ◌++◌, length, get_or, take, map, All, refl, ap, ◌∙◌, append-nil, arith, length-append, eqb-true}
+use Rattle.std.proofs.Common.{◌≡◌, ℕ, ◌+◌, ◌-◌, ◌*◌, ◌/◌, ◌%◌, ◌<◌, Bool, true, false, not, ◌&&◌, ◌||◌, ◌==◌, List, [], ◌∷◌, ◌++◌, length, get_or, take, map, All, refl, sym, ap, ◌∙◌, ◌≤◌, append-nil, arith, length-append, eqb-true}
 use Rattle.std.specs.Prelude.{codes, if◌then◌else◌}
 use Rattle.std.specs.List.{flat_map}
 use Rattle.std.specs.Char.{digit_value, is_digit}
 use Rattle.std.specs.Fmt.{digit_glyph}
 use Rattle.std.proofs.lemmas.Bool.{cond-true, cond-false, and_parts, agree_below_at}
 use Rattle.std.proofs.lemmas.Bool.Decides.{nat_tests}
-use Rattle.std.proofs.lemmas.List.Elements.{All-nil, All-cons, All-head, All-tail, All-append, All-get_or}
+use Rattle.std.proofs.lemmas.List.Elements.{All-nil, All-cons, All-head, All-tail, All-append, All-get_or, All-take}
+use Rattle.std.proofs.lemmas.List.{length-take}
 use Rattle.std.proofs.Math.Seq.{take-append_seam}
 use Rattle.path_normal.specs.declared.normal.Octet.{Octet}
 use Rattle.path_normal.specs.declared.normal.Role.{Role}
@@ -183,3 +184,46 @@ anchored_again text fits =
     let form = normal Pattern text in
     (λ i. normal Pattern (without_last form i) ++ (if ends_in_one form i then codes "$" else []))
     ∙ ap (λ t. t ++ codes "$") (normal_again Pattern text fits)
+
+-- ---- a pattern's normal form is its own, and has at most three octets for each of its own
+
+pub pattern_again : (tested : Bool) (pattern : List ℕ) → is_anchored pattern ≡ tested → All IsOctet pattern → normal_pattern (normal_pattern pattern) ≡ normal_pattern pattern
+pattern_again true pattern is fits =
+    let front = take (length pattern - 1) pattern in
+    let form = anchored_form pattern is in
+    ap normal_pattern form ∙ anchored_again front (All-take IsOctet (length pattern - 1) pattern fits) ∙ sym form
+pattern_again false pattern is fits =
+    let form = open_form pattern is in
+    ap normal_pattern form ∙ open_again pattern fits ∙ sym form
+
+few_units : (text : List ℕ) → length (units text) ≤ length text
+few_units [] = omega arith
+few_units (octet ∷ []) = omega arith
+few_units (octet ∷ next ∷ []) = omega arith
+few_units (octet ∷ high ∷ low ∷ rest) =
+    by (is_escape octet high low) (few_units rest) (few_units (high ∷ low ∷ rest))
+  where
+    by : (is : Bool) → length (units rest) ≤ length rest → length (units (high ∷ low ∷ rest)) ≤ length (high ∷ low ∷ rest) →
+        length (if is then escaped high low ∷ units rest else plain octet ∷ units (high ∷ low ∷ rest)) ≤ length (octet ∷ high ∷ low ∷ rest)
+    by true later next = omega arith
+    by false later next = omega arith
+
+spelled_small : (kept : Bool) (octet : ℕ) → length (if kept then octet ∷ [] else escape_of octet) ≤ 3
+spelled_small true octet = omega arith
+spelled_small false octet = omega arith
+
+all_small : (role : Role) (all : List Octet) → length (flat_map (spelled role) all) ≤ 3 * length all
+all_small role [] = omega arith
+all_small role (unit ∷ all) =
+    omega (arith, length-append (spelled role unit) (flat_map (spelled role) all), spelled_small (is_kept role unit) unit.value, all_small role all)
+
+normal_small : (role : Role) (text : List ℕ) → length (normal role text) ≤ 3 * length text
+normal_small role text = omega (arith, all_small role (units text), few_units text)
+
+pub pattern_small : (tested : Bool) (pattern : List ℕ) → is_anchored pattern ≡ tested → length (normal_pattern pattern) ≤ 3 * length pattern
+pattern_small true [] is = omega arith
+pattern_small true (octet ∷ pattern) is =
+    let whole = octet ∷ pattern in
+    let front = take (length whole - 1) whole in
+    omega (arith, ap length (anchored_form whole is), length-append (normal Pattern front) (codes "$"), normal_small Pattern front, length-take (length whole - 1) whole)
+pattern_small false pattern is = omega (arith, ap length (open_form pattern is), normal_small Pattern pattern)

@@ -29,26 +29,26 @@ units (octet ∷ high ∷ low ∷ rest) =
     if is_escape octet high low then escaped high low ∷ units rest
     else plain octet ∷ units (high ∷ low ∷ rest)
 
--- a letter, a digit, or one of `- . _ ~`
+-- an unreserved octet: a letter, a digit, or one of `- . _ ~`
 abbrev pub is_unreserved : ℕ → Bool
 is_unreserved octet =
     is_ascii_alphanumeric octet || octet == 45 || octet == 46 || octet == 95 || octet == 126
 
--- one of `: / ? # [ ] @`
-abbrev pub is_delimiter_of_parts : ℕ → Bool
-is_delimiter_of_parts octet =
+-- gen-delims: one of `: / ? # [ ] @`
+abbrev pub is_gen_delim : ℕ → Bool
+is_gen_delim octet =
     octet == 58 || octet == 47 || octet == 63 || octet == 35 || octet == 91 || octet == 93
     || octet == 64
 
--- one of `! $ & ' ( ) * + , ; =`
-abbrev pub is_delimiter_in_parts : ℕ → Bool
-is_delimiter_in_parts octet =
+-- sub-delims: one of `! $ & ' ( ) * + , ; =`
+abbrev pub is_sub_delim : ℕ → Bool
+is_sub_delim octet =
     octet == 33 || octet == 36 || octet == 38 || octet == 39 || octet == 40 || octet == 41
     || octet == 42 || octet == 43 || octet == 44 || octet == 59 || octet == 61
 
--- an octet that delimits, in an address or in one of its parts
+-- a reserved octet: gen-delims and sub-delims
 abbrev pub is_reserved : ℕ → Bool
-is_reserved octet = is_delimiter_of_parts octet || is_delimiter_in_parts octet
+is_reserved octet = is_gen_delim octet || is_sub_delim octet
 
 -- a sign of patterns: `$`, and in a path `*` too, since in a pattern `*` means itself
 abbrev pub is_sign : Role → ℕ → Bool
@@ -78,7 +78,7 @@ normal role text = flat_map (spelled role) (units text)
 abbrev pub normal_path : List ℕ → List ℕ
 normal_path path = normal Path path
 
--- the pattern ends with `$`
+-- the last octet of the pattern is `$`
 abbrev pub is_anchored : List ℕ → Bool
 is_anchored pattern = slice_index pattern (length pattern - 1) == 36
 

@@ -3,7 +3,7 @@
 ghost use Rattle.std.specs.Prelude.{◌≡◌, ◌++◌, ◌∷◌, ◌<◌, [], true, length, IfOk, IsTrue, MatchOption};
 ghost use Rattle.std.specs.Char.{digit_value, is_digit};
 ghost use Rattle.std.specs.Fmt.{digit_glyph};
-ghost use Rattle.path_normal.specs.Normal.{is_delimiter_in_parts, is_delimiter_of_parts, is_kept, is_reserved, is_sign, is_unreserved, normal, normal_path, normal_pattern, spelled, units};
+ghost use Rattle.path_normal.specs.Normal.{is_anchored, is_gen_delim, is_kept, is_reserved, is_sign, is_sub_delim, is_unreserved, normal, normal_path, normal_pattern, spelled, unanchored, units};
 
 use std::alloc::{AllocError, Global};
 
@@ -26,7 +26,8 @@ pub fn normal_path(alloc: Global, path: &[u8]) -> Result<Vec<u8>, AllocError>
     ensures value { IfOk result (λ form. form.items ≡ normal_path path.now) }
     ensures again { IfOk result (λ form. normal_path form.items ≡ form.items) }
 {
-    let form = normal(alloc, Role::Path, path)?;
+    let mut form = Vec::with_capacity(alloc, path.len())?;
+    push_normal(&mut form, Role::Path, path)?;
     Ok(form)
 }
 
@@ -35,27 +36,45 @@ pub fn normal_pattern(alloc: Global, pattern: &[u8]) -> Result<Vec<u8>, AllocErr
     ensures value { IfOk result (λ form. form.items ≡ normal_pattern pattern.now) }
     ensures again { IfOk result (λ form. normal_pattern form.items ≡ form.items) }
 {
-    if let [front @ .., b'$'] = pattern {
-        let mut form = normal(alloc, Role::Pattern, front)?;
+    let mut form = Vec::with_capacity(alloc, pattern.len())?;
+    push_normal_pattern(&mut form, pattern)?;
+    Ok(form)
+}
+
+/// Appends the normal form of a pattern. It has at most three octets for each of the pattern's. Where memory
+/// is refused, a part of it may have been appended.
+pub fn push_normal_pattern(form: &mut Vec<u8>, pattern: &[u8]) -> Result<(), AllocError>
+    ensures { IfOk result (λ _. form.new.items ≡ form.old.items ++ normal_pattern pattern.now) }
+{
+    let (front, anchored) = split_anchor(pattern);
+    push_normal(form, Role::Pattern, front)?;
+    if anchored {
         form.push(b'$')?;
-        Ok(form)
-    } else {
-        let form = normal(alloc, Role::Pattern, pattern)?;
-        Ok(form)
+    }
+    Ok(())
+}
+
+// The pattern without a last `$`, and whether it had one.
+fn split_anchor(pattern: &[u8]) -> (&[u8], bool)
+    ensures pattern { result.0.now ≡ unanchored pattern.now }
+    ensures anchored { result.1 ≡ is_anchored pattern.now }
+{
+    match pattern {
+        [front @ .., b'$'] => (front, true),
+        _ => (pattern, false),
     }
 }
 
-/// The text with each of its units in its one spelling.
-pub(crate) fn normal(alloc: Global, role: Role, text: &[u8]) -> Result<Vec<u8>, AllocError>
-    ensures { IfOk result (λ form. form.items ≡ normal role text.now) }
+// Appends the text with each of its units in its one spelling.
+fn push_normal(form: &mut Vec<u8>, role: Role, text: &[u8]) -> Result<(), AllocError>
+    ensures { IfOk result (λ _. form.new.items ≡ form.old.items ++ normal role text.now) }
 {
-    let mut form = Vec::with_capacity(alloc, text.len())?;
     let mut rest = text;
     while let Some((unit, after)) = next_unit(rest) {
-        push_spelled(&mut form, role, unit)?;
+        push_spelled(form, role, unit)?;
         rest = after;
     }
-    Ok(form)
+    Ok(())
 }
 
 // The first unit of the text, and what follows it.
@@ -112,17 +131,17 @@ fn is_unreserved(octet: u8) -> bool
 fn is_reserved(octet: u8) -> bool
     ensures { result ≡ is_reserved octet }
 {
-    is_delimiter_of_parts(octet) || is_delimiter_in_parts(octet)
+    is_gen_delim(octet) || is_sub_delim(octet)
 }
 
-fn is_delimiter_of_parts(octet: u8) -> bool
-    ensures { result ≡ is_delimiter_of_parts octet }
+fn is_gen_delim(octet: u8) -> bool
+    ensures { result ≡ is_gen_delim octet }
 {
     matches!(octet, b':' | b'/' | b'?' | b'#' | b'[' | b']' | b'@')
 }
 
-fn is_delimiter_in_parts(octet: u8) -> bool
-    ensures { result ≡ is_delimiter_in_parts octet }
+fn is_sub_delim(octet: u8) -> bool
+    ensures { result ≡ is_sub_delim octet }
 {
     matches!(
         octet,

@@ -1,6 +1,10 @@
 -- The runs of a pattern between its stars, and where they stand in a path.
 -- Used by the contracts of the matcher's parts.
 use Rattle.std.specs.Prelude.{◌≡◌, ◌≢◌, ◌==◌, ◌++◌, ℕ, false, All, List, ◌∷◌}
+use Rattle.std.specs.Prelude as prelude
+use Rattle.memchr.specs.Find.{IsFirstByte, is_byte}
+use Rattle.path_pattern.specs.declared.runs.Star.{Star}
+use Rattle.path_pattern.specs.declared.runs.Star.TheVariants.{None, Only, First}
 
 -- no `*` stands in the run
 abbrev pub HasNoStar : List ℕ → Type 0
@@ -14,6 +18,12 @@ pub record IsSplitAtStar (pattern run after : List ℕ) : Type 0 where
 -- no second `*` stands behind the first one of the pattern
 abbrev pub HasNoSecondStar : List ℕ → Type 0
 HasNoSecondStar pattern = (run after : List ℕ) → IsSplitAtStar pattern run after → HasNoStar after
+
+-- this is where the first star of the pattern stands; behind an only one no other does
+abbrev pub IsStarOf : List ℕ → Star → Type 0
+IsStarOf pattern None = HasNoStar pattern
+IsStarOf pattern (Only place) = IsFirstByte (is_byte 42) pattern (prelude.Some place) × HasNoSecondStar pattern
+IsStarOf pattern (First place) = IsFirstByte (is_byte 42) pattern (prelude.Some place)
 
 -- the run does not begin the path
 abbrev pub BeginsNot : List ℕ → List ℕ → Type 0

@@ -6,7 +6,7 @@ pub mod laws;
 mod pattern;
 mod runs;
 
-pub use pattern::Pattern;
+pub use pattern::{Pattern, matches};
 
 #[cfg(test)]
 mod tests;

@@ -1,14 +1,13 @@
 //! A pattern of a robots file in normal form, and whether it matches a path.
 //! RFC 9309, section 2.2.3.
 ghost use Rattle.std.specs.Prelude.{◌≡◌, ◌↔◌, ◌∷◌, IfOk, IsTrue, length};
-ghost use Rattle.memchr.specs.Find.{IsFirstByte, is_byte};
-ghost use Rattle.path_normal.specs.Normal.{normal_pattern};
+ghost use Rattle.path_normal.specs.Normal.{normal_pattern, unanchored};
 ghost use Rattle.path_pattern.specs.Matches.{Matches, Spells};
-ghost use Rattle.path_pattern.specs.Runs.{HasNoSecondStar, HasNoStar};
+ghost use Rattle.path_pattern.specs.Runs.{HasNoStar, IsStarOf};
 
 use crate::runs::{
-    after_first, after_start, ends_with, first_star, has_no_second_star, split_anchor,
-    split_at_place, split_at_star,
+    Star, after_first, after_start, ends_with, first_star, split_anchor, split_at_place,
+    split_at_star, star_of,
 };
 use path_normal::normal_pattern;
 use std::alloc::{AllocError, Global};
@@ -18,9 +17,8 @@ use std::marker::Model;
 #[derive(Debug, Drop)]
 pub struct Pattern {
     text: Vec<u8>,
-    star: Option<usize>,
-    // To look for a second star again would cost each match a walk over the pattern.
-    one_star: bool,
+    // To look for it again would cost each match a walk over the pattern.
+    star: Star,
 }
 
 impl Model for Pattern {
@@ -31,16 +29,14 @@ impl Model for Pattern {
 
     ghost coded = { coded_list coded_ℕ };
 
-    ghost use Rattle.std.specs.Prelude.{◌≡◌, ◌↔◌, IsTrue};
-    ghost use Rattle.memchr.specs.Find.{IsFirstByte, is_byte};
+    ghost use Rattle.std.specs.Prelude.{◌≡◌};
     ghost use Rattle.path_normal.specs.Normal.{normal_pattern, unanchored};
-    ghost use Rattle.path_pattern.specs.Runs.{HasNoSecondStar};
+    ghost use Rattle.path_pattern.specs.Runs.{IsStarOf};
 
     ghost view = { λ pattern. pattern.text.items };
 
     ghost invariant = { λ pattern. (normal_pattern pattern.text.items ≡ pattern.text.items)
-        × IsFirstByte (is_byte 42) (unanchored pattern.text.items) pattern.star
-        × (IsTrue pattern.one_star ↔ HasNoSecondStar (unanchored pattern.text.items)) };
+        × IsStarOf (unanchored pattern.text.items) pattern.star };
 }
 
 impl Pattern {
@@ -50,13 +46,8 @@ impl Pattern {
     {
         let text = normal_pattern(alloc, raw)?;
         let (pattern, _) = split_anchor(text.as_slice());
-        let star = first_star(pattern);
-        let one_star = has_no_second_star(pattern, star);
-        Ok(Pattern {
-            text,
-            star,
-            one_star,
-        })
+        let star = star_of(pattern);
+        Ok(Pattern { text, star })
     }
 
     /// Whether the pattern matches the path, which is to be in normal form. Takes no memory.
@@ -67,7 +58,7 @@ impl Pattern {
             return false;
         }
         let (pattern, anchored) = split_anchor(self.text());
-        fits(pattern, self.star, self.one_star, anchored, path)
+        fits(pattern, self.star, anchored, path)
     }
 
     /// How many octets the pattern has in normal form.
@@ -86,19 +77,39 @@ impl Pattern {
     }
 }
 
+/// Whether a pattern matches a path, both in normal form. The second star is looked for only where the
+/// path begins with what stands before the first. Takes no memory.
+pub fn matches(pattern: &[u8], path: &[u8]) -> bool
+    ensures { IsTrue result ↔ Matches pattern.now path.now }
+{
+    if pattern.is_empty() {
+        return false;
+    }
+    let (front, anchored) = split_anchor(pattern);
+    fits(front, first_star(front), anchored, path)
+}
+
 // Whether the pattern, with no anchor of its own, fits the path from its first octet on.
-fn fits(pattern: &[u8], star: Option<usize>, one_star: bool, anchored: bool, path: &[u8]) -> bool
-    requires first { IsFirstByte (is_byte 42) pattern.now star }
-    requires one { IsTrue one_star ↔ HasNoSecondStar pattern.now }
+fn fits(pattern: &[u8], star: Star, anchored: bool, path: &[u8]) -> bool
+    requires { IsStarOf pattern.now star }
     ensures { IsTrue result ↔ Spells pattern.now anchored path.now }
 {
-    let Some((run, after)) = split_at_place(pattern, star) else {
-        return fits_run(pattern, anchored, path);
-    };
-    match after_start(path, run) {
-        Some(rest) if one_star => fits_last(after, anchored, rest),
-        Some(rest) => fits_after_star(after, anchored, rest),
-        None => false,
+    match star {
+        Star::None => fits_run(pattern, anchored, path),
+        Star::Only(place) => {
+            let (run, after) = split_at_place(pattern, place);
+            match after_start(path, run) {
+                Some(rest) => fits_last(after, anchored, rest),
+                None => false,
+            }
+        }
+        Star::First(place) => {
+            let (run, after) = split_at_place(pattern, place);
+            match after_start(path, run) {
+                Some(rest) => fits_after_star(after, anchored, rest),
+                None => false,
+            }
+        }
     }
 }
 

@@ -1,9 +1,9 @@
 //! The runs of a pattern between its stars, and where they stand in a path.
 //! RFC 9309, section 2.2.3.
-ghost use Rattle.std.specs.Prelude.{◌≡◌, ◌++◌, ◌↔◌, List, ℕ, IsTrue, MatchOption};
+ghost use Rattle.std.specs.Prelude.{◌≡◌, ◌++◌, ◌↔◌, List, ℕ, IsTrue, MatchOption, Some};
 ghost use Rattle.memchr.specs.Find.{FindsNeedle, IsFirstByte, OccursAt, is_byte};
 ghost use Rattle.path_normal.specs.Normal.{is_anchored, unanchored};
-ghost use Rattle.path_pattern.specs.Runs.{BeginsNot, HasNoSecondStar, HasNoStar, IsAfterFirst, IsSplitAtStar, StandsNowhere};
+ghost use Rattle.path_pattern.specs.Runs.{BeginsNot, HasNoStar, IsAfterFirst, IsSplitAtStar, IsStarOf, StandsNowhere};
 
 use memchr::arch::all::{is_prefix, is_suffix};
 use memchr::{memchr, memmem};
@@ -19,40 +19,66 @@ pub(crate) fn split_anchor(pattern: &[u8]) -> (&[u8], bool)
     }
 }
 
+/// Where the first star of a pattern stands.
+#[derive(Clone, Copy, Debug)]
+pub(crate) enum Star {
+    /// There is none.
+    None,
+    /// At this place, and no other follows.
+    Only(usize),
+    /// At this place. Others may follow.
+    First(usize),
+}
+
+/// The first star, and whether others follow.
+pub(crate) fn star_of(pattern: &[u8]) -> Star
+    ensures { IsStarOf pattern.now result }
+{
+    match first_star(pattern) {
+        Star::First(place) if has_no_star(split_at_place(pattern, place).1) => Star::Only(place),
+        star => star,
+    }
+}
+
+/// The first star. Others are not looked for.
+pub(crate) fn first_star(pattern: &[u8]) -> Star
+    ensures { IsStarOf pattern.now result }
+{
+    match star_place(pattern) {
+        Some(place) => Star::First(place),
+        None => Star::None,
+    }
+}
+
 /// What stands before the first `*` and after it, where there is one.
 pub(crate) fn split_at_star(pattern: &[u8]) -> Option<(&[u8], &[u8])>
     ensures { MatchOption result (HasNoStar pattern.now)
         (λ parts. IsSplitAtStar pattern.now parts.0.now parts.1.now) }
 {
-    split_at_place(pattern, first_star(pattern))
+    match star_place(pattern) {
+        Some(place) => Some(split_at_place(pattern, place)),
+        None => None,
+    }
 }
 
-/// Where the first `*` of the pattern stands.
-pub(crate) fn first_star(pattern: &[u8]) -> Option<usize>
+fn star_place(pattern: &[u8]) -> Option<usize>
     ensures { IsFirstByte (is_byte 42) pattern.now result }
 {
     memchr(b'*', pattern)
 }
 
-/// Whether no second `*` stands behind the first one, of which the place is known.
-pub(crate) fn has_no_second_star(pattern: &[u8], star: Option<usize>) -> bool
-    requires { IsFirstByte (is_byte 42) pattern.now star }
-    ensures { IsTrue result ↔ HasNoSecondStar pattern.now }
+fn has_no_star(pattern: &[u8]) -> bool
+    ensures { IsTrue result ↔ HasNoStar pattern.now }
 {
-    match split_at_place(pattern, star) {
-        Some((_, after)) => first_star(after).is_none(),
-        None => true,
-    }
+    star_place(pattern).is_none()
 }
 
-/// What stands before the first `*` and after it, where that is already known.
-pub(crate) fn split_at_place(pattern: &[u8], star: Option<usize>) -> Option<(&[u8], &[u8])>
-    requires { IsFirstByte (is_byte 42) pattern.now star }
-    ensures { MatchOption result (HasNoStar pattern.now)
-        (λ parts. IsSplitAtStar pattern.now parts.0.now parts.1.now) }
+/// What stands before the first `*`, of which the place is known, and after it.
+pub(crate) fn split_at_place(pattern: &[u8], place: usize) -> (&[u8], &[u8])
+    requires { IsFirstByte (is_byte 42) pattern.now (Some place) }
+    ensures { IsSplitAtStar pattern.now result.0.now result.1.now }
 {
-    let place = star?;
-    Some((&pattern[..place], &pattern[place + 1..]))
+    (&pattern[..place], &pattern[place + 1..])
 }
 
 /// What follows the run, where the path begins with it.

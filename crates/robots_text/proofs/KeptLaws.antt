@@ -5,8 +5,7 @@ use Rattle.std.proofs.lemmas.List.{take-append-drop, length-take}
 use Rattle.std.proofs.Math.Seq.{take-append-add}
 use Rattle.std.specs.Prelude.{◌||◌}
 use Rattle.std.specs.List.{list_any}
-use Rattle.robots_text.specs.declared.text.TheConstants.{MAX_TEXT}
-use Rattle.robots_text.specs.Lines.{is_line_end, whole_lines, IsWholeFront, IsLongestFront}
+use Rattle.robots_text.specs.Lines.{is_line_end, text_limit, whole_lines, IsWholeFront, IsLongestFront}
 use Rattle.robots_text.proofs.Cutting.{tells}
 
 -- octets as a front that ends with a line end, and a rest
@@ -85,10 +84,10 @@ front_within limit body front rest split fits =
     let sum : limit ≡ length front + (limit - length front) = omega (arith, fits) in
     ap (take limit) split ∙ ap (λ n. take n (front ++ rest)) sum ∙ take-append-add front rest (limit - length front)
 
-no_longer : (body other : List ℕ) → IsWholeFront body other → length other ≤ length (whole_lines (take MAX_TEXT body))
+no_longer : (body other : List ℕ) → IsWholeFront body other → length other ≤ length (whole_lines (take text_limit body))
 no_longer body other front =
-    keeps_front other (take MAX_TEXT body) (take (MAX_TEXT - length other) front.rest) front.before front.last
-    (front_within MAX_TEXT body other front.rest front.split front.fits) front.ends front.line_end
+    keeps_front other (take text_limit body) (take (text_limit - length other) front.rest) front.before front.last
+    (front_within text_limit body other front.rest front.split front.fits) front.ends front.line_end
 
 split_more : (limit : ℕ) (body front rest : List ℕ) → take limit body ≡ front ++ rest → body ≡ front ++ (rest ++ drop limit body)
 split_more limit body front rest split =
@@ -99,30 +98,30 @@ split_fits limit body front rest split =
     let all : length (take limit body) ≡ length front + length rest = ap length split ∙ length-append front rest in
     omega (arith, all, length-take limit body)
 
-is_front : (body : List ℕ) → list_any is_line_end (take MAX_TEXT body) ≡ true → IsWholeFront body (whole_lines (take MAX_TEXT body))
+is_front : (body : List ℕ) → list_any is_line_end (take text_limit body) ≡ true → IsWholeFront body (whole_lines (take text_limit body))
 is_front body e =
-    let whole = some_whole (take MAX_TEXT body) e in
+    let whole = some_whole (take text_limit body) e in
     record {
-      rest = whole.rest ++ drop MAX_TEXT body;
-      split = split_more MAX_TEXT body _ whole.rest whole.split;
-      fits = split_fits MAX_TEXT body _ whole.rest whole.split;
+      rest = whole.rest ++ drop text_limit body;
+      split = split_more text_limit body _ whole.rest whole.split;
+      fits = split_fits text_limit body _ whole.rest whole.split;
       before = whole.before;
       last = whole.last;
       ends = whole.ends;
       line_end = whole.line_end;
     }
 
-no_front : (body other : List ℕ) → list_any is_line_end (take MAX_TEXT body) ≡ false → IsWholeFront body other → ⊥
+no_front : (body other : List ℕ) → list_any is_line_end (take text_limit body) ≡ false → IsWholeFront body other → ⊥
 no_front body other e front =
-    let none : length (whole_lines (take MAX_TEXT body)) ≡ 0 = ap length (none_whole (take MAX_TEXT body) e) in
+    let none : length (whole_lines (take text_limit body)) ≡ 0 = ap length (none_whole (take text_limit body) e) in
     absurd (omega (arith, none, no_longer body other front, some_octet other front.before front.last front.ends))
 
 -- the whole lines within the limit are the longest such front of a body
-pub longest_front : (body : List ℕ) → IsLongestFront body (whole_lines (take MAX_TEXT body))
+pub longest_front : (body : List ℕ) → IsLongestFront body (whole_lines (take text_limit body))
 longest_front body = record {
-  whole = elim (tells (list_any is_line_end (take MAX_TEXT body))) [
+  whole = elim (tells (list_any is_line_end (take text_limit body))) [
     | inl e ↦ inl (is_front body e)
-    | inr e ↦ inr (none_whole (take MAX_TEXT body) e, λ other front. no_front body other e front)
+    | inr e ↦ inr (none_whole (take text_limit body) e, λ other front. no_front body other e front)
   ];
   longest = no_longer body;
 }

@@ -12,3 +12,5 @@ pub mod Gives
 pub mod Rises
 pub mod Walks
 pub mod Plains
+pub mod Bounds
+pub mod GroupLaws

@@ -74,7 +74,7 @@ module _ (n : ℕ) (k : Record) (tail : List Numbered) (late : Late n tail) (to 
         ];
   }
 
-  break_up : is_rule k ≡ false → NoBreak tail to → NoBreak (at n k ∷ tail) to
+  pub break_up : is_rule k ≡ false → NoBreak tail to → NoBreak (at n k ∷ tail) to
   break_up plain none ended begun e b rules heads next less =
       elim (entry_of (at n k) ended tail e) [
         | inl is ↦ (let same : is_rule k ≡ is_rule ended.kind = ap (λ z. is_rule z.kind) is in absurd cc)
@@ -84,31 +84,31 @@ module _ (n : ℕ) (k : Record) (tail : List Numbered) (late : Late n tail) (to 
         ]
       ]
 
-  break_behind_rule : is_agent k ≡ false → NoHead tail to → NoBreak (at n k ∷ tail) to
+  pub break_behind_rule : is_agent k ≡ false → NoHead tail to → NoBreak (at n k ∷ tail) to
   break_behind_rule plain none ended begun e b rules heads next less =
       elim (entry_of (at n k) begun tail b) [
         | inl is ↦ (let same : is_agent k ≡ is_agent begun.kind = ap (λ z. is_agent z.kind) is in absurd cc)
         | inr b' ↦ none begun b' heads less
       ]
 
-  head_up : is_agent k ≡ false → NoHead tail to → NoHead (at n k ∷ tail) to
+  pub head_up : is_agent k ≡ false → NoHead tail to → NoHead (at n k ∷ tail) to
   head_up plain none begun b heads less =
       elim (entry_of (at n k) begun tail b) [
         | inl is ↦ (let same : is_agent k ≡ is_agent begun.kind = ap (λ z. is_agent z.kind) is in absurd cc)
         | inr b' ↦ none begun b' heads less
       ]
 
-  break_down : NoBreak (at n k ∷ tail) to → NoBreak tail to
+  pub break_down : NoBreak (at n k ∷ tail) to → NoBreak tail to
   break_down none ended begun e b = none ended begun (behind (at n k) ended tail e) (behind (at n k) begun tail b)
 
-  head_down : NoHead (at n k ∷ tail) to → NoHead tail to
+  pub head_down : NoHead (at n k ∷ tail) to → NoHead tail to
   head_down none begun b = none begun (behind (at n k) begun tail b)
 
-  head_from_break : is_rule k ≡ true → NoBreak (at n k ∷ tail) to → NoHead tail to
+  pub head_from_break : is_rule k ≡ true → NoBreak (at n k ∷ tail) to → NoHead tail to
   head_from_break rules none begun b heads less =
       none (at n k) begun (first_of (at n k) tail) (behind (at n k) begun tail b) rules heads (late begun b) less
 
-  no_head_here : is_agent k ≡ true → n < to → NoHead (at n k ∷ tail) to → ⊥
+  pub no_head_here : is_agent k ≡ true → n < to → NoHead (at n k ∷ tail) to → ⊥
   no_head_here heads before none = none (at n k) (first_of (at n k) tail) heads before
 
   through_down : (test : Record → Bool) → Through test (at n k ∷ tail) to →

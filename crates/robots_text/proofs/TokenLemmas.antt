@@ -6,8 +6,7 @@ use Rattle.std.specs.Char.{to_ascii_lowercase}
 use Rattle.std.proofs.lemmas.Bool.{cond-true, and_parts, and_from}
 use Rattle.std.proofs.lemmas.Bool.Decides.{nat_tests}
 use Rattle.std.specs.Prelude.{nat_lt, nat_le}
-use Rattle.robots_text.specs.declared.token.TheConstants.{MAX_TOKEN}
-use Rattle.robots_text.specs.Token.{is_token_octet, is_token, lower_case, token_of}
+use Rattle.robots_text.specs.Token.{is_token_octet, is_token, lower_case, token_limit, token_of}
 
 stays_octet : (b : ℕ) → is_token_octet b ≡ true → is_token_octet (to_ascii_lowercase b) ≡ true
 stays_octet b passes = grind (arith, nat_tests)
@@ -32,6 +31,6 @@ same_length (b ∷ octets) = ap suc (same_length octets)
 pub token_of_token : (octets : List ℕ) → is_token octets ≡ true → token_of (lower_case octets) ≡ Some (lower_case octets)
 token_of_token octets token =
     let parts = and_parts _ _ token in
-    let length_stays = subst (λ n. (nat_lt 0 n && nat_le n MAX_TOKEN) ≡ true) (sym (same_length octets)) parts.0 in
+    let length_stays = subst (λ n. (nat_lt 0 n && nat_le n token_limit) ≡ true) (sym (same_length octets)) parts.0 in
     let stays : is_token (lower_case octets) ≡ true = and_from _ _ length_stays (all_stay octets parts.1) in
     cond-true _ _ _ stays ∙ ap Some (lower_twice octets)

@@ -1,6 +1,9 @@
 -- What contracts say of a robots.txt, a file for each concept.
 -- RFC 9309, section 2.2.
 pub mod Cut
+pub mod Faults
+pub mod Grouped
+pub mod Grouping
 pub mod Groups
 pub mod Left
 pub mod Lines

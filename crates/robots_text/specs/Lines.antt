@@ -2,7 +2,10 @@
 -- RFC 9309, sections 2.2 and 2.5.
 use Rattle.std.specs.Prelude.{◌≡◌, ◌≢◌, ◌⊎◌, ◌≤◌, ℕ, Bool, true, false, ◌&&◌, ◌||◌, ◌==◌, nat_le, List, [], ◌∷◌, ◌++◌, length, take, if◌then◌else◌}
 use Rattle.std.specs.List.{list_any, onto_first}
-use Rattle.robots_text.specs.declared.text.TheConstants.{MAX_TEXT}
+
+-- how many octets of a robots text are read (RFC 9309, 2.5: at least 500 kibibytes)
+abbrev pub text_limit : ℕ
+text_limit = 512000
 
 -- the octet is CR or LF
 abbrev pub is_line_end : ℕ → Bool
@@ -16,13 +19,13 @@ whole_lines (octet ∷ octets) =
 
 -- what is kept of a body: all, or if it is over the limit the whole lines within the limit
 abbrev pub kept : List ℕ → List ℕ
-kept body = if nat_le (length body) MAX_TEXT then body else whole_lines (take MAX_TEXT body)
+kept body = if nat_le (length body) text_limit then body else whole_lines (take text_limit body)
 
 -- a front of a body that is within the limit and ends with CR or LF
 pub record IsWholeFront (body front : List ℕ) : Type 0 where
   pub rest : List ℕ
   pub split : body ≡ front ++ rest
-  pub fits : length front ≤ MAX_TEXT
+  pub fits : length front ≤ text_limit
   pub before : List ℕ
   pub last : ℕ
   pub ends : front ≡ before ++ last ∷ []

@@ -3,16 +3,19 @@
 use Rattle.std.specs.Prelude.{ℕ, Bool, ◌&&◌, ◌||◌, ◌==◌, nat_lt, nat_le, List, map, length, Option, Some, None, if◌then◌else◌}
 use Rattle.std.specs.List.{list_all}
 use Rattle.std.specs.Char.{is_ascii_alphabetic, to_ascii_lowercase}
-use Rattle.robots_text.specs.declared.token.TheConstants.{MAX_TOKEN}
 
 -- a letter, `-` or `_`
 abbrev pub is_token_octet : ℕ → Bool
 is_token_octet octet = is_ascii_alphabetic octet || octet == 45 || octet == 95
 
--- one octet to `MAX_TOKEN`, and each is a token octet
+-- the most octets that a product token has
+abbrev pub token_limit : ℕ
+token_limit = 64
+
+-- one octet to the limit, and each is a token octet
 abbrev pub is_token : List ℕ → Bool
 is_token octets =
-    nat_lt 0 (length octets) && nat_le (length octets) MAX_TOKEN && list_all is_token_octet octets
+    nat_lt 0 (length octets) && nat_le (length octets) token_limit && list_all is_token_octet octets
 
 -- the octets with their letters in lower case
 abbrev pub lower_case : List ℕ → List ℕ

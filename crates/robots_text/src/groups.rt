@@ -38,10 +38,10 @@ enum Group {
 }
 
 /// The rule lines for a token that are still to come. It takes no memory.
-#[derive(Clone, Copy, Debug, Drop)]
-pub struct RulesFor<'a> {
-    records: Records<'a>,
-    whom: Whom<'a>,
+#[derive(Debug, Drop)]
+pub struct RulesFor<'t, 'k> {
+    records: Records<'t>,
+    whom: Whom<'k>,
     group: Group,
 }
 
@@ -52,7 +52,7 @@ impl RobotsText {
 
     /// The rule lines that govern a token, in the order of their lines: of all groups that name it, or of
     /// all groups for `*` where none does. The text is walked twice, whatever it holds.
-    pub fn rules_for<'a>(&'a self, token: &'a Token) -> RulesFor<'a>
+    pub fn rules_for<'t, 'k>(&'t self, token: &'k Token) -> RulesFor<'t, 'k>
         ensures { AreRulesFor (numbered_records self.now) token.now (rules_left result) }
     {
         RulesFor {
@@ -63,17 +63,17 @@ impl RobotsText {
     }
 }
 
-impl<'a> Iterator for RulesFor<'a> {
+impl<'t, 'k> Iterator for RulesFor<'t, 'k> {
     ghost use Rattle.std.specs.Iterator.{YieldsFirstBy, item_count};
     ghost use Rattle.robots_text.specs.Walk.{rule_seen, rules_left};
 
-    type Item = RuleLine<'a>;
+    type Item = RuleLine<'t>;
 
     ghost next_gives = { YieldsFirstBy rule_seen rules_left };
 
     ghost remaining = { item_count rules_left };
 
-    fn next(&mut self) -> Option<RuleLine<'a>> {
+    fn next(&mut self) -> Option<RuleLine<'t>> {
         while let Some(record) = self.records.next() {
             let group = self.group;
             self.group = after_record(self.whom, group, record.kind);

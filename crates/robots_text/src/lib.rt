@@ -2,16 +2,17 @@
 //! RFC 9309, sections 2.2 and 2.5.
 #![tactic(auto)]
 
+mod grouped;
 mod groups;
-mod laws;
+pub mod laws;
 mod line;
 mod record;
 mod records;
 mod text;
 mod token;
 
+pub use grouped::{GroupedRecord, GroupedRecords};
 pub use groups::{RuleLine, RulesFor};
-pub use laws::one_way_to_write_lines;
 pub use record::{Agent, RecordKind, RecordLine, RuleKind};
 pub use records::Records;
 pub use text::{MAX_TEXT, RobotsText};

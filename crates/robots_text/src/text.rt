@@ -1,10 +1,12 @@
 //! A robots text, of which no more than the limit is kept.
 //! RFC 9309, sections 2.2 and 2.5.
-ghost use Rattle.std.specs.Prelude.{◌≡◌, ◌≤◌, ◌<◌, length, IfOk};
+ghost use Rattle.std.specs.Prelude.{◌≡◌, ◌≤◌, ◌<◌, All, length, IfOk};
 ghost use Rattle.robots_text.specs.Left.{records_left};
-ghost use Rattle.robots_text.specs.Lines.{kept, IsLongestFront};
+ghost use Rattle.robots_text.specs.Grouped.{grouped_left, grouped_records, IsWithin, values_octets};
+ghost use Rattle.robots_text.specs.Lines.{kept, IsLongestFront, text_limit};
 ghost use Rattle.robots_text.specs.Records.{numbered_records};
 
+use crate::grouped::GroupedRecords;
 use crate::line::{unmarked, whole_lines};
 use crate::records::Records;
 use std::alloc::{AllocError, Global};
@@ -21,13 +23,13 @@ pub struct RobotsText {
 
 impl Model for RobotsText {
     ghost use Rattle.std.specs.Prelude.{◌≤◌, ℕ, List, vec_len};
-    ghost use Rattle.robots_text.specs.declared.text.TheConstants.{MAX_TEXT};
+    ghost use Rattle.robots_text.specs.Lines.{text_limit};
 
     ghost Value = { List ℕ };
 
     ghost view = { λ text. text.octets.items };
 
-    ghost invariant = { λ text. vec_len text.octets ≤ MAX_TEXT };
+    ghost invariant = { λ text. vec_len text.octets ≤ text_limit };
 }
 
 impl RobotsText {
@@ -36,7 +38,7 @@ impl RobotsText {
     pub fn read(alloc: Global, body: &[u8]) -> Result<RobotsText, AllocError>
         ensures kept { IfOk result (λ text. text ≡ kept body.now) }
         ensures longest { IfOk result (λ text.
-            MAX_TEXT < length body.now → IsLongestFront body.now text) }
+            text_limit < length body.now → IsLongestFront body.now text) }
     {
         Ok(RobotsText {
             octets: Vec::from_slice(alloc, kept(body))?,
@@ -45,14 +47,27 @@ impl RobotsText {
 
     /// The records of the text, in the order of their lines.
     pub fn records(&self) -> Records<'_>
-        ensures { records_left result ≡ numbered_records self.now }
+        ensures records { records_left result ≡ numbered_records self.now }
+        ensures few { length (records_left result) ≤ text_limit }
     {
         Records::of(unmarked(self.octets.as_slice()))
     }
 
+    /// The records of the text with the groups in which they stand, in the order of their lines.
+    pub fn groups(&self) -> GroupedRecords<'_>
+        ensures records { grouped_left result ≡ grouped_records self.now }
+        ensures within { All (IsWithin text_limit) (grouped_left result) }
+        ensures few { length (grouped_left result) ≤ text_limit }
+        ensures small { values_octets (grouped_left result) ≤ text_limit }
+    {
+        GroupedRecords::of(Records::of(unmarked(self.octets.as_slice())))
+    }
+
     /// The octets that are kept, the mark included.
     pub fn bytes(&self) -> &[u8]
-        ensures { result.now ≡ self.now }
+        ensures value { result.now ≡ self.now }
+        ensures few { length result.now ≤ text_limit }
+        ensures own { kept result.now ≡ result.now }
     {
         self.octets.as_slice()
     }
@@ -61,8 +76,8 @@ impl RobotsText {
 // What is kept of a body.
 fn kept(body: &[u8]) -> &[u8]
     ensures value { result.now ≡ kept body.now }
-    ensures longest { MAX_TEXT < length body.now → IsLongestFront body.now result.now }
-    ensures within { length result.now ≤ MAX_TEXT }
+    ensures longest { text_limit < length body.now → IsLongestFront body.now result.now }
+    ensures within { length result.now ≤ text_limit }
 {
     if body.len() <= MAX_TEXT {
         return body;

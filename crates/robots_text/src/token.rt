@@ -7,6 +7,7 @@ ghost use Rattle.std.specs.List.{list_all};
 ghost use Rattle.robots_text.specs.Token.{is_token_octet, is_token, lower_case, token_of};
 
 use std::alloc::{AllocError, Global};
+use std::error::Error;
 use std::fmt;
 use std::marker::Model;
 
@@ -44,6 +45,33 @@ pub enum TokenFault {
     NoMemory,
 }
 
+impl From<AllocError> for TokenFault {
+    ghost use Rattle.std.specs.Prelude.{◌≡◌};
+    ghost use Rattle.robots_text.specs.declared.token.TokenFault.{TokenFault};
+
+    ghost from_gives = { λ _ fault. fault ≡ TokenFault.NoMemory };
+
+    fn from(_: AllocError) -> TokenFault {
+        TokenFault::NoMemory
+    }
+}
+
+impl fmt::Display for TokenFault {
+    ghost use Rattle.std.specs.Prelude.{Some};
+    ghost use Rattle.robots_text.specs.Faults.{fault_text};
+
+    ghost output = { λ fault. Some (fault_text fault) };
+
+    fn fmt<W: fmt::Write>(&self, f: &mut fmt::Formatter<W>) -> fmt::Result {
+        f.write_str(match self {
+            TokenFault::BadToken => "a product token has 1 to 64 letters, - and _",
+            TokenFault::NoMemory => "no memory for the product token",
+        })
+    }
+}
+
+impl Error for TokenFault {}
+
 impl Token {
     /// Reads a token, whatever the case of its letters.
     pub fn new(alloc: Global, octets: &[u8]) -> Result<Token, TokenFault>
@@ -54,10 +82,9 @@ impl Token {
         if !is_token(octets) {
             return Err(TokenFault::BadToken);
         }
-        match lower_case(alloc, octets) {
-            Ok(text) => Ok(Token { text }),
-            Err(_) => Err(TokenFault::NoMemory),
-        }
+        Ok(Token {
+            text: lower_case(alloc, octets)?,
+        })
     }
 
     /// A second token of the same text.

@@ -12,7 +12,7 @@ returns c =
     let word = c.args.token.now in
     let whom = c.whom_for.result in
     let is_word = c.as_bytes.ensures.value ∙ c.text.ensures.value in
-    let are_lines = c.records-2.ensures in
-    subst (λ lines. AreRulesFor (numbered_records text) word (rules_from (speaks whom) Foreign lines)) (sym c.records.ensures)
+    let are_lines = c.records-2.ensures.records in
+    subst (λ lines. AreRulesFor (numbered_records text) word (rules_from (speaks whom) Foreign lines)) (sym c.records.ensures.records)
     (walk_is (speaks whom) word (records_of text)
     (λ kind. c.whom_for.ensures kind ∙ (λ i. speaks_to (are_lines i) (is_word i) kind)))

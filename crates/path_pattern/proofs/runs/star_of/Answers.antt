@@ -1,0 +1,28 @@
+-- A pattern is cut at its first star in one way.
+-- Used by `star_of`.
+use Rattle.std.proofs.Common.{◌≡◌, ◌==◌, ◌++◌, List, ℕ, false, [], ◌∷◌, sym, subst, ◌∙◌}
+use Rattle.std.proofs.lemmas.Bool.{eq-eqb, true≢false}
+use Rattle.std.proofs.lemmas.List.Elements.{All-head, All-tail}
+use Rattle.path_pattern.specs.Runs.{HasNoSecondStar, HasNoStar, IsSplitAtStar}
+use Rattle.path_pattern.proofs.runs.star_of.Goals as goal
+
+same_cut : (run after other more : List ℕ) → HasNoStar run → HasNoStar other → run ++ 42 ∷ after ≡ other ++ 42 ∷ more → after ≡ more
+same_cut [] after [] more plain plain' is = cc
+same_cut [] after (octet ∷ other) more plain plain' is =
+    let star : octet ≡ 42 = cc in
+    absurd (true≢false (sym (eq-eqb octet 42 star) ∙ All-head (λ o. (o == 42) ≡ false) octet other plain'))
+same_cut (octet ∷ run) after [] more plain plain' is =
+    let star : octet ≡ 42 = cc in
+    absurd (true≢false (sym (eq-eqb octet 42 star) ∙ All-head (λ o. (o == 42) ≡ false) octet run plain))
+same_cut (octet ∷ run) after (first ∷ other) more plain plain' is =
+    same_cut run after other more (All-tail (λ o. (o == 42) ≡ false) octet run plain) (All-tail (λ o. (o == 42) ≡ false) first other plain') cc
+
+one_cut : (pattern run after : List ℕ) → IsSplitAtStar pattern run after → HasNoStar after → HasNoSecondStar pattern
+one_cut pattern run after split plain other more split' =
+    subst HasNoStar (same_cut run after other more split.plain split'.plain (sym split.parts ∙ split'.parts)) plain
+
+pub returns-in-First : goal.returns-in-First
+returns-in-First c = (
+  c.in-First.ensures,
+  one_cut c.args.pattern.now c.split_at_place.result.0.now c.split_at_place.result.1.now c.split_at_place.ensures (c.has_no_star.ensures.0 c.if-has_no_star.true),
+)

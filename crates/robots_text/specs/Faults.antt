@@ -1,0 +1,10 @@
+-- The text of each fault.
+-- `Display` of the faults cites it.
+use Rattle.std.specs.Prelude.{ℕ, List, codes}
+use Rattle.robots_text.specs.declared.token.TokenFault.{TokenFault}
+use Rattle.robots_text.specs.declared.token.TokenFault.TheVariants.{BadToken, NoMemory}
+
+-- why octets were not taken as a token
+abbrev pub fault_text : TokenFault → List ℕ
+fault_text BadToken = codes "a product token has 1 to 64 letters, - and _"
+fault_text NoMemory = codes "no memory for the product token"

@@ -1,0 +1,5 @@
+-- Lemmas on the definitions of `specs/`.
+-- Used by the answers beside them.
+pub mod Weighing
+pub mod OneVerdict
+pub mod Walking

@@ -1,0 +1,41 @@
+-- The lines have no two verdicts on a path.
+-- Used by the law on verdicts.
+use Rattle.std.proofs.Common.{◌≡◌, ℕ, List, refl, sym, ap, ◌∙◌}
+use Rattle.robots_text.specs.declared.record.RuleKind.{RuleKind}
+use Rattle.robots_text.specs.declared.record.RuleKind.TheVariants as kinds
+use Rattle.robots_text.specs.Records.{Numbered}
+use Rattle.robots_verdict.specs.declared.decision.Allowed.TheVariants.{Line, NoRule, RobotsPath}
+use Rattle.robots_verdict.specs.declared.decision.Verdict.{Verdict}
+use Rattle.robots_verdict.specs.declared.decision.Verdict.TheVariants.{Allow, Deny}
+use Rattle.robots_verdict.specs.Verdict.{Decides, IsVerdict}
+use Rattle.robots_verdict.specs.Weights.{weight_of}
+use Rattle.robots_verdict.proofs.Weighing.{same_line}
+
+-- two lines that decide are one
+one_line : (lines : List Numbered) (word path : List ℕ) (line other : ℕ) (kind kind' : RuleKind) →
+    Decides lines word path line kind → Decides lines word path other kind' → (kind ≡ kind') × (line ≡ other)
+one_line lines word path line other kind kind' one two =
+    let same = same_line (weight_of one.ruled) (weight_of two.ruled)
+    (two.strongest.strongest one.ruled one.strongest.applies) (one.strongest.strongest two.ruled two.strongest.applies) in
+    (sym one.is_kind ∙ same.0 ∙ two.is_kind, sym one.is_line ∙ same.1 ∙ two.is_line)
+
+no_kind : kinds.Allow ≡ kinds.Disallow → ⊥
+no_kind same = cc
+
+pub one : (lines : List Numbered) (word path : List ℕ) (a b : Verdict) → IsVerdict lines word path a → IsVerdict lines word path b → a ≡ b
+one lines word path (Allow RobotsPath) (Allow RobotsPath) is is' = refl
+one lines word path (Allow RobotsPath) (Allow NoRule) is is' = absurd (is'.0 is)
+one lines word path (Allow RobotsPath) (Allow (Line other)) is is' = absurd (is'.elsewhere is)
+one lines word path (Allow RobotsPath) (Deny other) is is' = absurd (is'.elsewhere is)
+one lines word path (Allow NoRule) (Allow RobotsPath) is is' = absurd (is.0 is')
+one lines word path (Allow NoRule) (Allow NoRule) is is' = refl
+one lines word path (Allow NoRule) (Allow (Line other)) is is' = absurd (is.1 is'.ruled is'.strongest.applies)
+one lines word path (Allow NoRule) (Deny other) is is' = absurd (is.1 is'.ruled is'.strongest.applies)
+one lines word path (Allow (Line line)) (Allow RobotsPath) is is' = absurd (is.elsewhere is')
+one lines word path (Allow (Line line)) (Allow NoRule) is is' = absurd (is'.1 is.ruled is.strongest.applies)
+one lines word path (Allow (Line line)) (Allow (Line other)) is is' = ap (λ n. Allow (Line n)) (one_line lines word path line other kinds.Allow kinds.Allow is is').1
+one lines word path (Allow (Line line)) (Deny other) is is' = absurd (no_kind (one_line lines word path line other kinds.Allow kinds.Disallow is is').0)
+one lines word path (Deny line) (Allow RobotsPath) is is' = absurd (is.elsewhere is')
+one lines word path (Deny line) (Allow NoRule) is is' = absurd (is'.1 is.ruled is.strongest.applies)
+one lines word path (Deny line) (Allow (Line other)) is is' = absurd (no_kind (sym (one_line lines word path line other kinds.Disallow kinds.Allow is is').0))
+one lines word path (Deny line) (Deny other) is is' = ap (λ n. Deny n) (one_line lines word path line other kinds.Disallow kinds.Disallow is is').1

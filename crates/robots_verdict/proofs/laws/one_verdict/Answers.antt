@@ -1,0 +1,7 @@
+-- The law on verdicts.
+-- The lemma `one` says so.
+use Rattle.robots_verdict.proofs.OneVerdict.{one}
+use Rattle.robots_verdict.proofs.laws.one_verdict.Goals as goal
+
+pub returns : goal.returns
+returns c = one

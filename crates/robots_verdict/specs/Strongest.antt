@@ -1,0 +1,33 @@
+-- The strongest of the lines that apply, as it is looked for.
+-- Cited by the contracts of what finds it.
+use Rattle.std.specs.Prelude.{◌≡◌, ℕ, List, Option, Some, None, if◌then◌else◌}
+use Rattle.robots_text.specs.declared.record.RuleKind.{RuleKind}
+use Rattle.robots_text.specs.declared.record.RuleKind.TheVariants as kinds
+use Rattle.robots_text.specs.Groups.{Ruled}
+use Rattle.robots_text.specs.Records.{Numbered}
+use Rattle.robots_verdict.specs.declared.decision.Allowed.TheVariants.{Line, NoRule}
+use Rattle.robots_verdict.specs.declared.decision.Verdict.{Verdict}
+use Rattle.robots_verdict.specs.declared.decision.Verdict.TheVariants.{Allow, Deny}
+use Rattle.robots_verdict.specs.declared.weight.Weight.{Weight}
+use Rattle.robots_verdict.specs.Verdict.{Applies, IsStrongest}
+use Rattle.robots_verdict.specs.Weights.{is_above, weight_of}
+
+-- the weight is that of the strongest line that applies, and none where no line does
+abbrev pub IsBest : List Numbered → List ℕ → List ℕ → Option Weight → Type 0
+IsBest lines word path None = (ruled : Ruled) → Applies lines word path ruled → ⊥
+IsBest lines word path (Some best) = (ruled : Ruled) × (IsStrongest lines word path ruled) × (weight_of ruled ≡ best)
+
+-- what a line of this kind and number says
+abbrev pub said_by : RuleKind → ℕ → Verdict
+said_by kinds.Allow line = Allow (Line line)
+said_by kinds.Disallow line = Deny line
+
+-- the verdict by the strongest line
+abbrev pub verdict_of : Option Weight → Verdict
+verdict_of None = Allow NoRule
+verdict_of (Some best) = said_by best.kind best.line
+
+-- the stronger of two weights; of those that rank alike, the former
+abbrev pub stronger : Option Weight → Weight → Weight
+stronger None other = other
+stronger (Some best) other = if is_above other best then other else best

@@ -1,0 +1,30 @@
+-- How the lines that match a path rank: which of two is the stronger.
+-- RFC 9309, section 2.2.2; of equal lines the first is named.
+use Rattle.std.specs.Prelude.{ℕ, Bool, length}
+use Rattle.std.specs.declared.cmp.Ordering.{Ordering}
+use Rattle.std.specs.Ordering.{is_lt, nat_cmp, ordering_then}
+use Rattle.path_normal.specs.Normal.{normal_pattern}
+use Rattle.robots_text.specs.declared.record.RuleKind.{RuleKind}
+use Rattle.robots_text.specs.declared.record.RuleKind.TheVariants.{Allow, Disallow}
+use Rattle.robots_text.specs.Groups.{Ruled}
+use Rattle.robots_verdict.specs.declared.weight.Weight.{Weight}
+
+-- allow stands before disallow
+abbrev pub kind_place : RuleKind → ℕ
+kind_place Allow = 0
+kind_place Disallow = 1
+
+-- the order of lines, strongest first: more octets before fewer, allow before disallow, and the smaller
+-- number before the greater
+abbrev pub falling : Weight → Weight → Ordering
+falling one other =
+    ordering_then (nat_cmp other.octets one.octets)
+    (ordering_then (nat_cmp (kind_place one.kind) (kind_place other.kind)) (nat_cmp one.line other.line))
+
+-- the one is stronger than the other
+abbrev pub is_above : Weight → Weight → Bool
+is_above one other = is_lt (falling one other)
+
+-- what a rule line weighs: the octets of its pattern in normal form, its kind and its number
+abbrev pub weight_of : Ruled → Weight
+weight_of ruled = record { octets = length (normal_pattern ruled.pattern); kind = ruled.kind; line = ruled.line }

@@ -1,0 +1,72 @@
+//! What is true of verdicts, and other readings of them to compare the one of `Policy` with.
+//! RFC 9309, section 2.2.2.
+ghost use Rattle.std.specs.Prelude.{◌≡◌, ℕ, List, IfOk};
+ghost use Rattle.robots_text.specs.Records.{Numbered, numbered_records};
+ghost use Rattle.robots_verdict.specs.declared.decision.Verdict.{Verdict as VerdictValue};
+ghost use Rattle.robots_verdict.specs.Strongest.{IsBest, stronger};
+ghost use Rattle.robots_verdict.specs.Verdict.{IsVerdict};
+
+use crate::decision::{Allowed, Verdict, is_robots_path, verdict_of};
+use crate::weight::Weight;
+use path_pattern::Pattern;
+use robots_text::{RobotsText, Token};
+use std::alloc::{AllocError, Global};
+
+/// There is one verdict of a text for a token and a path.
+pub fn one_verdict()
+    ensures { (lines : List Numbered) (word path : List ℕ) (one other : VerdictValue)
+        → IsVerdict lines word path one → IsVerdict lines word path other → one ≡ other }
+{}
+
+/// The verdict by the rules for the token, one after another. It makes a pattern of each.
+pub fn verdict_plain(
+    alloc: Global,
+    text: &RobotsText,
+    token: &Token,
+    path: &[u8],
+) -> Result<Verdict, AllocError>
+    ensures { IfOk result (λ verdict. IsVerdict (numbered_records text.now) token.now path.now verdict) }
+{
+    if is_robots_path(path) {
+        return Ok(Verdict::Allow(Allowed::RobotsPath));
+    }
+    let best = strongest(alloc, text, token, path)?;
+    Ok(verdict_of(best))
+}
+
+// The weight of the strongest line that applies.
+fn strongest(
+    alloc: Global,
+    text: &RobotsText,
+    token: &Token,
+    path: &[u8],
+) -> Result<Option<Weight>, AllocError>
+    ensures { IfOk result (IsBest (numbered_records text.now) token.now path.now) }
+{
+    let mut best = None;
+    let mut rules = text.rules_for(token);
+    while let Some(rule) = rules.next() {
+        let pattern = Pattern::new(alloc, rule.pattern)?;
+        if pattern.matches(path) {
+            best = Some(stronger(
+                best,
+                Weight {
+                    octets: pattern.octets(),
+                    kind: rule.kind,
+                    line: rule.line,
+                },
+            ));
+        }
+    }
+    Ok(best)
+}
+
+// The stronger of the two; of lines that rank alike, the former.
+fn stronger(best: Option<Weight>, other: Weight) -> Weight
+    ensures { result ≡ stronger best other }
+{
+    match best {
+        Some(best) if !other.is_above(&best) => best,
+        _ => other,
+    }
+}

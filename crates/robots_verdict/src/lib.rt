@@ -1,0 +1,15 @@
+//! Policies, which say by which line of a robots.txt a path is allowed or denied, and answers.
+//! RFC 9309, sections 2.2.2 and 2.3.1.
+#![tactic(auto)]
+
+mod answer;
+mod decision;
+pub mod laws;
+mod policy;
+mod rules;
+mod weight;
+
+pub use answer::{Answer, Closure, Opening};
+pub use decision::{Allowed, Verdict};
+pub use policy::Policy;
+pub use rules::Rules;
