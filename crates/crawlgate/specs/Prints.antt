@@ -3,7 +3,7 @@
 use Rattle.std.specs.Prelude.{◌≡◌, ◌⊎◌, ◌≤◌, ◌<◌, ◌+◌, ℕ, List, [], ◌++◌, length, Option, None, Some, Result, Ok, Err}
 use Rattle.std.specs.Io.KnownBytes.{Consumes, Appends, IsAtEnd}
 use Rattle.counted_io.specs.Device.{AppendsPrefix}
-use Rattle.robots_text.specs.declared.text.TheConstants.{MAX_TEXT}
+use Rattle.robots_text.specs.Lines.{text_limit}
 use Rattle.robots_text.specs.Lines.{kept}
 use Rattle.crawlgate.specs.LinesText.{lines_text}
 use Rattle.command_server.specs.declared.session_fault.SessionFault.{SessionFault}
@@ -17,15 +17,15 @@ KeepsSame (Some input) body = kept body ≡ kept input
 -- the body was read: all that the input has, but at most one octet more than the limit
 pub record ReadsBody (old new : Option (List ℕ)) (body : List ℕ) : Type 0 where
   pub consumed : Consumes old new body
-  pub fits : length body ≤ MAX_TEXT + 1
-  pub all : length body < MAX_TEXT + 1 → IsAtEnd new
+  pub fits : length body ≤ text_limit + 1
+  pub all : length body < text_limit + 1 → IsAtEnd new
   pub same : KeepsSame old body
 
 -- no more than a front of the input was read
 pub record ReadsPart (old new : Option (List ℕ)) : Type 0 where
   pub part : List ℕ
   pub consumed : Consumes old new part
-  pub fits : length part ≤ MAX_TEXT + 1
+  pub fits : length part ≤ text_limit + 1
 
 -- one read gave these octets: none only at the end
 pub record ReadsMore (old new : Option (List ℕ)) (before after : List ℕ) (most : ℕ) : Type 0 where

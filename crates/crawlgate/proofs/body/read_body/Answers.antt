@@ -3,7 +3,7 @@ use Rattle.std.proofs.Common.{◌≤◌, ◌-◌, ◌+◌, ℕ, List, ◌++◌, 
 use Rattle.std.proofs.lemmas.List.{length-take}
 use Rattle.std.specs.Io.KnownBytes.{Consumes}
 use Rattle.std.proofs.KnownBytes.{Consumes-trans}
-use Rattle.robots_text.specs.declared.text.TheConstants.{MAX_TEXT}
+use Rattle.robots_text.specs.Lines.{text_limit}
 use Rattle.counted_io.proofs.Writing.{on_err}
 use Rattle.crawlgate.specs.Prints.{ReadsPart, ReadsLost}
 use Rattle.crawlgate.proofs.Reading.{ends_body, reads_body}
@@ -12,11 +12,11 @@ use Rattle.crawlgate.proofs.body.read_body.Goals as goal
 sum_fits : (body octets : List ℕ) (limit : ℕ) → length octets ≤ limit - length body → length body ≤ limit → length (body ++ octets) ≤ limit
 sum_fits body octets limit more fits = omega (arith, length-append body octets, more, fits)
 
-part_with : (a b c : Option (List ℕ)) (body : List ℕ) (most : ℕ) → Consumes a b body → length body ≤ MAX_TEXT + 1 → ReadsLost b c most → most ≤ MAX_TEXT + 1 - length body → ReadsPart a c
+part_with : (a b c : Option (List ℕ)) (body : List ℕ) (most : ℕ) → Consumes a b body → length body ≤ text_limit + 1 → ReadsLost b c most → most ≤ text_limit + 1 - length body → ReadsPart a c
 part_with a b c body most before fits lost within = record {
   part = body ++ lost.octets;
   consumed = Consumes-trans a b c body lost.octets before lost.consumed;
-  fits = sum_fits body lost.octets (MAX_TEXT + 1) (omega (arith, lost.fits, within)) fits;
+  fits = sum_fits body lost.octets (text_limit + 1) (omega (arith, lost.fits, within)) fits;
 }
 
 pub returns-in_err-read_more-clause-part : goal.returns-in_err-read_more-clause-part
