@@ -33,7 +33,7 @@ returns-in_err-output-clause-prints g c =
 pub returns-in_err-flush-clause-prints : goal.returns-in_err-flush-clause-prints
 returns-in_err-flush-clause-prints g c =
     let p = err_from_is_err_and c.from_residual-in_err-flush.result c.from_residual-in_err-flush.ensures.1 in
-    let text = pushed_text _ _ _ c.in_ok-body.body.items _ c.in_ok-output.ensures c.records.ensures c.in_ok-text.ensures.kept c.as_slice.ensures.value in
+    let text = pushed_text _ _ _ c.in_ok-body.body.items _ c.in_ok-output.ensures c.records.ensures.records c.in_ok-text.ensures.kept c.as_slice.ensures.value in
     rw (p.1, p.2) (
       c.in_ok-body.body.items,
       c.in_ok-body.ensures.body,
@@ -43,7 +43,7 @@ returns-in_err-flush-clause-prints g c =
 
 pub returns-clause-prints : goal.returns-clause-prints
 returns-clause-prints g c =
-    let text = pushed_text _ _ _ c.in_ok-body.body.items _ c.in_ok-output.ensures c.records.ensures c.in_ok-text.ensures.kept c.as_slice.ensures.value in (
+    let text = pushed_text _ _ _ c.in_ok-body.body.items _ c.in_ok-output.ensures c.records.ensures.records c.in_ok-text.ensures.kept c.as_slice.ensures.value in (
       c.in_ok-body.body.items,
       c.in_ok-body.ensures.body,
       subst (λ l. Appends (g.W.Sink.written c.args.writer.now) (g.W.Sink.written c.flush.new.sink) l) text
