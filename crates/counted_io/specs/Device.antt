@@ -11,6 +11,6 @@ one_more failures = (failures + 1) % 2 ^ 64
 abbrev pub failures_after : {T E : Type 0} → ℕ → Result T E → ℕ
 failures_after failures result = if is_ok result then failures else one_more failures
 
--- known octets grow by some front of bytes
+-- known octets grow by some prefix of bytes
 abbrev pub AppendsPrefix : Option (List ℕ) → Option (List ℕ) → List ℕ → Type 0
 AppendsPrefix old new bytes = (n : ℕ) × Appends old new (take n bytes)

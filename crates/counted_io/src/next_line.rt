@@ -14,7 +14,7 @@ pub enum NextLine {
     Last,
     /// Nothing is left, and the line is empty.
     End,
-    /// The line is longer than the limit. Its front is consumed, and no further line can be read.
+    /// The line is longer than the limit. A prefix of it is consumed, and no further line can be read.
     TooLong,
 }
 

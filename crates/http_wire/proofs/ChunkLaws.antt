@@ -9,7 +9,7 @@ use Rattle.httparse.specs.Spans.{SectionOverflows}
 use Rattle.httparse.proofs.ChunkLemmas.{chunk_line_unique, ReadsChunkLine-append}
 use Rattle.httparse.proofs.GrammarLemmas.{section_unique}
 use Rattle.httparse.proofs.PieceLemmas.{front-append}
-use Rattle.http_wire.specs.Limits.{max_trailers, max_trailer_octets}
+use Rattle.http_wire.specs.Limits.{max_trailers, max_trailer_bytes}
 use Rattle.http_wire.specs.Chunks.{Chunk, print_chunks, joined, ReadsChunks, ReadsTrailers, GivesChunked, AfterChunks, AfterLast, AfterOctets, NeverHasEnd, EndsAt, in_line, in_octets, in_end, in_trailers, EndsInChunked, IsTooLong, IsBadAt, bad_line, bad_end, bad_trailers, too_long, IsBadChunked, HasTooManyLines, EndsTooLong, IsRefusedChunked, print_body, print_prefix}
 use Rattle.http_wire.proofs.ChunkLists.{prefixes_same, regroup, line_of, HasNoChunk, same_chunks}
 
@@ -192,9 +192,9 @@ take_within n prefix rest fits =
 
 -- trailers within their limits stand in the first bytes of the text
 trailers_prefix : (text rest : List ℕ) (t : ReadsTrailers text rest)
-    → ReadsSection (take max_trailer_octets text) t.fields t.last (take (max_trailer_octets - length (print_section t.fields t.last)) rest)
+    → ReadsSection (take max_trailer_bytes text) t.fields t.last (take (max_trailer_bytes - length (print_section t.fields t.last)) rest)
 trailers_prefix text rest t =
-    (t.reads.0, ap (take max_trailer_octets) t.reads.1 ∙ take_within max_trailer_octets (print_section t.fields t.last) rest t.short)
+    (t.reads.0, ap (take max_trailer_bytes) t.reads.1 ∙ take_within max_trailer_bytes (print_section t.fields t.last) rest t.short)
 
 bad_at : (room : ℕ) (text prefix : List ℕ) (cut : Bool) (rest : List ℕ) → IsBadAt room text → GivesAt room text prefix cut rest → ⊥
 bad_at room text prefix cut rest (bad_line never) g = line_against room text prefix cut rest (never_now text never) g
@@ -342,7 +342,7 @@ long_append : (text more : List ℕ) → IsTooLong text → IsTooLong (text ++ m
 long_append text more x = record {
   long = omega (arith, x.long, length-append text more);
   none = λ fields last rest reads.
-      x.none fields last rest (subst (λ t. ReadsSection t fields last rest) (take-append-le max_trailer_octets text more x.long) reads);
+      x.none fields last rest (subst (λ t. ReadsSection t fields last rest) (take-append-le max_trailer_bytes text more x.long) reads);
 }
 
 bad_more : (room : ℕ) (text more : List ℕ) → IsBadAt room text → IsBadAt room (text ++ more)

@@ -4,7 +4,7 @@ use Rattle.std.proofs.Common.{◌≢◌, ℕ, ◌<◌, ◌≤◌, List, [], ◌+
 use Rattle.httparse.specs.Grammar.{ReadsSection, NeverHasSection, LineEnd, Field}
 use Rattle.httparse.specs.Spans.{SectionOverflows}
 use Rattle.httparse.proofs.GrammarLemmas.{ReadsSection-append}
-use Rattle.http_wire.specs.Limits.{max_trailers, max_trailer_octets}
+use Rattle.http_wire.specs.Limits.{max_trailers, max_trailer_bytes}
 use Rattle.http_wire.specs.declared.trailers.TrailerSection.{TrailerSection}
 use Rattle.http_wire.specs.declared.trailers.TrailerSection.TheVariants as sections
 use Rattle.http_wire.specs.Chunks.{ReadsTrailers, IsTooLong}
@@ -28,12 +28,12 @@ over_now room text over fields last rest reads =
     over [] fields last rest (subst (λ s. ReadsSection s fields last rest) (sym (append-nil text)) reads)
 
 -- no trailers stand in the octets that they may have
-pub prefix_bad : (text : List ℕ) (section : TrailerSection) → max_trailer_octets ≤ length text
-    → SectionTells (take max_trailer_octets text) section → section ≢ sections.Whole → IsTooLong text
+pub prefix_bad : (text : List ℕ) (section : TrailerSection) → max_trailer_bytes ≤ length text
+    → SectionTells (take max_trailer_bytes text) section → section ≢ sections.Whole → IsTooLong text
 prefix_bad text sections.Whole long tells other = absurd (other refl)
 prefix_bad text sections.Open long tells other =
     record { long = long; none = λ fields last rest reads. absurd (tells.0 fields last rest reads) }
 prefix_bad text sections.Over long tells other =
-    record { long = long; none = over_now max_trailers (take max_trailer_octets text) tells.0 }
+    record { long = long; none = over_now max_trailers (take max_trailer_bytes text) tells.0 }
 prefix_bad text sections.Bad long tells other =
-    record { long = long; none = over_now max_trailers (take max_trailer_octets text) (never_over max_trailers (take max_trailer_octets text) tells) }
+    record { long = long; none = over_now max_trailers (take max_trailer_bytes text) (never_over max_trailers (take max_trailer_bytes text) tells) }

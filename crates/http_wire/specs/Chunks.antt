@@ -6,7 +6,7 @@ use Rattle.httparse.specs.Ascii.{carriage_return, crlf_bytes}
 use Rattle.httparse.specs.Grammar.{ChunkLine, print_chunk_line, IsChunkLine, chunk_size, ReadsChunkLine, HasNoChunkLine, NeverHasChunkLine, MayBecomeChunkLine, LineEnd, Field, IsField, print_section, ReadsSection, HasNoSection, MayBecomeSection}
 use Rattle.httparse.specs.Spans.{SectionOverflows}
 use Rattle.http_wire.specs.Heads.{line_ends}
-use Rattle.http_wire.specs.Limits.{max_trailers, max_trailer_octets}
+use Rattle.http_wire.specs.Limits.{max_trailers, max_trailer_bytes}
 
 -- chunk = chunk-line chunk-data CRLF, where the line holds the size and the extension
 pub record Chunk : Type 0 where
@@ -57,7 +57,7 @@ pub record IsChunkedBody (b : ChunkedBody) : Type 0 where
   pub size : chunk_size b.last ≡ 0
   pub trailers : All IsField b.trailers
   pub few : length b.trailers ≤ max_trailers
-  pub short : length (print_section b.trailers b.end) ≤ max_trailer_octets
+  pub short : length (print_section b.trailers b.end) ≤ max_trailer_bytes
 
 -- text is trailers within their two limits, and then rest
 pub record ReadsTrailers (text rest : List ℕ) : Type 0 where
@@ -65,7 +65,7 @@ pub record ReadsTrailers (text rest : List ℕ) : Type 0 where
   pub last : LineEnd
   pub reads : ReadsSection text fields last rest
   pub few : length fields ≤ max_trailers
-  pub short : length (print_section fields last) ≤ max_trailer_octets
+  pub short : length (print_section fields last) ≤ max_trailer_bytes
 
 -- text is a body of at most limit octets, which are given, and then rest
 pub record GivesWhole (limit : ℕ) (text given rest : List ℕ) : Type 0 where
@@ -144,7 +144,7 @@ NeverHasEnd text = (more after : List ℕ) → text ++ more ≡ crlf_bytes ++ af
 pub record EndsInTrailers (text : List ℕ) : Type 0 where
   pub none : HasNoSection text
   pub may : MayBecomeSection text
-  pub short : length text < max_trailer_octets
+  pub short : length text < max_trailer_bytes
   pub few : line_ends text < max_trailers
 
 -- where text ends: inside a chunk line, a chunk's octets, their end, or the trailers
@@ -161,9 +161,9 @@ EndsInChunked limit = AfterChunks limit EndsAt
 
 -- the bytes that trailers may have stand there, and have no trailers of at most the lines allowed
 pub record IsTooLong (text : List ℕ) : Type 0 where
-  pub long : max_trailer_octets ≤ length text
+  pub long : max_trailer_bytes ≤ length text
   pub none : (fields : List Field) (last : LineEnd) (rest : List ℕ)
-      → ReadsSection (take max_trailer_octets text) fields last rest → max_trailers < length fields
+      → ReadsSection (take max_trailer_bytes text) fields last rest → max_trailers < length fields
 
 -- what can't be read, whatever follows: a chunk line, the end of a chunk, or trailers within their
 -- two limits

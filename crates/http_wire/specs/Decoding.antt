@@ -49,7 +49,7 @@ StandsAt (places.Octets size) middle rest =
 StandsAt places.Trailers middle rest =
     (line : ChunkLine) × ReadsChunkLine middle line rest × (chunk_size line ≡ 0)
 
--- text is chunks, whose octets were kept, then what was read at the place, and then rest
+-- text is chunks, whose octets were collected, then what was read at the place, and then rest
 pub record Decoded (limit : ℕ) (text octets : List ℕ) (place : Place) (rest : List ℕ) : Type 0 where
   pub chunks : List Chunk
   pub middle : List ℕ

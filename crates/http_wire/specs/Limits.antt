@@ -20,8 +20,8 @@ abbrev pub max_trailers : ℕ
 max_trailers = 100
 
 -- the octets of the trailers, their empty line included
-abbrev pub max_trailer_octets : ℕ
-max_trailer_octets = 65536
+abbrev pub max_trailer_bytes : ℕ
+max_trailer_bytes = 65536
 
 -- the octets of a response in all, its heads included
 abbrev pub max_raw : ℕ
@@ -33,5 +33,5 @@ pub record AreLimits : Type 0 where
   pub header_lines : MAX_HEADER_LINES ≡ max_header_lines
   pub interim_heads : MAX_INTERIM_HEADS ≡ max_interim_heads
   pub trailers : MAX_TRAILERS ≡ max_trailers
-  pub trailer_octets : MAX_TRAILER_BYTES ≡ max_trailer_octets
+  pub trailer_bytes : MAX_TRAILER_BYTES ≡ max_trailer_bytes
   pub raw : MAX_RAW ≡ max_raw

@@ -23,7 +23,7 @@ pub(crate) enum Fill {
     More,
     /// The end of the input.
     Ended,
-    /// An octet past the last that a response may have. It was not kept.
+    /// An octet past the last that a response may have. It is not among the octets.
     Past,
 }
 

@@ -33,7 +33,7 @@ enum ChunkEnd {
     Bad,
 }
 
-/// A body in chunks, as far as it was decoded. After an answer other than `More` it is done.
+/// A body in chunks, *chunk last-chunk trailer-section CRLF, as far as it was decoded. After an answer other than `More` it is done.
 #[derive(Debug, Drop)]
 pub(crate) struct ChunkDecoder {
     limit: usize,
@@ -99,6 +99,7 @@ impl ChunkDecoder {
         }
     }
 
+    // chunk-size [ chunk-ext ] CRLF, of a chunk or of the last one.
     fn look_line(&mut self, bytes: &[u8], last: bool) -> Option<Look>
         requires stands { Stands self.old bytes.now }
         requires place { self.old.place ≡ Place.Line }
@@ -144,7 +145,7 @@ impl ChunkDecoder {
         self.look_chunk(size as usize, bytes, last)
     }
 
-    // The chunk has more octets than the limit has room for.
+    // chunk-data, which has more octets than the limit has room for.
     fn look_past(
         &mut self,
         room: usize,
@@ -166,7 +167,7 @@ impl ChunkDecoder {
         Ok(Some(Look::Cut))
     }
 
-    // The limit has room for the octets of the chunk.
+    // chunk-data CRLF, where the limit has room for the octets.
     fn look_chunk(
         &mut self,
         size: usize,
@@ -194,7 +195,7 @@ impl ChunkDecoder {
         }
     }
 
-    // Keeps the octets of a chunk, and moves behind its end.
+    // Collects the octets of a chunk, and moves behind its end.
     fn take_chunk(&mut self, size: usize, bytes: &[u8]) -> Result<(), AllocError>
         requires stands { Stands self.old bytes.now }
         requires place { self.old.place ≡ Place.Octets size }
@@ -211,6 +212,7 @@ impl ChunkDecoder {
         Ok(())
     }
 
+    // trailer-section CRLF.
     fn look_end(&mut self, bytes: &[u8], last: bool) -> Look
         requires stands { Stands self.old bytes.now }
         requires place { self.old.place ≡ Place.Trailers }
@@ -246,6 +248,7 @@ impl ChunkDecoder {
     }
 }
 
+// CRLF.
 fn chunk_end(text: &[u8]) -> ChunkEnd
     ensures { EndTells text.now result }
 {

@@ -129,7 +129,7 @@ impl<'h> Iterator for Members<'h> {
     }
 }
 
-// The first member of a list, and what stands after its comma, where there is one.
+// [ element ] *( OWS "," OWS [ element ] ): the first member of a list, and what stands after its comma, where there is one.
 fn split_member(list: &[u8]) -> (&[u8], Option<&[u8]>)
     ensures { members list.now ≡ result.0.now ∷ members_after result.1 }
 {
@@ -154,7 +154,7 @@ pub(crate) fn is_same_word(a: &[u8], b: &[u8]) -> bool
     a.eq_ignore_ascii_case(b)
 }
 
-// The text without the spaces and tabs around it.
+// OWS text OWS, without that white space.
 fn trim_ows(text: &[u8]) -> &[u8]
     ensures { result.now ≡ trim_ows text.now }
 {

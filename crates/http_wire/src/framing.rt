@@ -47,7 +47,7 @@ pub(crate) fn framing_of(status: u16, fields: &[Field<'_>]) -> Result<Framing, U
     }
 }
 
-// The framing by a first coding and the others.
+// Transfer-Encoding = #transfer-coding: the framing by a first coding and the others.
 fn chunked(coding: &[u8], mut others: Members<'_>) -> Result<Framing, Unframed>
     ensures { result ≡ chunked coding.now (members_left others.entry) }
 {
@@ -80,7 +80,7 @@ fn is_number_of(number: u64, member: &[u8]) -> bool
     number_of(member) == Some(number)
 }
 
-// The number that a member writes in digits.
+// Content-Length = 1*DIGIT: the number that a member writes.
 fn number_of(member: &[u8]) -> Option<u64>
     ensures { result ≡ (if is_number member.now then Some (digits_value 10 member.now) else None) }
 {

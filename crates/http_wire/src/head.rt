@@ -83,6 +83,8 @@ pub(crate) struct HeadFinder {
     scan: HeadScan,
 }
 
+// *( line-end ) status-line line-end *( field-line line-end ) line-end, where
+// status-line = HTTP-version SP status-code [ SP reason-phrase ] and line-end = [ CR ] LF.
 fn parse(text: &[u8], headers: &mut [HeaderSpan]) -> Parsed
     requires short { length text.now ≤ MAX_HEAD }
     requires room { length headers.old ≡ MAX_HEADER_LINES }

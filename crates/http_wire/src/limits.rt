@@ -1,4 +1,5 @@
-//! The limits of a response.
+//! The limits of a response, which specs/Limits.antt has as numbers.
+//! Used by the readers of heads and bodies.
 
 /// How many octets a head may have, its empty line and the empty lines before it included.
 pub const MAX_HEAD: usize = 65_536;

@@ -60,6 +60,7 @@ fn look_full(text: &[u8]) -> Look
     }
 }
 
+// *( field-line line-end ) line-end.
 fn read_section(text: &[u8]) -> TrailerSection
     requires { length text.now ≤ MAX_TRAILER_BYTES }
     ensures { SectionTells text.now result }
