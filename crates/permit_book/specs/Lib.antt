@@ -1,0 +1,7 @@
+-- What the contracts of the table of permits cite.
+pub mod Numbers
+pub mod Bits
+pub mod FreeSlots
+pub mod Table
+pub mod Next
+pub mod Kept
