@@ -1,0 +1,2 @@
+-- Lemmas on the definitions of `specs/`.
+-- Used by the answers beside them.

@@ -1,0 +1,37 @@
+-- What an answer says, whatever spares it has: what histories keep of it, and what makes two answers equal.
+-- RFC 9309, section 2.3.1.
+use Rattle.std.specs.Prelude.{ℕ, ◌-◌, List}
+use Rattle.robots_verdict.specs.declared.answer.Answer.{Answer}
+use Rattle.robots_verdict.specs.declared.answer.Answer.TheVariants as answers
+use Rattle.robots_verdict.specs.declared.answer.Closure.{Closure}
+use Rattle.robots_verdict.specs.declared.answer.Opening.{Opening}
+
+-- the text whose rules bind, or open or closed with the reason
+pub data Said : Type 0 where
+  by_rules : List ℕ → Said
+  open_for : Opening → Said
+  closed_for : Closure → Said
+
+-- what an answer says
+abbrev pub said : Answer → Said
+said (answers.Rules rules) = by_rules rules.text
+said (answers.Open opening) = open_for opening
+said (answers.Closed closure) = closed_for closure
+
+-- how many twins an answer can still give without memory: where it needs no handle, always two
+abbrev pub spares_of : Answer → ℕ
+spares_of (answers.Rules rules) = rules.spares
+spares_of (answers.Open _) = 2
+spares_of (answers.Closed _) = 2
+
+-- the same of an answer that has given a twin
+abbrev pub spares_behind : Answer → ℕ
+spares_behind (answers.Rules rules) = rules.spares - 1
+spares_behind (answers.Open _) = 2
+spares_behind (answers.Closed _) = 2
+
+-- the same of such a twin
+abbrev pub spares_of_twin : Answer → ℕ
+spares_of_twin (answers.Rules _) = 0
+spares_of_twin (answers.Open _) = 2
+spares_of_twin (answers.Closed _) = 2

@@ -1,0 +1,80 @@
+//! What a robots fetch of an authority came to.
+//! RFC 9309, section 2.3.1.
+ghost use Rattle.std.specs.Prelude.{◌≡◌, ◌<◌, IfOk};
+ghost use Rattle.robots_verdict.specs.Answer.{by_rules, said, spares_behind, spares_of, spares_of_twin};
+
+use crate::rules::Rules;
+use robots_text::RobotsText;
+use std::alloc::{AllocError, Global};
+
+/// The answer of an authority's robots file. Answers are equal where they say the same.
+#[derive(Debug, Drop, PartialEq, Eq)]
+pub enum Answer {
+    /// The rules of the robots file bind.
+    Rules(Rules),
+    /// There is no robots file that binds: every page may be fetched.
+    Open(Opening),
+    /// The robots file can't be had or read: no page may be fetched.
+    Closed(Closure),
+}
+
+/// Why an answer is open (RFC 9309, sections 2.3.1.2 and 2.3.1.3).
+#[derive(Clone, Copy, Debug, PartialEq, Eq)]
+pub enum Opening {
+    /// The robots file was answered with a status from 400 to 499.
+    Unavailable,
+    /// A sixth redirect stood where the file should be.
+    TooManyRedirects,
+}
+
+/// Why an answer is closed (RFC 9309, section 2.3.1.4).
+#[derive(Clone, Copy, Debug, PartialEq, Eq)]
+pub enum Closure {
+    /// A status from 500 to 599.
+    Server,
+    /// The connection or the message failed.
+    Network,
+    /// A redirect whose target is missing or is no page URL.
+    BadRedirect,
+    /// A redirect to a scheme other than http.
+    Scheme,
+    /// A content coding other than identity.
+    Coding,
+    /// Any other status.
+    Other,
+}
+
+impl Answer {
+    /// The answer by the rules of a text, with two spares.
+    pub fn rules(alloc: Global, text: RobotsText) -> Result<Answer, AllocError>
+        ensures says { IfOk result (λ answer. said answer ≡ by_rules text) }
+        ensures spares { IfOk result (λ answer. spares_of answer ≡ 2) }
+    {
+        Ok(Answer::Rules(Rules::new(alloc, text)?))
+    }
+
+    /// An answer that says the same. It takes no memory, but of rules a spare.
+    pub fn twin(&mut self) -> Answer
+        requires { 0 < spares_of self.old }
+        ensures says { said result ≡ said self.old }
+        ensures stays { said self.new ≡ said self.old }
+        ensures spends { spares_of self.new ≡ spares_behind self.old }
+        ensures spares { spares_of result ≡ spares_of_twin self.old }
+    {
+        match self {
+            Answer::Rules(rules) => Answer::Rules(rules.twin()),
+            Answer::Open(opening) => Answer::Open(*opening),
+            Answer::Closed(closure) => Answer::Closed(*closure),
+        }
+    }
+
+    /// How many twins it can still give: always 2 where no rules bind.
+    pub fn spares(&self) -> u8
+        ensures { result ≡ spares_of self.now }
+    {
+        match self {
+            Answer::Rules(rules) => rules.spares(),
+            Answer::Open(_) | Answer::Closed(_) => 2,
+        }
+    }
+}

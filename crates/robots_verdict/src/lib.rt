@@ -1,0 +1,11 @@
+//! Policies, which say by which line of a robots.txt a path is allowed or denied, and answers.
+//! RFC 9309, sections 2.2.2 and 2.3.1.
+#![tactic(auto)]
+
+mod answer;
+mod policy;
+mod rules;
+
+pub use answer::{Answer, Closure, Opening};
+pub use policy::Policy;
+pub use rules::Rules;

@@ -1,0 +1,130 @@
+//! The answer of a robots file that could be read: its policy, with spare handles of it.
+//! RFC 9309, section 2.3.1.1.
+ghost use Rattle.std.specs.Prelude.{◌≡◌, ◌+◌, ◌<◌, ℕ, List, IfOk, bytes_eq};
+ghost use Rattle.std.specs.Cmp.{on_equiv, partial_equiv_from_equiv};
+ghost use Rattle.std.specs.Cmp.Lexicographic.{nat_list_eq_equiv};
+ghost use Rattle.std.specs.Arc.{arc_value};
+ghost use Rattle.robots_verdict.specs.Kept.{KeptRules};
+ghost use Rattle.robots_verdict.specs.Spares.{AreOf, count};
+
+use crate::policy::Policy;
+use robots_text::RobotsText;
+use std::alloc::{AllocError, Global};
+use std::marker::Model;
+use std::mem;
+use std::sync::Arc;
+
+// Handles of the same policy, kept since the clone of an `Arc` can be refused.
+#[derive(Debug, Drop)]
+enum Spares {
+    None,
+    One(Arc<Policy>),
+    Two(Arc<Policy>, Arc<Policy>),
+}
+
+/// The policy of an answer, which is shared, and up to two spare handles of it.
+#[derive(Debug, Drop)]
+pub struct Rules {
+    policy: Arc<Policy>,
+    spares: Spares,
+}
+
+impl Model for Rules {
+    ghost use Rattle.robots_verdict.specs.Kept.{KeptRules};
+
+    ghost Value = { KeptRules };
+
+    ghost use Rattle.std.specs.Arc.{arc_value};
+    ghost use Rattle.robots_verdict.specs.Spares.{AreOf, count};
+
+    ghost view = { λ rules. record {
+      text = arc_value rules.policy;
+      spares = count rules.spares;
+    } };
+
+    ghost invariant = { λ rules. AreOf (arc_value rules.policy) rules.spares };
+}
+
+impl Rules {
+    /// The policy of a text, with two spares.
+    pub(crate) fn new(alloc: Global, text: RobotsText) -> Result<Rules, AllocError>
+        ensures { IfOk result (λ rules. rules ≡ record { text = text; spares = 2 }) }
+    {
+        let policy = Arc::new(alloc, Policy::new(alloc, text)?)?;
+        let first = Arc::try_clone(&policy)?;
+        let second = Arc::try_clone(&policy)?;
+        Ok(Rules {
+            policy,
+            spares: Spares::Two(first, second),
+        })
+    }
+
+    /// Rules of the same policy without a spare, made of one of the spares.
+    pub(crate) fn twin(&mut self) -> Rules
+        requires { 0 < self.old.spares }
+        ensures twin { result ≡ record { text = self.old.text; spares = 0 } }
+        ensures kept { self.new.text ≡ self.old.text }
+        ensures spent { self.new.spares + 1 ≡ self.old.spares }
+    {
+        Rules {
+            policy: take_spare(&mut self.spares),
+            spares: Spares::None,
+        }
+    }
+
+    /// How many spares there are.
+    pub fn spares(&self) -> u8
+        ensures { result ≡ self.now.spares }
+    {
+        match self.spares {
+            Spares::None => 0,
+            Spares::One(_) => 1,
+            Spares::Two(_, _) => 2,
+        }
+    }
+
+    /// The policy that binds.
+    pub fn policy(&self) -> &Policy
+        ensures { result.now ≡ self.now.text }
+    {
+        &self.policy
+    }
+
+    /// A handle of the policy, which takes none of the spares.
+    pub fn handle(&self) -> Result<Arc<Policy>, AllocError>
+        ensures { IfOk result (λ handle. arc_value handle ≡ self.now.text) }
+    {
+        Arc::try_clone(&self.policy)
+    }
+}
+
+/// Rules are equal where their texts are, whatever spares they have.
+impl PartialEq for Rules {
+    ghost eq = { λ a b. bytes_eq a.text b.text };
+
+    ghost laws = { partial_equiv_from_equiv (on_equiv (λ (kept : KeptRules). kept.text) nat_list_eq_equiv) };
+
+    fn eq(&self, other: &Rules) -> bool {
+        self.policy.text().bytes() == other.policy.text().bytes()
+    }
+}
+
+impl Eq for Rules {
+    ghost laws = { on_equiv (λ (kept : KeptRules). kept.text) nat_list_eq_equiv };
+}
+
+fn take_spare(spares: &mut Spares) -> Arc<Policy>
+    requires { 0 < count spares.old }
+    ensures one_less { count spares.new + 1 ≡ count spares.old }
+    ensures taken { (text : List ℕ) → AreOf text spares.old → arc_value result ≡ text }
+    ensures left { (text : List ℕ) → AreOf text spares.old → AreOf text spares.new }
+{
+    match mem::replace(spares, Spares::None) {
+        Spares::None => unreachable!(),
+        Spares::One(first) => first,
+        Spares::Two(first, second) => {
+            *spares = Spares::One(second);
+            first
+        }
+    }
+}
