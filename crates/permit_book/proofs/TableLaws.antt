@@ -15,7 +15,7 @@ use Rattle.permit_book.specs.Next.{is_free_in}
 use Rattle.permit_book.specs.Kept.{IsKept, ShowsFree, Vacates}
 
 -- a number is itself
-same_number : (n : ℕ) → (n == n) ≡ true
+pub same_number : (n : ℕ) → (n == n) ≡ true
 same_number n = elim (eqb_tells n n) [ inl e ↦ e.0 | inr d ↦ absurd (d.1 refl) ]
 
 -- nothing holds together with what does not
@@ -103,13 +103,13 @@ IsKept-set t bits bits' unspent running unspent' running' place slot kept within
 }
 
 -- each place of unused slots is one, and past them too
-unused_at : (n place : ℕ) → get_or (replicate n unused) place unused ≡ unused
+pub unused_at : (n place : ℕ) → get_or (replicate n unused) place unused ≡ unused
 unused_at zero place = refl
 unused_at (suc n) zero = refl
 unused_at (suc n) (suc place) = unused_at n place
 
 -- no unused slot passes a test that one fails
-none_pass : (test : Slot → Bool) → test unused ≡ false → (n : ℕ) → length (filter test (replicate n unused)) ≡ 0
+pub none_pass : (test : Slot → Bool) → test unused ≡ false → (n : ℕ) → length (filter test (replicate n unused)) ≡ 0
 none_pass test fails zero = refl
 none_pass test fails (suc n) = rw fails (none_pass test fails n)
 

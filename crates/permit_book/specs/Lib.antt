@@ -5,3 +5,5 @@ pub mod FreeSlots
 pub mod Table
 pub mod Next
 pub mod Kept
+pub mod Outstanding
+pub mod Laws

@@ -5,8 +5,10 @@
 mod drafts;
 mod ends;
 mod free_slots;
+pub mod laws;
 mod number;
 mod out;
+mod permit;
 mod permits;
 mod refusal;
 mod words;
@@ -14,5 +16,6 @@ mod words;
 pub use drafts::Draft;
 pub use number::{LAST_GENERATION, MAX_SLOTS, PermitNo, SLOTS_PER_GENERATION};
 pub use out::{Fetch, Out, Slot};
+pub use permit::Permit;
 pub use permits::Permits;
 pub use refusal::{NotOut, PermitsFull};
