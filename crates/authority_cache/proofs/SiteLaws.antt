@@ -28,7 +28,7 @@ pub same_text : (a : List ℕ) → bytes_eq a a ≡ true
 same_text a = (bytes_eq-Decides a a).1 refl
 
 -- two authorities that are not the same, the other way round
-other_text : (a b : List ℕ) → bytes_eq a b ≡ false → bytes_eq b a ≡ false
+pub other_text : (a b : List ℕ) → bytes_eq a b ≡ false → bytes_eq b a ≡ false
 other_text a b apart = by (bytes_eq b a) refl
   where
     by : (t : Bool) → bytes_eq b a ≡ t → bytes_eq b a ≡ false

@@ -10,15 +10,10 @@ use Rattle.std.specs.String.{string_eq}
 use Rattle.std.proofs.lemmas.Slice.Eq.{bytes_eq-Decides}
 use Rattle.authority_cache.specs.declared.site.Flight.{Flight}
 use Rattle.authority_cache.specs.declared.site.Site.{Site}
-use Rattle.authority_cache.specs.Sites.{Answered, State, flight_count, is_flying, is_known, nothing, past_count, said_site, swept}
+use Rattle.authority_cache.specs.Sites.{Answered, AreApart, State, flight_count, is_flying, is_known, nothing, past_count, said_site, swept}
 use Rattle.authority_cache.specs.Calls.{Sweeps, one_if}
 use Rattle.authority_cache.specs.Kept.{AllKnown, known_in, said_entries}
 use Rattle.authority_cache.proofs.EntryLaws.{all-filtered, all-map, count-cons}
-
--- no authority stands twice
-abbrev Apart : List (List ℕ × State) → Type 0
-Apart [] = Unit {0}
-Apart (e ∷ sites) = (lookup (bytes_eq e.0) sites ≡ None) × Apart sites
 
 -- the states after a sweep, those of which nothing is known left out
 abbrev pub left_of : ℕ → List (List ℕ × State) → List (List ℕ × State)
@@ -48,7 +43,7 @@ none_left moment a (e ∷ sites) none = by (bytes_eq a e.0) (is_known (swept mom
     by false false is rest none = rest none
 
 -- what is found of an authority after a sweep
-found_left : (moment : ℕ) (a : List ℕ) (sites : List (List ℕ × State)) → Apart sites →
+found_left : (moment : ℕ) (a : List ℕ) (sites : List (List ℕ × State)) → AreApart sites →
     unwrap_or (lookup (bytes_eq a) (left_of moment sites)) nothing ≡ swept moment (unwrap_or (lookup (bytes_eq a) sites) nothing)
 found_left moment a [] apart = refl
 found_left moment a (e ∷ sites) apart = by (bytes_eq a e.0) (is_known (swept moment e.1)) refl refl (found_left moment a sites apart.1)
@@ -87,7 +82,7 @@ count_left moment test fails (e ∷ sites) = by (is_known (swept moment e.1)) re
 
 module _ {Y : Type 0} where
   -- distinct keys are of authorities that do not stand twice
-  apart_from : (es : List (String Y × Site)) → IsDistinct string_eq (keys_of es) → Apart (said_entries es)
+  pub apart_from : (es : List (String Y × Site)) → IsDistinct string_eq (keys_of es) → AreApart (said_entries es)
   unfolding IsDistinct
   apart_from [] distinct = tt
   apart_from (e ∷ es) distinct = (absent es distinct.0, apart_from es distinct.1)

@@ -4,3 +4,5 @@ pub mod Messages
 pub mod Sites
 pub mod Calls
 pub mod Kept
+pub mod Lists
+pub mod Laws

@@ -1,6 +1,6 @@
 -- What contracts see of the cache: of each authority the answer that stands, by what it says, and
 -- the turn in flight. RFC 9309, sections 2.3.1 and 2.4.
-use Rattle.std.specs.Prelude.{ℕ, ◌+◌, ◌==◌, Bool, false, ◌||◌, nat_lt, List, Option, Some, None, is_some, unwrap_or, if◌then◌else◌, length, filter}
+use Rattle.std.specs.Prelude.{◌≡◌, ℕ, ◌+◌, ◌==◌, Bool, false, ◌||◌, nat_lt, List, [], ◌∷◌, Option, Some, None, is_some, unwrap_or, if◌then◌else◌, length, filter}
 use Rattle.std.specs.Map.{lookup}
 use Rattle.std.specs.Option.{option_map, option_map_or}
 use Rattle.std.specs.Str.{bytes_eq}
@@ -38,6 +38,15 @@ said_site site = record { standing = option_map said_standing site.standing; in_
 -- nothing is known of an authority
 abbrev pub nothing : State
 nothing = record { standing = None; in_flight = None }
+
+-- no authority stands twice
+abbrev pub AreApart : List (List ℕ × State) → Type 0
+AreApart [] = Unit {0}
+AreApart (e ∷ sites) = (lookup (bytes_eq e.0) sites ≡ None) × AreApart sites
+
+-- no authority stands twice in what is known
+abbrev pub IsApart : Known → Type 0
+IsApart k = AreApart k.sites
 
 -- what is known of the authority
 abbrev pub site_of : Known → List ℕ → State

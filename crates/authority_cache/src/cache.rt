@@ -1,7 +1,7 @@
 //! The cache: what is known of each authority, found by its text.
 //! RFC 9309, sections 2.3.1 and 2.4.
 ghost use Rattle.std.specs.Prelude.{◌≡◌, []};
-ghost use Rattle.authority_cache.specs.Sites.{flight_count, is_flying, known_count, site_of};
+ghost use Rattle.authority_cache.specs.Sites.{IsApart, flight_count, is_flying, known_count, site_of};
 
 use crate::site::Site;
 use indexmap::IndexMap;
@@ -58,7 +58,8 @@ impl Cache {
 
     /// How many authorities are known: they have a standing answer or a turn in flight.
     pub fn known_count(&self) -> u64
-        ensures { result ≡ known_count self.now }
+        ensures value { result ≡ known_count self.now }
+        ensures apart { IsApart self.now }
     {
         self.sites.len() as u64
     }
