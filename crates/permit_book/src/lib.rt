@@ -19,3 +19,6 @@ pub use out::{Fetch, Out, Slot};
 pub use permit::Permit;
 pub use permits::Permits;
 pub use refusal::{NotOut, PermitsFull};
+
+#[cfg(test)]
+mod tests;
