@@ -1,4 +1,5 @@
 -- What the contracts of the cache cite.
+-- RFC 9309, sections 2.3.1 and 2.4.
 pub mod Lives
 pub mod Messages
 pub mod Sites

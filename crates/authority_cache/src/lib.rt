@@ -18,3 +18,6 @@ pub use life::{LEAST_LIFE, LIFE, life_of};
 pub use look::Look;
 pub use refusal::{BeginRefusal, Stale};
 pub use turn::{Turn, TurnNo};
+
+#[cfg(test)]
+mod tests;

@@ -1,4 +1,5 @@
 //! Why a call on the cache was refused. Nothing has changed then.
+//! Answered by `begin` and `arrive`; RFC 9309, 2.3, leaves to the crawler how often it fetches.
 
 use std::alloc::AllocError;
 use std::error::Error;

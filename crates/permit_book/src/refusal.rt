@@ -1,4 +1,5 @@
 //! Why a call on the permits was refused. Nothing has changed then.
+//! Answered by `draft`, `give_back` and `finish`.
 
 use std::error::Error;
 use std::fmt;
