@@ -1,0 +1,4 @@
+pub mod EntryLaws
+pub mod SiteLaws
+pub mod SweepLaws
+pub mod Telling

@@ -1,0 +1,241 @@
+-- What is known of authorities, after an entry of the map was written or added.
+-- Cited by the proofs of `cache.rt`, `look.rt`, `begin.rt` and `arrive.rt`.
+use Rattle.std.proofs.Common.{◌≡◌, ℕ, ◌+◌, ◌<◌, ◌≤◌, ◌==◌, ◌&&◌, ◌||◌, ◌↔◌, Bool, true, false, cond, not, nat_le, List, [], ◌∷◌, ◌++◌, length, filter, Option, Some, None, unwrap_or, Result, Ok, Err, IsOk, IsSome, IfErr, OnErr, OnOk, is_some, string_bytes, refl, sym, ap, subst, ◌∙◌, true≢false, arith}
+use Rattle.std.specs.declared.string.String.{String}
+use Rattle.std.specs.HashMap.{HashMap, UpdatesBy, get_by_text}
+use Rattle.std.specs.List.{list_all}
+use Rattle.std.specs.String.{string_eq}
+use Rattle.std.proofs.lemmas.Map.Text.{hash_map_updates_text}
+use Rattle.std.specs.Map.{lookup, set_value}
+use Rattle.std.specs.Option.{option_map, option_map_or}
+use Rattle.std.specs.Str.{bytes_eq}
+use Rattle.std.proofs.lemmas.Bool.{le-leb, lt-leb}
+use Rattle.std.proofs.lemmas.Slice.Eq.{bytes_eq-Decides}
+use Rattle.robots_verdict.specs.Answer.{Said}
+use Rattle.authority_cache.specs.declared.refusal.BeginRefusal.{BeginRefusal}
+use Rattle.authority_cache.specs.declared.refusal.BeginRefusal.TheVariants.{InFlight, NoMemory}
+use Rattle.authority_cache.specs.declared.refusal.Stale.{Stale}
+use Rattle.authority_cache.specs.declared.site.Flight.{Flight}
+use Rattle.authority_cache.specs.declared.site.Site.{Site}
+use Rattle.authority_cache.specs.Lives.{life_of}
+use Rattle.authority_cache.specs.Sites.{Answered, State, arrived, count_of, flight_count, has_turn, is_flying, is_known, known_count, nothing, said_site, site_of, with_flight}
+use Rattle.authority_cache.specs.Calls.{Arrives, Begins, Changes, cannot_know, one_if}
+use Rattle.authority_cache.specs.Kept.{AllKnown, known_in, said_entries}
+use Rattle.authority_cache.proofs.EntryLaws.{all-lookup, all-map, all-push, all-set_value, count-all, count-bound, count-map, count-push, count-set_value, lookup-map, lookup-push, lookup-push_other, set_value-same}
+
+-- an authority is itself
+pub same_text : (a : List ℕ) → bytes_eq a a ≡ true
+same_text a = (bytes_eq-Decides a a).1 refl
+
+-- two authorities that are not the same, the other way round
+pub other_text : (a b : List ℕ) → bytes_eq a b ≡ false → bytes_eq b a ≡ false
+other_text a b apart = by (bytes_eq b a) refl
+  where
+    by : (t : Bool) → bytes_eq b a ≡ t → bytes_eq b a ≡ false
+    by false is = is
+    by true is = absurd (true≢false (sym (same_text a) ∙ (ap (bytes_eq a) (sym ((bytes_eq-Decides b a).0 is)) ∙ apart)))
+
+-- a test with one that holds
+pub or_true : (b : Bool) → (b || true) ≡ true
+or_true true = refl
+or_true false = refl
+
+module _ {Y : Type 0} where
+  -- the test of a key by an authority's text
+  abbrev pub is_named : List ℕ → String Y → Bool
+  is_named a k = bytes_eq a (string_bytes k)
+
+  -- what is found of an authority, by what is known
+  pub found-said : (a : List ℕ) (es : List (String Y × Site)) →
+      lookup (bytes_eq a) (said_entries es) ≡ option_map said_site (lookup (is_named a) es)
+  found-said a es = lookup-map string_bytes said_site (bytes_eq a) es
+
+  -- what is known of an authority that is found
+  pub state-some : (limit : ℕ) (a : List ℕ) (es : List (String Y × Site)) (v : Site) → lookup (is_named a) es ≡ Some v →
+      site_of (known_in limit es) a ≡ said_site v
+  state-some limit a es v found = ap (λ o. unwrap_or o nothing) (found-said a es ∙ ap (option_map said_site) found)
+
+  -- nothing is known of one that is not
+  pub state-none : (limit : ℕ) (a : List ℕ) (es : List (String Y × Site)) → lookup (is_named a) es ≡ None →
+      site_of (known_in limit es) a ≡ nothing
+  state-none limit a es none = ap (λ o. unwrap_or o nothing) (found-said a es ∙ ap (option_map said_site) none)
+
+  -- a count of authorities is one of entries
+  pub counted : (test : State → Bool) (limit : ℕ) (es : List (String Y × Site)) →
+      count_of test (known_in limit es) ≡ length (filter (λ e. test (said_site e.1)) es)
+  counted test limit es = count-map string_bytes said_site test es
+
+  -- as many authorities are known as there are entries
+  pub known_many : (limit : ℕ) (es : List (String Y × Site)) → AllKnown es → known_count (known_in limit es) ≡ length es
+  known_many limit es all = counted is_known limit es ∙ count-all (λ e. is_known (said_site e.1)) es all
+
+  -- an entry was written
+  pub Changes-written : (limit : ℕ) (a : List ℕ) (es es' : List (String Y × Site)) (v w : Site) → lookup (is_named a) es ≡ Some v →
+      es' ≡ set_value (is_named a) es w → ((b : List ℕ) → lookup (is_named b) es' ≡ cond (bytes_eq a b) (Some w) (lookup (is_named b) es)) →
+      Changes (known_in limit es) a (said_site w) (known_in limit es')
+  Changes-written limit a es es' v w found written others = record {
+    limit = refl;
+    sites = λ b. ap (λ o. unwrap_or o nothing) (found-said b es' ∙ ap (option_map said_site) (others b)) ∙ by b (bytes_eq a b);
+    counts = λ test fails.
+        let was : one_if (test (site_of (known_in limit es) a)) ≡ one_if (test (said_site v)) = ap (λ s. one_if (test s)) (state-some limit a es v found) in
+        let more : length (filter (λ e. test (said_site e.1)) es') + one_if (test (said_site v))
+        ≡ length (filter (λ e. test (said_site e.1)) es) + one_if (test (said_site w)) =
+        rw written (count-set_value (λ s. test (said_site s)) (is_named a) es v w found) in
+        omega (arith, counted test limit es, counted test limit es');
+  }
+    where
+      by : (b : List ℕ) (t : Bool) → unwrap_or (option_map said_site (cond t (Some w) (lookup (is_named b) es))) nothing
+          ≡ cond t (said_site w) (site_of (known_in limit es) b)
+      by b true = refl
+      by b false = sym (ap (λ o. unwrap_or o nothing) (found-said b es))
+
+  -- nothing changed where an entry was written as it was
+  pub unchanged-written : (limit : ℕ) (a : List ℕ) (es es' : List (String Y × Site)) (v w : Site) → lookup (is_named a) es ≡ Some v →
+      es' ≡ set_value (is_named a) es w → w ≡ v → known_in limit es' ≡ known_in limit es
+  unchanged-written limit a es es' v w found written same =
+      ap (known_in limit) (written ∙ (ap (set_value (is_named a) es) same ∙ set_value-same (is_named a) es v found))
+
+  -- all are known still where the one that is written is
+  pub known-written : (a : List ℕ) (es es' : List (String Y × Site)) (w : Site) → AllKnown es →
+      es' ≡ set_value (is_named a) es w → is_known (said_site w) ≡ true → AllKnown es'
+  known-written a es es' w all written known =
+      rw written (all-set_value (λ s. is_known (said_site s)) (is_named a) es w all known)
+
+  -- a known authority needs no further place
+  pub knows : (limit : ℕ) (a : List ℕ) (es : List (String Y × Site)) (v : Site) → AllKnown es → lookup (is_named a) es ≡ Some v →
+      cannot_know (known_in limit es) a ≡ false
+  knows limit a es v all found =
+      let known = all-lookup (λ s. is_known (said_site s)) (is_named a) es v all found in
+      ap (λ b. not b && nat_le limit (known_count (known_in limit es))) (ap is_known (state-some limit a es v found) ∙ known)
+
+  -- a turn was begun, or refused, at an authority that is known
+  pub begun-known : (limit : ℕ) (a : List ℕ) (flight : Flight) (es es' : List (String Y × Site)) (v w : Site) (r : Result Unit BeginRefusal) →
+      AllKnown es → lookup (is_named a) es ≡ Some v → es' ≡ set_value (is_named a) es w →
+      ((b : List ℕ) → lookup (is_named b) es' ≡ cond (bytes_eq a b) (Some w) (lookup (is_named b) es)) →
+      OnOk r (said_site w ≡ with_flight flight (said_site v)) → OnOk r (is_flying (said_site v) ≡ false) →
+      IfErr r (λ refusal. refusal ≡ InFlight) → OnErr r (is_flying (said_site v) ≡ true) → OnErr r (w ≡ v) →
+      Begins (known_in limit es) a flight r (known_in limit es') × AllKnown es'
+  begun-known limit a flight es es' v w (Ok done) all found written others now free err flying same =
+      let state = state-some limit a es v found in
+      let changes = Changes-written limit a es es' v w found written others in (
+        (
+          ap is_flying state ∙ free,
+          knows limit a es v all found,
+          subst (λ s. Changes (known_in limit es) a (with_flight flight s) (known_in limit es')) (sym state)
+              (subst (λ s. Changes (known_in limit es) a s (known_in limit es')) now changes),
+        ),
+        known-written a es es' w all written (ap is_known now ∙ or_true (is_some (said_site v).standing)),
+      )
+  begun-known limit a flight es es' v w (Err refusal) all found written others now free err flying same =
+      let state = state-some limit a es v found in
+      let unchanged = unchanged-written limit a es es' v w found written same in
+      let was_known = all-lookup (λ s. is_known (said_site s)) (is_named a) es v all found in (
+        subst (λ e. Begins (known_in limit es) a flight (Err e) (known_in limit es')) (sym err) (ap is_flying state ∙ flying, unchanged),
+        known-written a es es' w all written (subst (λ s. is_known (said_site s) ≡ true) (sym same) was_known),
+      )
+
+  -- an answer arrived, or was refused, at an authority that is known
+  pub arrived-known : (limit : ℕ) (a : List ℕ) (turn life : ℕ) (says : Said) (es es' : List (String Y × Site)) (v w : Site) (r : Result Unit Stale) →
+      AllKnown es → lookup (is_named a) es ≡ Some v → es' ≡ set_value (is_named a) es w →
+      ((b : List ℕ) → lookup (is_named b) es' ≡ cond (bytes_eq a b) (Some w) (lookup (is_named b) es)) →
+      (IsOk r ↔ (has_turn turn (said_site v) ≡ true)) → OnOk r (said_site w ≡ arrived turn says life (said_site v)) → OnErr r (w ≡ v) →
+      Arrives (known_in limit es) a turn says life r (known_in limit es') × AllKnown es'
+  arrived-known limit a turn life says es es' v w (Ok done) all found written others has now same =
+      let state = state-some limit a es v found in
+      let changes = Changes-written limit a es es' v w found written others in
+      let flying = has.0 refl in (
+        (
+          ap (has_turn turn) state ∙ flying,
+          subst (λ s. Changes (known_in limit es) a (arrived turn says life s) (known_in limit es')) (sym state)
+              (subst (λ s. Changes (known_in limit es) a s (known_in limit es')) now changes),
+        ),
+        known-written a es es' w all written (ap is_known now ∙ answered (said_site v).in_flight flying),
+      )
+    where
+      answer_of : Flight → Answered
+      answer_of flight = record { turn = turn; begun = flight.begun; life = life_of says life; says = says }
+
+      answered : (o : Option Flight) → option_map_or (λ flight. flight.turn == turn) o false ≡ true → (is_some (option_map answer_of o) || false) ≡ true
+      answered (Some flight) is = refl
+      answered None is = absurd (true≢false (sym is))
+  arrived-known limit a turn life says es es' v w (Err stale) all found written others has now same =
+      let state = state-some limit a es v found in
+      let was_known = all-lookup (λ s. is_known (said_site s)) (is_named a) es v all found in (
+        (rw state (by (has_turn turn (said_site v)) refl), unchanged-written limit a es es' v w found written same),
+        known-written a es es' w all written (subst (λ s. is_known (said_site s) ≡ true) (sym same) was_known),
+      )
+    where
+      by : (b : Bool) → has_turn turn (said_site v) ≡ b → has_turn turn (said_site v) ≡ false
+      by false is = is
+      by true is = absurd (true≢false (sym (has.1 is)))
+
+-- an authority was added
+pub Changes-added : (limit : ℕ) (a : List ℕ) (state : State) (sites : List (List ℕ × State)) → lookup (bytes_eq a) sites ≡ None →
+    Changes (record { limit = limit; sites = sites }) a state (record { limit = limit; sites = sites ++ (a, state) ∷ [] })
+Changes-added limit a state sites none = record {
+  limit = refl;
+  sites = λ b. by b (bytes_eq a b) refl;
+  counts = λ test fails.
+      let was : one_if (test (unwrap_or (lookup (bytes_eq a) sites) nothing)) ≡ 0 = rw (none, fails) refl in
+      omega (arith, count-push (λ (e : List ℕ × State). test e.1) sites (a, state));
+}
+  where
+    by : (b : List ℕ) (t : Bool) → bytes_eq a b ≡ t → unwrap_or (lookup (bytes_eq b) (sites ++ (a, state) ∷ [])) nothing
+        ≡ cond (bytes_eq a b) state (unwrap_or (lookup (bytes_eq b) sites) nothing)
+    by b true is = rw is (subst (λ c. unwrap_or (lookup (bytes_eq c) (sites ++ (a, state) ∷ [])) nothing ≡ state) ((bytes_eq-Decides a b).0 is)
+        (rw (lookup-push (bytes_eq a) sites a state none, same_text a) refl))
+    by b false is = rw (is, lookup-push_other (bytes_eq b) sites a state (other_text a b is)) refl
+
+module _ {Y : Type 0} where
+  -- there is a place for one more
+  may_know : (limit : ℕ) (a : List ℕ) (es : List (String Y × Site)) → AllKnown es → lookup (is_named a) es ≡ None → length es < limit →
+      cannot_know (known_in limit es) a ≡ false
+  may_know limit a es all none room =
+      ap (λ b. not b && nat_le limit (known_count (known_in limit es))) (ap is_known (state-none limit a es none))
+      ∙ (ap (nat_le limit) (known_many limit es all) ∙ lt-leb limit (length es) room)
+
+  -- there is none
+  pub full : (limit : ℕ) (a : List ℕ) (es : List (String Y × Site)) → AllKnown es → lookup (is_named a) es ≡ None → limit ≤ length es →
+      cannot_know (known_in limit es) a ≡ true
+  full limit a es all none over =
+      ap (λ b. not b && nat_le limit (known_count (known_in limit es))) (ap is_known (state-none limit a es none))
+      ∙ (ap (nat_le limit) (known_many limit es all) ∙ le-leb limit (length es) over)
+
+  -- a turn was begun at an authority that is new, or memory was wanting
+  pub begun-new : (limit : ℕ) (a : List ℕ) (flight : Flight) (es es' : List (String Y × Site)) (r : Result Unit BeginRefusal) →
+      AllKnown es → lookup (is_named a) es ≡ None → length es < limit →
+      OnOk r (said_entries es' ≡ said_entries es ++ (a, with_flight flight nothing) ∷ []) →
+      IfErr r (λ refusal. refusal ≡ NoMemory) → OnErr r (es' ≡ es) →
+      Begins (known_in limit es) a flight r (known_in limit es')
+  begun-new limit a flight es es' (Ok done) all none room added err same =
+      let state = state-none limit a es none in
+      let unsaid : lookup (bytes_eq a) (said_entries es) ≡ None = found-said a es ∙ ap (option_map said_site) none in (
+        ap is_flying state,
+        may_know limit a es all none room,
+        subst (λ s. Changes (known_in limit es) a (with_flight flight s) (known_in limit es')) (sym state)
+            (subst (λ sites. Changes (known_in limit es) a (with_flight flight nothing) (record { limit = limit; sites = sites })) (sym added)
+            (Changes-added limit a (with_flight flight nothing) (said_entries es) unsaid)),
+      )
+  begun-new limit a flight es es' (Err refusal) all none room added err same =
+      subst (λ e. Begins (known_in limit es) a flight (Err e) (known_in limit es')) (sym err)
+      (ap is_flying (state-none limit a es none), may_know limit a es all none room, ap (known_in limit) same)
+
+  -- all are known still, with the one that was added
+  pub known-new : (a : List ℕ) (flight : Flight) (es es' : List (String Y × Site)) (r : Result Unit BeginRefusal) → AllKnown es →
+      OnOk r (said_entries es' ≡ said_entries es ++ (a, with_flight flight nothing) ∷ []) → OnErr r (es' ≡ es) → AllKnown es'
+  known-new a flight es es' (Ok done) all added same =
+      let old : list_all (λ (p : List ℕ × State). is_known p.1) (said_entries es) ≡ true = all-map string_bytes said_site is_known es ∙ all in
+      let new : list_all (λ (p : List ℕ × State). is_known p.1) (said_entries es') ≡ true =
+      rw added (all-push (λ (p : List ℕ × State). is_known p.1) (said_entries es) (a, with_flight flight nothing) old refl) in
+      sym (all-map string_bytes said_site is_known es') ∙ new
+  known-new a flight es es' (Err refusal) all added same = subst (λ entries. AllKnown entries) (sym same) all
+
+  -- no more turns are in flight than there are entries
+  pub flights_bound : (limit : ℕ) (es : List (String Y × Site)) → flight_count (known_in limit es) ≤ length es
+  flights_bound limit es = rw (counted is_flying limit es) (count-bound (λ (e : String Y × Site). is_flying (said_site e.1)) es)
+
+  -- what is found after a value was written
+  pub written : {S : Type 0} (a : List ℕ) (m n : HashMap (String Y) Site S) (v w : Site) → get_by_text m a ≡ Some v →
+      (IsSome (get_by_text m a) → UpdatesBy string_eq (is_named a) m n (Some w)) → (b : List ℕ) →
+      lookup (is_named b) n.entries ≡ cond (bytes_eq a b) (Some w) (lookup (is_named b) m.entries)
+  written a m n v w found updates b = hash_map_updates_text a m n (Some w) (updates (rw found refl)) b

@@ -1,0 +1,48 @@
+-- What each change of the cache is to the lists of a history, and what is counted of both alike.
+-- The contracts of `laws.rt`.
+use Rattle.std.specs.Prelude.{◌≡◌, ℕ, true, false, not, List, [], ◌∷◌, ◌++◌, length, filter, map}
+use Rattle.robots_verdict.specs.Answer.{Said}
+use Rattle.authority_cache.specs.declared.site.Flight.{Flight}
+use Rattle.authority_cache.specs.declared.turn.Turn.{Turn}
+use Rattle.authority_cache.specs.Sites.{Known, IsApart, arrived, flight_count, has_turn, is_flying, known_count, past_count, site_of, with_flight}
+use Rattle.authority_cache.specs.Calls.{Changes, Sweeps}
+use Rattle.authority_cache.specs.Lists.{StandingAnswer, TellsCache, answered, has_number, is_answer_for, is_past_answer, is_turn_of, known_by, turn_for}
+
+-- an empty cache says what a history without begins says
+abbrev pub NewTells : Type 0
+NewTells = (limit : ℕ) → TellsCache (record { limit = limit; sites = [] }) [] []
+
+-- a begin adds its turn
+abbrev pub BeginTells : Type 0
+BeginTells = (old new : Known) (standing : List StandingAnswer) (in_flight : List Turn) (authority : List ℕ) (flight : Flight)
+    → TellsCache old standing in_flight → is_flying (site_of old authority) ≡ false
+    → Changes old authority (with_flight flight (site_of old authority)) new
+    → TellsCache new standing (in_flight ++ turn_for authority flight ∷ [])
+
+-- an arrival takes its turn away, whose number no other authority's turn has, and its answer
+-- replaces the authority's
+abbrev pub ArriveTells : Type 0
+ArriveTells = (old new : Known) (standing : List StandingAnswer) (in_flight : List Turn) (authority : List ℕ) (turn life : ℕ) (says : Said)
+    → TellsCache old standing in_flight → has_turn turn (site_of old authority) ≡ true
+    → filter (has_number turn) in_flight ≡ filter (is_turn_of authority) in_flight
+    → Changes old authority (arrived turn says life (site_of old authority)) new
+    → TellsCache new
+    (filter (λ s. not (is_answer_for authority s)) standing ++ map (answered says life) (filter (has_number turn) in_flight))
+    (filter (λ t. not (has_number turn t)) in_flight)
+
+-- a sweep takes the answers away that are older than their lives
+abbrev pub SweepTells : Type 0
+SweepTells = (old new : Known) (standing : List StandingAnswer) (in_flight : List Turn) (moment count : ℕ)
+    → TellsCache old standing in_flight → Sweeps old moment count new
+    → TellsCache new (filter (λ s. not (is_past_answer moment s)) standing) in_flight
+
+-- as many are counted of the cache as of the lists
+pub record CountsAlike (k : Known) (standing : List StandingAnswer) (in_flight : List Turn) : Type 0 where
+  pub known : known_count k ≡ known_by standing in_flight
+  pub flights : flight_count k ≡ length in_flight
+  pub past : (moment : ℕ) → past_count moment k ≡ length (filter (is_past_answer moment) standing)
+
+-- a cache that says what the lists say is counted alike
+abbrev pub TellingCountsAlike : Type 0
+TellingCountsAlike = (k : Known) (standing : List StandingAnswer) (in_flight : List Turn)
+    → TellsCache k standing in_flight → IsApart k → CountsAlike k standing in_flight

@@ -1,0 +1,9 @@
+-- What the contracts of the cache cite.
+-- RFC 9309, sections 2.3.1 and 2.4.
+pub mod Lives
+pub mod Messages
+pub mod Sites
+pub mod Calls
+pub mod Kept
+pub mod Lists
+pub mod Laws

@@ -1,0 +1,80 @@
+//! The cache: what is known of each authority, found by its text.
+//! RFC 9309, sections 2.3.1 and 2.4.
+ghost use Rattle.std.specs.Prelude.{◌≡◌, []};
+ghost use Rattle.authority_cache.specs.Sites.{IsApart, flight_count, is_flying, known_count, site_of};
+
+use crate::site::Site;
+use indexmap::IndexMap;
+use std::alloc::Global;
+use std::hash::RandomState;
+use std::marker::Model;
+
+// By the keys of its hasher no site can choose its bucket.
+pub type Sites = IndexMap<String, Site, RandomState>;
+
+/// What is known of authorities, each with the answer that stands and the turn in flight.
+#[derive(Drop)]
+pub struct Cache {
+    pub(crate) limit: u64,
+    pub(crate) sites: Sites,
+    // How many turns are in flight.
+    pub(crate) flights: u64,
+}
+
+impl Model for Cache {
+    ghost use Rattle.authority_cache.specs.Sites.{Known};
+
+    ghost Value = { Known };
+
+    ghost use Rattle.authority_cache.specs.Kept.{known_of, IsSound};
+
+    ghost view = { known_of };
+
+    ghost invariant = { IsSound };
+}
+
+impl Cache {
+    /// An empty cache that knows this many authorities at most, with the keys of its hasher.
+    pub fn new(alloc: Global, limit: u64, keys: RandomState) -> Cache
+        ensures limit { result.limit ≡ limit }
+        ensures empty { result.sites ≡ [] }
+    {
+        Cache {
+            limit,
+            sites: IndexMap::with_hasher(alloc, keys),
+            flights: 0,
+        }
+    }
+
+    /// Whether a turn of the authority is in flight.
+    pub fn in_flight(&self, authority: &str) -> bool
+        ensures { result ≡ is_flying (site_of self.now authority.now) }
+    {
+        match self.sites.get(authority) {
+            Some(site) => site.in_flight.is_some(),
+            None => false,
+        }
+    }
+
+    /// How many authorities are known: they have a standing answer or a turn in flight.
+    pub fn known_count(&self) -> u64
+        ensures value { result ≡ known_count self.now }
+        ensures apart { IsApart self.now }
+    {
+        self.sites.len() as u64
+    }
+
+    /// How many turns are in flight.
+    pub fn flight_count(&self) -> u64
+        ensures { result ≡ flight_count self.now }
+    {
+        self.flights
+    }
+
+    /// How many authorities may be known.
+    pub fn limit(&self) -> u64
+        ensures { result ≡ self.now.limit }
+    {
+        self.limit
+    }
+}

@@ -1,0 +1,23 @@
+//! What is known of authorities: of each the robots answer that stands, and the turn to fetch its
+//! robots file that is in flight (RFC 9309, sections 2.3.1 and 2.4).
+#![tactic(auto)]
+
+mod arrive;
+mod begin;
+mod cache;
+pub mod laws;
+mod life;
+mod look;
+mod refusal;
+mod site;
+mod sweep;
+mod turn;
+
+pub use cache::Cache;
+pub use life::{LEAST_LIFE, LIFE, life_of};
+pub use look::Look;
+pub use refusal::{BeginRefusal, Stale};
+pub use turn::{Turn, TurnNo};
+
+#[cfg(test)]
+mod tests;

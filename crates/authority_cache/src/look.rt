@@ -1,0 +1,46 @@
+//! A look at the answer that is in force for an authority.
+//! RFC 9309, section 2.4.
+ghost use Rattle.authority_cache.specs.Sites.{said_site};
+ghost use Rattle.authority_cache.specs.Calls.{Looks, LooksAt};
+
+use crate::cache::Cache;
+use crate::site::Site;
+use robots_verdict::Answer;
+
+/// What is found of an authority's answer.
+#[derive(Clone, Copy, Debug)]
+pub enum Look<'a> {
+    /// No answer stands.
+    Unknown,
+    /// The answer that stands is older than its life.
+    Expired,
+    /// This answer is in force.
+    InForce(&'a Answer),
+}
+
+impl Cache {
+    /// Looks for an authority's answer at this moment, in seconds. It takes no memory.
+    pub fn look(&self, authority: &str, moment: u64) -> Look<'_>
+        ensures { Looks self.now authority.now moment result }
+    {
+        match self.sites.get(authority) {
+            Some(site) => site.look(moment),
+            None => Look::Unknown,
+        }
+    }
+}
+
+impl Site {
+    // Looks for the answer of one authority.
+    fn look(&self, moment: u64) -> Look<'_>
+        ensures { LooksAt (said_site self.now) moment result }
+    {
+        let Some(standing) = &self.standing else {
+            return Look::Unknown;
+        };
+        if standing.is_past(moment) {
+            return Look::Expired;
+        }
+        Look::InForce(&standing.answer)
+    }
+}

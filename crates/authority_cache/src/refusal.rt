@@ -1,0 +1,61 @@
+//! Why a call on the cache was refused. Nothing has changed then.
+//! Answered by `begin` and `arrive`; RFC 9309, 2.3, leaves to the crawler how often it fetches.
+
+use std::alloc::AllocError;
+use std::error::Error;
+use std::fmt;
+
+/// Why no turn was begun, in the order of the tests.
+#[derive(Clone, Copy, Debug, PartialEq, Eq)]
+pub enum BeginRefusal {
+    /// A turn of the authority is in flight.
+    InFlight,
+    /// The authority is not known, and as many are as may be.
+    AuthoritiesFull,
+    /// The allocator had no memory.
+    NoMemory,
+}
+
+/// The turn is not in flight for the authority.
+#[derive(Clone, Copy, Debug, PartialEq, Eq)]
+pub struct Stale;
+
+impl From<AllocError> for BeginRefusal {
+    ghost use Rattle.std.specs.Prelude.{◌≡◌};
+    ghost use Rattle.authority_cache.specs.declared.refusal.BeginRefusal.{BeginRefusal};
+
+    ghost from_gives = { λ _ refusal. refusal ≡ BeginRefusal.NoMemory };
+
+    fn from(_: AllocError) -> BeginRefusal {
+        BeginRefusal::NoMemory
+    }
+}
+
+impl fmt::Display for BeginRefusal {
+    ghost use Rattle.std.specs.Prelude.{Some};
+    ghost use Rattle.authority_cache.specs.Messages.{refusal_text};
+
+    ghost output = { λ refusal. Some (refusal_text refusal) };
+
+    fn fmt<W: fmt::Write>(&self, f: &mut fmt::Formatter<W>) -> fmt::Result {
+        f.write_str(match self {
+            BeginRefusal::InFlight => "a turn of the authority is in flight",
+            BeginRefusal::AuthoritiesFull => "too many authorities are known",
+            BeginRefusal::NoMemory => "no memory for the authority",
+        })
+    }
+}
+
+impl fmt::Display for Stale {
+    ghost use Rattle.std.specs.Prelude.{Some, codes};
+
+    ghost output = { λ _. Some (codes "the turn is not in flight") };
+
+    fn fmt<W: fmt::Write>(&self, f: &mut fmt::Formatter<W>) -> fmt::Result {
+        f.write_str("the turn is not in flight")
+    }
+}
+
+impl Error for BeginRefusal {}
+
+impl Error for Stale {}

@@ -1,0 +1,116 @@
+//! What is known of one authority.
+//! RFC 9309, sections 2.3.1 and 2.4.
+ghost use Rattle.std.specs.Prelude.{◌≡◌, ◌↔◌, true, false, IfErr, IsOk, OnErr, OnOk};
+ghost use Rattle.robots_verdict.specs.Answer.{said};
+ghost use Rattle.authority_cache.specs.Sites.{arrived, has_past, has_turn, is_flying, is_known, is_past, said_site, said_standing, swept, with_flight};
+
+use crate::life::life_of;
+use crate::refusal::{BeginRefusal, Stale};
+use crate::turn::TurnNo;
+use robots_verdict::Answer;
+
+/// A turn in flight.
+#[derive(Clone, Copy, Debug, PartialEq, Eq)]
+pub struct Flight {
+    /// The number of the turn.
+    pub turn: TurnNo,
+    /// The moment of its begin, in seconds.
+    pub begun: u64,
+}
+
+/// An answer that stands.
+#[derive(Debug, Drop)]
+pub struct Standing {
+    /// The turn that brought it.
+    pub turn: TurnNo,
+    /// The moment of that turn's begin, in seconds, from which its age counts.
+    pub begun: u64,
+    /// The greatest age in seconds at which it is in force.
+    pub life: u64,
+    /// The answer.
+    pub answer: Answer,
+}
+
+/// What is known of an authority.
+#[derive(Debug, Drop)]
+pub struct Site {
+    /// The answer that stands.
+    pub standing: Option<Standing>,
+    /// The turn that is in flight.
+    pub in_flight: Option<Flight>,
+}
+
+impl Standing {
+    /// Whether it is older than its life at this moment.
+    pub fn is_past(&self, moment: u64) -> bool
+        ensures { result ≡ is_past moment (said_standing self.now) }
+    {
+        moment.saturating_sub(self.begun) > self.life
+    }
+}
+
+impl Site {
+    /// Whether an answer stands or a turn is in flight.
+    pub fn is_known(&self) -> bool
+        ensures { result ≡ is_known (said_site self.now) }
+    {
+        self.standing.is_some() || self.in_flight.is_some()
+    }
+
+    /// Whether the answer that stands is older than its life.
+    pub fn has_past(&self, moment: u64) -> bool
+        ensures { result ≡ has_past moment (said_site self.now) }
+    {
+        match &self.standing {
+            Some(standing) => standing.is_past(moment),
+            None => false,
+        }
+    }
+
+    /// Begins a turn, unless one is in flight.
+    pub fn begin(&mut self, flight: Flight) -> Result<(), BeginRefusal>
+        ensures ok { OnOk result (said_site self.new ≡ with_flight flight (said_site self.old)) }
+        ensures free { OnOk result (is_flying (said_site self.old) ≡ false) }
+        ensures err { IfErr result (λ refusal. refusal ≡ BeginRefusal.InFlight) }
+        ensures flying { OnErr result (is_flying (said_site self.old) ≡ true) }
+        ensures same { OnErr result (self.new ≡ self.old) }
+    {
+        if self.in_flight.is_some() {
+            return Err(BeginRefusal::InFlight);
+        }
+        self.in_flight = Some(flight);
+        Ok(())
+    }
+
+    /// Ends the turn of that number, and lets its answer stand.
+    pub fn arrive(&mut self, turn: TurnNo, answer: Answer, life: u64) -> Result<(), Stale>
+        ensures turn { IsOk result ↔ (has_turn turn (said_site self.old) ≡ true) }
+        ensures ok { OnOk result (said_site self.new
+            ≡ arrived turn (said answer) life (said_site self.old)) }
+        ensures err { OnErr result (self.new ≡ self.old) }
+    {
+        let in_flight = self.in_flight;
+        match in_flight {
+            Some(flight) if flight.turn == turn => {
+                self.standing = Some(Standing {
+                    turn,
+                    begun: flight.begun,
+                    life: life_of(&answer, life),
+                    answer,
+                });
+                self.in_flight = None;
+                Ok(())
+            }
+            _ => Err(Stale),
+        }
+    }
+
+    /// Drops the answer that stands, where it is older than its life.
+    pub fn sweep(&mut self, moment: u64)
+        ensures { said_site self.new ≡ swept moment (said_site self.old) }
+    {
+        if self.has_past(moment) {
+            self.standing = None;
+        }
+    }
+}

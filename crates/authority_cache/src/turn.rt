@@ -1,0 +1,49 @@
+//! A turn to fetch an authority's robots file.
+//! RFC 9309, section 2.3.
+ghost use Rattle.std.specs.Prelude.{◌≡◌};
+
+use path_normal::Authority;
+use std::marker::Model;
+
+/// The number of a turn: the how manyth begin of a history it is, from 1.
+#[derive(Clone, Copy, Debug, PartialEq, Eq)]
+pub struct TurnNo {
+    number: u64,
+}
+
+impl Model for TurnNo {
+    ghost use Rattle.std.specs.Prelude.{ℕ};
+
+    ghost Value = { ℕ };
+
+    ghost view = { λ n. n.number };
+
+    ghost inverse = { λ n. record { number = n } };
+}
+
+impl TurnNo {
+    /// The turn number that a client wrote.
+    pub fn new(number: u64) -> TurnNo
+        ensures { result ≡ number }
+    {
+        TurnNo { number }
+    }
+
+    /// The number as it is written.
+    pub fn number(self) -> u64
+        ensures { result ≡ self }
+    {
+        self.number
+    }
+}
+
+/// A turn in flight, as lists of turns have it: that of a history, or of a segment of one.
+#[derive(Debug, Drop)]
+pub struct Turn {
+    /// Whose robots file is fetched.
+    pub authority: Authority,
+    /// The number of the turn.
+    pub turn: TurnNo,
+    /// The moment of its begin, in seconds.
+    pub begun: u64,
+}

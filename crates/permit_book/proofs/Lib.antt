@@ -1,0 +1,5 @@
+pub mod BitLaws
+pub mod TableLaws
+pub mod Filters
+pub mod Telling
+pub mod TellingFree

@@ -1,0 +1,86 @@
+//! The ends of a permit: a start that spends it, its return, and the end of its fetch.
+//! RFC 9309 has no permits: they make each fetch look at the answer in force (2.4).
+ghost use Rattle.std.specs.Prelude.{◌≡◌, ◌↔◌, ◌*◌, ◌<◌, ◌≤◌, true, IsOk, IsTrue, OnErr, OnOk, length};
+ghost use Rattle.permit_book.specs.declared.out.Out.TheVariants.{Nothing};
+ghost use Rattle.permit_book.specs.Table.{decided, is_running, is_unspent, out_under, with_out};
+ghost use Rattle.permit_book.specs.Kept.{Vacates};
+
+use crate::free_slots::FreeSlots;
+use crate::number::PermitNo;
+use crate::out::{Out, Slot};
+use crate::permits::Permits;
+use crate::refusal::NotOut;
+
+impl Permits {
+    /// Decides the start of an unspent permit, which spends it: an allowed one runs from now on,
+    /// and of a denied one nothing is out.
+    pub fn decide(&mut self, number: PermitNo, allowed: bool)
+        requires { IsTrue (is_unspent self.old number) }
+        ensures { self.new ≡ with_out self.old number (decided allowed (out_under self.old number)) }
+    {
+        if allowed {
+            self.run(number);
+        } else {
+            self.withdraw(number);
+        }
+    }
+
+    /// Takes an unspent permit back.
+    pub fn give_back(&mut self, number: PermitNo) -> Result<(), NotOut>
+        ensures out { IsOk result ↔ IsTrue (is_unspent self.old number) }
+        ensures ok { OnOk result (self.new ≡ with_out self.old number Nothing) }
+        ensures err { OnErr result (self.new ≡ self.old) }
+    {
+        if !self.is_unspent(number) {
+            return Err(NotOut);
+        }
+        self.withdraw(number);
+        Ok(())
+    }
+
+    /// Ends a running fetch.
+    pub fn finish(&mut self, number: PermitNo) -> Result<(), NotOut>
+        ensures out { IsOk result ↔ IsTrue (is_running self.old number) }
+        ensures ok { OnOk result (self.new ≡ with_out self.old number Nothing) }
+        ensures err { OnErr result (self.new ≡ self.old) }
+    {
+        if !self.is_running(number) {
+            return Err(NotOut);
+        }
+        vacate(&mut self.slots, &mut self.free, number.slot());
+        self.running -= 1;
+        Ok(())
+    }
+
+    // Starts the fetch of an unspent permit.
+    fn run(&mut self, number: PermitNo)
+        requires { IsTrue (is_unspent self.old number) }
+        ensures { self.new ≡ with_out self.old number (decided true (out_under self.old number)) }
+    {
+        self.slots[number.slot() as usize].out.start();
+        self.unspent -= 1;
+        self.running += 1;
+    }
+
+    // Ends an unspent permit.
+    fn withdraw(&mut self, number: PermitNo)
+        requires { IsTrue (is_unspent self.old number) }
+        ensures { self.new ≡ with_out self.old number Nothing }
+    {
+        vacate(&mut self.slots, &mut self.free, number.slot());
+        self.unspent -= 1;
+    }
+}
+
+// Ends what is out in a slot, which is free again but after its last generation.
+fn vacate(slots: &mut [Slot], free: &mut FreeSlots, place: u64)
+    requires within { place < length slots.old }
+    requires room { length slots.old ≤ 64 * length free.old }
+    ensures { Vacates slots.old free.old place slots.new free.new }
+{
+    let slot = &mut slots[place as usize];
+    slot.out = Out::Nothing;
+    if slot.is_free() {
+        free.insert(place);
+    }
+}

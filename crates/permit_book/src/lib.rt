@@ -1,0 +1,24 @@
+//! The permits of a gate: a table of slots, each with the generation of its last grant and what is
+//! out in it. Permits make each fetch look at the robots answer then in force (RFC 9309, 2.4).
+#![tactic(auto)]
+
+mod drafts;
+mod ends;
+mod free_slots;
+pub mod laws;
+mod number;
+mod out;
+mod permit;
+mod permits;
+mod refusal;
+mod words;
+
+pub use drafts::Draft;
+pub use number::{LAST_GENERATION, MAX_SLOTS, PermitNo, SLOTS_PER_GENERATION};
+pub use out::{Fetch, Out, Slot};
+pub use permit::Permit;
+pub use permits::Permits;
+pub use refusal::{NotOut, PermitsFull};
+
+#[cfg(test)]
+mod tests;

@@ -1,0 +1,17 @@
+//! A permit as lists of permits have it: that of a history, or of a segment of one.
+//! RFC 9309 has no permits: they make each fetch look at the answer in force (2.4).
+
+use crate::number::PermitNo;
+use path_normal::PageUrl;
+use robots_text::Token;
+
+/// A permit for one fetch of a URL under a token, with its number.
+#[derive(Debug, Drop)]
+pub struct Permit {
+    /// The permit's number.
+    pub number: PermitNo,
+    /// The product token that may use it.
+    pub token: Token,
+    /// The URL for which it was granted.
+    pub url: PageUrl,
+}
