@@ -4,9 +4,13 @@
 
 mod answer;
 mod decision;
+mod heads;
 pub mod laws;
 mod policy;
+mod row;
+mod rows;
 mod rules;
+mod walk;
 mod weight;
 
 pub use answer::{Answer, Closure, Opening};
