@@ -17,3 +17,6 @@ pub use answer::{Answer, Closure, Opening};
 pub use decision::{Allowed, Verdict};
 pub use policy::Policy;
 pub use rules::Rules;
+
+#[cfg(test)]
+mod tests;
