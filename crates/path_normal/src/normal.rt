@@ -1,6 +1,6 @@
 //! Normal forms of paths and patterns: equal octets are written in one way.
 //! RFC 9309, section 2.2.2; RFC 3986, section 2.
-ghost use Rattle.std.specs.Prelude.{◌≡◌, ◌++◌, ◌∷◌, ◌<◌, [], true, length, IfOk, IsTrue, MatchOption};
+ghost use Rattle.std.specs.Prelude.{◌≡◌, ◌++◌, ◌∷◌, ◌<◌, ◌≤◌, vec_len, [], true, length, IfOk, IsTrue, MatchOption};
 ghost use Rattle.std.specs.Char.{digit_value, is_digit};
 ghost use Rattle.std.specs.Fmt.{digit_glyph};
 ghost use Rattle.path_normal.specs.Normal.{is_anchored, is_gen_delim, is_kept, is_reserved, is_sign, is_sub_delim, is_unreserved, normal, normal_path, normal_pattern, spelled, unanchored, units};
@@ -44,7 +44,8 @@ pub fn normal_pattern(alloc: Global, pattern: &[u8]) -> Result<Vec<u8>, AllocErr
 /// Appends the normal form of a pattern. It has at most three octets for each of the pattern's. Where memory
 /// is refused, a part of it may have been appended.
 pub fn push_normal_pattern(form: &mut Vec<u8>, pattern: &[u8]) -> Result<(), AllocError>
-    ensures { IfOk result (λ _. form.new.items ≡ form.old.items ++ normal_pattern pattern.now) }
+    ensures value { IfOk result (λ _. form.new.items ≡ form.old.items ++ normal_pattern pattern.now) }
+    ensures grows { vec_len form.old ≤ vec_len form.new }
 {
     let (front, anchored) = split_anchor(pattern);
     push_normal(form, Role::Pattern, front)?;
@@ -67,7 +68,8 @@ fn split_anchor(pattern: &[u8]) -> (&[u8], bool)
 
 // Appends the text with each of its units in its one spelling.
 fn push_normal(form: &mut Vec<u8>, role: Role, text: &[u8]) -> Result<(), AllocError>
-    ensures { IfOk result (λ _. form.new.items ≡ form.old.items ++ normal role text.now) }
+    ensures value { IfOk result (λ _. form.new.items ≡ form.old.items ++ normal role text.now) }
+    ensures grows { vec_len form.old ≤ vec_len form.new }
 {
     let mut rest = text;
     while let Some((unit, after)) = next_unit(rest) {
@@ -103,7 +105,8 @@ fn next_unit(text: &[u8]) -> Option<(Octet, &[u8])>
 }
 
 fn push_spelled(form: &mut Vec<u8>, role: Role, unit: Octet) -> Result<(), AllocError>
-    ensures { IfOk result (λ _. form.new.items ≡ form.old.items ++ spelled role unit) }
+    ensures value { IfOk result (λ _. form.new.items ≡ form.old.items ++ spelled role unit) }
+    ensures grows { vec_len form.old ≤ vec_len form.new }
 {
     if is_kept(role, unit) {
         form.push(unit.value)?;

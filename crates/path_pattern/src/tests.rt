@@ -2,6 +2,7 @@
 //! RFC 9309, section 2.2.3.
 use super::*;
 use crate::laws::matches_by_all_cuts;
+use path_normal::normal_pattern;
 use std::alloc::{AllocError, Global};
 use std::test::Fail;
 
@@ -44,6 +45,12 @@ fn matches_as_the_table_says(rt: HostRuntime) -> Result<(), Fail> {
         let pattern = Pattern::new(rt.alloc(), value.as_bytes())?;
         assert_eq!(rt; pattern.octets(), octets, "octets of {value}");
         assert_eq!(rt; pattern.matches(path.as_bytes()), want, "{value} on {path}");
+        let form = normal_pattern(rt.alloc(), value.as_bytes())?;
+        assert_eq!(rt;
+            matches(form.as_slice(), path.as_bytes()),
+            want,
+            "{value}, borrowed, on {path}"
+        );
         assert_eq!(rt;
             matches_by_all_cuts(&pattern, path.as_bytes()),
             want,

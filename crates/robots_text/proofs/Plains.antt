@@ -18,12 +18,12 @@ use Rattle.robots_text.proofs.Rises.{lines_of_rules, onto_above, onto_rises, lin
 use Rattle.robots_text.proofs.Walks.{is_rule_for}
 
 -- some element that passes
-record Passes {A : Type 0} (test : A → Bool) (xs : List A) : Type 0 where
-  one : A
-  stands : Contains xs one
-  passes : test one ≡ true
+pub record Passes {A : Type 0} (test : A → Bool) (xs : List A) : Type 0 where
+  pub one : A
+  pub stands : Contains xs one
+  pub passes : test one ≡ true
 
-any_passes : {A : Type 0} (test : A → Bool) (xs : List A) → list_any test xs ≡ true → Passes test xs
+pub any_passes : {A : Type 0} (test : A → Bool) (xs : List A) → list_any test xs ≡ true → Passes test xs
 any_passes test [] is = absurd cc
 any_passes test (x ∷ xs) is = step (test x) refl (λ rest. any_passes test xs rest)
   where
@@ -33,7 +33,7 @@ any_passes test (x ∷ xs) is = step (test x) refl (λ rest. any_passes test xs 
         let found = others (subst (λ b. (b || list_any test xs) ≡ true) fails is) in
         record { one = found.one; stands = behind x found.one xs found.stands; passes = found.passes }
 
-passes_any : {A : Type 0} (test : A → Bool) (xs : List A) (y : A) → Contains xs y → test y ≡ true → list_any test xs ≡ true
+pub passes_any : {A : Type 0} (test : A → Bool) (xs : List A) (y : A) → Contains xs y → test y ≡ true → list_any test xs ≡ true
 passes_any test [] y stands passes = absurd (none_of y stands)
 passes_any test (x ∷ xs) y stands passes = elim (entry_of x y xs stands) [
   | inl is ↦ (let here : test x ≡ true = ap test is ∙ passes in grind (arith, nat_tests))

@@ -3,3 +3,7 @@
 pub mod Weighing
 pub mod OneVerdict
 pub mod Walking
+pub mod RowLemmas
+pub mod HeadLemmas
+pub mod Verdicts
+pub mod Readings

@@ -1,7 +1,11 @@
 -- What contracts say of policies and of answers.
 -- RFC 9309, sections 2.2.2 and 2.3.1.
 pub mod Answer
+pub mod Heads
+pub mod Index
 pub mod Kept
+pub mod Placed
+pub mod Rows
 pub mod Spares
 pub mod Strongest
 pub mod Verdict

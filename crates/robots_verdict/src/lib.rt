@@ -4,12 +4,19 @@
 
 mod answer;
 mod decision;
+mod heads;
 pub mod laws;
 mod policy;
+mod row;
+mod rows;
 mod rules;
+mod walk;
 mod weight;
 
 pub use answer::{Answer, Closure, Opening};
 pub use decision::{Allowed, Verdict};
 pub use policy::Policy;
 pub use rules::Rules;
+
+#[cfg(test)]
+mod tests;

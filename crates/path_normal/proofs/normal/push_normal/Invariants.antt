@@ -1,11 +1,12 @@
 -- What was appended, and the normal form of what is left, make the normal form.
 -- Used by `push_normal`.
-use Rattle.std.proofs.Common.{◌≡◌, ◌++◌, length}
+use Rattle.std.proofs.Common.{◌≡◌, ◌++◌, ◌≤◌, length}
+use Rattle.std.specs.Prelude.{vec_len}
 use Rattle.path_normal.specs.Normal.{normal}
 use Rattle.path_normal.proofs.normal.push_normal.Given as goal
 
 abbrev pub invariant-loop-unit : goal.invariant-loop-unit
-invariant-loop-unit l = l.fn.form.items ++ normal l.role l.fn.text ≡ l.form.items ++ normal l.role l.rest
+invariant-loop-unit l = (l.fn.form.items ++ normal l.role l.fn.text ≡ l.form.items ++ normal l.role l.rest) × (vec_len l.fn.form ≤ vec_len l.form)
 
 abbrev pub decreases-loop-unit : goal.decreases-loop-unit
 decreases-loop-unit l = length l.rest

@@ -1,0 +1,311 @@
+-- The first row that decides gives the verdict.
+-- Used by `Policy::verdict`.
+use Rattle.std.proofs.Common.{◌≡◌, ℕ, ◌+◌, ◌≤◌, Bool, true, false, inl, inr, List, [], ◌∷◌, ◌++◌, Contains, refl, sym, ap, ◌∙◌, subst, arith}
+use Rattle.std.specs.Prelude.{◌↔◌, ◌≢◌, ◌||◌, bytes_eq, MatchBool, Some, None}
+use Rattle.std.proofs.lemmas.Bool.{cond-true, cond-false, true≢false}
+use Rattle.std.proofs.lemmas.List.Elements.{Contains-append_cases, Contains-append_left, Contains-append_right}
+use Rattle.std.proofs.lemmas.List.{get_or_default}
+use Rattle.std.proofs.lemmas.List.Sorted.{Contains-permutation, IsPermutation-sym, list_any-IsPermutation, ranks_by, sorted_far}
+use Rattle.std.proofs.lemmas.Slice.Eq.{bytes_eq-Decides}
+use Rattle.path_normal.specs.Normal.{normal_pattern}
+use Rattle.path_pattern.specs.Matches.{Matches}
+use Rattle.robots_text.specs.declared.record.RuleKind.{RuleKind}
+use Rattle.robots_text.specs.declared.record.RuleKind.TheVariants as kinds
+use Rattle.robots_text.specs.Grouped.{Grouped, grouped_from, grouped_records, numbered_of}
+use Rattle.robots_text.specs.Grouping.{begins_behind, group_at}
+use Rattle.robots_text.specs.Groups.{is_agent, is_named, IsRuleFor, names_everybody, names_token, record_ruled, Ruled, speaks_to}
+use Rattle.robots_text.specs.Records.{everybody, token, nobody, Record, agent, rule, other, numbered_from, numbered_records, records_of}
+use Rattle.robots_text.specs.Token.{lower_case}
+use Rattle.robots_text.proofs.GroupLaws.{group_governs, grouped_stands}
+use Rattle.robots_text.proofs.LineEntries.{behind, entry_of, first_of, none_of}
+use Rattle.robots_verdict.specs.Heads.{has_name, IsGroupFor}
+use Rattle.robots_verdict.specs.Index.{FindsLeast, IsHit, IsIndex}
+use Rattle.robots_verdict.specs.Placed.{everybody_at, everybody_in, named_at, named_in, NamedGroup, Names, Placed, placed_at, placed_in, Table}
+use Rattle.robots_verdict.specs.Rows.{is_row_above, no_row, row_at, weight_at}
+use Rattle.robots_verdict.specs.Strongest.{said_by}
+use Rattle.robots_verdict.specs.Verdict.{Applies, IsStrongest, IsVerdict, robots_path}
+use Rattle.robots_verdict.specs.Weights.{is_above, weight_of}
+use Rattle.robots_verdict.proofs.Weighing.{falling_total}
+
+-- ---- rows and records
+
+-- the row of a rule line
+abbrev placed : ℕ → Ruled → Placed
+placed group ruled = record { group = group; line = ruled.line; kind = ruled.kind; form = normal_pattern ruled.pattern }
+
+-- the grouped record of a rule line
+abbrev grouped : ℕ → Ruled → Grouped
+grouped group ruled = record { group = group; line = ruled.line; kind = rule ruled.kind ruled.pattern }
+
+placed_here : (one : Grouped) (group : ℕ) (ruled : Ruled) → one ≡ grouped group ruled → Contains (placed_at one.group one.line one.kind) (placed group ruled)
+placed_here one group ruled is = subst (λ (o : Grouped). Contains (placed_at o.group o.line o.kind) (placed group ruled)) (sym is) (first_of (placed group ruled) [])
+
+-- each rule line has its row
+placed_stands : (lines : List Grouped) (group : ℕ) (ruled : Ruled) → Contains lines (grouped group ruled) → Contains (placed_in lines) (placed group ruled)
+placed_stands [] group ruled stands = absurd (none_of (grouped group ruled) stands)
+placed_stands (first ∷ lines) group ruled stands = elim (entry_of first (grouped group ruled) lines stands) [
+  | inl is ↦ Contains-append_left (placed_at first.group first.line first.kind) (placed_in lines) (placed group ruled) (placed_here first group ruled is)
+  | inr rest ↦ Contains-append_right (placed_at first.group first.line first.kind) (placed_in lines) (placed group ruled) (placed_stands lines group ruled rest)
+]
+
+-- the row is that of a rule line
+record IsOfLine (lines : List Grouped) (row : Placed) : Type 0 where
+  pub ruled : Ruled
+  pub stands : Contains lines (grouped row.group ruled)
+  pub is : placed row.group ruled ≡ row
+
+of_first : (group line : ℕ) (kind : Record) (row : Placed) → Contains (placed_at group line kind) row → IsOfLine (record { group = group; line = line; kind = kind } ∷ []) row
+of_first group line (agent who) row stands = absurd (none_of row stands)
+of_first group line other row stands = absurd (none_of row stands)
+of_first group line (rule kind value) row stands = elim (entry_of (record { group = group; line = line; kind = kind; form = normal_pattern value }) row [] stands) [
+  | inl is ↦ subst (IsOfLine (record { group = group; line = line; kind = rule kind value } ∷ [])) is (record {
+    ruled = record { line = line; kind = kind; pattern = value };
+    stands = first_of (record { group = group; line = line; kind = rule kind value }) [];
+    is = refl;
+  })
+  | inr never ↦ absurd (none_of row never)
+]
+
+-- and each row is one of a rule line
+of_line : (lines : List Grouped) (row : Placed) → Contains (placed_in lines) row → IsOfLine lines row
+of_line [] row stands = absurd (none_of row stands)
+of_line (first ∷ lines) row stands = elim (Contains-append_cases (placed_at first.group first.line first.kind) (placed_in lines) row stands) [
+  | inl here ↦ (
+      let one = of_first first.group first.line first.kind row here in
+      record { ruled = one.ruled; stands = Contains-append_left (first ∷ []) lines (grouped row.group one.ruled) one.stands; is = one.is }
+      )
+  | inr rest ↦ (
+      let one = of_line lines row rest in
+      record { ruled = one.ruled; stands = behind first (grouped row.group one.ruled) lines one.stands; is = one.is }
+      )
+]
+
+-- ---- names and records
+
+named_first : (group : ℕ) (kind : Record) (word : List ℕ) → lower_case word ≡ word → names_token word kind ≡ true → Contains (named_at group kind) (record { name = word; group = group })
+named_first group (agent everybody) word own speaks = absurd (true≢false (sym speaks))
+named_first group (agent nobody) word own speaks = absurd (true≢false (sym speaks))
+named_first group (rule kind value) word own speaks = absurd (true≢false (sym speaks))
+named_first group other word own speaks = absurd (true≢false (sym speaks))
+named_first group (agent (token name)) word own speaks =
+    let same : lower_case name ≡ word = (bytes_eq-Decides (lower_case name) (lower_case word)).0 speaks ∙ own in
+    subst (λ (w : List ℕ). Contains (named_at group (agent (token name))) (record { name = w; group = group })) same (first_of (record { name = lower_case name; group = group }) [])
+
+named_from : (group : ℕ) (kind : Record) (word : List ℕ) (of : ℕ) → lower_case word ≡ word → Contains (named_at group kind) (record { name = word; group = of }) →
+    (names_token word kind ≡ true) × (group ≡ of) × (is_agent kind ≡ true)
+named_from group (agent everybody) word of own stands = absurd (none_of _ stands)
+named_from group (agent nobody) word of own stands = absurd (none_of _ stands)
+named_from group (rule kind value) word of own stands = absurd (none_of _ stands)
+named_from group other word of own stands = absurd (none_of _ stands)
+named_from group (agent (token name)) word of own stands = elim (entry_of (record { name = lower_case name; group = group }) (record { name = word; group = of }) [] stands) [
+  | inl is ↦ ((bytes_eq-Decides (lower_case name) (lower_case word)).1 (ap (λ (n : NamedGroup). n.name) is ∙ sym own), ap (λ (n : NamedGroup). n.group) is, refl)
+  | inr never ↦ absurd (none_of _ never)
+]
+
+everybody_first : (group : ℕ) (kind : Record) → names_everybody kind ≡ true → Contains (everybody_at group kind) group
+everybody_first group (agent everybody) speaks = first_of group []
+everybody_first group (agent (token name)) speaks = absurd (true≢false (sym speaks))
+everybody_first group (agent nobody) speaks = absurd (true≢false (sym speaks))
+everybody_first group (rule kind value) speaks = absurd (true≢false (sym speaks))
+everybody_first group other speaks = absurd (true≢false (sym speaks))
+
+everybody_from : (group : ℕ) (kind : Record) (of : ℕ) → Contains (everybody_at group kind) of → (names_everybody kind ≡ true) × (group ≡ of) × (is_agent kind ≡ true)
+everybody_from group (agent everybody) of stands = elim (entry_of group of [] stands) [
+  | inl is ↦ (refl, is, refl)
+  | inr never ↦ absurd (none_of _ never)
+]
+everybody_from group (agent (token name)) of stands = absurd (none_of _ stands)
+everybody_from group (agent nobody) of stands = absurd (none_of _ stands)
+everybody_from group (rule kind value) of stands = absurd (none_of _ stands)
+everybody_from group other of stands = absurd (none_of _ stands)
+
+-- a line that passes the test stands in the group
+record HasHead (test : Record → Bool) (lines : List Grouped) (group : ℕ) : Type 0 where
+  pub head : Grouped
+  pub stands : Contains lines head
+  pub in_group : head.group ≡ group
+  pub is_head : is_agent head.kind ≡ true
+  pub speaks : test head.kind ≡ true
+
+head_behind : (test : Record → Bool) (first : Grouped) (lines : List Grouped) (group : ℕ) → HasHead test lines group → HasHead test (first ∷ lines) group
+head_behind test first lines group has = record { head = has.head; stands = behind first has.head lines has.stands; in_group = has.in_group; is_head = has.is_head; speaks = has.speaks }
+
+named_stands : (lines : List Grouped) (word : List ℕ) (head : Grouped) → lower_case word ≡ word → Contains lines head → names_token word head.kind ≡ true →
+    Contains (named_in lines) (record { name = word; group = head.group })
+named_stands [] word head own stands speaks = absurd (none_of head stands)
+named_stands (first ∷ lines) word head own stands speaks = elim (entry_of first head lines stands) [
+  | inl is ↦ Contains-append_left (named_at first.group first.kind) (named_in lines) (record { name = word; group = head.group })
+      (subst (λ (o : Grouped). Contains (named_at o.group o.kind) (record { name = word; group = head.group })) (sym is) (named_first head.group head.kind word own speaks))
+  | inr rest ↦ Contains-append_right (named_at first.group first.kind) (named_in lines) (record { name = word; group = head.group }) (named_stands lines word head own rest speaks)
+]
+
+named_heads : (lines : List Grouped) (word : List ℕ) (group : ℕ) → lower_case word ≡ word → Contains (named_in lines) (record { name = word; group = group }) → HasHead (names_token word) lines group
+named_heads [] word group own stands = absurd (none_of _ stands)
+named_heads (first ∷ lines) word group own stands = elim (Contains-append_cases (named_at first.group first.kind) (named_in lines) (record { name = word; group = group }) stands) [
+  | inl here ↦ (
+      let from = named_from first.group first.kind word group own here in
+      record { head = first; stands = first_of first lines; in_group = from.1; is_head = from.2; speaks = from.0 }
+      )
+  | inr rest ↦ head_behind (names_token word) first lines group (named_heads lines word group own rest)
+]
+
+everybody_stands : (lines : List Grouped) (head : Grouped) → Contains lines head → names_everybody head.kind ≡ true → Contains (everybody_in lines) head.group
+everybody_stands [] head stands speaks = absurd (none_of head stands)
+everybody_stands (first ∷ lines) head stands speaks = elim (entry_of first head lines stands) [
+  | inl is ↦ Contains-append_left (everybody_at first.group first.kind) (everybody_in lines) head.group
+      (subst (λ (o : Grouped). Contains (everybody_at o.group o.kind) head.group) (sym is) (everybody_first head.group head.kind speaks))
+  | inr rest ↦ Contains-append_right (everybody_at first.group first.kind) (everybody_in lines) head.group (everybody_stands lines head rest speaks)
+]
+
+everybody_heads : (lines : List Grouped) (group : ℕ) → Contains (everybody_in lines) group → HasHead names_everybody lines group
+everybody_heads [] group stands = absurd (none_of _ stands)
+everybody_heads (first ∷ lines) group stands = elim (Contains-append_cases (everybody_at first.group first.kind) (everybody_in lines) group stands) [
+  | inl here ↦ (
+      let from = everybody_from first.group first.kind group here in
+      record { head = first; stands = first_of first lines; in_group = from.1; is_head = from.2; speaks = from.0 }
+      )
+  | inr rest ↦ head_behind names_everybody first lines group (everybody_heads lines group rest)
+]
+
+-- some group has the name just where some line names the token
+any_first : (group : ℕ) (kind : Record) (word : List ℕ) (rest : List NamedGroup) (later : Bool) → lower_case word ≡ word → has_name rest word ≡ later →
+    has_name (named_at group kind ++ rest) word ≡ (names_token word kind || later)
+any_first group (agent everybody) word rest later own is = is
+any_first group (agent nobody) word rest later own is = is
+any_first group (rule kind value) word rest later own is = is
+any_first group other word rest later own is = is
+any_first group (agent (token name)) word rest later own is = λ i. bytes_eq (lower_case name) (sym own i) || is i
+
+any_named : (group : ℕ) (begins : Bool) (n : ℕ) (ks : List Record) (word : List ℕ) → lower_case word ≡ word →
+    has_name (named_in (grouped_from group begins (numbered_from n ks))) word ≡ is_named (numbered_from n ks) word
+any_named group begins n [] word own = refl
+any_named group begins n (k ∷ ks) word own =
+    any_first (group_at group begins n k) k word (named_in (grouped_from (group_at group begins n k) (begins_behind begins k) (numbered_from (n + 1) ks))) (is_named (numbered_from (n + 1) ks) word) own
+    (any_named (group_at group begins n k) (begins_behind begins k) (n + 1) ks word own)
+
+chosen : (is : Bool) (P Q : Type 0) → (is ≡ true → P) → (is ≡ false → Q) → MatchBool is P Q
+chosen true P Q yes' no' = yes' refl
+chosen false P Q yes' no' = no' refl
+
+if_named : (is : Bool) (P Q : Type 0) → is ≡ true → MatchBool is P Q → P
+if_named true P Q one match = match
+if_named false P Q one match = absurd (true≢false (sym one))
+
+if_unnamed : (is : Bool) (P Q : Type 0) → is ≡ false → MatchBool is P Q → Q
+if_unnamed true P Q one match = absurd (true≢false one)
+if_unnamed false P Q one match = match
+
+module _ (text : List ℕ) (table : Table) (names : Names) (index : IsIndex text table names) (word : List ℕ) (own : lower_case word ≡ word) where
+  same_named : has_name names.named word ≡ is_named (numbered_records text) word
+  same_named =
+      sym (list_any-IsPermutation (λ n. bytes_eq n.name word) (named_in (grouped_records text)) names.named index.named)
+      ∙ any_named 0 true 1 (records_of text) word own
+
+  -- the groups for the token are those in which a line speaks to it
+  group_spoken : (head : Grouped) → Contains (grouped_records text) head → speaks_to (numbered_records text) word head.kind ≡ true → IsGroupFor names word head.group
+  group_spoken head stands speaks = chosen (has_name names.named word) _ _
+      (λ is.
+      let named = sym same_named ∙ is in
+      let by_name = sym (cond-true (is_named (numbered_records text) word) (names_token word head.kind) (names_everybody head.kind) named) ∙ speaks in
+      Contains-permutation (named_in (grouped_records text)) names.named (record { name = word; group = head.group }) index.named (named_stands (grouped_records text) word head own stands by_name))
+      (λ is.
+      let unnamed = sym same_named ∙ is in
+      let by_star = sym (cond-false (is_named (numbered_records text) word) (names_token word head.kind) (names_everybody head.kind) unnamed) ∙ speaks in
+      subst (λ (groups : List ℕ). Contains groups head.group) (sym index.everybody) (everybody_stands (grouped_records text) head stands by_star))
+
+  spoken_by : (is : Bool) → is_named (numbered_records text) word ≡ is → (group : ℕ) → IsGroupFor names word group → HasHead (speaks_to (numbered_records text) word) (grouped_records text) group
+  spoken_by true is group match =
+      let stands = if_named (has_name names.named word) _ _ (same_named ∙ is) match in
+      let has = named_heads (grouped_records text) word group own
+      (Contains-permutation names.named (named_in (grouped_records text)) (record { name = word; group = group }) (IsPermutation-sym (named_in (grouped_records text)) names.named index.named) stands) in
+      record {
+        head = has.head;
+        stands = has.stands;
+        in_group = has.in_group;
+        is_head = has.is_head;
+        speaks = cond-true (is_named (numbered_records text) word) (names_token word has.head.kind) (names_everybody has.head.kind) is ∙ has.speaks;
+      }
+  spoken_by false is group match =
+      let stands = if_unnamed (has_name names.named word) _ _ (same_named ∙ is) match in
+      let has = everybody_heads (grouped_records text) group (subst (λ (groups : List ℕ). Contains groups group) index.everybody stands) in
+      record {
+        head = has.head;
+        stands = has.stands;
+        in_group = has.in_group;
+        is_head = has.is_head;
+        speaks = cond-false (is_named (numbered_records text) word) (names_token word has.head.kind) (names_everybody has.head.kind) is ∙ has.speaks;
+      }
+
+  -- a rule line for the token has its row, and its group is one for the token
+  rule_placed : (ruled : Ruled) → IsRuleFor (numbered_records text) word ruled → (group : ℕ) × (Contains table.rows (placed group ruled)) × (IsGroupFor names word group)
+  rule_placed ruled is =
+      let head = grouped_stands 0 true 1 (records_of text) is.head is.governs.head_stands in
+      let line = grouped_stands 0 true 1 (records_of text) (record_ruled ruled) is.governs.line_stands in
+      let one : Grouped = record { group = head.0; line = is.head.line; kind = is.head.kind } in
+      let two : Grouped = grouped line.0 ruled in
+      let same = (group_governs 0 true 1 (records_of text) one two (omega arith) head.1 line.1 is.governs.is_head is.governs.is_line).1 is.governs in (
+        line.0,
+        Contains-permutation (placed_in (grouped_records text)) table.rows (placed line.0 ruled) index.rows (placed_stands (grouped_records text) line.0 ruled line.1),
+        subst (IsGroupFor names word) same (group_spoken one head.1 is.speaks),
+      )
+
+  -- a row of a group for the token is that of a rule line for it
+  placed_rule : (row : Placed) → Contains table.rows row → IsGroupFor names word row.group → (ruled : Ruled) × (IsRuleFor (numbered_records text) word ruled) × (placed row.group ruled ≡ row)
+  placed_rule row stands match =
+      let one = of_line (grouped_records text) row
+      (Contains-permutation table.rows (placed_in (grouped_records text)) row (IsPermutation-sym (placed_in (grouped_records text)) table.rows index.rows) stands) in
+      let has = spoken_by (is_named (numbered_records text) word) refl row.group match in
+      let governs = (group_governs 0 true 1 (records_of text) has.head (grouped row.group one.ruled) (omega arith) has.stands one.stands has.is_head refl).0 has.in_group in
+      (one.ruled, record { head = numbered_of has.head; speaks = has.speaks; governs = governs }, one.is)
+
+  module _ (groups path : List ℕ) (are : (group : ℕ) → Contains groups group ↔ IsGroupFor names word group) where
+    -- a line that applies is a hit
+    applies_hit : (ruled : Ruled) → Applies (numbered_records text) word path ruled → (place : ℕ) × (IsHit table.rows groups path place) × (weight_at (row_at table.rows place) ≡ weight_of ruled)
+    applies_hit ruled applies =
+        let found = rule_placed ruled applies.for_token in
+        let place = found.1.0 in
+        let within = found.1.1 in
+        let row : row_at table.rows place ≡ placed found.0 ruled = get_or_default table.rows place no_row (placed found.0 ruled) within ∙ found.1.2 in (
+          place,
+          record {
+            within = within;
+            governs = subst (λ (r : Placed). Contains groups r.group) (sym row) ((are found.0).1 found.2);
+            matches = subst (λ (r : Placed). Matches r.form path) (sym row) applies.matches;
+          },
+          ap weight_at row,
+        )
+
+    -- and a hit is a line that applies
+    hit_applies : (place : ℕ) → IsHit table.rows groups path place → (ruled : Ruled) × (Applies (numbered_records text) word path ruled) × (placed (row_at table.rows place).group ruled ≡ row_at table.rows place)
+    hit_applies place hit =
+        let row = row_at table.rows place in
+        let stands : Contains table.rows row = (place, hit.within, get_or_default table.rows place row no_row hit.within) in
+        let one = placed_rule row stands ((are row.group).0 hit.governs) in
+        (one.0, record { for_token = one.1; matches = subst (λ (r : Placed). Matches r.form path) (sym one.2) hit.matches }, one.2)
+
+    -- of lines that apply, that of the smallest place is the strongest
+    strongest_hit : (place : ℕ) (ruled : Ruled) → IsHit table.rows groups path place → ((other : ℕ) → IsHit table.rows groups path other → place ≤ other) →
+        Applies (numbered_records text) word path ruled → placed (row_at table.rows place).group ruled ≡ row_at table.rows place → IsStrongest (numbered_records text) word path ruled
+    strongest_hit place ruled hit least applies is = record {
+      applies = applies;
+      strongest = λ other also.
+          let found = applies_hit other also in
+          let order = sorted_far is_row_above (ranks_by falling_total weight_at) table.rows index.falling place found.0 no_row (least found.0 found.1) found.1.within in
+          (λ i. is_above (sym found.2 i) (ap weight_at is i)) ∙ order;
+    }
+
+    decided : (kind : RuleKind) (place line : ℕ) (ruled : Ruled) → (path ≢ robots_path) → ruled.kind ≡ kind → ruled.line ≡ line → IsStrongest (numbered_records text) word path ruled →
+        IsVerdict (numbered_records text) word path (said_by kind line)
+    decided kinds.Allow place line ruled elsewhere is_kind is_line strongest = record { elsewhere = elsewhere; ruled = ruled; is_line = is_line; is_kind = is_kind; strongest = strongest }
+    decided kinds.Disallow place line ruled elsewhere is_kind is_line strongest = record { elsewhere = elsewhere; ruled = ruled; is_line = is_line; is_kind = is_kind; strongest = strongest }
+
+    -- the first hit gives the verdict
+    pub first_decides : (place : ℕ) → (path ≢ robots_path) → FindsLeast (IsHit table.rows groups path) (Some place) →
+        IsVerdict (numbered_records text) word path (said_by (row_at table.rows place).kind (row_at table.rows place).line)
+    first_decides place elsewhere least =
+        let one = hit_applies place least.0 in
+        decided (row_at table.rows place).kind place (row_at table.rows place).line one.0 elsewhere (ap (λ (r : Placed). r.kind) one.2) (ap (λ (r : Placed). r.line) one.2)
+        (strongest_hit place one.0 least.0 least.1 one.1 one.2)
+
+    pub none_decides : (path ≢ robots_path) → FindsLeast (IsHit table.rows groups path) None → (path ≢ robots_path) × ((ruled : Ruled) → Applies (numbered_records text) word path ruled → ⊥)
+    none_decides elsewhere none = (elsewhere, λ ruled applies. let found = applies_hit ruled applies in none found.0 found.1)

@@ -1,0 +1,26 @@
+-- What ties the parts of a policy to its text.
+-- Cited by the invariant of `Policy`, and by what reads its rows.
+use Rattle.std.specs.Prelude.{◌≡◌, ℕ, ◌<◌, ◌≤◌, Contains, List, length, Option, Some, None}
+use Rattle.std.specs.List.Sorted.{IsPermutation, IsSortedBy}
+use Rattle.path_pattern.specs.Matches.{Matches}
+use Rattle.robots_text.specs.Grouped.{grouped_records}
+use Rattle.robots_verdict.specs.Placed.{everybody_in, named_in, Names, Placed, placed_in, Table}
+use Rattle.robots_verdict.specs.Rows.{is_row_above, row_at}
+
+-- the rows are the rule lines of the text, strongest first, and the names are its names
+pub record IsIndex (text : List ℕ) (table : Table) (names : Names) : Type 0 where
+  pub rows : IsPermutation (placed_in (grouped_records text)) table.rows
+  pub falling : IsSortedBy is_row_above table.rows
+  pub named : IsPermutation (named_in (grouped_records text)) names.named
+  pub everybody : names.everybody ≡ everybody_in (grouped_records text)
+
+-- the row at the place is one of these groups, and matches the path
+pub record IsHit (rows : List Placed) (groups path : List ℕ) (place : ℕ) : Type 0 where
+  pub within : place < length rows
+  pub governs : Contains groups (row_at rows place).group
+  pub matches : Matches (row_at rows place).form path
+
+-- the smallest number that passes, if one does
+abbrev pub FindsLeast : (ℕ → Type 0) → Option ℕ → Type 0
+FindsLeast Test None = (place : ℕ) → Test place → ⊥
+FindsLeast Test (Some least) = Test least × ((place : ℕ) → Test place → least ≤ place)

@@ -1,0 +1,164 @@
+//! The names of groups, and which groups a token has.
+//! RFC 9309, section 2.2.1.
+ghost use Rattle.std.specs.Prelude.{◌≡◌, ◌∷◌, ◌++◌, [], ◌↔◌, ℕ, List, Contains, IfOk, map};
+ghost use Rattle.std.specs.List.Sorted.{IsPermutation};
+ghost use Rattle.std.specs.Ordering.{is_gt, is_lt, nat_cmp};
+ghost use Rattle.std.specs.Cmp.Lexicographic.{slice_cmp};
+ghost use Rattle.robots_text.specs.Records.{agent_seen, agent};
+ghost use Rattle.robots_text.specs.Token.{lower_case};
+ghost use Rattle.robots_verdict.specs.Heads.{compare_names, IsGroupFor, name_seen};
+ghost use Rattle.robots_verdict.specs.Placed.{everybody_at, named_at};
+
+use robots_text::Agent;
+use std::alloc::{AllocError, Global};
+use std::cmp::Ordering;
+use std::marker::Model;
+
+/// A name in lower case, and the number of a group that has it.
+#[derive(Debug, Drop)]
+pub(crate) struct Name {
+    text: Vec<u8>,
+    group: u32,
+}
+
+/// The names as they are read, and the groups of everybody.
+#[derive(Debug, Drop)]
+pub(crate) struct Names {
+    names: Vec<Name>,
+    everybody: Vec<u32>,
+}
+
+/// The names in order, and the groups of everybody.
+#[derive(Debug, Drop)]
+pub(crate) struct Heads {
+    names: Vec<Name>,
+    // The groups of the names, place by place.
+    groups: Vec<u32>,
+    everybody: Vec<u32>,
+}
+
+impl Model for Heads {
+    ghost use Rattle.robots_verdict.specs.Placed.{Names};
+
+    ghost Value = { Names };
+
+    ghost use Rattle.std.specs.Prelude.{◌≡◌, map};
+    ghost use Rattle.std.specs.List.Sorted.{IsSortedBy};
+    ghost use Rattle.robots_verdict.specs.Heads.{is_name_before, name_seen};
+
+    ghost view = { λ heads. record {
+      named = map name_seen heads.names.items;
+      everybody = heads.everybody.items;
+    } };
+
+    ghost invariant = { λ heads. (heads.groups.items ≡ map (λ name. name.group) heads.names.items)
+        × IsSortedBy is_name_before (map name_seen heads.names.items) };
+}
+
+impl Names {
+    pub(crate) fn new(alloc: Global) -> Names
+        ensures { (result.names.items ≡ []) × (result.everybody.items ≡ []) }
+    {
+        Names {
+            names: Vec::new(alloc),
+            everybody: Vec::new(alloc),
+        }
+    }
+
+    /// Adds whom a user-agent line names.
+    pub(crate) fn push(
+        &mut self,
+        alloc: Global,
+        who: Agent<'_>,
+        group: u32,
+    ) -> Result<(), AllocError>
+        ensures named { IfOk result (λ _. map name_seen self.new.names.items
+            ≡ map name_seen self.old.names.items ++ named_at group (agent (agent_seen who.entry))) }
+        ensures everybody { IfOk result (λ _. self.new.everybody.items
+            ≡ self.old.everybody.items ++ everybody_at group (agent (agent_seen who.entry))) }
+    {
+        match who {
+            Agent::All => self.everybody.push(group)?,
+            Agent::Name(name) => {
+                let text = lower_case(alloc, name)?;
+                self.names.push(Name { text, group })?;
+            }
+            Agent::Nobody => {}
+        }
+        Ok(())
+    }
+}
+
+impl Heads {
+    /// Puts the names in order.
+    pub(crate) fn of(alloc: Global, names: Names) -> Result<Heads, AllocError>
+        ensures named { IfOk result (λ heads. IsPermutation (map name_seen names.names.items) heads.named) }
+        ensures everybody { IfOk result (λ heads. heads.everybody ≡ names.everybody.items) }
+    {
+        let Names {
+            mut names,
+            everybody,
+        } = names;
+        names.sort_unstable_by(|one, other| compare_names(one, other));
+        let groups = groups_of(alloc, names.as_slice())?;
+        Ok(Heads {
+            names,
+            groups,
+            everybody,
+        })
+    }
+
+    /// The groups for a token, in lower case: those of its name, or of everybody where none has it.
+    pub(crate) fn groups_for(&self, token: &[u8]) -> &[u32]
+        ensures { (group : ℕ) → Contains result.now group ↔ IsGroupFor self.now token.now group }
+    {
+        let low = self.names.partition_point(|name| is_before(name, token));
+        let high = self.names.partition_point(|name| !is_behind(name, token));
+        if low < high {
+            &self.groups[low..high]
+        } else {
+            self.everybody.as_slice()
+        }
+    }
+}
+
+fn lower_case(alloc: Global, name: &[u8]) -> Result<Vec<u8>, AllocError>
+    ensures { IfOk result (λ text. text.items ≡ lower_case name.now) }
+{
+    let mut text = Vec::with_capacity(alloc, name.len())?;
+    for octet in name {
+        text.push(octet.to_ascii_lowercase())?;
+    }
+    Ok(text)
+}
+
+fn groups_of(alloc: Global, names: &[Name]) -> Result<Vec<u32>, AllocError>
+    ensures { IfOk result (λ groups. groups.items ≡ map (λ name. name.group) names.now) }
+{
+    let mut groups = Vec::with_capacity(alloc, names.len())?;
+    for name in names {
+        groups.push(name.group)?;
+    }
+    Ok(groups)
+}
+
+fn compare_names(one: &Name, other: &Name) -> Ordering
+    ensures { result ≡ compare_names (name_seen one.now) (name_seen other.now) }
+{
+    one.text
+        .as_slice()
+        .cmp(other.text.as_slice())
+        .then(one.group.cmp(&other.group))
+}
+
+fn is_before(name: &Name, token: &[u8]) -> bool
+    ensures { result ≡ is_lt (slice_cmp nat_cmp (name_seen name.now).name token.now) }
+{
+    name.text.as_slice().cmp(token).is_lt()
+}
+
+fn is_behind(name: &Name, token: &[u8]) -> bool
+    ensures { result ≡ is_gt (slice_cmp nat_cmp (name_seen name.now).name token.now) }
+{
+    name.text.as_slice().cmp(token).is_gt()
+}

@@ -1,0 +1,145 @@
+//! The rows of a policy, in one list, with the octets of all their patterns in another.
+//! RFC 9309, section 2.2.2.
+ghost use Rattle.std.specs.Prelude.{◌≡◌, ◌+◌, ◌*◌, ◌^◌, ◌∷◌, ◌++◌, [], ◌<◌, ◌≤◌, length, IfOk};
+ghost use Rattle.std.specs.List.Sorted.{IsPermutation, IsSortedBy};
+ghost use Rattle.path_normal.specs.Normal.{normal_pattern};
+ghost use Rattle.robots_verdict.specs.Rows.{is_row_above, part, row_at, weight_kept};
+ghost use Rattle.robots_verdict.specs.Strongest.{said_by};
+ghost use Rattle.robots_verdict.specs.Weights.{falling};
+
+use crate::decision::{Allowed, Verdict};
+use crate::row::Row;
+use crate::weight::Weight;
+use path_normal::push_normal_pattern;
+use robots_text::RuleKind;
+use std::alloc::{AllocError, Global};
+use std::cmp::Ordering;
+use std::marker::Model;
+
+/// The rows and the octets of their patterns.
+#[derive(Debug, Drop)]
+pub(crate) struct Rows {
+    octets: Vec<u8>,
+    rows: Vec<Row>,
+}
+
+impl Model for Rows {
+    ghost use Rattle.robots_verdict.specs.Placed.{Table};
+
+    ghost Value = { Table };
+
+    ghost use Rattle.std.specs.Prelude.{All, length};
+    ghost use Rattle.robots_verdict.specs.Rows.{IsThere, rows_seen};
+
+    ghost view = { λ table. record {
+      rows = rows_seen table.octets.items table.rows.items;
+      octets = length table.octets.items;
+    } };
+
+    ghost invariant = { λ table. All (IsThere table.octets.items) table.rows.items };
+}
+
+impl Rows {
+    pub(crate) fn new(alloc: Global) -> Rows
+        ensures { result ≡ record { rows = []; octets = 0 } }
+    {
+        Rows {
+            octets: Vec::new(alloc),
+            rows: Vec::new(alloc),
+        }
+    }
+
+    /// Adds a rule line, with its pattern as it stands in the text.
+    pub(crate) fn push(
+        &mut self,
+        group: u32,
+        line: u32,
+        kind: RuleKind,
+        pattern: &[u8],
+    ) -> Result<(), AllocError>
+        requires { self.old.octets + 3 * length pattern.now < 2 ^ 32 }
+        ensures row { IfOk result (λ _. self.new.rows ≡ self.old.rows
+            ++ record { group = group; line = line; kind = kind; form = normal_pattern pattern.now } ∷ []) }
+        ensures octets { IfOk result (λ _. self.new.octets ≤ self.old.octets + 3 * length pattern.now) }
+    {
+        let start = self.octets.len();
+        push_normal_pattern(&mut self.octets, pattern)?;
+        let len = self.octets.len() - start;
+        self.rows.push(Row {
+            start: start as u32,
+            len: len as u32,
+            line,
+            group,
+            kind,
+        })?;
+        Ok(())
+    }
+
+    /// Puts the strongest first. It takes no memory.
+    pub(crate) fn sort(&mut self)
+        ensures permutation { IsPermutation self.old.rows self.new.rows }
+        ensures falling { IsSortedBy is_row_above self.new.rows }
+    {
+        self.rows
+            .sort_unstable_by(|one, other| falling_rows(one, other));
+    }
+
+    /// How many rows there are.
+    pub(crate) fn len(&self) -> usize
+        ensures { result ≡ length self.now.rows }
+    {
+        self.rows.len()
+    }
+
+    /// The number of the row's group.
+    pub(crate) fn group(&self, place: usize) -> u32
+        requires { place < length self.now.rows }
+        ensures { result ≡ (row_at self.now.rows place).group }
+    {
+        self.rows[place].group
+    }
+
+    /// The row's pattern in normal form.
+    pub(crate) fn form(&self, place: usize) -> &[u8]
+        requires { place < length self.now.rows }
+        ensures { result.now ≡ (row_at self.now.rows place).form }
+    {
+        let row = self.rows[place];
+        part(self.octets.as_slice(), row.start as usize, row.len as usize)
+    }
+
+    /// What the row says of a path for which it decides.
+    pub(crate) fn says(&self, place: usize) -> Verdict
+        requires { place < length self.now.rows }
+        ensures { result ≡ said_by (row_at self.now.rows place).kind (row_at self.now.rows place).line }
+    {
+        let row = self.rows[place];
+        match row.kind {
+            RuleKind::Allow => Verdict::Allow(Allowed::Line(u64::from(row.line))),
+            RuleKind::Disallow => Verdict::Deny(u64::from(row.line)),
+        }
+    }
+}
+
+fn part(octets: &[u8], start: usize, len: usize) -> &[u8]
+    requires { start + len ≤ length octets.now }
+    ensures { result.now ≡ part octets.now start len }
+{
+    &octets[start..start + len]
+}
+
+fn falling_rows(one: &Row, other: &Row) -> Ordering
+    ensures { result ≡ falling (weight_kept one.now) (weight_kept other.now) }
+{
+    weight(one).falling(&weight(other))
+}
+
+fn weight(row: &Row) -> Weight
+    ensures { result ≡ weight_kept row.now }
+{
+    Weight {
+        octets: row.len as usize,
+        kind: row.kind,
+        line: u64::from(row.line),
+    }
+}
