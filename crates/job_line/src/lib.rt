@@ -6,5 +6,8 @@ mod line;
 mod rule;
 mod seat;
 
-pub use line::{Drawn, JobLine, MAX_JOBS, MAX_WORKERS};
+pub use line::{Drawn, JobLine, MAX_JOBS, MAX_WORKERS, constants_are_the_limits};
 pub use seat::JobSeat;
+
+#[cfg(test)]
+mod tests;

@@ -100,6 +100,7 @@ impl JobLine {
         ensures some { IfSome result (λ n. (n < seat.old.jobs)
             × (seat.new ≡ record seat.old { drawn = seat.old.drawn ++ n ∷ [] })) }
         ensures none { IfNone result (seat.new ≡ record seat.old { ended = true }) }
+        ensures same { (seat.new.line ≡ seat.old.line) × (seat.new.parts ≡ seat.old.parts) }
     {
         if seat.ended {
             return None;
@@ -136,13 +137,19 @@ impl JobLine {
         for seat in seats {
             let JobSeat {
                 seat: other,
-                drawn,
+                drawn: list,
                 ..
             } = seat;
-            lists.push_reserved(drawn);
+            lists.push_reserved(list);
             table.shared.join_seat::<TakeIn>(&mut hand, other);
         }
         table.shared.load::<Learn>(&mut hand, 0);
         Drawn { lists }
     }
 }
+
+/// The constants are the numbers that the definitions have.
+pub fn constants_are_the_limits()
+    ensures jobs { MAX_JOBS ≡ max_jobs }
+    ensures workers { MAX_WORKERS ≡ max_workers }
+{}

@@ -1,5 +1,7 @@
 //! A worker's seat at a line of jobs.
 //! Made by `JobLine::new`, used by `JobLine::draw` and spent by `JobLine::gather`.
+ghost use Rattle.std.specs.Prelude.{◌≡◌};
+
 use crate::rule::Hand;
 use atomic_table::Seat;
 use std::marker::Model;
@@ -23,4 +25,13 @@ impl Model for JobSeat {
     ghost view = { seat_view };
 
     ghost invariant = { IsSeated };
+}
+
+impl JobSeat {
+    /// What was drawn at this seat, in the order of the draws.
+    pub fn drawn(&self) -> &[u64]
+        ensures { result.now ≡ self.now.drawn }
+    {
+        self.drawn.as_slice()
+    }
 }
