@@ -1,0 +1,5 @@
+-- Lemmas that the answers cite.
+pub mod SumLemmas
+pub mod Steps
+pub mod Plays
+pub mod SeatLemmas

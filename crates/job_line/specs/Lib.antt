@@ -1,0 +1,6 @@
+-- What contracts say of the line of jobs.
+pub mod Limits
+pub mod Sums
+pub mod Rule
+pub mod Covers
+pub mod Seats
