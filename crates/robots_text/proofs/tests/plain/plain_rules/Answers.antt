@@ -18,7 +18,7 @@ returns c =
     let none_left = c.in-None.ensures.steps.0 in
     let all : rules ≡ kept lines = sym (append-nil rules) ∙ sym (ap (λ left. rules ++ kept left) none_left) ∙ c.loop-record.invariant in
     let is_word = c.as_bytes.ensures.value ∙ c.text.ensures.value in
-    let are_lines = c.records.ensures in
+    let are_lines = c.records.ensures.records in
     subst (AreRulesFor lines word) (sym all)
     (plain_is test word (records_of text)
     (λ kind. c.whom_for-whom.ensures kind ∙ (λ i. speaks_to (are_lines i) (is_word i) kind)))
