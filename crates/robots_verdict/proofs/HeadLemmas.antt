@@ -3,7 +3,7 @@
 use Rattle.std.proofs.Common.{◌≡◌, ℕ, ◌+◌, ◌-◌, ◌<◌, ◌≤◌, Bool, true, false, not, inl, inr, List, [], ◌∷◌, length, map, take, drop, get_or, Contains, refl, sym, ap, ◌∙◌, subst, arith}
 use Rattle.std.specs.Prelude.{◌↔◌, bytes_eq, MatchBool}
 use Rattle.std.specs.List.{AllWithin}
-use Rattle.std.specs.List.Sorted.{IsPartitionedBy, IsPartitionPoint, IsSortedBy}
+use Rattle.std.specs.List.Sorted.{IsNonDecreasing, IsPartitionedBy, IsPartitionPoint, IsSortedBy}
 use Rattle.std.specs.declared.cmp.Ordering.{Ordering}
 use Rattle.std.specs.declared.cmp.Ordering.TheVariants.{Less, Equal, Greater}
 use Rattle.std.specs.Ordering.{is_eq, is_gt, is_lt, nat_cmp, ordering_reverse, ordering_then}
@@ -12,12 +12,13 @@ use Rattle.std.specs.Cmp.Lexicographic.{slice_cmp}
 use Rattle.std.proofs.lemmas.Bool.{cases_lt, true≢false}
 use Rattle.std.proofs.lemmas.Cmp.{nat_cmp_total, nat_list_cmp_total, on_total, then_total, tied_itself}
 use Rattle.std.proofs.lemmas.List.{get_or-drop, get_or-map, get_or-take, get_or_default, length-drop, length-map, length-take}
-use Rattle.std.proofs.lemmas.List.Sorted.{ranks_by, sorted_far}
+use Rattle.std.proofs.lemmas.List.Sorted.{IsNonDecreasingBy-from_default, ranks_by, sorted_far}
 use Rattle.std.proofs.lemmas.Map.Text.{is_eq-slice_cmp}
 use Rattle.std.proofs.lemmas.Slice.Eq.{bytes_eq-Decides}
 use Rattle.robots_text.proofs.Plains.{any_passes, passes_any}
 use Rattle.robots_verdict.specs.Heads.{compare_names, has_name, is_name_before}
 use Rattle.robots_verdict.specs.Placed.{NamedGroup}
+use Rattle.robots_verdict.proofs.Weighing.{last_level}
 
 pub names_total : IsTotalOrder compare_names
 names_total = then_total (on_total (λ (n : NamedGroup). n.name) nat_list_cmp_total) (on_total (λ (n : NamedGroup). n.group) nat_cmp_total)
@@ -45,13 +46,13 @@ less_of Equal is = absurd (true≢false (sym is))
 less_of Greater is = absurd (true≢false (sym is))
 
 -- what is not above what is less is less too
-below_less : (o : Ordering) (a b c : List ℕ) → words a b ≡ o → is_lt (words b a) ≡ false → words b c ≡ Less → is_lt (words a c) ≡ true
+pub below_less : (o : Ordering) (a b c : List ℕ) → words a b ≡ o → is_lt (words b a) ≡ false → words b c ≡ Less → is_lt (words a c) ≡ true
 below_less Less a b c is low less = ap is_lt (nat_list_cmp_total.trans a b c is less)
 below_less Equal a b c is low less = ap is_lt (nat_list_cmp_total.congr a b c is ∙ less)
 below_less Greater a b c is low less = absurd (true≢false (sym (turned b a ∙ ap is_gt is) ∙ low))
 
 -- what is not above what is no greater is no greater too
-below_not : (o : Ordering) (a b c : List ℕ) → words a c ≡ o → is_lt (words b a) ≡ false → is_gt (words b c) ≡ false → is_gt (words a c) ≡ false
+pub below_not : (o : Ordering) (a b c : List ℕ) → words a c ≡ o → is_lt (words b a) ≡ false → is_gt (words b c) ≡ false → is_gt (words a c) ≡ false
 below_not Less a b c is low not_gt = ap is_gt is
 below_not Equal a b c is low not_gt = ap is_gt is
 below_not Greater a b c is low not_gt =
@@ -86,10 +87,10 @@ pub before_falls : (named : List NamedGroup) (token : List ℕ) → IsSortedBy i
 before_falls named token sorted i j d order within is =
     below_less (words (get_or named i d).name (get_or named j d).name) (get_or named i d).name (get_or named j d).name token refl (rises named sorted i j d order within) (less_of (words (get_or named j d).name token) is)
 
-not_true : (b : Bool) → b ≡ false → not b ≡ true
+pub not_true : (b : Bool) → b ≡ false → not b ≡ true
 not_true b is = ap not is
 
-true_not : (b : Bool) → not b ≡ true → b ≡ false
+pub true_not : (b : Bool) → not b ≡ true → b ≡ false
 true_not true is = absurd (true≢false (sym is))
 true_not false is = refl
 
@@ -170,6 +171,35 @@ run_groups named groups token low high are run group = (
         get_or-take (high - low) (drop low groups) (k - low) group less ∙ get_or-drop low groups (k - low) group ∙ ap (λ n. get_or groups n group) place ∙ read,
       ),
 )
+
+-- and the groups of the run rise
+pub run_rises : (named : List NamedGroup) (groups token : List ℕ) (low high : ℕ) → groups ≡ map (λ (n : NamedGroup). n.group) named → IsSortedBy is_name_before named → IsRun named token low high →
+    IsNonDecreasing (take (high - low) (drop low groups))
+run_rises named groups token low high are sorted run = IsNonDecreasingBy-from_default (λ (n : ℕ). n) (take (high - low) (drop low groups)) 0 rise
+  where
+    read : (k : ℕ) → k < high - low → get_or (take (high - low) (drop low groups)) k 0 ≡ (get_or named (low + k) no_name).group
+    read k less =
+        let fits = run.fits in
+        get_or-take (high - low) (drop low groups) k 0 less ∙ get_or-drop low groups k 0
+        ∙ ap (λ (gs : List ℕ). get_or gs (low + k) 0) are ∙ get_or-map (λ (n : NamedGroup). n.group) named (low + k) no_name 0 (omega (arith, fits, less))
+
+    same : (k : ℕ) → k < high - low → (get_or named (low + k) no_name).name ≡ token
+    same k less = run.inside (low + k) no_name (omega arith) (omega (arith, less))
+
+    no_later : (i j : ℕ) → i ≤ j → j < high - low → (get_or named (low + i) no_name).group ≤ (get_or named (low + j) no_name).group
+    no_later i j order less =
+        let fits = run.fits in
+        let one = get_or named (low + i) no_name in
+        let other = get_or named (low + j) no_name in
+        let ranks = sorted_far is_name_before (ranks_by names_total (λ (n : NamedGroup). n)) named sorted (low + i) (low + j) no_name (omega (arith, order)) (omega (arith, fits, less)) in
+        let equal = words_same other.name one.name (same j less ∙ sym (same i (omega (arith, order, less)))) in
+        last_level other.group one.group (ap (λ (o : Ordering). is_lt (ordering_then o (nat_cmp other.group one.group))) (sym equal) ∙ ranks)
+
+    rise : (i j : ℕ) → i ≤ j → j < length (take (high - low) (drop low groups)) → get_or (take (high - low) (drop low groups)) i 0 ≤ get_or (take (high - low) (drop low groups)) j 0
+    rise i j order within =
+        let few = length-take (high - low) (drop low groups) in
+        let less : j < high - low = omega (arith, within, few) in
+        omega (arith, read i (omega (arith, order, less)), read j less, no_later i j order less)
 
 -- whether a group has the name
 pub has_run : (named : List NamedGroup) (token : List ℕ) (low high : ℕ) → IsRun named token low high → low < high → has_name named token ≡ true

@@ -7,3 +7,9 @@ pub mod RowLemmas
 pub mod HeadLemmas
 pub mod Verdicts
 pub mod Readings
+pub mod Begins
+pub mod Chains
+pub mod Placing
+pub mod PlainHits
+pub mod OtherHits
+pub mod Joining

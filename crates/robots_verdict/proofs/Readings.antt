@@ -1,8 +1,9 @@
 -- What was read of a text, and what is left of it.
 -- Used by `read`.
-use Rattle.std.proofs.Common.{◌≡◌, ℕ, ◌+◌, ◌*◌, ◌≤◌, List, ◌∷◌, ◌++◌, All, ap, ◌∙◌, append_assoc, arith}
+use Rattle.std.proofs.Common.{◌≡◌, ℕ, ◌+◌, ◌*◌, ◌≤◌, List, ◌∷◌, ◌++◌, All, length, ap, ◌∙◌, append_assoc, length-append, arith}
 use Rattle.std.proofs.lemmas.List.Elements.{All-tail}
 use Rattle.robots_text.specs.Grouped.{Grouped, IsWithin, value_octets, values_octets}
+use Rattle.robots_text.specs.Records.{Record, agent, rule, other}
 use Rattle.robots_verdict.specs.Placed.{everybody_at, everybody_in, named_at, named_in, NamedGroup, Placed, placed_at, placed_in}
 
 -- what was read, with what is left, makes up the whole; and there is room for its octets
@@ -12,6 +13,12 @@ pub record IsReading (all left : List Grouped) (rows : List Placed) (octets : �
   pub everybody_are : everybody ++ everybody_in left ≡ everybody_in all
   pub small : octets + 3 * values_octets left ≤ 1536000
   pub within : All (IsWithin 512000) left
+  pub few : length rows + length left ≤ 512000
+
+at_most_one : (group line : ℕ) (kind : Record) → length (placed_at group line kind) ≤ 1
+at_most_one group line (agent who) = omega arith
+at_most_one group line (rule kind value) = omega arith
+at_most_one group line other = omega arith
 
 pub read_one : (all left : List Grouped) (first : Grouped) (rows rows' : List Placed) (octets octets' : ℕ) (named named' : List NamedGroup) (everybody everybody' : List ℕ) →
     IsReading all (first ∷ left) rows octets named everybody → rows' ≡ rows ++ placed_at first.group first.line first.kind → octets' ≤ octets + 3 * value_octets first.kind →
@@ -22,4 +29,6 @@ read_one all left first rows rows' octets octets' named named' everybody everybo
   everybody_are = ap (λ (l : List ℕ). l ++ everybody_in left) stars ∙ append_assoc everybody (everybody_at first.group first.kind) (everybody_in left) ∙ reading.everybody_are;
   small = let before = reading.small in omega arith;
   within = All-tail (IsWithin 512000) first left reading.within;
+  few = let before = reading.few in let one = at_most_one first.group first.line first.kind in
+      omega (arith, ap length more, length-append rows (placed_at first.group first.line first.kind));
 }

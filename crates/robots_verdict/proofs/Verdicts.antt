@@ -1,7 +1,7 @@
 -- The first row that decides gives the verdict.
 -- Used by `Policy::verdict`.
-use Rattle.std.proofs.Common.{◌≡◌, ℕ, ◌+◌, ◌≤◌, Bool, true, false, inl, inr, List, [], ◌∷◌, ◌++◌, Contains, refl, sym, ap, ◌∙◌, subst, arith}
-use Rattle.std.specs.Prelude.{◌↔◌, ◌≢◌, ◌||◌, bytes_eq, MatchBool, Some, None}
+use Rattle.std.proofs.Common.{◌≡◌, ℕ, ◌+◌, ◌<◌, ◌≤◌, length, Bool, true, false, inl, inr, List, [], ◌∷◌, ◌++◌, Contains, refl, sym, ap, ◌∙◌, subst, arith}
+use Rattle.std.specs.Prelude.{◌↔◌, ◌≢◌, ◌||◌, bytes_eq, MatchBool, IfSome, Option, Some, None, unwrap_or, is_some}
 use Rattle.std.proofs.lemmas.Bool.{cond-true, cond-false, true≢false}
 use Rattle.std.proofs.lemmas.List.Elements.{Contains-append_cases, Contains-append_left, Contains-append_right}
 use Rattle.std.proofs.lemmas.List.{get_or_default}
@@ -15,14 +15,14 @@ use Rattle.robots_text.specs.Grouped.{Grouped, grouped_from, grouped_records, nu
 use Rattle.robots_text.specs.Grouping.{begins_behind, group_at}
 use Rattle.robots_text.specs.Groups.{is_agent, is_named, IsRuleFor, names_everybody, names_token, record_ruled, Ruled, speaks_to}
 use Rattle.robots_text.specs.Records.{everybody, token, nobody, Record, agent, rule, other, numbered_from, numbered_records, records_of}
-use Rattle.robots_text.specs.Token.{lower_case}
+use Rattle.robots_text.specs.Token.{is_token, lower_case, token_of}
 use Rattle.robots_text.proofs.GroupLaws.{group_governs, grouped_stands}
 use Rattle.robots_text.proofs.LineEntries.{behind, entry_of, first_of, none_of}
 use Rattle.robots_verdict.specs.Heads.{has_name, IsGroupFor}
 use Rattle.robots_verdict.specs.Index.{FindsLeast, IsHit, IsIndex}
 use Rattle.robots_verdict.specs.Placed.{everybody_at, everybody_in, named_at, named_in, NamedGroup, Names, Placed, placed_at, placed_in, Table}
 use Rattle.robots_verdict.specs.Rows.{is_row_above, no_row, row_at, weight_at}
-use Rattle.robots_verdict.specs.Strongest.{said_by}
+use Rattle.robots_verdict.specs.Strongest.{said_by, verdict_at}
 use Rattle.robots_verdict.specs.Verdict.{Applies, IsStrongest, IsVerdict, robots_path}
 use Rattle.robots_verdict.specs.Weights.{is_above, weight_of}
 use Rattle.robots_verdict.proofs.Weighing.{falling_total}
@@ -211,7 +211,7 @@ module _ (text : List ℕ) (table : Table) (names : Names) (index : IsIndex text
       (λ is.
       let unnamed = sym same_named ∙ is in
       let by_star = sym (cond-false (is_named (numbered_records text) word) (names_token word head.kind) (names_everybody head.kind) unnamed) ∙ speaks in
-      subst (λ (groups : List ℕ). Contains groups head.group) (sym index.everybody) (everybody_stands (grouped_records text) head stands by_star))
+      Contains-permutation (everybody_in (grouped_records text)) names.everybody head.group index.everybody (everybody_stands (grouped_records text) head stands by_star))
 
   spoken_by : (is : Bool) → is_named (numbered_records text) word ≡ is → (group : ℕ) → IsGroupFor names word group → HasHead (speaks_to (numbered_records text) word) (grouped_records text) group
   spoken_by true is group match =
@@ -227,7 +227,8 @@ module _ (text : List ℕ) (table : Table) (names : Names) (index : IsIndex text
       }
   spoken_by false is group match =
       let stands = if_unnamed (has_name names.named word) _ _ (same_named ∙ is) match in
-      let has = everybody_heads (grouped_records text) group (subst (λ (groups : List ℕ). Contains groups group) index.everybody stands) in
+      let has = everybody_heads (grouped_records text) group
+      (Contains-permutation names.everybody (everybody_in (grouped_records text)) group (IsPermutation-sym (everybody_in (grouped_records text)) names.everybody index.everybody) stands) in
       record {
         head = has.head;
         stands = has.stands;
@@ -300,12 +301,36 @@ module _ (text : List ℕ) (table : Table) (names : Names) (index : IsIndex text
     decided kinds.Disallow place line ruled elsewhere is_kind is_line strongest = record { elsewhere = elsewhere; ruled = ruled; is_line = is_line; is_kind = is_kind; strongest = strongest }
 
     -- the first hit gives the verdict
-    pub first_decides : (place : ℕ) → (path ≢ robots_path) → FindsLeast (IsHit table.rows groups path) (Some place) →
+    first_decides : (place : ℕ) → (path ≢ robots_path) → FindsLeast (IsHit table.rows groups path) (Some place) →
         IsVerdict (numbered_records text) word path (said_by (row_at table.rows place).kind (row_at table.rows place).line)
     first_decides place elsewhere least =
         let one = hit_applies place least.0 in
         decided (row_at table.rows place).kind place (row_at table.rows place).line one.0 elsewhere (ap (λ (r : Placed). r.kind) one.2) (ap (λ (r : Placed). r.line) one.2)
         (strongest_hit place one.0 least.0 least.1 one.1 one.2)
 
-    pub none_decides : (path ≢ robots_path) → FindsLeast (IsHit table.rows groups path) None → (path ≢ robots_path) × ((ruled : Ruled) → Applies (numbered_records text) word path ruled → ⊥)
+    none_decides : (path ≢ robots_path) → FindsLeast (IsHit table.rows groups path) None → (path ≢ robots_path) × ((ruled : Ruled) → Applies (numbered_records text) word path ruled → ⊥)
     none_decides elsewhere none = (elsewhere, λ ruled applies. let found = applies_hit ruled applies in none found.0 found.1)
+
+    first_says : (first : Option ℕ) → (path ≢ robots_path) → FindsLeast (IsHit table.rows groups path) first → IsVerdict (numbered_records text) word path (verdict_at table.rows first)
+    first_says None elsewhere none = none_decides elsewhere none
+    first_says (Some place) elsewhere least = first_decides place elsewhere least
+
+-- a token is kept in lower case
+own_case : (is : Bool) (word : List ℕ) → is_token word ≡ is → token_of word ≡ Some word → lower_case word ≡ word
+own_case true word is own =
+    ap (λ (o : Option (List ℕ)). unwrap_or o word) (sym (cond-true (is_token word) (Some (lower_case word)) None is) ∙ own)
+own_case false word is own =
+    absurd (true≢false (ap is_some (sym own ∙ cond-false (is_token word) (Some (lower_case word)) None is)))
+
+-- of the groups for a token the first row that matches gives the verdict
+pub policy_says : (text seen : List ℕ) (table : Table) (names : Names) (word spelled path groups : List ℕ) (first : Option ℕ) → text ≡ seen → IsIndex text table names →
+    token_of word ≡ Some word → spelled ≡ word → ((group : ℕ) → Contains groups group ↔ IsGroupFor names spelled group) → (path ≢ robots_path) →
+    FindsLeast (IsHit table.rows groups path) first → IsVerdict (numbered_records seen) word path (verdict_at table.rows first)
+policy_says text seen table names word spelled path groups first is index own same are elsewhere least =
+    subst (λ (t : List ℕ). IsVerdict (numbered_records t) word path (verdict_at table.rows first)) is
+    (first_says text table names index word (own_case (is_token word) word refl own) groups path
+    (subst (λ (w : List ℕ). (group : ℕ) → Contains groups group ↔ IsGroupFor names w group) same are) first elsewhere least)
+
+pub first_within : (table : Table) (groups path : List ℕ) (first : Option ℕ) → FindsLeast (IsHit table.rows groups path) first → IfSome first (λ place. place < length table.rows)
+first_within table groups path None least = tt
+first_within table groups path (Some place) least = least.0.within

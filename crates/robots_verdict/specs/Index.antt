@@ -12,7 +12,7 @@ pub record IsIndex (text : List ℕ) (table : Table) (names : Names) : Type 0 wh
   pub rows : IsPermutation (placed_in (grouped_records text)) table.rows
   pub falling : IsSortedBy is_row_above table.rows
   pub named : IsPermutation (named_in (grouped_records text)) names.named
-  pub everybody : names.everybody ≡ everybody_in (grouped_records text)
+  pub everybody : IsPermutation (everybody_in (grouped_records text)) names.everybody
 
 -- the row at the place is one of these groups, and matches the path
 pub record IsHit (rows : List Placed) (groups path : List ℕ) (place : ℕ) : Type 0 where

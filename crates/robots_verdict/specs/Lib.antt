@@ -6,6 +6,7 @@ pub mod Index
 pub mod Kept
 pub mod Placed
 pub mod Rows
+pub mod Search
 pub mod Spares
 pub mod Strongest
 pub mod Verdict

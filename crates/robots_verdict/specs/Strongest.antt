@@ -9,6 +9,8 @@ use Rattle.robots_verdict.specs.declared.decision.Allowed.TheVariants.{Line, NoR
 use Rattle.robots_verdict.specs.declared.decision.Verdict.{Verdict}
 use Rattle.robots_verdict.specs.declared.decision.Verdict.TheVariants.{Allow, Deny}
 use Rattle.robots_verdict.specs.declared.weight.Weight.{Weight}
+use Rattle.robots_verdict.specs.Placed.{Placed}
+use Rattle.robots_verdict.specs.Rows.{row_at}
 use Rattle.robots_verdict.specs.Verdict.{Applies, IsStrongest}
 use Rattle.robots_verdict.specs.Weights.{is_above, weight_of}
 
@@ -31,3 +33,8 @@ verdict_of (Some best) = said_by best.kind best.line
 abbrev pub stronger : Option Weight → Weight → Weight
 stronger None other = other
 stronger (Some best) other = if is_above other best then other else best
+
+-- the verdict by the row at a place, and that of no row
+abbrev pub verdict_at : List Placed → Option ℕ → Verdict
+verdict_at rows None = Allow NoRule
+verdict_at rows (Some place) = said_by (row_at rows place).kind (row_at rows place).line

@@ -1,7 +1,7 @@
 //! The names of groups, and which groups a token has.
 //! RFC 9309, section 2.2.1.
 ghost use Rattle.std.specs.Prelude.{◌≡◌, ◌∷◌, ◌++◌, [], ◌↔◌, ℕ, List, Contains, IfOk, map};
-ghost use Rattle.std.specs.List.Sorted.{IsPermutation};
+ghost use Rattle.std.specs.List.Sorted.{IsNonDecreasing, IsPermutation};
 ghost use Rattle.std.specs.Ordering.{is_gt, is_lt, nat_cmp};
 ghost use Rattle.std.specs.Cmp.Lexicographic.{slice_cmp};
 ghost use Rattle.robots_text.specs.Records.{agent_seen, agent};
@@ -43,7 +43,7 @@ impl Model for Heads {
     ghost Value = { Names };
 
     ghost use Rattle.std.specs.Prelude.{◌≡◌, map};
-    ghost use Rattle.std.specs.List.Sorted.{IsSortedBy};
+    ghost use Rattle.std.specs.List.Sorted.{IsNonDecreasing, IsSortedBy};
     ghost use Rattle.robots_verdict.specs.Heads.{is_name_before, name_seen};
 
     ghost view = { λ heads. record {
@@ -52,7 +52,8 @@ impl Model for Heads {
     } };
 
     ghost invariant = { λ heads. (heads.groups.items ≡ map (λ name. name.group) heads.names.items)
-        × IsSortedBy is_name_before (map name_seen heads.names.items) };
+        × IsSortedBy is_name_before (map name_seen heads.names.items)
+        × IsNonDecreasing heads.everybody.items };
 }
 
 impl Names {
@@ -90,16 +91,17 @@ impl Names {
 }
 
 impl Heads {
-    /// Puts the names in order.
+    /// Puts the names and the groups of everybody in order.
     pub(crate) fn of(alloc: Global, names: Names) -> Result<Heads, AllocError>
         ensures named { IfOk result (λ heads. IsPermutation (map name_seen names.names.items) heads.named) }
-        ensures everybody { IfOk result (λ heads. heads.everybody ≡ names.everybody.items) }
+        ensures everybody { IfOk result (λ heads. IsPermutation names.everybody.items heads.everybody) }
     {
         let Names {
             mut names,
-            everybody,
+            mut everybody,
         } = names;
         names.sort_unstable_by(|one, other| compare_names(one, other));
+        everybody.sort_unstable();
         let groups = groups_of(alloc, names.as_slice())?;
         Ok(Heads {
             names,
@@ -108,9 +110,11 @@ impl Heads {
         })
     }
 
-    /// The groups for a token, in lower case: those of its name, or of everybody where none has it.
+    /// The groups for a token, in lower case: those of its name, or of everybody where none has it. Their
+    /// numbers rise.
     pub(crate) fn groups_for(&self, token: &[u8]) -> &[u32]
-        ensures { (group : ℕ) → Contains result.now group ↔ IsGroupFor self.now token.now group }
+        ensures groups { (group : ℕ) → Contains result.now group ↔ IsGroupFor self.now token.now group }
+        ensures rise { IsNonDecreasing result.now }
     {
         let low = self.names.partition_point(|name| is_before(name, token));
         let high = self.names.partition_point(|name| !is_behind(name, token));

@@ -7,6 +7,7 @@ ghost use Rattle.robots_verdict.specs.Strongest.{IsBest, stronger};
 ghost use Rattle.robots_verdict.specs.Verdict.{IsVerdict};
 
 use crate::decision::{Allowed, Verdict, is_robots_path, verdict_of};
+use crate::policy::Policy;
 use crate::weight::Weight;
 use path_pattern::Pattern;
 use robots_text::{RobotsText, Token};
@@ -17,6 +18,14 @@ pub fn one_verdict()
     ensures { (lines : List Numbered) (word path : List ℕ) (one other : VerdictValue)
         → IsVerdict lines word path one → IsVerdict lines word path other → one ≡ other }
 {}
+
+/// The verdict by the first row that matches of the groups for the token, in the order in which rows rank.
+/// It takes no memory.
+pub fn verdict_sorted(policy: &Policy, token: &Token, path: &[u8]) -> Verdict
+    ensures { IsVerdict (numbered_records policy.now) token.now path.now result }
+{
+    policy.verdict_by_walk(token, path)
+}
 
 /// The verdict by the rules for the token, one after another. It makes a pattern of each.
 pub fn verdict_plain(

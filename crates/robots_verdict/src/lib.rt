@@ -6,10 +6,13 @@ mod answer;
 mod decision;
 mod heads;
 pub mod laws;
+mod others;
+mod plain;
 mod policy;
 mod row;
 mod rows;
 mod rules;
+mod search;
 mod walk;
 mod weight;
 

@@ -1,6 +1,7 @@
 //! A robots text that is ready to be asked for verdicts.
 //! RFC 9309, section 2.2.2.
-ghost use Rattle.std.specs.Prelude.{◌≡◌, ◌+◌, ◌*◌, ◌^◌, ◌<◌, ◌≤◌, ◌++◌, ◌↔◌, Contains, IfOk, IsTrue, map};
+ghost use Rattle.std.specs.Prelude.{◌≡◌, ◌+◌, ◌*◌, ◌^◌, ◌<◌, ◌≤◌, ◌++◌, ◌↔◌, Contains, IfOk, IsTrue, length, map};
+ghost use Rattle.robots_text.specs.Lines.{text_limit};
 ghost use Rattle.robots_text.specs.Grouped.{grouped_records, value_octets};
 ghost use Rattle.robots_text.specs.Records.{kind_seen, numbered_records};
 ghost use Rattle.robots_verdict.specs.Heads.{name_seen};
@@ -10,16 +11,18 @@ ghost use Rattle.robots_verdict.specs.Verdict.{IsVerdict};
 use crate::decision::{Allowed, Verdict, is_robots_path};
 use crate::heads::{Heads, Names};
 use crate::rows::Rows;
+use crate::search::Places;
 use crate::walk::first_row;
 use robots_text::{GroupedRecord, RecordKind, RobotsText, Token};
 use std::alloc::{AllocError, Global};
 use std::marker::Model;
 
-/// A robots text, its rule lines with the strongest first, and the names of its groups.
+/// A robots text, its rule lines with the strongest first, where each is found, and the names of its groups.
 #[derive(Debug, Drop)]
 pub struct Policy {
     text: RobotsText,
     rows: Rows,
+    places: Places,
     heads: Heads,
 }
 
@@ -32,10 +35,12 @@ impl Model for Policy {
     ghost coded = { coded_list coded_ℕ };
 
     ghost use Rattle.robots_verdict.specs.Index.{IsIndex};
+    ghost use Rattle.robots_verdict.specs.Search.{IsSearchable};
 
     ghost view = { λ policy. policy.text };
 
-    ghost invariant = { λ policy. IsIndex policy.text policy.rows policy.heads };
+    ghost invariant = { λ policy. IsIndex policy.text policy.rows policy.heads
+        × IsSearchable policy.rows.rows policy.places };
 }
 
 impl Policy {
@@ -45,8 +50,14 @@ impl Policy {
     {
         let (mut rows, names) = read(alloc, &text)?;
         rows.sort();
+        let places = Places::of(alloc, &rows)?;
         let heads = Heads::of(alloc, names)?;
-        Ok(Policy { text, rows, heads })
+        Ok(Policy {
+            text,
+            rows,
+            places,
+            heads,
+        })
     }
 
     /// The text that the policy was made of.
@@ -65,16 +76,26 @@ impl Policy {
             return Verdict::Allow(Allowed::RobotsPath);
         }
         let groups = self.heads.groups_for(token.text().as_bytes());
-        match first_row(&self.rows, groups, path) {
-            Some(place) => self.rows.says(place),
-            None => Verdict::Allow(Allowed::NoRule),
+        self.rows
+            .verdict(self.places.first(&self.rows, groups, path))
+    }
+
+    /// The same, by a walk over the rows.
+    pub(crate) fn verdict_by_walk(&self, token: &Token, path: &[u8]) -> Verdict
+        ensures { IsVerdict (numbered_records self.now) token.now path.now result }
+    {
+        if is_robots_path(path) {
+            return Verdict::Allow(Allowed::RobotsPath);
         }
+        let groups = self.heads.groups_for(token.text().as_bytes());
+        self.rows.verdict(first_row(&self.rows, groups, path))
     }
 }
 
 // The rows of the text in the order of its lines, and its names.
 fn read(alloc: Global, text: &RobotsText) -> Result<(Rows, Names), AllocError>
     ensures rows { IfOk result (λ parts. parts.0.rows ≡ placed_in (grouped_records text.now)) }
+    ensures few { IfOk result (λ parts. length parts.0.rows ≤ text_limit) }
     ensures named { IfOk result (λ parts. map name_seen parts.1.names.items ≡ named_in (grouped_records text.now)) }
     ensures everybody { IfOk result (λ parts. parts.1.everybody.items ≡ everybody_in (grouped_records text.now)) }
 {

@@ -1,10 +1,10 @@
 //! The rows of a policy, in one list, with the octets of all their patterns in another.
 //! RFC 9309, section 2.2.2.
-ghost use Rattle.std.specs.Prelude.{◌≡◌, ◌+◌, ◌*◌, ◌^◌, ◌∷◌, ◌++◌, [], ◌<◌, ◌≤◌, length, IfOk};
+ghost use Rattle.std.specs.Prelude.{◌≡◌, ◌+◌, ◌*◌, ◌^◌, ◌∷◌, ◌++◌, [], ◌<◌, ◌≤◌, length, IfOk, IfSome};
 ghost use Rattle.std.specs.List.Sorted.{IsPermutation, IsSortedBy};
 ghost use Rattle.path_normal.specs.Normal.{normal_pattern};
 ghost use Rattle.robots_verdict.specs.Rows.{is_row_above, part, row_at, weight_kept};
-ghost use Rattle.robots_verdict.specs.Strongest.{said_by};
+ghost use Rattle.robots_verdict.specs.Strongest.{verdict_at};
 ghost use Rattle.robots_verdict.specs.Weights.{falling};
 
 use crate::decision::{Allowed, Verdict};
@@ -79,6 +79,7 @@ impl Rows {
     pub(crate) fn sort(&mut self)
         ensures permutation { IsPermutation self.old.rows self.new.rows }
         ensures falling { IsSortedBy is_row_above self.new.rows }
+        ensures len { length self.new.rows ≡ length self.old.rows }
     {
         self.rows
             .sort_unstable_by(|one, other| falling_rows(one, other));
@@ -91,28 +92,37 @@ impl Rows {
         self.rows.len()
     }
 
-    /// The number of the row's group.
+    /// The number of the row's group, and 0 past the end.
     pub(crate) fn group(&self, place: usize) -> u32
-        requires { place < length self.now.rows }
         ensures { result ≡ (row_at self.now.rows place).group }
     {
-        self.rows[place].group
+        if place < self.rows.len() {
+            self.rows[place].group
+        } else {
+            0
+        }
     }
 
-    /// The row's pattern in normal form.
+    /// The row's pattern in normal form, and nothing past the end.
     pub(crate) fn form(&self, place: usize) -> &[u8]
-        requires { place < length self.now.rows }
         ensures { result.now ≡ (row_at self.now.rows place).form }
     {
-        let row = self.rows[place];
-        part(self.octets.as_slice(), row.start as usize, row.len as usize)
+        if place < self.rows.len() {
+            let row = self.rows[place];
+            part(self.octets.as_slice(), row.start as usize, row.len as usize)
+        } else {
+            &[]
+        }
     }
 
-    /// What the row says of a path for which it decides.
-    pub(crate) fn says(&self, place: usize) -> Verdict
-        requires { place < length self.now.rows }
-        ensures { result ≡ said_by (row_at self.now.rows place).kind (row_at self.now.rows place).line }
+    /// The verdict by the first row that decides, where one does.
+    pub(crate) fn verdict(&self, first: Option<usize>) -> Verdict
+        requires { IfSome first (λ place. place < length self.now.rows) }
+        ensures { result ≡ verdict_at self.now.rows first }
     {
+        let Some(place) = first else {
+            return Verdict::Allow(Allowed::NoRule);
+        };
         let row = self.rows[place];
         match row.kind {
             RuleKind::Allow => Verdict::Allow(Allowed::Line(u64::from(row.line))),

@@ -2,7 +2,7 @@
 -- Used by `Heads::groups_for`.
 use Rattle.std.proofs.Common.{rules, of_calls, [], ◌∷◌, ◌≡◌, ◌<◌, ◌≤◌, ◌-◌, ℕ, true, false, not, List, length, map, drop, take, Contains, sym, ap, ◌∙◌, subst, refl, arith}
 use Rattle.std.specs.Prelude.{◌↔◌}
-use Rattle.std.specs.List.Sorted.{IsPartitionPoint, IsSortedBy}
+use Rattle.std.specs.List.Sorted.{IsNonDecreasing, IsPartitionPoint, IsSortedBy}
 use Rattle.std.specs.Ordering.{is_gt, is_lt, nat_cmp}
 use Rattle.std.specs.Cmp.Lexicographic.{slice_cmp}
 use Rattle.std.proofs.lemmas.Bool.{true≢false}
@@ -11,7 +11,7 @@ use Rattle.std.proofs.lemmas.List.{length-map}
 use Rattle.robots_verdict.specs.declared.heads.Name.{Name}
 use Rattle.robots_verdict.specs.Heads.{has_name, is_name_before, IsGroupFor, name_seen}
 use Rattle.robots_verdict.specs.Placed.{NamedGroup, Names}
-use Rattle.robots_verdict.proofs.HeadLemmas.{before_falls, behind_falls, choose, has_run, IsRun, no_run, partitioned_kept, point_seen, run_groups, run_of}
+use Rattle.robots_verdict.proofs.HeadLemmas.{before_falls, behind_falls, choose, has_run, IsRun, no_run, partitioned_kept, point_seen, run_groups, run_of, run_rises}
 use Rattle.robots_verdict.proofs.heads.Heads.groups_for.Goals as goal
 
 -- the run of the token among the names, as both searches find it
@@ -72,8 +72,11 @@ returns-then-low-high c =
     let table : Names = record { named = map name_seen names; everybody = c.self.inside.everybody.items } in
     let groups = c.deref-then-low-high.result.now in
     let are = c.deref-then-low-high.ensures.value ∙ c.self.invariant.0 ∙ groups_seen names in
-    subst (λ (t : Names). (group : ℕ) → Contains (take (high - low) (drop low groups)) group ↔ IsGroupFor t token group) c.self.view_is
-    (found table groups token low high are run c.if-low-high.true)
+    record {
+      groups = subst (λ (t : Names). (group : ℕ) → Contains (take (high - low) (drop low groups)) group ↔ IsGroupFor t token group) c.self.view_is
+          (found table groups token low high are run c.if-low-high.true);
+      rise = run_rises (map name_seen names) groups token low high are sorted run;
+    }
 
 pub returns-else-low-high : goal.returns-else-low-high
 returns-else-low-high c =
@@ -92,4 +95,7 @@ returns-else-low-high c =
     let table : Names = record { named = map name_seen names; everybody = c.self.inside.everybody.items } in
     let all = subst (λ (t : Names). (group : ℕ) → Contains c.self.inside.everybody.items group ↔ IsGroupFor t token group) c.self.view_is
     (missing table token low high run c.if-low-high.false) in
-    subst (λ (gs : List ℕ). (group : ℕ) → Contains gs group ↔ IsGroupFor c.args.self.now token group) (sym c.as_slice.ensures.value) all
+    record {
+      groups = subst (λ (gs : List ℕ). (group : ℕ) → Contains gs group ↔ IsGroupFor c.args.self.now token group) (sym c.as_slice.ensures.value) all;
+      rise = subst IsNonDecreasing (sym c.as_slice.ensures.value) c.self.invariant.2;
+    }

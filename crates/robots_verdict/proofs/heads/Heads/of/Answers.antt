@@ -1,8 +1,8 @@
 -- The order of the names is that of what they are seen as.
 -- Used by `Heads::of`.
-use Rattle.std.proofs.Common.{rules, of_calls, List, map, ap, ◌∙◌}
+use Rattle.std.proofs.Common.{rules, of_calls, ℕ, List, map, ap, ◌∙◌}
 use Rattle.std.proofs.lemmas.Fn.{always_returns_same}
-use Rattle.std.proofs.lemmas.List.Sorted.{IsPermutation-map, ranks_by}
+use Rattle.std.proofs.lemmas.List.Sorted.{IsNonDecreasingBy-from_sort, IsPermutation-map, ranks_by}
 use Rattle.robots_verdict.specs.declared.heads.Name.{Name}
 use Rattle.robots_verdict.specs.Heads.{is_name_before, name_seen}
 use Rattle.robots_verdict.proofs.HeadLemmas.{names_total, sorted_map}
@@ -14,6 +14,7 @@ invariant_of-result c = (
   sorted_map name_seen is_name_before c.sort_unstable_by.new.self.items
       (c.sort_unstable_by.ensures.sorted (λ a b. is_name_before (name_seen a) (name_seen b)) (ranks_by names_total name_seen)
       (always_returns_same _ _ _ (λ a r f k. search (rules, of_calls)))),
+  IsNonDecreasingBy-from_sort (λ (n : ℕ). n) c.sort_unstable.new.self.items c.sort_unstable.ensures.sorted,
 )
 
 pub returns-clause-named : goal.returns-clause-named

@@ -1,0 +1,139 @@
+-- The chain of the keys that begin one another.
+-- Used by `last_begun`.
+use Rattle.std.proofs.Common.{◌≡◌, ℕ, ◌+◌, ◌-◌, ◌<◌, ◌≤◌, Bool, true, false, ◌⊎◌, inl, inr, List, [], ◌∷◌, ◌++◌, length, get_or, refl, sym, ap, ◌∙◌, subst, suc, arith, eqb-true}
+use Rattle.std.specs.Prelude.{◌==◌, ◌≢◌, ◌&&◌, nat_le, nat_lt, Option, Some, None, slice_index, slice_index_or}
+use Rattle.std.specs.List.Sorted.{IsSortedBy}
+use Rattle.std.specs.declared.cmp.Ordering.{Ordering}
+use Rattle.std.specs.declared.cmp.Ordering.TheVariants.{Less, Equal, Greater}
+use Rattle.std.specs.Ordering.{is_lt, nat_cmp, ordering_then}
+use Rattle.std.specs.Cmp.{IsTotalOrder}
+use Rattle.std.specs.Cmp.Lexicographic.{slice_cmp}
+use Rattle.std.proofs.lemmas.Bool.{and_parts, cases_lt, eq-eqb, true≢false}
+use Rattle.std.proofs.lemmas.Bool.Decides.{nat_tests}
+use Rattle.std.proofs.lemmas.Cmp.{back_total, nat_cmp_total, nat_list_cmp_total, on_total, then_total}
+use Rattle.std.proofs.lemmas.List.{get_or_append_left, get_or_push}
+use Rattle.std.proofs.lemmas.List.Sorted.{ranks_by, sorted_far}
+use Rattle.robots_verdict.specs.Placed.{Placed}
+use Rattle.robots_verdict.specs.Rows.{row_at}
+use Rattle.robots_verdict.specs.Search.{AreParents, begins, common, compare_plain, IsLast, key, key_at}
+use Rattle.robots_verdict.proofs.Begins.{begins_below, begins_between, begins_common, begins_itself, begins_trans}
+
+abbrev words : List ℕ → List ℕ → Ordering
+words = slice_cmp nat_cmp
+
+pub plain_total : (rows : List Placed) → IsTotalOrder (compare_plain rows)
+plain_total rows = then_total (on_total (key rows) nat_list_cmp_total) (back_total nat_cmp_total)
+
+pub first_text : (o o' : Ordering) → is_lt (ordering_then o o') ≡ false → is_lt o ≡ false
+first_text Less o' is = is
+first_text Equal o' is = refl
+first_text Greater o' is = refl
+
+abbrev pub Rise : List Placed → List ℕ → Type 0
+Rise rows places = IsSortedBy (λ one other. is_lt (compare_plain rows one other)) places
+
+pub far : (rows : List Placed) (places : List ℕ) → Rise rows places → (i j : ℕ) → i ≤ j → j < length places → is_lt (compare_plain rows (slice_index places j) (slice_index places i)) ≡ false
+far rows places rise i j order within = sorted_far (λ one other. is_lt (compare_plain rows one other)) (ranks_by (plain_total rows) (λ (n : ℕ). n)) places rise i j 0 order within
+
+pub keys_rise : (rows : List Placed) (places : List ℕ) → Rise rows places → (i j : ℕ) → i ≤ j → j < length places → is_lt (words (key_at rows places j) (key_at rows places i)) ≡ false
+keys_rise rows places rise i j order within = first_text (words (key_at rows places j) (key_at rows places i)) _ (far rows places rise i j order within)
+
+-- all that begin the text stand in the chain of this one, which begins the top
+pub record IsNear (rows : List Placed) (places : List ℕ) (count : ℕ) (text top : List ℕ) (last : ℕ) : Type 0 where
+  pub within : last < count
+  pub in_chain : begins (key_at rows places last) top ≡ true
+  pub all : (index : ℕ) → index < count → begins (key_at rows places index) text ≡ true → (index ≤ last) × (begins (key_at rows places index) (key_at rows places last) ≡ true)
+
+module _ (rows : List Placed) (places : List ℕ) (rise : Rise rows places) (count : ℕ) (fits : count ≤ length places) (text : List ℕ)
+    (behind : (index : ℕ) → index < count → is_lt (words text (key_at rows places index)) ≡ false) (some : 0 < count) where
+  -- what begins the text begins the top
+  pub near_top : IsNear rows places count text (key_at rows places (count - 1)) (count - 1)
+  near_top = record {
+    within = omega arith;
+    in_chain = begins_itself (key_at rows places (count - 1));
+    all = λ index less is. (
+      omega arith,
+      begins_between (key_at rows places index) (key_at rows places (count - 1)) text is
+          (keys_rise rows places rise index (count - 1) (omega arith) (omega arith)) (behind (count - 1) (omega arith)),
+    );
+  }
+
+  module _ (last : ℕ) (near : IsNear rows places count text (key_at rows places (count - 1)) last) where
+    -- whether this one begins the text
+    pub begun : begins (key_at rows places last) text ≡ nat_le (length (key_at rows places last)) (common (key_at rows places (count - 1)) text)
+    begun = begins_common (key_at rows places last) (key_at rows places (count - 1)) text near.in_chain
+
+    pub found : begins (key_at rows places last) text ≡ true → IsLast rows places count text (Some last)
+    found is = (near.within, is, λ index less also. (near.all index less also).0)
+
+    -- where it does not, none does or its parent is near
+    earlier : begins (key_at rows places last) text ≡ false → (index : ℕ) → index < count → begins (key_at rows places index) text ≡ true → index < last
+    earlier not index less is = elim (cases_lt index last) [
+      | inl below ↦ below
+      | inr above ↦ (
+          let most = (near.all index less is).0 in
+          let same : index ≡ last = omega arith in
+          absurd (true≢false (sym is ∙ ap (λ n. begins (key_at rows places n) text) same ∙ not))
+          )
+    ]
+
+    pub none_near : begins (key_at rows places last) text ≡ false → IsLast rows places last (key_at rows places last) None → IsLast rows places count text None
+    none_near not none index less = by (begins (key_at rows places index) text) refl
+      where
+        by : (is : Bool) → begins (key_at rows places index) text ≡ is → is ≡ false
+        by false is = refl
+        by true is = absurd (true≢false (sym (near.all index less is).1 ∙ none index (earlier not index less is)))
+
+    pub near_parent : (parent : ℕ) → begins (key_at rows places last) text ≡ false → IsLast rows places last (key_at rows places last) (Some parent) →
+        IsNear rows places count text (key_at rows places (count - 1)) parent
+    near_parent parent not is = record {
+      within = let low = is.0 in let high = near.within in omega arith;
+      in_chain = begins_trans (key_at rows places parent) (key_at rows places last) (key_at rows places (count - 1)) is.1 near.in_chain;
+      all = λ index less also.
+          let below = earlier not index less also in
+          let inside = (near.all index less also).1 in
+          let order = is.2 index below inside in
+          let low = is.0 in
+          let high = near.within in (
+            order,
+            begins_between (key_at rows places index) (key_at rows places parent) (key_at rows places last) inside
+                (keys_rise rows places rise index parent order (omega arith)) (begins_below (key_at rows places parent) (key_at rows places last) is.1),
+          );
+    }
+
+-- the test of the lengths, as the code makes it
+pub reaches : (g g' len n : ℕ) (one other : List ℕ) → g ≡ g' → n ≡ common one other → len ≤ n → nat_le (suc len) (common (g ∷ one) (g' ∷ other)) ≡ true
+reaches g g' len n one other same is fits = rw (eq-eqb g g' same) (grind (arith, nat_tests))
+
+pub falls_short : (g g' len n : ℕ) (one other : List ℕ) → g ≡ g' → n ≡ common one other → n < len → nat_le (suc len) (common (g ∷ one) (g' ∷ other)) ≡ false
+falls_short g g' len n one other same is short = rw (eq-eqb g g' same) (grind (arith, nat_tests))
+
+-- where the top is of another group, none begins the text
+pub none_of_group : (rows : List Placed) (places : List ℕ) (rise : Rise rows places) (count : ℕ) (fits : count ≤ length places) (group : ℕ) (path : List ℕ)
+    (behind : (index : ℕ) → index < count → is_lt (words (group ∷ path) (key_at rows places index)) ≡ false) (some : 0 < count) →
+    ((row_at rows (slice_index places (count - 1))).group ≢ group) → IsLast rows places count (group ∷ path) None
+none_of_group rows places rise count fits group path behind some other index less = by (begins (key_at rows places index) (group ∷ path)) refl
+  where
+    by : (is : Bool) → begins (key_at rows places index) (group ∷ path) ≡ is → is ≡ false
+    by false is = refl
+    by true is =
+        let near = near_top rows places rise count fits (group ∷ path) behind some in
+        let inside = (near.all index less is).1 in
+        let one = row_at rows (slice_index places index) in
+        let top = row_at rows (slice_index places (count - 1)) in
+        let here = eqb-true one.group group (and_parts (one.group == group) (begins one.form path) is).0 in
+        let there = eqb-true one.group top.group (and_parts (one.group == top.group) (begins one.form top.form) inside).0 in
+        absurd (other (sym there ∙ here))
+
+-- one parent more
+pub parents_pushed : (rows : List Placed) (places : List ℕ) (parents : List (Option ℕ)) (count : ℕ) (parent : Option ℕ) → length parents ≡ count →
+    AreParents rows places parents count → IsLast rows places count (key_at rows places count) parent → AreParents rows places (parents ++ parent ∷ []) (count + 1)
+parents_pushed rows places parents count parent many known is index past less = elim (cases_lt index count) [
+  | inl below ↦ subst (IsLast rows places index (key_at rows places index)) (sym (get_or_append_left parents (parent ∷ []) past index (omega (arith, below, many))))
+      (known index past below)
+  | inr above ↦ (
+      let same : count ≡ index = omega (arith, less, above) in
+      subst (IsLast rows places index (key_at rows places index)) (sym (get_or_push parents parent past index (many ∙ same)))
+      (subst (λ (n : ℕ). IsLast rows places n (key_at rows places n) parent) same is)
+      )
+]

@@ -1,0 +1,65 @@
+-- One place more, whose row is plain or is not.
+-- Used by `places_of`.
+use Rattle.std.proofs.Common.{◌≡◌, ℕ, ◌+◌, ◌<◌, ◌≤◌, Bool, true, false, inl, inr, List, [], ◌∷◌, ◌++◌, length, Contains, refl, sym, ap, ◌∙◌, subst, arith, length-append}
+use Rattle.std.proofs.lemmas.Bool.{cases_lt, true≢false}
+use Rattle.std.proofs.Math.Bool.{beq}
+use Rattle.std.specs.Prelude.{◌↔◌}
+use Rattle.std.specs.List.Sorted.{IsPermutation}
+use Rattle.std.proofs.lemmas.List.Elements.{Contains-append_left, Contains-push, Contains-push_cases}
+use Rattle.std.proofs.lemmas.List.Sorted.{Contains-permutation, IsPermutation-sym}
+use Rattle.robots_verdict.specs.Placed.{Placed}
+use Rattle.robots_verdict.specs.Rows.{row_at}
+use Rattle.robots_verdict.specs.Search.{ArePlaces, is_plain}
+
+pub pushed : (rows : List Placed) (plain : Bool) (places : List ℕ) (count : ℕ) → ArePlaces rows plain places count →
+    is_plain (row_at rows count).form ≡ plain → ArePlaces rows plain (places ++ count ∷ []) (count + 1)
+pushed rows plain places count known is = record {
+  few = omega (arith, known.few, length-append places (count ∷ []));
+  are = λ place. (
+    λ stands. elim (Contains-push_cases places count place stands) [
+      | inl old ↦ (let both = (known.are place).0 old in (omega (arith, both.0), both.1))
+      | inr same ↦ (omega (arith, same), subst (λ (p : ℕ). is_plain (row_at rows p).form ≡ plain) same is)
+    ],
+    λ both. elim (cases_lt place count) [
+      | inl less ↦ Contains-append_left places (count ∷ []) place ((known.are place).1 (less, both.1))
+      | inr more ↦ subst (λ (p : ℕ). Contains (places ++ count ∷ []) p) (omega (arith, both.0, more)) (Contains-push places count)
+    ],
+  );
+}
+
+pub passed : (rows : List Placed) (plain : Bool) (places : List ℕ) (count : ℕ) → ArePlaces rows plain places count →
+    (is_plain (row_at rows count).form ≡ plain → ⊥) → ArePlaces rows plain places (count + 1)
+passed rows plain places count known other = record {
+  few = omega (arith, known.few);
+  are = λ place. (
+    λ stands. let both = (known.are place).0 stands in (omega (arith, both.0), both.1),
+    λ both. elim (cases_lt place count) [
+      | inl less ↦ (known.are place).1 (less, both.1)
+      | inr more ↦ (
+          let same : place ≡ count = omega (arith, both.0, more) in
+          absurd (other (subst (λ (p : ℕ). is_plain (row_at rows p).form ≡ plain) same both.1))
+          )
+    ],
+  );
+}
+
+pub same_test : (one other : Bool) → beq one other ≡ true → one ≡ other
+same_test true true is = refl
+same_test true false is = absurd (true≢false (sym is))
+same_test false true is = absurd (true≢false (sym is))
+same_test false false is = refl
+
+pub other_test : (one other : Bool) → beq one other ≡ false → one ≡ other → ⊥
+other_test one other is same = true≢false (sym (itself one) ∙ ap (beq one) same ∙ is)
+  where
+    itself : (b : Bool) → beq b b ≡ true
+    itself true = refl
+    itself false = refl
+
+-- put in another order they are the same places
+pub still_places : (rows : List Placed) (plain : Bool) (places ordered : List ℕ) (count : ℕ) → ArePlaces rows plain places count → IsPermutation places ordered →
+    (place : ℕ) → Contains ordered place ↔ ((place < count) × (is_plain (row_at rows place).form ≡ plain))
+still_places rows plain places ordered count known same place = (
+  λ stands. (known.are place).0 (Contains-permutation ordered places place (IsPermutation-sym places ordered same) stands),
+  λ both. Contains-permutation places ordered place same ((known.are place).1 both),
+)

@@ -1,0 +1,193 @@
+-- The plain rows that match a path are those that begin it, and the last of them by text is the strongest.
+-- Used by `Plain`.
+use Rattle.std.proofs.Common.{◌≡◌, ◌≢◌, ℕ, ◌+◌, ◌-◌, ◌<◌, ◌≤◌, Bool, true, false, not, inl, inr, All, List, [], ◌∷◌, ◌++◌, length, take, drop, get_or, Contains, refl, sym, ap, ◌∙◌, subst, arith, eqb-true}
+use Rattle.std.specs.Prelude.{◌==◌, ◌&&◌, ◌↔◌, nat_lt, slice_index, Option, Some, None}
+use Rattle.std.specs.List.{list_all}
+use Rattle.std.specs.List.Sorted.{IsPartitionedBy, IsPartitionPoint, IsSortedBy}
+use Rattle.std.specs.declared.cmp.Ordering.{Ordering}
+use Rattle.std.specs.Ordering.{is_gt, is_lt, nat_cmp, ordering_then}
+use Rattle.std.specs.Cmp.Lexicographic.{slice_cmp}
+use Rattle.std.proofs.lemmas.Bool.{and_parts, cases_lt, cond-false, eq-eqb, true≢false}
+use Rattle.std.proofs.lemmas.Cmp.{nat_list_cmp_total, tied_itself}
+use Rattle.std.proofs.lemmas.List.{get_or_default}
+use Rattle.std.proofs.lemmas.List.Elements.{All-cons}
+use Rattle.std.proofs.lemmas.List.Sorted.{ranks_by, sorted_far}
+use Rattle.path_normal.specs.Normal.{is_anchored, unanchored}
+use Rattle.path_pattern.specs.Matches.{Matches, Spells}
+use Rattle.path_pattern.specs.Runs.{HasNoStar}
+use Rattle.path_pattern.proofs.SpellsLemmas.{off_last, on_last}
+use Rattle.robots_verdict.specs.Index.{FindsLeast}
+use Rattle.robots_verdict.specs.Placed.{Placed}
+use Rattle.robots_verdict.specs.Rows.{is_row_above, row_at, no_row, weight_at}
+use Rattle.robots_verdict.specs.Search.{begins, compare_plain, is_plain, IsCut, IsLast, IsPlainHit, key, key_at}
+use Rattle.robots_verdict.proofs.Begins.{begins_below, begins_between, begins_itself, begins_shorter, begins_whole, on_both}
+use Rattle.robots_verdict.proofs.Chains.{far, first_text, keys_rise, plain_total, Rise}
+use Rattle.robots_verdict.proofs.HeadLemmas.{below_not, true_not, not_true, turned}
+use Rattle.robots_verdict.proofs.Weighing.{falling_total, last_level, level}
+
+abbrev words : List ℕ → List ℕ → Ordering
+words = slice_cmp nat_cmp
+
+-- ---- what a plain pattern matches
+
+begun_front : (front rest : List ℕ) → begins front (front ++ rest) ≡ true
+begun_front [] rest = refl
+begun_front (octet ∷ front) rest = on_both octet octet true (begins front (front ++ rest)) refl (begun_front front rest)
+
+front_begun : (front text : List ℕ) → begins front text ≡ true → (rest : List ℕ) × (text ≡ front ++ rest)
+front_begun [] text is = (text, refl)
+front_begun (octet ∷ front) [] is = absurd (true≢false (sym is))
+front_begun (octet ∷ front) (first ∷ text) is =
+    let parts = and_parts (octet == first) (begins front text) is in
+    let later = front_begun front text parts.1 in
+    (later.0, λ i. sym (eqb-true octet first parts.0) i ∷ later.1 i)
+
+no_star : (form : List ℕ) → list_all (λ octet. not (octet == 42)) form ≡ true → HasNoStar form
+no_star [] is = λ k d low. absurd (omega (arith, low))
+no_star (octet ∷ form) is =
+    let parts = and_parts (not (octet == 42)) (list_all (λ octet. not (octet == 42)) form) is in
+    All-cons (λ octet. (octet == 42) ≡ false) octet form (true_not (octet == 42) parts.0) (no_star form parts.1)
+
+-- what a plain pattern is
+record Plainness (form : List ℕ) : Type 0 where
+  some : form ≢ []
+  open_ended : is_anchored form ≡ false
+  starless : HasNoStar form
+
+some_octet : (form : List ℕ) → nat_lt 0 (length form) ≡ true → form ≢ []
+some_octet [] is same = true≢false (sym is)
+some_octet (octet ∷ form) is same = omega (arith, ap length same)
+
+plainness : (form : List ℕ) → is_plain form ≡ true → Plainness form
+plainness form is =
+    let starless = list_all (λ octet. not (octet == 42)) form in
+    let front = nat_lt 0 (length form) && not (is_anchored form) in
+    let parts = and_parts front starless is in
+    let both = and_parts (nat_lt 0 (length form)) (not (is_anchored form)) parts.0 in
+    record { some = some_octet form both.0; open_ended = true_not (is_anchored form) both.1; starless = no_star form parts.1 }
+
+pub plain_matches : (form path : List ℕ) → is_plain form ≡ true → Matches form path ↔ (begins form path ≡ true)
+plain_matches form path is =
+    let kind = plainness form is in
+    let whole : unanchored form ≡ form = cond-false (is_anchored form) (take (length form - 1) form) form kind.open_ended in (
+      λ matches.
+          let spells = subst (λ (run : List ℕ). Spells run (is_anchored form) path) whole matches.spells in
+          let last = off_last form (is_anchored form) path kind.starless spells in
+          ap (begins form) last.1 ∙ begun_front form last.0,
+      λ begun.
+          let front = front_begun form path begun in
+          record {
+            some = kind.some;
+            spells = subst (λ (run : List ℕ). Spells run (is_anchored form) path) (sym whole)
+                (on_last form (is_anchored form) path front.0 kind.starless front.1 (λ ends. absurd (true≢false (sym ends ∙ kind.open_ended))));
+          },
+    )
+
+-- ---- the strongest of the plain rows
+
+rise_or : (rows : List Placed) (places : List ℕ) → Rise rows places → (i j d : ℕ) → i ≤ j → j < length places →
+    is_lt (words (key rows (get_or places j d)) (key rows (get_or places i d))) ≡ false
+rise_or rows places rise i j d order within =
+    first_text (words (key rows (get_or places j d)) (key rows (get_or places i d))) _
+    (sorted_far (λ one other. is_lt (compare_plain rows one other)) (ranks_by (plain_total rows) (λ (n : ℕ). n)) places rise i j d order within)
+
+-- the keys that are not behind a text come first
+pub not_behind_falls : (rows : List Placed) (places text : List ℕ) → Rise rows places → IsPartitionedBy (λ place. not (is_gt (words (key rows place) text))) places
+not_behind_falls rows places text rise i j d order within is =
+    not_true _ (below_not (words (key rows (get_or places i d)) text) (key rows (get_or places i d)) (key rows (get_or places j d)) text refl
+    (rise_or rows places rise i j d order within) (true_not (is_gt (words (key rows (get_or places j d)) text)) is))
+
+not_not : (b : Bool) → not b ≡ false → b ≡ true
+not_not true is = refl
+not_not false is = absurd (true≢false is)
+
+pub cut_of : (rows : List Placed) (places text : List ℕ) (count : ℕ) → count ≤ length places →
+    IsPartitionPoint (λ place. not (is_gt (words (key rows place) text)) ≡ true) (λ place. not (is_gt (words (key rows place) text)) ≡ false) places count → IsCut rows places text count
+cut_of rows places text count fits point = record {
+  fits = fits;
+  below = λ k less. true_not _ (point.0 k 0 (omega arith) less);
+  above = λ k more within. not_not _ (point.1 k 0 more within);
+}
+
+module _ (rows : List Placed) (places : List ℕ) (rise : Rise rows places) (group : ℕ) (path : List ℕ) (count : ℕ) (cut : IsCut rows places (group ∷ path) count) where
+  pub none_behind : (index : ℕ) → index < count → is_lt (words (group ∷ path) (key_at rows places index)) ≡ false
+  none_behind index less = turned (group ∷ path) (key_at rows places index) ∙ cut.below index less
+
+  module _ (are : (place : ℕ) → Contains places place ↔ ((place < length rows) × (is_plain (row_at rows place).form ≡ true))) where
+    -- where a hit stands
+    record StandsAt (place : ℕ) : Type 0 where
+      index : ℕ
+      within : index < count
+      is : slice_index places index ≡ place
+      begun : begins (key_at rows places index) (group ∷ path) ≡ true
+
+    hit_index : (place : ℕ) → IsPlainHit rows group path place → StandsAt place
+    hit_index place hit =
+        let row = row_at rows place in
+        let stands = (are place).1 (hit.within, hit.plain) in
+        let is : slice_index places stands.0 ≡ place = get_or_default places stands.0 0 place stands.1 ∙ stands.2 in
+        let begun = subst (λ (p : ℕ). begins (key rows p) (group ∷ path) ≡ true) (sym is) (on_both row.group group true (begins row.form path) hit.in_group hit.begun) in
+        record { index = stands.0; within = within stands.0 stands.1 begun; is = is; begun = begun }
+      where
+        within : (k : ℕ) → k < length places → begins (key_at rows places k) (group ∷ path) ≡ true → k < count
+        within k less begun = elim (cases_lt k count) [
+          | inl below ↦ below
+          | inr above ↦ absurd (true≢false (sym (cut.above k above less)
+              ∙ sym (turned (group ∷ path) (key_at rows places k)) ∙ begins_below (key_at rows places k) (group ∷ path) begun))
+        ]
+
+    pub none_hits : IsLast rows places count (group ∷ path) None → FindsLeast (IsPlainHit rows group path) None
+    none_hits none place hit = let at = hit_index place hit in true≢false (sym at.begun ∙ none at.index at.within)
+
+    module _ (falling : IsSortedBy is_row_above rows) where
+      stands : (k : ℕ) → k < count → (slice_index places k < length rows) × (is_plain (row_at rows (slice_index places k)).form ≡ true)
+      stands k less =
+          let fits = cut.fits in
+          (are (slice_index places k)).0 (k, omega arith, get_or_default places k (slice_index places k) 0 (omega arith))
+
+      -- of two keys that begin the text the later is that of the stronger row
+      order : (k last : ℕ) → k ≤ last → last < count → begins (key_at rows places k) (group ∷ path) ≡ true → begins (key_at rows places last) (group ∷ path) ≡ true →
+          slice_index places last ≤ slice_index places k
+      order k last earlier within begun also = elim (cases_lt (slice_index places k) (slice_index places last)) [
+        | inr above ↦ above
+        | inl below ↦ absurd (tie below)
+      ]
+        where
+          p : ℕ
+          p = slice_index places k
+
+          q : ℕ
+          q = slice_index places last
+
+          inside : last < length places
+          inside = let fits = cut.fits in omega arith
+
+          prefix : begins (key rows p) (key rows q) ≡ true
+          prefix = begins_between (key rows p) (key rows q) (group ∷ path) begun (keys_rise rows places rise k last earlier inside) (begins_below (key rows q) (group ∷ path) also)
+
+          shorter : p < q → length (row_at rows q).form ≤ length (row_at rows p).form
+          shorter less =
+              (level (length (row_at rows p).form) (length (row_at rows q).form) _
+              (sorted_far is_row_above (ranks_by falling_total weight_at) rows falling p q no_row (omega arith) (stands last within).0)).0
+
+          same : p < q → key rows p ≡ key rows q
+          same less = let low = shorter less in let high = begins_shorter (key rows p) (key rows q) prefix in begins_whole (key rows p) (key rows q) prefix (omega arith)
+
+          tie : p < q → ⊥
+          tie less =
+              let equal = ap (words (key rows q)) (same less) ∙ tied_itself nat_list_cmp_total (key rows q) in
+              let later = ap (λ (o : Ordering). is_lt (ordering_then o (nat_cmp p q))) (sym equal) ∙ far rows places rise k last earlier inside in
+              let above = last_level p q later in
+              omega arith
+
+      pub last_hits : (last : ℕ) → IsLast rows places count (group ∷ path) (Some last) → FindsLeast (IsPlainHit rows group path) (Some (slice_index places last))
+      last_hits last is =
+          let place = slice_index places last in
+          let row = row_at rows place in
+          let both = stands last is.0 in
+          let parts = and_parts (row.group == group) (begins row.form path) is.1 in (
+            record { within = both.0; plain = both.1; in_group = eqb-true row.group group parts.0; begun = parts.1 },
+            λ other hit.
+                let at = hit_index other hit in
+                subst (λ (p : ℕ). place ≤ p) at.is (order at.index last (is.2 at.index at.within at.begun) is.0 at.begun is.1),
+          )

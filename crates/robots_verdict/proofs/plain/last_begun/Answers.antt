@@ -1,0 +1,71 @@
+-- What the lengths say of the chain.
+-- Used by `last_begun`.
+use Rattle.std.proofs.Common.{◌≡◌, ◌∷◌, ◌-◌, ◌<◌, ◌≤◌, ℕ, suc, true, false, List, length, refl, sym, ap, ◌∙◌, subst, arith}
+use Rattle.std.specs.Prelude.{Option, Some, None, slice_index}
+use Rattle.robots_verdict.specs.Rows.{row_at}
+use Rattle.robots_verdict.specs.Search.{begins, common, IsLast, key_at}
+use Rattle.robots_verdict.proofs.Chains.{begun, falls_short, found, near_parent, near_top, none_near, none_of_group, reaches}
+use Rattle.robots_verdict.proofs.plain.last_begun.Goals as goal
+
+pub returns-then-group : goal.returns-then-group
+returns-then-group c =
+    none_of_group c.args.rows.now.rows c.args.places.now c.requires.rise c.args.count c.requires.fits c.args.group c.args.path.now c.requires.behind (omega (arith, c.if-count-eq0.false))
+    (λ same. c.if-group.true (c.group.ensures ∙ same))
+
+pub loop-parent-init : goal.loop-parent-init
+loop-parent-init c =
+    near_top c.args.rows.now.rows c.args.places.now c.requires.rise c.args.count c.requires.fits (c.args.group ∷ c.args.path.now) c.requires.behind (omega (arith, c.if-count-eq0.false))
+
+no_parent : (found : Option ℕ) → ((parent : ℕ) → found ≡ Some parent → ⊥) → found ≡ None
+no_parent None never = refl
+no_parent (Some parent) never = absurd (never parent refl)
+
+pub returns-in_default : goal.returns-in_default
+returns-in_default c =
+    let rows = c.args.rows.now.rows in
+    let places = c.args.places.now in
+    let text = c.args.group ∷ c.args.path.now in
+    let last = c.loop-parent.last in
+    let some : 0 < c.args.count = omega (arith, c.if-count-eq0.false) in
+    let top = row_at rows (slice_index places (c.args.count - 1)) in
+    let same : top.group ≡ c.args.group = sym c.group.ensures ∙ c.if-group.false in
+    let is = c.common-common.ensures ∙ ap (λ (t : List ℕ). common t c.args.path.now) c.form.ensures in
+    let form = (row_at rows (slice_index places last)).form in
+    let short : c.common-common.result < length form = omega (arith, c.loop-parent-test.true, ap length c.form-in-loop-parent.ensures) in
+    let not = begun rows places c.requires.rise c.args.count c.requires.fits text c.requires.behind some last c.loop-parent.invariant
+    ∙ falls_short top.group c.args.group (length form) c.common-common.result top.form c.args.path.now same is short in
+    none_near rows places c.requires.rise c.args.count c.requires.fits text c.requires.behind some last c.loop-parent.invariant not
+    (subst (IsLast rows places last (key_at rows places last)) (no_parent _ c.in_default.not-Some) (c.requires.parents last None c.loop-parent.invariant.within))
+
+pub loop-parent-preserved : goal.loop-parent-preserved
+loop-parent-preserved c =
+    let rows = c.args.rows.now.rows in
+    let places = c.args.places.now in
+    let text = c.args.group ∷ c.args.path.now in
+    let last = c.loop-parent.last in
+    let some : 0 < c.args.count = omega (arith, c.if-count-eq0.false) in
+    let top = row_at rows (slice_index places (c.args.count - 1)) in
+    let same : top.group ≡ c.args.group = sym c.group.ensures ∙ c.if-group.false in
+    let is = c.common-common.ensures ∙ ap (λ (t : List ℕ). common t c.args.path.now) c.form.ensures in
+    let form = (row_at rows (slice_index places last)).form in
+    let short : c.common-common.result < length form = omega (arith, c.loop-parent-test.true, ap length c.form-in-loop-parent.ensures) in
+    let not = begun rows places c.requires.rise c.args.count c.requires.fits text c.requires.behind some last c.loop-parent.invariant
+    ∙ falls_short top.group c.args.group (length form) c.common-common.result top.form c.args.path.now same is short in
+    near_parent rows places c.requires.rise c.args.count c.requires.fits text c.requires.behind some last c.loop-parent.invariant c.in-Some.parent not
+    (subst (IsLast rows places last (key_at rows places last)) c.in-Some.is (c.requires.parents last None c.loop-parent.invariant.within))
+
+pub returns : goal.returns
+returns c =
+    let rows = c.args.rows.now.rows in
+    let places = c.args.places.now in
+    let text = c.args.group ∷ c.args.path.now in
+    let last = c.loop-parent.last in
+    let some : 0 < c.args.count = omega (arith, c.if-count-eq0.false) in
+    let top = row_at rows (slice_index places (c.args.count - 1)) in
+    let same : top.group ≡ c.args.group = sym c.group.ensures ∙ c.if-group.false in
+    let is = c.common-common.ensures ∙ ap (λ (t : List ℕ). common t c.args.path.now) c.form.ensures in
+    let form = (row_at rows (slice_index places last)).form in
+    let len : length form ≤ c.common-common.result = omega (arith, c.loop-parent-test.false, ap length c.form-in-loop-parent.ensures) in
+    found rows places c.requires.rise c.args.count c.requires.fits text c.requires.behind some last c.loop-parent.invariant
+    (begun rows places c.requires.rise c.args.count c.requires.fits text c.requires.behind some last c.loop-parent.invariant
+    ∙ reaches top.group c.args.group (length form) c.common-common.result top.form c.args.path.now same is len)

@@ -1,0 +1,12 @@
+-- All that begin the path stand in the chain that is left.
+-- Used by `last_begun`.
+use Rattle.std.proofs.Common.{◌∷◌, ◌-◌}
+use Rattle.robots_verdict.specs.Search.{key_at}
+use Rattle.robots_verdict.proofs.Chains.{IsNear}
+use Rattle.robots_verdict.proofs.plain.last_begun.Given as goal
+
+abbrev pub invariant-loop-parent : goal.invariant-loop-parent
+invariant-loop-parent l = IsNear l.rows.rows l.places l.count (l.group ∷ l.path) (key_at l.rows.rows l.places (l.count - 1)) l.last
+
+abbrev pub decreases-loop-parent : goal.decreases-loop-parent
+decreases-loop-parent l = l.last

@@ -1,0 +1,126 @@
+-- How rows are found by their texts: two lists of places, and for each plain row the one that begins it.
+-- Cited by the contracts of `Places`.
+use Rattle.std.specs.Prelude.{◌≡◌, ℕ, ◌+◌, ◌<◌, ◌≤◌, Bool, true, false, not, ◌&&◌, ◌==◌, nat_lt, All, ◌↔◌, Contains, List, [], ◌∷◌, length, Option, Some, None, slice_index, slice_index_or, if◌then◌else◌}
+use Rattle.std.specs.List.{list_all}
+use Rattle.std.specs.List.Sorted.{IsNonDecreasingBy, IsSortedBy}
+use Rattle.std.specs.declared.cmp.Ordering.{Ordering}
+use Rattle.std.specs.Ordering.{is_gt, is_lt, nat_cmp, ordering_then}
+use Rattle.std.specs.Cmp.Lexicographic.{slice_cmp}
+use Rattle.path_normal.specs.Normal.{is_anchored}
+use Rattle.path_pattern.specs.Matches.{Matches}
+use Rattle.robots_text.specs.Lines.{text_limit}
+use Rattle.robots_verdict.specs.declared.search.Places.{Places}
+use Rattle.robots_verdict.specs.Placed.{Placed}
+use Rattle.robots_verdict.specs.Rows.{row_at}
+
+-- the one text begins the other
+abbrev pub begins : List ℕ → List ℕ → Bool
+begins [] text = true
+begins (octet ∷ front) [] = false
+begins (octet ∷ front) (first ∷ text) = octet == first && begins front text
+
+-- how many octets both texts begin with
+abbrev pub common : List ℕ → List ℕ → ℕ
+common [] other = 0
+common (octet ∷ one) [] = 0
+common (octet ∷ one) (first ∷ other) = if octet == first then common one other + 1 else 0
+
+-- the pattern matches just what it begins: it has no sign, and is not empty
+abbrev pub is_plain : List ℕ → Bool
+is_plain form = nat_lt 0 (length form) && not (is_anchored form) && list_all (λ octet. not (octet == 42)) form
+
+-- the key of a place: the group, and behind it the pattern
+abbrev pub key : List Placed → ℕ → List ℕ
+key rows place = (row_at rows place).group ∷ (row_at rows place).form
+
+-- the order of plain places: by keys, and of equal ones the stronger last
+abbrev pub compare_plain : List Placed → ℕ → ℕ → Ordering
+compare_plain rows one other = ordering_then (slice_cmp nat_cmp (key rows one) (key rows other)) (nat_cmp other one)
+
+-- the order of the other places: by groups, and the stronger first
+abbrev pub compare_others : List Placed → ℕ → ℕ → Ordering
+compare_others rows one other = ordering_then (nat_cmp (row_at rows one).group (row_at rows other).group) (nat_cmp one other)
+
+-- the key at an index of a list of places
+abbrev pub key_at : List Placed → List ℕ → ℕ → List ℕ
+key_at rows plain index = key rows (slice_index plain index)
+
+-- the first keys, so many, are not behind the text, and the others are
+pub record IsCut (rows : List Placed) (places text : List ℕ) (count : ℕ) : Type 0 where
+  pub fits : count ≤ length places
+  pub below : (k : ℕ) → k < count → is_gt (slice_cmp nat_cmp (key_at rows places k) text) ≡ false
+  pub above : (k : ℕ) → count ≤ k → k < length places → is_gt (slice_cmp nat_cmp (key_at rows places k) text) ≡ true
+
+-- of the first indices, the last one whose key begins the text, if one does
+abbrev pub IsLast : List Placed → List ℕ → ℕ → List ℕ → Option ℕ → Type 0
+IsLast rows plain count text None = (index : ℕ) → index < count → begins (key_at rows plain index) text ≡ false
+IsLast rows plain count text (Some last) =
+    (last < count) × (begins (key_at rows plain last) text ≡ true)
+    × ((index : ℕ) → index < count → begins (key_at rows plain index) text ≡ true → index ≤ last)
+
+-- each plain place knows the last one before it that begins it
+abbrev pub AreParents : List Placed → List ℕ → List (Option ℕ) → ℕ → Type 0
+AreParents rows plain parents count = (index : ℕ) (past : Option ℕ) → index < count → IsLast rows plain index (key_at rows plain index) (slice_index_or parents index past)
+
+-- these are the places below the count whose rows are plain, or those whose are not
+pub record ArePlaces (rows : List Placed) (plain : Bool) (places : List ℕ) (count : ℕ) : Type 0 where
+  pub few : length places ≤ count
+  pub are : (place : ℕ) → Contains places place ↔ ((place < count) × (is_plain (row_at rows place).form ≡ plain))
+
+-- the plain places in the order of their keys, each with its parent
+pub record IsPlainIndex (rows : List Placed) (places : List ℕ) (parents : List (Option ℕ)) : Type 0 where
+  pub few : length places ≤ text_limit
+  pub are : (place : ℕ) → Contains places place ↔ ((place < length rows) × (is_plain (row_at rows place).form ≡ true))
+  pub rise : IsSortedBy (λ one other. is_lt (compare_plain rows one other)) places
+  pub known : length parents ≡ length places
+  pub parents_are : AreParents rows places parents (length places)
+
+-- the plain row at the place is of the group, and begins the path
+pub record IsPlainHit (rows : List Placed) (group : ℕ) (path : List ℕ) (place : ℕ) : Type 0 where
+  pub within : place < length rows
+  pub plain : is_plain (row_at rows place).form ≡ true
+  pub in_group : (row_at rows place).group ≡ group
+  pub begun : begins (row_at rows place).form path ≡ true
+
+-- the other places in the order of their groups
+pub record IsOtherIndex (rows : List Placed) (places : List ℕ) : Type 0 where
+  pub are : (place : ℕ) → Contains places place ↔ ((place < length rows) × (is_plain (row_at rows place).form ≡ false))
+  pub rise : IsSortedBy (λ one other. is_lt (compare_others rows one other)) places
+
+-- the other row at the place is of the group, and matches the path
+pub record IsOtherHit (rows : List Placed) (group : ℕ) (path : List ℕ) (place : ℕ) : Type 0 where
+  pub within : place < length rows
+  pub other : is_plain (row_at rows place).form ≡ false
+  pub in_group : (row_at rows place).group ≡ group
+  pub matches : Matches (row_at rows place).form path
+
+-- the row at the place is of the group, and matches the path
+pub record IsHitIn (rows : List Placed) (group : ℕ) (path : List ℕ) (place : ℕ) : Type 0 where
+  pub within : place < length rows
+  pub in_group : (row_at rows place).group ≡ group
+  pub matches : Matches (row_at rows place).form path
+
+-- it is the place that was found so far
+abbrev pub IsFound : Option ℕ → ℕ → Type 0
+IsFound found place = found ≡ Some place
+
+-- the place that was found so far is that of a stronger row
+abbrev pub IsAbove : Option ℕ → ℕ → Type 0
+IsAbove None place = ⊥
+IsAbove (Some found) place = found < place
+
+-- the first places, so many, are of groups before this one, and the others are not
+pub record IsGroupCut (rows : List Placed) (places : List ℕ) (group count : ℕ) : Type 0 where
+  pub fits : count ≤ length places
+  pub below : (k : ℕ) → k < count → (row_at rows (slice_index places k)).group < group
+  pub above : (k : ℕ) → count ≤ k → k < length places → group ≤ (row_at rows (slice_index places k)).group
+
+-- none of the places from the one index up to the other is that of an other hit
+abbrev pub IsPassed : List Placed → List ℕ → ℕ → List ℕ → ℕ → ℕ → Type 0
+IsPassed rows places group path start index =
+    (k : ℕ) → start ≤ k → k < index → IsOtherHit rows group path (slice_index places k) → ⊥
+
+-- both lists of places are those of the rows
+pub record IsSearchable (rows : List Placed) (places : Places) : Type 0 where
+  pub plain : IsPlainIndex rows places.plain.places.items places.plain.parents.items
+  pub others : IsOtherIndex rows places.others.places.items

@@ -1,0 +1,199 @@
+//! The plain rows by their texts: rows of a group whose pattern is free of signs match just the paths
+//! that begin with it.
+//! RFC 9309, section 2.2.2.
+ghost use Rattle.std.specs.Prelude.{◌≡◌, ◌∷◌, ◌<◌, ◌≤◌, ◌==◌, ℕ, Bool, false, true, not, IfOk, length};
+ghost use Rattle.std.specs.List.{list_all};
+ghost use Rattle.std.specs.List.Sorted.{IsSortedBy};
+ghost use Rattle.std.specs.Ordering.{is_gt, is_lt, nat_cmp};
+ghost use Rattle.std.specs.Cmp.Lexicographic.{slice_cmp};
+ghost use Rattle.path_normal.specs.Normal.{is_anchored};
+ghost use Rattle.robots_text.specs.Lines.{text_limit};
+ghost use Rattle.robots_verdict.specs.Index.{FindsLeast};
+ghost use Rattle.robots_verdict.specs.Rows.{is_row_above};
+ghost use Rattle.robots_verdict.specs.Search.{AreParents, ArePlaces, common, compare_plain, is_plain, IsCut, IsLast, IsPlainHit, IsPlainIndex, key, key_at};
+
+use crate::rows::Rows;
+use std::alloc::{AllocError, Global};
+use std::cmp::Ordering;
+
+/// The places of the plain rows, in the order of their groups and texts.
+#[derive(Debug, Drop)]
+pub(crate) struct Plain {
+    places: Vec<u32>,
+    // The index of the longest other that begins it, of the same group.
+    parents: Vec<Option<u32>>,
+}
+
+impl Plain {
+    /// The plain ones of the rows.
+    pub(crate) fn of(alloc: Global, rows: &Rows) -> Result<Plain, AllocError>
+        requires { length rows.now.rows ≤ text_limit }
+        ensures { IfOk result (λ plain. IsPlainIndex rows.now.rows plain.places.items plain.parents.items) }
+    {
+        let mut places = places_of(alloc, rows, true)?;
+        places.sort_unstable_by(|one, other| compare_plain(rows, *one, *other));
+        let parents = parents_of(alloc, rows, places.as_slice())?;
+        Ok(Plain { places, parents })
+    }
+
+    /// The place of the strongest plain row of the group that begins the path.
+    pub(crate) fn least(&self, rows: &Rows, group: u32, path: &[u8]) -> Option<usize>
+        requires falling { IsSortedBy is_row_above rows.now.rows }
+        requires index { IsPlainIndex rows.now.rows self.now.places.items self.now.parents.items }
+        ensures { FindsLeast (IsPlainHit rows.now.rows group path.now) result }
+    {
+        let places = self.places.as_slice();
+        let count = count_to(rows, places, group, path);
+        let last = last_begun(rows, places, self.parents.as_slice(), count, group, path)?;
+        Some(self.places[last as usize] as usize)
+    }
+}
+
+/// The places of the rows that are plain, or of those that are not.
+pub(crate) fn places_of(alloc: Global, rows: &Rows, plain: bool) -> Result<Vec<u32>, AllocError>
+    requires { length rows.now.rows ≤ text_limit }
+    ensures { IfOk result (λ places. ArePlaces rows.now.rows plain places.items (length rows.now.rows)) }
+{
+    let mut places = Vec::new(alloc);
+    for place in 0..rows.len() {
+        if is_plain(rows.form(place)) == plain {
+            places.push(place as u32)?;
+        }
+    }
+    Ok(places)
+}
+
+fn parents_of(alloc: Global, rows: &Rows, places: &[u32]) -> Result<Vec<Option<u32>>, AllocError>
+    requires few { length places.now ≤ text_limit }
+    requires rise { IsSortedBy (λ one other. is_lt (compare_plain rows.now.rows one other)) places.now }
+    ensures known { IfOk result (λ parents. length parents.items ≡ length places.now) }
+    ensures parents { IfOk result (λ parents. AreParents rows.now.rows places.now parents.items (length places.now)) }
+{
+    let mut parents = Vec::with_capacity(alloc, places.len())?;
+    for index in 0..places.len() {
+        let place = places[index] as usize;
+        let parent = last_begun(
+            rows,
+            places,
+            parents.as_slice(),
+            index,
+            rows.group(place),
+            rows.form(place),
+        );
+        parents.push(parent)?;
+    }
+    Ok(parents)
+}
+
+// How many of the keys are not behind a group and a path.
+fn count_to(rows: &Rows, places: &[u32], group: u32, path: &[u8]) -> usize
+    requires { IsSortedBy (λ one other. is_lt (compare_plain rows.now.rows one other)) places.now }
+    ensures { IsCut rows.now.rows places.now (group ∷ path.now) result }
+{
+    places.partition_point(|place| !is_behind(rows, *place, group, path))
+}
+
+// The last of the first keys that begins a group and a path, none of them behind these. What begins the
+// path begins the last of them, so the chain of those that begin it has them all.
+fn last_begun(
+    rows: &Rows,
+    places: &[u32],
+    parents: &[Option<u32>],
+    count: usize,
+    group: u32,
+    path: &[u8],
+) -> Option<u32>
+    requires few { length places.now ≤ text_limit }
+    requires fits { count ≤ length places.now }
+    requires known { count ≤ length parents.now }
+    requires rise { IsSortedBy (λ one other. is_lt (compare_plain rows.now.rows one other)) places.now }
+    requires parents { AreParents rows.now.rows places.now parents.now count }
+    requires behind { (index : ℕ) → index < count
+        → is_lt (slice_cmp nat_cmp (group ∷ path.now) (key_at rows.now.rows places.now index)) ≡ false }
+    ensures { IsLast rows.now.rows places.now count (group ∷ path.now) result }
+{
+    if count == 0 {
+        return None;
+    }
+    let top = count - 1;
+    let place = places[top] as usize;
+    if rows.group(place) != group {
+        return None;
+    }
+    let common = common(rows.form(place), path);
+    let mut last = top;
+    while rows.form(places[last] as usize).len() > common {
+        let Some(parent) = parents[last] else {
+            return None;
+        };
+        last = parent as usize;
+    }
+    Some(last as u32)
+}
+
+// How many octets both texts begin with.
+fn common(one: &[u8], other: &[u8]) -> usize
+    ensures { result ≡ common one.now other.now }
+{
+    let mut count = 0;
+    let mut left = one;
+    let mut right = other;
+    while let Some((first, later)) = left.split_first() {
+        let Some((octet, rest)) = right.split_first() else {
+            return count;
+        };
+        if *first != *octet {
+            return count;
+        }
+        count += 1;
+        left = later;
+        right = rest;
+    }
+    count
+}
+
+fn compare_plain(rows: &Rows, one: u32, other: u32) -> Ordering
+    ensures { result ≡ compare_plain rows.now.rows one other }
+{
+    compare_key(
+        rows,
+        one,
+        rows.group(other as usize),
+        rows.form(other as usize),
+    )
+    .then(other.cmp(&one))
+}
+
+fn is_behind(rows: &Rows, place: u32, group: u32, path: &[u8]) -> bool
+    ensures { result ≡ is_gt (slice_cmp nat_cmp (key rows.now.rows place) (group ∷ path.now)) }
+{
+    compare_key(rows, place, group, path).is_gt()
+}
+
+fn compare_key(rows: &Rows, place: u32, group: u32, text: &[u8]) -> Ordering
+    ensures { result ≡ slice_cmp nat_cmp (key rows.now.rows place) (group ∷ text.now) }
+{
+    let place = place as usize;
+    match rows.group(place).cmp(&group) {
+        Ordering::Equal => rows.form(place).cmp(text),
+        unequal => unequal,
+    }
+}
+
+fn is_plain(form: &[u8]) -> bool
+    ensures { result ≡ is_plain form.now }
+{
+    !form.is_empty() && !is_anchored(form) && has_no_star(form)
+}
+
+fn is_anchored(form: &[u8]) -> bool
+    ensures { result ≡ is_anchored form.now }
+{
+    matches!(form, [.., b'$'])
+}
+
+fn has_no_star(form: &[u8]) -> bool
+    ensures { result ≡ list_all (λ octet. not (octet == 42)) form.now }
+{
+    form.iter().all(|octet| *octet != b'*')
+}
