@@ -1,7 +1,7 @@
 -- The chain of the keys that begin one another.
 -- Used by `last_begun`.
-use Rattle.std.proofs.Common.{◌≡◌, ℕ, ◌+◌, ◌-◌, ◌<◌, ◌≤◌, Bool, true, false, ◌⊎◌, inl, inr, List, [], ◌∷◌, ◌++◌, length, get_or, refl, sym, ap, ◌∙◌, subst, suc, arith, eqb-true}
-use Rattle.std.specs.Prelude.{◌==◌, ◌≢◌, ◌&&◌, nat_le, nat_lt, Option, Some, None, slice_index, slice_index_or}
+use Rattle.std.proofs.Common.{◌≡◌, ℕ, ◌+◌, ◌-◌, ◌<◌, ◌≤◌, Bool, true, false, inl, inr, List, [], ◌∷◌, ◌++◌, length, refl, sym, ap, ◌∙◌, subst, suc, arith, eqb-true}
+use Rattle.std.specs.Prelude.{◌==◌, ◌≢◌, nat_le, Option, Some, None, slice_index}
 use Rattle.std.specs.List.Sorted.{IsSortedBy}
 use Rattle.std.specs.declared.cmp.Ordering.{Ordering}
 use Rattle.std.specs.declared.cmp.Ordering.TheVariants.{Less, Equal, Greater}

@@ -1,10 +1,9 @@
 -- The least of what passes one test or another.
 -- Used by `Places`.
-use Rattle.std.proofs.Common.{◌≡◌, ◌⊎◌, ℕ, ◌+◌, ◌<◌, ◌≤◌, Bool, true, false, inl, inr, List, [], ◌∷◌, ◌++◌, length, get_or, take, Contains, refl, sym, ap, ◌∙◌, subst, arith}
-use Rattle.std.specs.Prelude.{◌↔◌, Option, Some, None, unwrap_or, is_some}
+use Rattle.std.proofs.Common.{◌≡◌, ◌⊎◌, ℕ, ◌≤◌, Bool, true, false, inl, inr, List, [], ◌∷◌, ◌++◌, Contains, refl, sym, ap, subst, arith}
+use Rattle.std.specs.Prelude.{Option, Some, None, unwrap_or, is_some}
 use Rattle.std.proofs.lemmas.Bool.{true≢false}
 use Rattle.std.proofs.lemmas.List.Elements.{Contains-append_left, Contains-push, Contains-push_cases}
-use Rattle.path_pattern.specs.Matches.{Matches}
 use Rattle.robots_verdict.specs.Index.{FindsLeast, IsHit}
 use Rattle.robots_verdict.specs.Placed.{Placed}
 use Rattle.robots_verdict.specs.Rows.{row_at}

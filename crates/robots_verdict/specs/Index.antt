@@ -1,6 +1,6 @@
 -- What ties the parts of a policy to its text.
 -- Cited by the invariant of `Policy`, and by what reads its rows.
-use Rattle.std.specs.Prelude.{◌≡◌, ℕ, ◌<◌, ◌≤◌, Contains, List, length, Option, Some, None}
+use Rattle.std.specs.Prelude.{ℕ, ◌<◌, ◌≤◌, Contains, List, length, Option, Some, None}
 use Rattle.std.specs.List.Sorted.{IsPermutation, IsSortedBy}
 use Rattle.path_pattern.specs.Matches.{Matches}
 use Rattle.robots_text.specs.Grouped.{grouped_records}

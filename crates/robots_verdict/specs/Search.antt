@@ -1,8 +1,8 @@
 -- How rows are found by their texts: two lists of places, and for each plain row the one that begins it.
 -- Cited by the contracts of `Places`.
-use Rattle.std.specs.Prelude.{◌≡◌, ℕ, ◌+◌, ◌<◌, ◌≤◌, Bool, true, false, not, ◌&&◌, ◌==◌, nat_lt, All, ◌↔◌, Contains, List, [], ◌∷◌, length, Option, Some, None, slice_index, slice_index_or, if◌then◌else◌}
+use Rattle.std.specs.Prelude.{◌≡◌, ℕ, ◌+◌, ◌<◌, ◌≤◌, Bool, true, false, not, ◌&&◌, ◌==◌, nat_lt, ◌↔◌, Contains, List, [], ◌∷◌, length, Option, Some, None, slice_index, slice_index_or, if◌then◌else◌}
 use Rattle.std.specs.List.{list_all}
-use Rattle.std.specs.List.Sorted.{IsNonDecreasingBy, IsSortedBy}
+use Rattle.std.specs.List.Sorted.{IsSortedBy}
 use Rattle.std.specs.declared.cmp.Ordering.{Ordering}
 use Rattle.std.specs.Ordering.{is_gt, is_lt, nat_cmp, ordering_then}
 use Rattle.std.specs.Cmp.Lexicographic.{slice_cmp}

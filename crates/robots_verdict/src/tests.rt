@@ -1,10 +1,13 @@
 //! Which lines decide, by each reading of verdicts.
 //! RFC 9309, sections 2.2.1, 2.2.2 and 5.1.
 use super::*;
-use crate::laws::verdict_plain;
+use crate::laws::{verdict_plain, verdict_sorted};
 use path_normal::normal_path;
 use robots_text::{RobotsText, Token};
 use std::test::Fail;
+
+mod agreement;
+mod speed;
 
 // The example of RFC 9309, section 5.1.
 const EXAMPLE: &str =
@@ -193,6 +196,8 @@ fn decides_as_the_table_says(rt: HostRuntime) -> Result<(), Fail> {
         let plain = verdict_plain(alloc, &text, &token, path.as_slice())?;
         assert_eq!(rt; plain, want, "at {name}, rule by rule");
         let policy = Policy::new(alloc, text)?;
+        let sorted = verdict_sorted(&policy, &token, path.as_slice());
+        assert_eq!(rt; sorted, want, "at {name}, by the walk");
         assert_eq!(rt; policy.verdict(&token, path.as_slice()), want, "at {name}");
     }
     Ok(())

@@ -1,9 +1,9 @@
 -- What the lengths say of the chain.
 -- Used by `last_begun`.
-use Rattle.std.proofs.Common.{◌≡◌, ◌∷◌, ◌-◌, ◌<◌, ◌≤◌, ℕ, suc, true, false, List, length, refl, sym, ap, ◌∙◌, subst, arith}
+use Rattle.std.proofs.Common.{◌≡◌, ◌∷◌, ◌-◌, ◌<◌, ◌≤◌, ℕ, List, length, refl, sym, ap, ◌∙◌, subst, arith}
 use Rattle.std.specs.Prelude.{Option, Some, None, slice_index}
 use Rattle.robots_verdict.specs.Rows.{row_at}
-use Rattle.robots_verdict.specs.Search.{begins, common, IsLast, key_at}
+use Rattle.robots_verdict.specs.Search.{common, IsLast, key_at}
 use Rattle.robots_verdict.proofs.Chains.{begun, falls_short, found, near_parent, near_top, none_near, none_of_group, reaches}
 use Rattle.robots_verdict.proofs.plain.last_begun.Goals as goal
 

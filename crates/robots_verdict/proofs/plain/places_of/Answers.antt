@@ -1,8 +1,6 @@
 -- Each place is passed over or added.
 -- The lemmas of `Placing` say what that keeps.
-use Rattle.std.proofs.Common.{◌≡◌, ◌+◌, List, ℕ, sym, ap, ◌∙◌, subst}
-use Rattle.std.specs.declared.vec.Vec.{Vec}
-use Rattle.robots_verdict.specs.Rows.{row_at}
+use Rattle.std.proofs.Common.{◌+◌, List, ℕ, sym, ap, ◌∙◌, subst}
 use Rattle.robots_verdict.specs.Search.{ArePlaces, is_plain}
 use Rattle.robots_verdict.proofs.Placing.{other_test, passed, pushed, same_test}
 use Rattle.robots_verdict.proofs.plain.places_of.Goals as goal

@@ -1,10 +1,8 @@
 -- The first that matches, where nothing stronger was found before.
 -- The lemmas of `OtherHits` say so.
-use Rattle.std.proofs.Common.{◌≡◌, ◌∷◌, ◌<◌, List, ℕ, sym, ap, ◌∙◌, subst}
-use Rattle.std.specs.Prelude.{slice_index}
+use Rattle.std.proofs.Common.{List, ℕ, sym, ◌∙◌, subst}
 use Rattle.std.proofs.lemmas.Bool.{true≢false}
 use Rattle.path_pattern.specs.Matches.{Matches}
-use Rattle.robots_verdict.specs.Rows.{row_at}
 use Rattle.robots_verdict.specs.Search.{IsOtherIndex}
 use Rattle.robots_verdict.proofs.OtherHits.{at_end, at_hit, at_other_group, at_weaker}
 use Rattle.robots_verdict.proofs.others.Others.least.Goals as goal

@@ -1,6 +1,6 @@
 -- The places are put in order, and each gets its parent.
 -- The lemmas of `Placing` and `Chains` say so.
-use Rattle.std.proofs.Common.{rules, of_calls, ◌≡◌, ◌≤◌, List, ℕ, true, length, sym, ap, ◌∙◌, subst, arith}
+use Rattle.std.proofs.Common.{rules, of_calls, List, ℕ, true, length, sym, ap, ◌∙◌, subst, arith}
 use Rattle.std.specs.List.Sorted.{IsSortedBy}
 use Rattle.std.specs.Ordering.{is_lt}
 use Rattle.std.proofs.lemmas.Fn.{always_returns_same}

@@ -1,9 +1,8 @@
 -- The first row that matches gives the verdict.
 -- The lemma `policy_says` says so.
-use Rattle.std.proofs.Common.{◌∙◌, List, ℕ, sym, subst}
+use Rattle.std.proofs.Common.{◌∙◌, sym, subst}
 use Rattle.std.proofs.lemmas.Bool.{true≢false}
 use Rattle.robots_text.specs.Records.{numbered_records}
-use Rattle.robots_verdict.specs.declared.decision.Verdict.{Verdict}
 use Rattle.robots_verdict.specs.Verdict.{IsVerdict}
 use Rattle.robots_verdict.proofs.Verdicts.{first_within, policy_says}
 use Rattle.robots_verdict.proofs.policy.Policy.verdict.Goals as goal

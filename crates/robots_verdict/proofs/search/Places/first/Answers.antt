@@ -1,6 +1,6 @@
 -- One group more.
 -- The lemmas of `Joining` say what is the least then.
-use Rattle.std.proofs.Common.{◌≡◌, ◌+◌, List, ℕ, suc, get_or, take, ap, ◌∙◌, arith}
+use Rattle.std.proofs.Common.{◌≡◌, ◌+◌, ℕ, suc, get_or, take, ap, ◌∙◌, arith}
 use Rattle.std.proofs.Math.Seq.{take-suc}
 use Rattle.robots_verdict.proofs.Joining.{one_group_more}
 use Rattle.robots_verdict.proofs.search.Places.first.Goals as goal
