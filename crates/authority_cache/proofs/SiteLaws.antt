@@ -11,7 +11,7 @@ use Rattle.std.specs.Option.{option_map, option_map_or}
 use Rattle.std.specs.Str.{bytes_eq}
 use Rattle.std.proofs.lemmas.Bool.{le-leb, lt-leb}
 use Rattle.std.proofs.lemmas.Slice.Eq.{bytes_eq-Decides}
-use Rattle.robots_verdict.specs.Answer.{Said}
+use Rattle.robots_verdict.specs.declared.said.Said.{Said}
 use Rattle.authority_cache.specs.declared.refusal.BeginRefusal.{BeginRefusal}
 use Rattle.authority_cache.specs.declared.refusal.BeginRefusal.TheVariants.{InFlight, NoMemory}
 use Rattle.authority_cache.specs.declared.refusal.Stale.{Stale}

@@ -10,11 +10,12 @@ use Rattle.std.proofs.lemmas.List.{append-nil}
 use Rattle.std.proofs.lemmas.List.Elements.{filter-append}
 use Rattle.std.proofs.lemmas.Slice.Eq.{bytes_eq-Decides}
 use Rattle.authority_cache.specs.declared.site.Flight.{Flight}
+use Rattle.authority_cache.specs.declared.standing_answer.StandingAnswer.{StandingAnswer}
 use Rattle.authority_cache.specs.declared.turn.Turn.{Turn}
 use Rattle.authority_cache.specs.Lives.{life_of}
 use Rattle.authority_cache.specs.Sites.{Answered, AreApart, Known, State, arrived, has_past, is_flying, is_known, nothing, site_of, with_flight}
 use Rattle.authority_cache.specs.Calls.{Changes, one_if}
-use Rattle.authority_cache.specs.Lists.{StandingAnswer, answer_for, answered, answers_in, has_number, is_answer_for, is_past_answer, is_turn_of, lacks_answer, turn_for, turns_in}
+use Rattle.authority_cache.specs.Lists.{answer_for, answered, answers_in, has_number, is_answer_for, is_past_answer, is_turn_of, lacks_answer, turn_for, turns_in}
 use Rattle.authority_cache.specs.Laws.{ArriveTells, BeginTells, NewTells, SweepTells, TellingCountsAlike}
 use Rattle.authority_cache.proofs.EntryLaws.{count-cons}
 use Rattle.authority_cache.proofs.SiteLaws.{other_text, same_text}

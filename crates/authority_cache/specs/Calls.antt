@@ -3,7 +3,8 @@
 use Rattle.std.specs.Prelude.{◌≡◌, ℕ, ◌+◌, Bool, true, false, not, ◌&&◌, nat_le, List, Some, None, Result, Ok, Err, if◌then◌else◌}
 use Rattle.std.specs.Option.{option_map}
 use Rattle.std.specs.Str.{bytes_eq}
-use Rattle.robots_verdict.specs.Answer.{Said, said}
+use Rattle.robots_verdict.specs.Answer.{said}
+use Rattle.robots_verdict.specs.declared.said.Said.{Said}
 use Rattle.authority_cache.specs.declared.look.Look.{Look}
 use Rattle.authority_cache.specs.declared.look.Look.TheVariants.{Unknown, Expired, InForce}
 use Rattle.authority_cache.specs.declared.refusal.BeginRefusal.{BeginRefusal}

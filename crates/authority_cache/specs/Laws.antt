@@ -1,12 +1,13 @@
 -- What each change of the cache is to the lists of a history, and what is counted of both alike.
 -- The contracts of `laws.rt`.
 use Rattle.std.specs.Prelude.{◌≡◌, ℕ, true, false, not, List, [], ◌∷◌, ◌++◌, length, filter, map}
-use Rattle.robots_verdict.specs.Answer.{Said}
+use Rattle.robots_verdict.specs.declared.said.Said.{Said}
 use Rattle.authority_cache.specs.declared.site.Flight.{Flight}
+use Rattle.authority_cache.specs.declared.standing_answer.StandingAnswer.{StandingAnswer}
 use Rattle.authority_cache.specs.declared.turn.Turn.{Turn}
 use Rattle.authority_cache.specs.Sites.{Known, IsApart, arrived, flight_count, has_turn, is_flying, known_count, past_count, site_of, with_flight}
 use Rattle.authority_cache.specs.Calls.{Changes, Sweeps}
-use Rattle.authority_cache.specs.Lists.{StandingAnswer, TellsCache, answered, has_number, is_answer_for, is_past_answer, is_turn_of, known_by, turn_for}
+use Rattle.authority_cache.specs.Lists.{TellsCache, answered, has_number, is_answer_for, is_past_answer, is_turn_of, known_by, turn_for}
 
 -- an empty cache says what a history without begins says
 abbrev pub NewTells : Type 0

@@ -4,19 +4,12 @@ use Rattle.std.specs.Prelude.{◌≡◌, ℕ, ◌+◌, ◌==◌, Bool, not, nat_
 use Rattle.std.specs.List.{list_any}
 use Rattle.std.specs.Option.{option_map}
 use Rattle.std.specs.Str.{bytes_eq}
-use Rattle.robots_verdict.specs.Answer.{Said}
+use Rattle.robots_verdict.specs.declared.said.Said.{Said}
 use Rattle.authority_cache.specs.declared.site.Flight.{Flight}
+use Rattle.authority_cache.specs.declared.standing_answer.StandingAnswer.{StandingAnswer}
 use Rattle.authority_cache.specs.declared.turn.Turn.{Turn}
 use Rattle.authority_cache.specs.Lives.{life_of}
 use Rattle.authority_cache.specs.Sites.{Answered, Known, State, site_of}
-
--- an answer that stands, as a list of answers has it
-pub record StandingAnswer : Type 0 where
-  pub authority : List ℕ
-  pub turn : ℕ
-  pub begun : ℕ
-  pub life : ℕ
-  pub says : Said
 
 -- the answer is this authority's
 abbrev pub is_answer_for : List ℕ → StandingAnswer → Bool

@@ -1,7 +1,8 @@
 -- How long an answer is in force.
 -- RFC 9309, section 2.4: no longer than 24 hours.
 use Rattle.std.specs.Prelude.{ℕ, max, min}
-use Rattle.robots_verdict.specs.Answer.{Said, by_rules, open_for, closed_for}
+use Rattle.robots_verdict.specs.declared.said.Said.{Said}
+use Rattle.robots_verdict.specs.declared.said.Said.TheVariants as says
 
 -- the greatest life of an answer in seconds
 abbrev pub greatest_life : ℕ
@@ -13,6 +14,6 @@ least_life = 60
 
 -- the life of an answer where its reply asked for so many seconds: rules have it within bounds
 abbrev pub life_of : Said → ℕ → ℕ
-life_of (by_rules text) asked = max least_life (min asked greatest_life)
-life_of (open_for opening) asked = greatest_life
-life_of (closed_for closure) asked = greatest_life
+life_of (says.Rules text) asked = max least_life (min asked greatest_life)
+life_of (says.Open opening) asked = greatest_life
+life_of (says.Closed closure) asked = greatest_life

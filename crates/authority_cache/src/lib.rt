@@ -10,6 +10,7 @@ mod life;
 mod look;
 mod refusal;
 mod site;
+mod standing_answer;
 mod sweep;
 mod turn;
 
@@ -17,6 +18,7 @@ pub use cache::Cache;
 pub use life::{LEAST_LIFE, LIFE, life_of};
 pub use look::Look;
 pub use refusal::{BeginRefusal, Stale};
+pub use standing_answer::StandingAnswer;
 pub use turn::{Turn, TurnNo};
 
 #[cfg(test)]

@@ -1,22 +1,16 @@
 -- What an answer says, whatever spares it has: what histories keep of it, and what makes two answers equal.
 -- RFC 9309, section 2.3.1.
-use Rattle.std.specs.Prelude.{ℕ, ◌-◌, List}
+use Rattle.std.specs.Prelude.{ℕ, ◌-◌}
 use Rattle.robots_verdict.specs.declared.answer.Answer.{Answer}
 use Rattle.robots_verdict.specs.declared.answer.Answer.TheVariants as answers
-use Rattle.robots_verdict.specs.declared.answer.Closure.{Closure}
-use Rattle.robots_verdict.specs.declared.answer.Opening.{Opening}
+use Rattle.robots_verdict.specs.declared.said.Said.{Said}
+use Rattle.robots_verdict.specs.declared.said.Said.TheVariants as says
 
--- the text whose rules bind, or open or closed with the reason
-pub data Said : Type 0 where
-  by_rules : List ℕ → Said
-  open_for : Opening → Said
-  closed_for : Closure → Said
-
--- what an answer says
+-- what an answer says: the text whose rules bind, or open or closed with the reason
 abbrev pub said : Answer → Said
-said (answers.Rules rules) = by_rules rules.text
-said (answers.Open opening) = open_for opening
-said (answers.Closed closure) = closed_for closure
+said (answers.Rules rules) = says.Rules rules.text
+said (answers.Open opening) = says.Open opening
+said (answers.Closed closure) = says.Closed closure
 
 -- how many twins an answer can still give without memory: where it needs no handle, always two
 abbrev pub spares_of : Answer → ℕ

@@ -1,9 +1,10 @@
 //! What a robots fetch of an authority came to.
 //! RFC 9309, section 2.3.1.
 ghost use Rattle.std.specs.Prelude.{◌≡◌, ◌<◌, IfOk};
-ghost use Rattle.robots_verdict.specs.Answer.{by_rules, said, spares_behind, spares_of, spares_of_twin};
+ghost use Rattle.robots_verdict.specs.Answer.{said, spares_behind, spares_of, spares_of_twin};
 
 use crate::rules::Rules;
+use crate::said::Said;
 use robots_text::RobotsText;
 use std::alloc::{AllocError, Global};
 
@@ -47,7 +48,7 @@ pub enum Closure {
 impl Answer {
     /// The answer by the rules of a text, with two spares.
     pub fn rules(alloc: Global, text: RobotsText) -> Result<Answer, AllocError>
-        ensures says { IfOk result (λ answer. said answer ≡ by_rules text) }
+        ensures says { IfOk result (λ answer. said answer ≡ Said.Rules text) }
         ensures spares { IfOk result (λ answer. spares_of answer ≡ 2) }
     {
         Ok(Answer::Rules(Rules::new(alloc, text)?))
@@ -65,6 +66,17 @@ impl Answer {
             Answer::Rules(rules) => Answer::Rules(rules.twin()),
             Answer::Open(opening) => Answer::Open(*opening),
             Answer::Closed(closure) => Answer::Closed(*closure),
+        }
+    }
+
+    /// What it says, for a history to keep. It takes no memory.
+    pub fn into_said(self) -> Said
+        ensures { result ≡ said self }
+    {
+        match self {
+            Answer::Rules(rules) => Said::Rules(rules.into_handle()),
+            Answer::Open(opening) => Said::Open(opening),
+            Answer::Closed(closure) => Said::Closed(closure),
         }
     }
 

@@ -12,6 +12,7 @@ mod policy;
 mod row;
 mod rows;
 mod rules;
+mod said;
 mod search;
 mod walk;
 mod weight;
@@ -20,6 +21,7 @@ pub use answer::{Answer, Closure, Opening};
 pub use decision::{Allowed, Verdict};
 pub use policy::Policy;
 pub use rules::Rules;
+pub use said::{PolicyHandle, Said};
 
 #[cfg(test)]
 mod tests;

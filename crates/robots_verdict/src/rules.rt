@@ -8,6 +8,7 @@ ghost use Rattle.robots_verdict.specs.Kept.{KeptRules};
 ghost use Rattle.robots_verdict.specs.Spares.{AreOf, count};
 
 use crate::policy::Policy;
+use crate::said::PolicyHandle;
 use robots_text::RobotsText;
 use std::alloc::{AllocError, Global};
 use std::marker::Model;
@@ -88,6 +89,15 @@ impl Rules {
         ensures { result.now ≡ self.now.text }
     {
         &self.policy
+    }
+
+    /// The handle of the policy, without the spares.
+    pub(crate) fn into_handle(self) -> PolicyHandle
+        ensures { result ≡ self.text }
+    {
+        PolicyHandle {
+            policy: self.policy,
+        }
     }
 
     /// A handle of the policy, which takes none of the spares.

@@ -1,0 +1,64 @@
+//! What an answer says, whatever spares it has: histories keep it, and two that say the same are equal.
+//! RFC 9309, section 2.3.1.
+ghost use Rattle.std.specs.Prelude.{◌≡◌, bytes_eq};
+ghost use Rattle.std.specs.Cmp.{partial_equiv_from_equiv};
+ghost use Rattle.std.specs.Cmp.Lexicographic.{nat_list_eq_equiv};
+
+use crate::answer::{Closure, Opening};
+use crate::policy::Policy;
+use std::marker::Model;
+use std::sync::Arc;
+
+/// What an answer says. It has no spares, so that no twin can be made of it.
+#[derive(Debug, Drop, PartialEq, Eq)]
+pub enum Said {
+    /// The rules of the robots file bind.
+    Rules(PolicyHandle),
+    /// There is no robots file that binds: every page may be fetched.
+    Open(Opening),
+    /// The robots file can't be had or read: no page may be fetched.
+    Closed(Closure),
+}
+
+/// A handle of a policy, which is shared. A clause sees it as the policy's text.
+#[derive(Debug, Drop)]
+pub struct PolicyHandle {
+    pub(crate) policy: Arc<Policy>,
+}
+
+impl Model for PolicyHandle {
+    ghost use Rattle.std.specs.Prelude.{List, ℕ};
+    ghost use Rattle.std.specs.Coded.{coded_list, coded_ℕ};
+
+    ghost Value = { List ℕ };
+
+    ghost coded = { coded_list coded_ℕ };
+
+    ghost use Rattle.std.specs.Arc.{arc_value};
+
+    ghost view = { λ handle. arc_value handle.policy };
+}
+
+impl PolicyHandle {
+    /// The policy that binds.
+    pub fn policy(&self) -> &Policy
+        ensures { result.now ≡ self.now }
+    {
+        &self.policy
+    }
+}
+
+/// Handles are equal where the texts of their policies are.
+impl PartialEq for PolicyHandle {
+    ghost eq = { λ a b. bytes_eq a b };
+
+    ghost laws = { partial_equiv_from_equiv nat_list_eq_equiv };
+
+    fn eq(&self, other: &PolicyHandle) -> bool {
+        self.policy.text().bytes() == other.policy.text().bytes()
+    }
+}
+
+impl Eq for PolicyHandle {
+    ghost laws = { nat_list_eq_equiv };
+}
