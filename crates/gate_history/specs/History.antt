@@ -1,0 +1,56 @@
+-- A history of the gate: a base and the entries since, the last of them outermost; its moment and its
+-- counts. Answers age by its moments (RFC 9309, 2.4).
+use Rattle.std.specs.Prelude.{ℕ, ◌+◌, max, List, [], ◌∷◌}
+use Rattle.gate_history.specs.declared.entry.Entry.{Entry}
+use Rattle.gate_history.specs.declared.entry.Entry.TheVariants.{Begun, Arrived, Granted, AskDenied, Started, StartDenied, Returned, Finished, Swept}
+use Rattle.gate_history.specs.Base.{Base}
+
+infixl 20 ◌▸◌
+
+-- a history is a base, or a history and one more entry
+pub data History : Type 0 where
+  from : Base → History
+  ◌▸◌ : History → Entry → History
+
+-- a history and the entries that come after it, oldest first
+abbrev pub followed_by : History → List Entry → History
+followed_by h [] = h
+followed_by h (e ∷ later) = followed_by (h ▸ e) later
+
+-- the moment that an entry brings; a return and a finish bring none
+abbrev pub moment_of : Entry → ℕ
+moment_of (Begun moment _ _) = moment
+moment_of (Arrived moment _ _ _ _) = moment
+moment_of (Granted moment _ _) = moment
+moment_of (AskDenied moment _ _) = moment
+moment_of (Started moment _ _) = moment
+moment_of (StartDenied moment _ _) = moment
+moment_of (Returned _) = 0
+moment_of (Finished _) = 0
+moment_of (Swept moment _) = moment
+
+-- the gate's moment: the greatest that an entry has brought, 0 where there is none
+abbrev pub now : History → ℕ
+now (from base) = base.moment
+now (h ▸ e) = max (moment_of e) (now h)
+
+-- the moment of a call: the greater of the one handed in and the gate's
+abbrev pub at_moment : History → ℕ → ℕ
+at_moment h handed_in = max handed_in (now h)
+
+-- how many begins there were
+abbrev pub begins : History → ℕ
+begins (from base) = base.begins
+begins (h ▸ Begun _ _ _) = begins h + 1
+begins (h ▸ _) = begins h
+
+-- how many entries there were; an entry's place is how many were before it
+abbrev pub entry_count : History → ℕ
+entry_count (from base) = base.entries
+entry_count (h ▸ _) = entry_count h + 1
+
+-- how many Started entries there were
+abbrev pub started_count : History → ℕ
+started_count (from base) = base.started
+started_count (h ▸ Started _ _ _) = started_count h + 1
+started_count (h ▸ _) = started_count h

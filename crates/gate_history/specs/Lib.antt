@@ -1,0 +1,13 @@
+-- What the contracts of histories cite.
+-- RFC 9309, sections 2.2.2, 2.3.1 and 2.4.
+pub mod Grants
+pub mod Base
+pub mod Kept
+pub mod History
+pub mod Outstanding
+pub mod Standing
+pub mod Cause
+pub mod Legal
+pub mod LeftOpen
+pub mod Seal
+pub mod Laws

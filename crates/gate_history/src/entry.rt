@@ -1,0 +1,65 @@
+//! The nine entries of a history.
+//! RFC 9309, sections 2.2.2, 2.3.1 and 2.4, of which each is one event.
+
+use crate::fetch_text::FetchText;
+use crate::outcome::{Cause, Reason};
+use authority_cache::TurnNo;
+use path_normal::Authority;
+use permit_book::PermitNo;
+use robots_verdict::Said;
+
+/// One event of the gate. Moments are seconds, and never fall along a history.
+#[derive(Debug, Drop)]
+pub enum Entry {
+    /// A robots fetch of the authority began.
+    Begun {
+        moment: u64,
+        authority: Authority,
+        turn: TurnNo,
+    },
+    /// That turn brought the authority's answer, which is in force for the seconds of its life.
+    Arrived {
+        moment: u64,
+        authority: Authority,
+        turn: TurnNo,
+        says: Said,
+        life: u64,
+    },
+    /// A permit was granted.
+    Granted {
+        moment: u64,
+        number: PermitNo,
+        fetch: FetchText,
+    },
+    /// An ask was denied.
+    AskDenied {
+        moment: u64,
+        fetch: FetchText,
+        cause: Cause,
+    },
+    /// A permit was spent by a fetch that may begin.
+    Started {
+        moment: u64,
+        number: PermitNo,
+        reason: Reason,
+    },
+    /// A permit was spent, and its fetch denied.
+    StartDenied {
+        moment: u64,
+        number: PermitNo,
+        cause: Cause,
+    },
+    /// An unspent permit was given back.
+    Returned {
+        number: PermitNo,
+    },
+    /// A started fetch has ended.
+    Finished {
+        number: PermitNo,
+    },
+    /// Standing answers that were past their lives were dropped.
+    Swept {
+        moment: u64,
+        count: u64,
+    },
+}

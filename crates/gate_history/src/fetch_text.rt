@@ -1,0 +1,62 @@
+//! The token and the URL of a fetch, as an entry keeps them.
+//! RFC 9309, section 2.2.1.
+ghost use Rattle.std.specs.Prelude.{◌≡◌, IfOk};
+
+use path_normal::PageUrl;
+use robots_text::Token;
+use std::alloc::{AllocError, Global};
+use std::marker::Model;
+
+/// The texts of one fetch's token and URL. They lie one after the other in one piece of memory, since
+/// a history has many of them. A clause sees it as the fetch.
+#[derive(Debug, Drop)]
+pub struct FetchText {
+    octets: Vec<u8>,
+    // Where the URL begins.
+    url_start: usize,
+}
+
+impl Model for FetchText {
+    ghost use Rattle.std.specs.Prelude.{drop, length, take, ◌≤◌};
+    ghost use Rattle.permit_book.specs.declared.out.Fetch.{Fetch};
+
+    ghost Value = { Fetch };
+
+    ghost view = { λ text. record {
+      token = take text.url_start text.octets.items;
+      url = drop text.url_start text.octets.items;
+    } };
+
+    ghost invariant = { λ text. text.url_start ≤ length text.octets.items };
+}
+
+impl FetchText {
+    /// The texts of a fetch of this URL under this token.
+    pub fn of(alloc: Global, token: &Token, url: &PageUrl) -> Result<FetchText, AllocError>
+        ensures { IfOk result (λ text. text ≡ record { token = token.now; url = url.now }) }
+    {
+        let token = token.text().as_bytes();
+        let url = url.text().as_bytes();
+        let mut octets = Vec::with_capacity(alloc, token.len() + url.len())?;
+        octets.extend_from_slice(token)?;
+        octets.extend_from_slice(url)?;
+        Ok(FetchText {
+            octets,
+            url_start: token.len(),
+        })
+    }
+
+    /// The octets of the token.
+    pub fn token(&self) -> &[u8]
+        ensures { result.now ≡ self.now.token }
+    {
+        &self.octets[..self.url_start]
+    }
+
+    /// The octets of the URL.
+    pub fn url(&self) -> &[u8]
+        ensures { result.now ≡ self.now.url }
+    {
+        &self.octets[self.url_start..]
+    }
+}

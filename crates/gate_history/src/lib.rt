@@ -1,0 +1,17 @@
+//! Histories of the gate: the base that they go on from, their entries, and what each of them says
+//! (RFC 9309, sections 2.2.2, 2.3.1 and 2.4).
+#![tactic(auto)]
+
+mod base;
+mod entry;
+mod fetch_text;
+pub mod laws;
+mod outcome;
+
+pub use base::{Base, SlotGrant};
+pub use entry::Entry;
+pub use fetch_text::FetchText;
+pub use outcome::{Cause, Reason};
+
+#[cfg(test)]
+mod tests;

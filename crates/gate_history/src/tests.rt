@@ -1,0 +1,1 @@
+//! What a base starts as, and how large an entry is.
