@@ -55,20 +55,25 @@ times_turned standing in_flight turn = length (filter (is_of_turn turn) standing
 abbrev pub has_its_life : StandingAnswer → Bool
 has_its_life s = life_of s.says s.life == s.life
 
--- a base is one that a legal history may lead to
+-- what is out: no number is out twice, each was granted, and no slot has two greatest generations
+pub record ArePermits (unspent running : List Permit) (grants : List SlotGrant) : Type 0 where
+  pub numbers_once : (number : ℕ) → times_out unspent running number ≤ 1
+  pub numbers_granted : (number : ℕ) → 0 < times_out unspent running number → is_covered grants number ≡ true
+  pub slots_once : (slot : ℕ) → length (filter (is_in slot) grants) ≤ 1
+
+-- what turns brought: no authority has two turns in flight, nor two answers that stand; no turn stands
+-- twice, and each began, at no later moment than the greatest; and each answer has a life of its kind
+pub record AreTurns (standing : List StandingAnswer) (in_flight : List Turn) (begins moment : ℕ) : Type 0 where
+  pub flights_once : (authority : List ℕ) → length (filter (is_turn_of authority) in_flight) ≤ 1
+  pub answers_once : (authority : List ℕ) → length (filter (is_answer_for authority) standing) ≤ 1
+  pub turns_once : (turn : ℕ) → times_turned standing in_flight turn ≤ 1
+  pub turns_begun : (turn : ℕ) → 0 < times_turned standing in_flight turn → turn ≤ begins
+  pub flights_begun : list_all (λ t. nat_le t.begun moment) in_flight ≡ true
+  pub answers_begun : list_all (λ s. nat_le s.begun moment) standing ≡ true
+  pub lives : list_all has_its_life standing ≡ true
+
+-- a base is one that a legal history may lead to; no entry is both a begin and a start
 pub record IsBase (b : Base) : Type 0 where
-  -- no number is out twice, and each was granted
-  pub numbers_once : (number : ℕ) → times_out b.unspent b.running number ≤ 1
-  pub numbers_granted : (number : ℕ) → 0 < times_out b.unspent b.running number → is_covered b.grants number ≡ true
-  pub slots_once : (slot : ℕ) → length (filter (is_in slot) b.grants) ≤ 1
-  -- no authority has two turns in flight, nor two answers that stand
-  pub flights_once : (authority : List ℕ) → length (filter (is_turn_of authority) b.in_flight) ≤ 1
-  pub answers_once : (authority : List ℕ) → length (filter (is_answer_for authority) b.standing) ≤ 1
-  -- no turn stands twice, and each began
-  pub turns_once : (turn : ℕ) → times_turned b.standing b.in_flight turn ≤ 1
-  pub turns_begun : (turn : ℕ) → 0 < times_turned b.standing b.in_flight turn → turn ≤ b.begins
-  pub flights_begun : list_all (λ t. nat_le t.begun b.moment) b.in_flight ≡ true
-  pub answers_begun : list_all (λ s. nat_le s.begun b.moment) b.standing ≡ true
-  pub lives : list_all has_its_life b.standing ≡ true
-  -- an entry is not both a begin and a start
+  pub permits : ArePermits b.unspent b.running b.grants
+  pub turns : AreTurns b.standing b.in_flight b.begins b.moment
   pub counts : b.begins + b.started ≤ b.entries

@@ -1,3 +1,131 @@
 -- What is true of every history, and of every legal one.
 -- The contracts of `laws.rt`.
-use Rattle.std.specs.Prelude.{◌≡◌, ℕ}
+use Rattle.std.specs.Prelude.{◌≡◌, ◌↔◌, ℕ, ◌+◌, ◌<◌, ◌≤◌, true, false, List, [], ◌∷◌, ◌++◌, Some, Result, length, map, filter}
+use Rattle.std.specs.Str.{bytes_eq}
+use Rattle.permit_book.specs.Numbers.{slot_of, generation_of}
+use Rattle.authority_cache.specs.Calls.{one_if}
+use Rattle.authority_cache.specs.declared.standing_answer.StandingAnswer.{StandingAnswer}
+use Rattle.authority_cache.specs.Lists.{has_number, is_turn_of, lacks_answer}
+use Rattle.authority_cache.specs.Lives.{greatest_life, least_life}
+use Rattle.gate_history.specs.declared.entry.Entry.{Entry}
+use Rattle.gate_history.specs.declared.entry.Entry.TheVariants.{Begun, Arrived, Granted, AskDenied, Started, StartDenied, Returned, Finished, Swept}
+use Rattle.gate_history.specs.declared.outcome.Cause.{Cause}
+use Rattle.gate_history.specs.declared.outcome.Reason.{Reason}
+use Rattle.gate_history.specs.Base.{ArePermits, AreTurns, IsBase}
+use Rattle.gate_history.specs.Grants.{is_covered}
+use Rattle.gate_history.specs.History.{History, from, ◌▸◌, begins, entry_count, followed_by, now, started_count}
+use Rattle.gate_history.specs.Outstanding.{grants, greatest_in, running, unspent, was_granted}
+use Rattle.gate_history.specs.Standing.{has_turn, in_flight, is_known, known_count, standing, standing_of}
+use Rattle.gate_history.specs.Cause.{Decides}
+use Rattle.gate_history.specs.Legal.{AllRise, IsLegal, MayFollow}
+use Rattle.gate_history.specs.LeftOpen.{answers_opened, closes_answer, closes_permit, closes_run, closes_turn, left_open, permits_opened, runs_opened, turns_opened}
+use Rattle.gate_history.specs.Seal.{ReadsAs, base_after}
+
+-- a history with one more entry at the end of its list
+abbrev pub OneMore : Type 0
+OneMore = (h : History) (later : List Entry) (e : Entry) → followed_by h (later ++ e ∷ []) ≡ followed_by h later ▸ e
+
+-- after these entries, each list is what the history before them had and what they open, without what
+-- a later one of them closes
+pub record IsLeftOpen (h : History) (later : List Entry) : Type 0 where
+  pub turns : in_flight (followed_by h later) ≡ left_open in_flight turns_opened closes_turn h later
+  pub answers : standing (followed_by h later) ≡ left_open standing answers_opened closes_answer h later
+  pub permits : unspent (followed_by h later) ≡ left_open unspent permits_opened closes_permit h later
+  pub runs : running (followed_by h later) ≡ left_open running runs_opened closes_run h later
+
+-- what stands is what was opened and no later entry closes
+abbrev pub NoLaterEntryCloses : Type 0
+NoLaterEntryCloses = (h : History) (later : List Entry) → IsLeftOpen h later
+
+-- a legal history leads to a base
+abbrev pub LeadsToBase : Type 0
+LeadsToBase = (h : History) → IsLegal h → IsBase (base_after h)
+
+-- from the base that a history leads to, the same is read as from the history, whatever comes after it
+abbrev pub SealReadsAlike : Type 0
+SealReadsAlike = (h : History) (later : List Entry) → ReadsAs (followed_by (from (base_after h)) later) (followed_by h later)
+
+-- so each fetch is decided alike
+abbrev pub SealDecidesAlike : Type 0
+SealDecidesAlike =
+    (h : History) (later : List Entry) (token url : List ℕ) (moment : ℕ) (outcome : Result Reason Cause)
+    → Decides (followed_by (from (base_after h)) later) token url moment outcome ↔ Decides (followed_by h later) token url moment outcome
+
+-- entries that are legal after the base are legal after the history
+abbrev pub LegalBehindSeal : Type 0
+LegalBehindSeal = (h : History) (later : List Entry) → IsLegal h → IsLegal (followed_by (from (base_after h)) later) → IsLegal (followed_by h later)
+
+-- entries that are legal after the history are legal after the base, where each grant is of a generation
+-- above all earlier ones of its slot
+abbrev pub LegalFromSeal : Type 0
+LegalFromSeal =
+    (h : History) (later : List Entry) → AllRise h later → IsLegal (followed_by h later) → IsLegal (followed_by (from (base_after h)) later)
+
+-- a number that was granted is covered by the grants of its slot
+abbrev pub GrantedIsCovered : Type 0
+GrantedIsCovered = (h : History) (number : ℕ) → was_granted h number ≡ true → is_covered (grants h) number ≡ true
+
+-- a number of a generation above the greatest of its slot is not covered, and was never granted
+abbrev pub AboveIsNew : Type 0
+AboveIsNew =
+    (h : History) (number : ℕ) → greatest_in h (slot_of number) < generation_of number
+    → (is_covered (grants h) number ≡ false) × (was_granted h number ≡ false)
+
+-- in a legal history no permit stands twice, nor a turn; an authority has one turn in flight and one
+-- answer that stands at most, and a turn in flight is the only one of its number and of its authority
+pub record StandsOnce (h : History) : Type 0 where
+  pub permits : ArePermits (unspent h) (running h) (grants h)
+  pub turns : AreTurns (standing h) (in_flight h) (begins h) (now h)
+  pub own_turn : (authority : List ℕ) (turn : ℕ) → has_turn h authority turn ≡ true
+      → filter (has_number turn) (in_flight h) ≡ filter (is_turn_of authority) (in_flight h)
+
+-- in a legal history each stands once
+abbrev pub EachStandsOnce : Type 0
+EachStandsOnce = (h : History) → IsLegal h → StandsOnce h
+
+-- in a legal history the life of an answer that stands is from 60 seconds to 24 hours
+abbrev pub LivesAreBounded : Type 0
+LivesAreBounded =
+    (h : History) (authority : List ℕ) (s : StandingAnswer) → IsLegal h → standing_of h authority ≡ Some s
+    → (least_life ≤ s.life) × (s.life ≤ greatest_life)
+
+-- the names are those of the known authorities, each once
+abbrev pub AreKnown : History → List (List ℕ) → Type 0
+AreKnown h names = (authority : List ℕ) → length (filter (bytes_eq authority) names) ≡ one_if (is_known h authority)
+
+-- the authorities of the answers that stand, and of the turns in flight where no answer stands
+abbrev pub known_names : History → List (List ℕ)
+known_names h = map (λ s. s.authority) (standing h) ++ map (λ t. t.authority) (filter (lacks_answer (standing h)) (in_flight h))
+
+-- in a legal history they are the known authorities
+abbrev pub NamesAreKnown : Type 0
+NamesAreKnown = (h : History) → IsLegal h → AreKnown h (known_names h)
+
+-- in a legal history each list of the known authorities is as long as their count
+abbrev pub KnownAreCounted : Type 0
+KnownAreCounted = (h : History) (names : List (List ℕ)) → IsLegal h → AreKnown h names → length names ≡ known_count h
+
+-- what one more entry adds to the five counts, and takes from them: so many started; unspent permits
+-- more and less; running ones more and less; turns in flight more and less
+pub record Counts (h : History) (e : Entry) (started permits permits_less runs runs_less turns turns_less : ℕ) : Type 0 where
+  pub entries_are : entry_count (h ▸ e) ≡ entry_count h + 1
+  pub started_are : started_count (h ▸ e) ≡ started_count h + started
+  pub unspent_are : length (unspent (h ▸ e)) + permits_less ≡ length (unspent h) + permits
+  pub running_are : length (running (h ▸ e)) + runs_less ≡ length (running h) + runs
+  pub flights_are : length (in_flight (h ▸ e)) + turns_less ≡ length (in_flight h) + turns
+
+-- what each kind of entry adds to the counts and takes from them
+abbrev pub CountsOf : History → Entry → Type 0
+CountsOf h (Begun moment authority turn) = Counts h (Begun moment authority turn) 0 0 0 0 0 1 0
+CountsOf h (Arrived moment authority turn says life) = Counts h (Arrived moment authority turn says life) 0 0 0 0 0 0 1
+CountsOf h (Granted moment number fetch) = Counts h (Granted moment number fetch) 0 1 0 0 0 0 0
+CountsOf h (AskDenied moment fetch cause) = Counts h (AskDenied moment fetch cause) 0 0 0 0 0 0 0
+CountsOf h (Started moment number reason) = Counts h (Started moment number reason) 1 0 1 1 0 0 0
+CountsOf h (StartDenied moment number cause) = Counts h (StartDenied moment number cause) 0 0 1 0 0 0 0
+CountsOf h (Returned number) = Counts h (Returned number) 0 0 1 0 0 0 0
+CountsOf h (Finished number) = Counts h (Finished number) 0 0 0 0 1 0 0
+CountsOf h (Swept moment count) = Counts h (Swept moment count) 0 0 0 0 0 0 0
+
+-- each entry of a legal history counts so
+abbrev pub EachEntryCounts : Type 0
+EachEntryCounts = (h : History) (e : Entry) → IsLegal h → MayFollow h e → CountsOf h e

@@ -1,2 +1,45 @@
 //! What is true of every history, and of every legal one.
 //! RFC 9309, sections 2.3.1 and 2.4.
+ghost use Rattle.gate_history.specs.Laws.{AboveIsNew, EachEntryCounts, EachStandsOnce, GrantedIsCovered, KnownAreCounted, LeadsToBase};
+ghost use Rattle.gate_history.specs.Laws.{LegalBehindSeal, LegalFromSeal, LivesAreBounded, NamesAreKnown, NoLaterEntryCloses, OneMore};
+ghost use Rattle.gate_history.specs.Laws.{SealDecidesAlike, SealReadsAlike};
+
+/// Turns in flight, answers, permits and runs stand exactly where they were opened, by the base or by
+/// an entry, and no later entry closes them.
+pub fn no_later_entry_closes()
+    ensures one_more { OneMore }
+    ensures left_open { NoLaterEntryCloses }
+{}
+
+/// A legal history leads to a base, from which the same is read as from the history.
+pub fn sealing_changes_nothing()
+    ensures base { LeadsToBase }
+    ensures reads { SealReadsAlike }
+    ensures decides { SealDecidesAlike }
+    ensures behind { LegalBehindSeal }
+    ensures from { LegalFromSeal }
+{}
+
+/// A number of a generation above those granted in its slot is new.
+pub fn grants_are_covered()
+    ensures granted { GrantedIsCovered }
+    ensures above { AboveIsNew }
+{}
+
+/// In a legal history nothing stands twice, and no answer stands for more than 24 hours.
+pub fn each_stands_once()
+    ensures once { EachStandsOnce }
+    ensures lives { LivesAreBounded }
+{}
+
+/// In a legal history as many authorities are known as are counted.
+pub fn known_are_counted()
+    ensures names { NamesAreKnown }
+    ensures counted { KnownAreCounted }
+{}
+
+/// What each kind of entry adds to the counts of entries, of started fetches, of unspent permits, of
+/// running ones and of turns in flight, and what it takes from them.
+pub fn each_entry_counts()
+    ensures { EachEntryCounts }
+{}
