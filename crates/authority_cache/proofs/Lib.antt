@@ -2,3 +2,4 @@ pub mod EntryLaws
 pub mod SiteLaws
 pub mod SweepLaws
 pub mod Telling
+pub mod Reading

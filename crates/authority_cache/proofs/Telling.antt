@@ -289,7 +289,7 @@ one_past moment a state = by state.standing
     by (Some s) = one (nat_lt (s.begun + s.life) moment) (answer_for a s)
 
 -- a test finds one where its filter is not empty
-list_any-filter : {X : Type 0} (p : X → Bool) (xs : List X) → list_any p xs ≡ list_any (λ _. true) (filter p xs)
+pub list_any-filter : {X : Type 0} (p : X → Bool) (xs : List X) → list_any p xs ≡ list_any (λ _. true) (filter p xs)
 list_any-filter p [] = refl
 list_any-filter p (x ∷ xs) = by (list_any-filter p xs) (p x)
   where

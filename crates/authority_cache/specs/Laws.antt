@@ -1,13 +1,15 @@
--- What each change of the cache is to the lists of a history, and what is counted of both alike.
+-- What each change of the cache is to the lists of a history, and what is counted and read of both alike.
 -- The contracts of `laws.rt`.
-use Rattle.std.specs.Prelude.{◌≡◌, ℕ, true, false, not, List, [], ◌∷◌, ◌++◌, length, filter, map}
+use Rattle.std.specs.Prelude.{◌≡◌, ℕ, true, false, not, ◌&&◌, ◌||◌, List, [], ◌∷◌, ◌++◌, length, filter, map}
+use Rattle.std.specs.List.{find, list_any}
+use Rattle.std.specs.Option.{option_map}
 use Rattle.robots_verdict.specs.declared.said.Said.{Said}
 use Rattle.authority_cache.specs.declared.site.Flight.{Flight}
 use Rattle.authority_cache.specs.declared.standing_answer.StandingAnswer.{StandingAnswer}
 use Rattle.authority_cache.specs.declared.turn.Turn.{Turn}
-use Rattle.authority_cache.specs.Sites.{Known, IsApart, arrived, flight_count, has_turn, is_flying, known_count, past_count, site_of, with_flight}
+use Rattle.authority_cache.specs.Sites.{Known, IsApart, arrived, flight_count, has_turn, is_flying, is_known, known_count, past_count, site_of, with_flight}
 use Rattle.authority_cache.specs.Calls.{Changes, Sweeps}
-use Rattle.authority_cache.specs.Lists.{TellsCache, answered, has_number, is_answer_for, is_past_answer, is_turn_of, known_by, turn_for}
+use Rattle.authority_cache.specs.Lists.{TellsCache, answer_for, answered, has_number, is_answer_for, is_past_answer, is_turn_of, known_by, turn_for}
 
 -- an empty cache says what a history without begins says
 abbrev pub NewTells : Type 0
@@ -47,3 +49,17 @@ pub record CountsAlike (k : Known) (standing : List StandingAnswer) (in_flight :
 abbrev pub TellingCountsAlike : Type 0
 TellingCountsAlike = (k : Known) (standing : List StandingAnswer) (in_flight : List Turn)
     → TellsCache k standing in_flight → IsApart k → CountsAlike k standing in_flight
+
+-- what is read of the cache is what is read of the lists
+pub record ReadsAlike (k : Known) (standing : List StandingAnswer) (in_flight : List Turn) : Type 0 where
+  pub flying : (authority : List ℕ) → is_flying (site_of k authority) ≡ list_any (is_turn_of authority) in_flight
+  pub turns : (authority : List ℕ) (turn : ℕ)
+      → has_turn turn (site_of k authority) ≡ list_any (λ t. has_number turn t && is_turn_of authority t) in_flight
+  pub answers : (authority : List ℕ) → option_map (answer_for authority) (site_of k authority).standing ≡ find (is_answer_for authority) standing
+  pub known : (authority : List ℕ)
+      → is_known (site_of k authority) ≡ (list_any (is_answer_for authority) standing || list_any (is_turn_of authority) in_flight)
+
+-- a cache that says what the lists say is read alike
+abbrev pub TellingReadsAlike : Type 0
+TellingReadsAlike = (k : Known) (standing : List StandingAnswer) (in_flight : List Turn)
+    → TellsCache k standing in_flight → ReadsAlike k standing in_flight

@@ -2,7 +2,7 @@
 //! RFC 9309, sections 2.3.1 and 2.4.
 ghost use Rattle.std.specs.Prelude.{◌≡◌};
 ghost use Rattle.authority_cache.specs.Lives.{greatest_life, least_life};
-ghost use Rattle.authority_cache.specs.Laws.{ArriveTells, BeginTells, NewTells, SweepTells, TellingCountsAlike};
+ghost use Rattle.authority_cache.specs.Laws.{ArriveTells, BeginTells, NewTells, SweepTells, TellingCountsAlike, TellingReadsAlike};
 
 use crate::life::{LEAST_LIFE, LIFE};
 
@@ -24,4 +24,9 @@ pub fn changes_tell()
 /// As many authorities and turns are counted of the cache as of the lists.
 pub fn counts_are_alike()
     ensures { TellingCountsAlike }
+{}
+
+/// What is read of the cache is what is read of the lists.
+pub fn readers_are_alike()
+    ensures { TellingReadsAlike }
 {}

@@ -1,6 +1,6 @@
 -- What each kind of entry adds to the counts, and what it takes from them.
 -- Cited by `each_entry_counts` of `laws.rt`.
-use Rattle.std.proofs.Common.{◌≡◌, ℕ, zero, suc, ◌+◌, ◌<◌, ◌≤◌, Bool, true, false, cond, not, ◌&&◌, ◌||◌, List, [], ◌∷◌, ◌++◌, length, filter, refl, sym, ap, ◌∙◌, true≢false, length-append, arith}
+use Rattle.std.proofs.Common.{◌≡◌, ℕ, ◌+◌, ◌≤◌, Bool, true, false, not, ◌&&◌, List, [], ◌∷◌, length, filter, refl, length-append, arith}
 use Rattle.std.specs.List.{list_any}
 use Rattle.std.proofs.lemmas.List.Filters.{length-filter_both}
 use Rattle.permit_book.specs.declared.permit.Permit.{Permit}
@@ -9,13 +9,10 @@ use Rattle.permit_book.specs.Table.{is_fetch_of}
 use Rattle.permit_book.proofs.Filters.{list_any-more}
 use Rattle.authority_cache.specs.declared.turn.Turn.{Turn}
 use Rattle.authority_cache.specs.Lists.{has_number, is_turn_of, turn_for}
-use Rattle.gate_history.specs.declared.entry.Entry.{Entry}
 use Rattle.gate_history.specs.declared.entry.Entry.TheVariants.{Begun, Arrived, Granted, AskDenied, Started, StartDenied, Returned, Finished, Swept}
-use Rattle.gate_history.specs.Base.{ArePermits, times_out}
-use Rattle.gate_history.specs.History.{History, ◌▸◌}
+use Rattle.gate_history.specs.History.{History}
 use Rattle.gate_history.specs.Outstanding.{running, stands, unspent}
-use Rattle.gate_history.specs.Standing.{has_turn, in_flight}
-use Rattle.gate_history.specs.Legal.{IsLegal, MayFollow}
+use Rattle.gate_history.specs.Standing.{in_flight}
 use Rattle.gate_history.specs.Laws.{EachEntryCounts, StandsOnce}
 use Rattle.gate_history.proofs.Counting.{some-found}
 use Rattle.gate_history.proofs.Soundness.{stands_once}

@@ -1,6 +1,6 @@
 -- What one more grant does to the greatest generations, and which numbers they cover.
 -- Cited by `grants_are_covered` of `laws.rt`, and by the laws on seals.
-use Rattle.std.proofs.Common.{◌≡◌, ◌≢◌, ℕ, ◌+◌, ◌<◌, ◌≤◌, ◌==◌, Bool, true, false, cond, not, nat_le, ◌&&◌, ◌||◌, max, List, [], ◌∷◌, ◌++◌, length, filter, inl, inr, refl, sym, ap, subst, ◌∙◌, true≢false, arith}
+use Rattle.std.proofs.Common.{◌≡◌, ◌≢◌, ℕ, ◌+◌, ◌<◌, ◌≤◌, ◌==◌, Bool, true, false, not, nat_le, ◌&&◌, ◌||◌, max, List, [], ◌∷◌, ◌++◌, length, filter, inl, inr, refl, sym, ap, ◌∙◌, true≢false, arith}
 use Rattle.std.specs.List.{list_any}
 use Rattle.std.proofs.lemmas.Bool.{leb-true, le-leb}
 use Rattle.std.proofs.lemmas.Bool.Decides.{eqb_tells, leb_tells}
@@ -24,9 +24,9 @@ greatest-others : (xs : List SlotGrant) (k slot : ℕ) → slot ≢ k → greate
 greatest-others [] k slot apart = refl
 greatest-others (x ∷ xs) k slot apart = elim (eqb_tells x.slot k) [
   | inl e ↦ (let none : (x.slot == slot) ≡ false = elim (eqb_tells x.slot slot) [
-      | inl same ↦ absurd (apart (sym same.1 ∙ e.1))
-      | inr other ↦ other.0
-    ] in rw (e.0, none) (greatest-others xs k slot apart ∙ omega arith))
+    | inl same ↦ absurd (apart (sym same.1 ∙ e.1))
+    | inr other ↦ other.0
+  ] in rw (e.0, none) (greatest-others xs k slot apart ∙ omega arith))
   | inr d ↦ rw d.0 (ap (max (generation_in slot x)) (greatest-others xs k slot apart))
 ]
 

@@ -1,7 +1,6 @@
 -- How many authorities are known, and how long an answer stands.
 -- Cited by `known_are_counted` and `each_stands_once` of `laws.rt`.
-use Rattle.std.proofs.Common.{◌≡◌, ◌≢◌, ℕ, zero, suc, ◌+◌, ◌<◌, ◌≤◌, ◌==◌, Bool, true, false, cond, not, ◌&&◌, ◌||◌, max, min, List, [], ◌∷◌, ◌++◌, length, filter, map, Some, None, inl, inr, refl, sym, ap, subst, ◌∙◌, true≢false, length-append, arith}
-use Rattle.std.specs.Prelude.{Option}
+use Rattle.std.proofs.Common.{◌≡◌, ℕ, suc, ◌+◌, ◌<◌, ◌≤◌, ◌==◌, Bool, true, false, cond, not, ◌&&◌, ◌||◌, max, min, List, [], ◌∷◌, length, filter, map, Some, inl, inr, refl, sym, ap, ◌∙◌, true≢false, length-append, arith}
 use Rattle.std.specs.List.{find, list_all, list_any}
 use Rattle.std.specs.Str.{bytes_eq}
 use Rattle.std.proofs.lemmas.List.{length-map}
@@ -9,19 +8,17 @@ use Rattle.std.proofs.lemmas.Bool.Decides.{eqb_tells}
 use Rattle.std.proofs.lemmas.Slice.Eq.{bytes_eq-Decides}
 use Rattle.robots_verdict.specs.declared.said.Said.{Said}
 use Rattle.robots_verdict.specs.declared.said.Said.TheVariants as says
-use Rattle.permit_book.proofs.Filters.{filter-parts}
 use Rattle.authority_cache.specs.declared.standing_answer.StandingAnswer.{StandingAnswer}
 use Rattle.authority_cache.specs.declared.turn.Turn.{Turn}
 use Rattle.authority_cache.specs.Calls.{one_if}
-use Rattle.authority_cache.specs.Lists.{is_answer_for, is_turn_of, known_by, lacks_answer}
+use Rattle.authority_cache.specs.Lists.{is_answer_for, is_turn_of, lacks_answer}
 use Rattle.authority_cache.specs.Lives.{greatest_life, least_life, life_of}
 use Rattle.authority_cache.proofs.EntryLaws.{count-cons}
 use Rattle.authority_cache.proofs.SiteLaws.{other_text, same_text}
 use Rattle.gate_history.specs.Base.{AreTurns, has_its_life}
-use Rattle.gate_history.specs.History.{History, begins, now}
-use Rattle.gate_history.specs.Standing.{in_flight, is_known, known_count, standing, standing_of}
-use Rattle.gate_history.specs.Legal.{IsLegal}
-use Rattle.gate_history.specs.Laws.{AreKnown, KnownAreCounted, LivesAreBounded, NamesAreKnown, known_names}
+use Rattle.gate_history.specs.History.{begins, now}
+use Rattle.gate_history.specs.Standing.{in_flight, standing}
+use Rattle.gate_history.specs.Laws.{KnownAreCounted, LivesAreBounded, NamesAreKnown, known_names}
 use Rattle.gate_history.proofs.Counting.{count-append, count-map, none-found, some-found}
 use Rattle.gate_history.proofs.Soundness.{stands_once}
 

@@ -1,25 +1,27 @@
 -- What is read from the base that a history leads to, and which entries are legal after it.
 -- Cited by `sealing_changes_nothing` and `grants_are_covered` of `laws.rt`.
-use Rattle.std.proofs.Common.{◌≡◌, ◌↔◌, ℕ, ◌+◌, ◌<◌, ◌==◌, Bool, true, false, not, ◌||◌, max, List, [], ◌∷◌, ◌++◌, filter, map, refl, sym, ap, subst, ◌∙◌, true≢false, arith}
-use Rattle.std.specs.Prelude.{Option, Result, Ok, Err}
+use Rattle.std.proofs.Common.{◌≡◌, ℕ, ◌+◌, ◌<◌, ◌==◌, Bool, true, false, not, ◌||◌, max, List, [], ◌∷◌, ◌++◌, filter, inl, inr, refl, sym, ap, subst, ◌∙◌, true≢false, arith}
+use Rattle.std.specs.Prelude.{Result, Ok, Err}
 use Rattle.std.specs.List.{find}
+use Rattle.std.proofs.lemmas.Bool.Decides.{eqb_tells}
 use Rattle.path_normal.specs.PageText.{authority_of}
-use Rattle.permit_book.specs.Numbers.{slot_of, generation_of}
-use Rattle.permit_book.specs.Outstanding.{granted_in, is_numbered, permit_for, without}
+use Rattle.permit_book.specs.Next.{generation_after}
+use Rattle.permit_book.specs.Numbers.{slot_of}
+use Rattle.permit_book.specs.Outstanding.{granted_in, permit_for, without}
 use Rattle.authority_cache.specs.declared.standing_answer.StandingAnswer.{StandingAnswer}
-use Rattle.authority_cache.specs.Lists.{answered, has_number, is_answer_for, is_past_answer, known_by, turn_for}
+use Rattle.authority_cache.specs.Lists.{has_number, is_answer_for, is_past_answer, turn_for}
 use Rattle.gate_history.specs.declared.entry.Entry.{Entry}
 use Rattle.gate_history.specs.declared.entry.Entry.TheVariants.{Begun, Arrived, Granted, AskDenied, Started, StartDenied, Returned, Finished, Swept}
 use Rattle.gate_history.specs.declared.outcome.Cause.{Cause}
 use Rattle.gate_history.specs.declared.outcome.Reason.{Reason}
 use Rattle.gate_history.specs.Grants.{greatest_of, is_covered, with_grant}
-use Rattle.gate_history.specs.History.{History, from, ◌▸◌, begins, entry_count, followed_by, moment_of, now, started_count}
+use Rattle.gate_history.specs.History.{History, from, ◌▸◌, begins, followed_by, now}
 use Rattle.gate_history.specs.Outstanding.{grants, greatest_in, running, stands, unspent, was_granted}
 use Rattle.gate_history.specs.Standing.{in_flight, standing}
 use Rattle.gate_history.specs.Cause.{Decides, Judges}
 use Rattle.gate_history.specs.Legal.{AllRise, IsLegal, MayFollow, Rises, SpendsAs}
 use Rattle.gate_history.specs.Seal.{ReadsAs, base_after}
-use Rattle.gate_history.specs.Laws.{AboveIsNew, LegalBehindSeal, LegalFromSeal, OneMore, SealDecidesAlike, SealReadsAlike}
+use Rattle.gate_history.specs.Laws.{AboveIsNew, LegalBehindSeal, LegalFromSeal, NextIsNew, OneMore, SealDecidesAlike, SealReadsAlike}
 use Rattle.gate_history.proofs.GrantLaws.{above-not_covered, greatest-granted}
 use Rattle.gate_history.proofs.Soundness.{granted_covered, leads_to_base}
 
@@ -45,6 +47,19 @@ above_new h n above =
     by : (b : Bool) → was_granted h n ≡ b → is_covered (grants h) n ≡ false → b ≡ false
     by true is none = absurd (true≢false (sym (granted_covered h n is) ∙ none))
     by false is none = refl
+
+-- the generation after the greatest of a slot is above it
+after_greatest : (first greatest : ℕ) → 0 < first → greatest < generation_after first greatest
+after_greatest first greatest some = elim (eqb_tells greatest 0) [
+  | inl e ↦ (let none : greatest ≡ 0 = e.1 in rw e.0 (omega arith))
+  | inr d ↦ rw d.0 (omega arith)
+]
+
+-- the next number is new
+pub next_new : NextIsNew
+next_new h slots first n some next =
+    let above = after_greatest first (greatest_in h (slot_of n)) some in
+    above_new h n (rw next.generation above)
 
 -- the base that a history leads to reads as the history
 sealed : (h : History) → ReadsAs (from (base_after h)) h
@@ -214,8 +229,7 @@ decides g h stands token url moment outcome =
 -- each fetch is decided alike
 pub decides_alike : SealDecidesAlike
 decides_alike h later token url moment outcome =
-    let reads = reads_alike h later in
-    (
+    let reads = reads_alike h later in (
       decides (followed_by (from (base_after h)) later) (followed_by h later) reads.standing token url moment outcome,
       decides (followed_by h later) (followed_by (from (base_after h)) later) (sym reads.standing) token url moment outcome,
     )

@@ -1,13 +1,12 @@
 -- A legal history leads to a base, shown for each kind of entry, and a granted number is covered.
 -- Cited by the laws.
-use Rattle.std.proofs.Common.{◌≡◌, ℕ, zero, suc, ◌+◌, ◌<◌, ◌≤◌, ◌==◌, Bool, true, false, ◌&&◌, ◌||◌, max, List, length, filter, inl, inr, refl, sym, ap, subst, ◌∙◌, true≢false, arith}
+use Rattle.std.proofs.Common.{◌≡◌, ℕ, zero, suc, ◌+◌, ◌<◌, ◌==◌, Bool, true, false, ◌||◌, max, inl, inr, refl, sym, ap, subst, ◌∙◌, true≢false, arith}
 use Rattle.std.proofs.Math.Nat.{le-max_left, le-max_right}
 use Rattle.std.proofs.lemmas.Bool.Decides.{eqb_tells}
-use Rattle.permit_book.proofs.TableLaws.{same_number}
 use Rattle.authority_cache.specs.Calls.{one_if}
 use Rattle.gate_history.specs.declared.entry.Entry.{Entry}
 use Rattle.gate_history.specs.declared.entry.Entry.TheVariants.{Begun, Arrived, Granted, AskDenied, Started, StartDenied, Returned, Finished, Swept}
-use Rattle.gate_history.specs.Base.{ArePermits, AreTurns, IsBase, times_out}
+use Rattle.gate_history.specs.Base.{AreTurns, IsBase, times_out}
 use Rattle.gate_history.specs.Grants.{is_covered}
 use Rattle.gate_history.specs.History.{History, from, ◌▸◌, begins, moment_of, now}
 use Rattle.gate_history.specs.Outstanding.{grants, running, unspent, was_granted}

@@ -6,7 +6,6 @@ use Rattle.gate_history.specs.declared.entry.Entry.TheVariants.{Begun, Arrived, 
 use Rattle.gate_history.specs.Base.{Base}
 
 infixl 20 ◌▸◌
-
 -- a history is a base, or a history and one more entry
 pub data History : Type 0 where
   from : Base → History

@@ -3,6 +3,7 @@
 use Rattle.std.specs.Prelude.{◌≡◌, ◌↔◌, ℕ, ◌+◌, ◌<◌, ◌≤◌, true, false, List, [], ◌∷◌, ◌++◌, Some, Result, length, map, filter}
 use Rattle.std.specs.Str.{bytes_eq}
 use Rattle.permit_book.specs.Numbers.{slot_of, generation_of}
+use Rattle.permit_book.specs.Outstanding.{IsNextBy}
 use Rattle.authority_cache.specs.Calls.{one_if}
 use Rattle.authority_cache.specs.declared.standing_answer.StandingAnswer.{StandingAnswer}
 use Rattle.authority_cache.specs.Lists.{has_number, is_turn_of, lacks_answer}
@@ -69,6 +70,12 @@ GrantedIsCovered = (h : History) (number : ℕ) → was_granted h number ≡ tru
 abbrev pub AboveIsNew : Type 0
 AboveIsNew =
     (h : History) (number : ℕ) → greatest_in h (slot_of number) < generation_of number
+    → (is_covered (grants h) number ≡ false) × (was_granted h number ≡ false)
+
+-- the next number of a history, by its permits and its greatest generations, is new
+abbrev pub NextIsNew : Type 0
+NextIsNew =
+    (h : History) (slots first number : ℕ) → 0 < first → IsNextBy slots first (unspent h) (running h) (greatest_in h) number
     → (is_covered (grants h) number ≡ false) × (was_granted h number ≡ false)
 
 -- in a legal history no permit stands twice, nor a turn; an authority has one turn in flight and one

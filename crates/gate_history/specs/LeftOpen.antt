@@ -1,6 +1,6 @@
 -- What entries open and no later entry closes: the one scheme of turns in flight, standing answers,
 -- unspent permits and running ones. The laws say that each of their lists is what is left open so.
-use Rattle.std.specs.Prelude.{ℕ, Bool, false, not, ◌||◌, List, [], ◌∷◌, ◌++◌, map, filter}
+use Rattle.std.specs.Prelude.{Bool, false, not, List, [], ◌∷◌, ◌++◌, map, filter}
 use Rattle.std.specs.List.{list_any}
 use Rattle.permit_book.specs.declared.permit.Permit.{Permit}
 use Rattle.permit_book.specs.Outstanding.{is_numbered, permit_for}

@@ -1,10 +1,9 @@
 -- The permits that are out after a history, and the generations that were granted.
 -- RFC 9309 has no permits: they make each fetch look at the answer in force (2.4).
-use Rattle.std.specs.Prelude.{ℕ, ◌==◌, Bool, false, ◌||◌, max, List, [], ◌∷◌, ◌++◌, filter}
+use Rattle.std.specs.Prelude.{ℕ, ◌==◌, Bool, ◌||◌, max, List, [], ◌∷◌, ◌++◌, filter}
 use Rattle.permit_book.specs.declared.permit.Permit.{Permit}
 use Rattle.permit_book.specs.Outstanding.{granted_in, is_listed, is_listed_for, is_numbered, permit_for, without}
 use Rattle.gate_history.specs.declared.base.SlotGrant.{SlotGrant}
-use Rattle.gate_history.specs.declared.entry.Entry.{Entry}
 use Rattle.gate_history.specs.declared.entry.Entry.TheVariants.{Granted, Started, StartDenied, Returned, Finished}
 use Rattle.gate_history.specs.Grants.{greatest_of, is_covered, with_grant}
 use Rattle.gate_history.specs.History.{History, from, ◌▸◌}

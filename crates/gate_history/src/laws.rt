@@ -1,8 +1,8 @@
 //! What is true of every history, and of every legal one.
 //! RFC 9309, sections 2.3.1 and 2.4.
 ghost use Rattle.gate_history.specs.Laws.{AboveIsNew, EachEntryCounts, EachStandsOnce, GrantedIsCovered, KnownAreCounted, LeadsToBase};
-ghost use Rattle.gate_history.specs.Laws.{LegalBehindSeal, LegalFromSeal, LivesAreBounded, NamesAreKnown, NoLaterEntryCloses, OneMore};
-ghost use Rattle.gate_history.specs.Laws.{SealDecidesAlike, SealReadsAlike};
+ghost use Rattle.gate_history.specs.Laws.{LegalBehindSeal, LegalFromSeal, LivesAreBounded, NamesAreKnown, NextIsNew};
+ghost use Rattle.gate_history.specs.Laws.{NoLaterEntryCloses, OneMore, SealDecidesAlike, SealReadsAlike};
 
 /// Turns in flight, answers, permits and runs stand exactly where they were opened, by the base or by
 /// an entry, and no later entry closes them.
@@ -20,10 +20,11 @@ pub fn sealing_changes_nothing()
     ensures from { LegalFromSeal }
 {}
 
-/// A number of a generation above those granted in its slot is new.
+/// A number of a generation above those granted in its slot is new, and so is the next number.
 pub fn grants_are_covered()
     ensures granted { GrantedIsCovered }
     ensures above { AboveIsNew }
+    ensures next { NextIsNew }
 {}
 
 /// In a legal history nothing stands twice, and no answer stands for more than 24 hours.

@@ -220,3 +220,24 @@ fn answers_give_twins(rt: HostRuntime) -> Result<(), Fail> {
     );
     Ok(())
 }
+
+#[test]
+fn answers_say_what_their_twins_say(rt: HostRuntime) -> Result<(), Fail> {
+    let alloc = rt.alloc();
+    let mut answer = Answer::rules(alloc, RobotsText::read(alloc, EXAMPLE.as_bytes())?)?;
+    let twin = answer.twin();
+    let said = answer.into_said();
+    assert!(rt; said == twin.into_said(), "the twin says the same");
+    assert!(rt;
+        said != Said::Open(Opening::Unavailable),
+        "rules are not open"
+    );
+    match said {
+        Said::Rules(handle) => {
+            let text = handle.policy().text().bytes();
+            assert!(rt; text == EXAMPLE.as_bytes(), "the text that binds");
+        }
+        _ => assert!(rt; false, "rules are said"),
+    }
+    Ok(())
+}

@@ -8,3 +8,6 @@ returns-clause-granted c = sound.granted_covered
 
 pub returns-clause-above : goal.returns-clause-above
 returns-clause-above c = seals.above_new
+
+pub returns-clause-next : goal.returns-clause-next
+returns-clause-next c = seals.next_new
