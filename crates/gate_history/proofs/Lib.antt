@@ -3,6 +3,9 @@ pub mod GrantLaws
 pub mod SoundParts
 pub mod Soundness
 pub mod SealLaws
+pub mod Saying
+pub mod OrderLaws
+pub mod LegalLaws
 pub mod LeftOpenLaws
 pub mod EntryCounts
 pub mod KnownLaws

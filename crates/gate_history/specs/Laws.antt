@@ -12,7 +12,7 @@ use Rattle.gate_history.specs.declared.entry.Entry.{Entry}
 use Rattle.gate_history.specs.declared.entry.Entry.TheVariants.{Begun, Arrived, Granted, AskDenied, Started, StartDenied, Returned, Finished, Swept}
 use Rattle.gate_history.specs.declared.outcome.Cause.{Cause}
 use Rattle.gate_history.specs.declared.outcome.Reason.{Reason}
-use Rattle.gate_history.specs.Base.{ArePermits, AreTurns, IsBase}
+use Rattle.gate_history.specs.Base.{ArePermits, AreTurns, Base, IsBase}
 use Rattle.gate_history.specs.Grants.{is_covered}
 use Rattle.gate_history.specs.History.{History, from, ◌▸◌, begins, entry_count, followed_by, now, started_count}
 use Rattle.gate_history.specs.Outstanding.{grants, greatest_in, running, unspent, was_granted}
@@ -20,7 +20,7 @@ use Rattle.gate_history.specs.Standing.{has_turn, in_flight, is_known, known_cou
 use Rattle.gate_history.specs.Cause.{Decides}
 use Rattle.gate_history.specs.Legal.{AllRise, IsLegal, MayFollow}
 use Rattle.gate_history.specs.LeftOpen.{answers_opened, closes_answer, closes_permit, closes_run, closes_turn, left_open, permits_opened, runs_opened, turns_opened}
-use Rattle.gate_history.specs.Seal.{ReadsAs, base_after}
+use Rattle.gate_history.specs.Seal.{AnswersAlike, ReadsAs, SaysAs, base_after}
 
 -- a history with one more entry at the end of its list
 abbrev pub OneMore : Type 0
@@ -46,21 +46,37 @@ LeadsToBase = (h : History) → IsLegal h → IsBase (base_after h)
 abbrev pub SealReadsAlike : Type 0
 SealReadsAlike = (h : History) (later : List Entry) → ReadsAs (followed_by (from (base_after h)) later) (followed_by h later)
 
--- so each fetch is decided alike
-abbrev pub SealDecidesAlike : Type 0
-SealDecidesAlike =
-    (h : History) (later : List Entry) (token url : List ℕ) (moment : ℕ) (outcome : Result Reason Cause)
-    → Decides (followed_by (from (base_after h)) later) token url moment outcome ↔ Decides (followed_by h later) token url moment outcome
+-- the base that a history leads to says what the history does
+abbrev pub SealSaysAlike : Type 0
+SealSaysAlike = (h : History) → SaysAs (from (base_after h)) h
 
--- entries that are legal after the base are legal after the history
-abbrev pub LegalBehindSeal : Type 0
-LegalBehindSeal = (h : History) (later : List Entry) → IsLegal h → IsLegal (followed_by (from (base_after h)) later) → IsLegal (followed_by h later)
+-- whatever says what a legal history does is a base, in whatever order
+abbrev pub SaysBase : Type 0
+SaysBase = (b : Base) (h : History) → IsLegal h → SaysAs (from b) h → IsBase b
 
--- entries that are legal after the history are legal after the base, where each grant is of a generation
--- above all earlier ones of its slot
-abbrev pub LegalFromSeal : Type 0
-LegalFromSeal =
-    (h : History) (later : List Entry) → AllRise h later → IsLegal (followed_by h later) → IsLegal (followed_by (from (base_after h)) later)
+-- histories that say the same say the same after any entries
+abbrev pub GoOnAlike : Type 0
+GoOnAlike = (g h : History) (later : List Entry) → SaysAs g h → SaysAs (followed_by g later) (followed_by h later)
+
+-- histories that say the same answer alike
+abbrev pub SayingAnswersAlike : Type 0
+SayingAnswersAlike = (g h : History) → SaysAs g h → AnswersAlike g h
+
+-- they decide each fetch alike
+abbrev pub DecideAlike : Type 0
+DecideAlike =
+    (g h : History) (token url : List ℕ) (moment : ℕ) (outcome : Result Reason Cause) → SaysAs g h
+    → Decides g token url moment outcome ↔ Decides h token url moment outcome
+
+-- entries that are legal after the one are legal after the other, which granted no more numbers
+abbrev pub LegalBehind : Type 0
+LegalBehind = (g h : History) (later : List Entry) → SaysAs g h → IsLegal h → IsLegal (followed_by g later) → IsLegal (followed_by h later)
+
+-- the other way round, where each grant is of a generation above all earlier ones of its slot
+abbrev pub LegalAhead : Type 0
+LegalAhead =
+    (g h : History) (later : List Entry) → SaysAs g h → IsLegal g → AllRise h later → IsLegal (followed_by h later)
+    → IsLegal (followed_by g later)
 
 -- a number that was granted is covered by the grants of its slot
 abbrev pub GrantedIsCovered : Type 0

@@ -1,10 +1,13 @@
--- The base that a history leads to, and histories of which the same is read.
--- A history may go on from that base in the place of its entries.
-use Rattle.std.specs.Prelude.{◌≡◌, ℕ, true}
+-- The base that a history leads to, and histories that say the same.
+-- A history may go on from such a base in the place of its entries.
+use Rattle.std.specs.Prelude.{◌≡◌, ℕ, Bool, true, List, length, filter}
+use Rattle.permit_book.specs.Outstanding.{is_numbered, listed_for}
+use Rattle.authority_cache.specs.Lists.{is_answer_for, is_turn_of}
 use Rattle.gate_history.specs.Base.{Base}
+use Rattle.gate_history.specs.Grants.{is_covered, is_in}
 use Rattle.gate_history.specs.History.{History, begins, entry_count, now, started_count}
-use Rattle.gate_history.specs.Standing.{in_flight, known_count, standing}
-use Rattle.gate_history.specs.Outstanding.{grants, greatest_in, running, unspent, was_granted}
+use Rattle.gate_history.specs.Standing.{has_turn, in_flight, is_fetching, is_known, known_count, past_count, standing, standing_of}
+use Rattle.gate_history.specs.Outstanding.{grants, greatest_in, is_running, is_unspent, running, stands, unspent, was_granted}
 
 -- what the history left open, and its numbers
 abbrev pub base_after : History → Base
@@ -20,8 +23,8 @@ base_after h = record {
   started = started_count h;
 }
 
--- each list and each number that is read of the one history is that of the other, and what the second
--- one granted the first one did
+-- each list and each number of the one history is that of the other, and what the second one granted
+-- the first one did
 pub record ReadsAs (g h : History) : Type 0 where
   pub standing : standing g ≡ standing h
   pub in_flight : in_flight g ≡ in_flight h
@@ -35,3 +38,40 @@ pub record ReadsAs (g h : History) : Type 0 where
   pub now : now g ≡ now h
   pub entries : entry_count g ≡ entry_count h
   pub started : started_count g ≡ started_count h
+
+-- two lists say the same in whatever order: of each key the same, and of each test as many
+pub record SaySame {K X : Type 0} (is_of : K → X → Bool) (xs ys : List X) : Type 0 where
+  pub each : (key : K) → filter (is_of key) xs ≡ filter (is_of key) ys
+  pub counts : (test : X → Bool) → length (filter test xs) ≡ length (filter test ys)
+
+-- the lists of the one history say what those of the other do, and the numbers are the same
+pub record SaysAs (g h : History) : Type 0 where
+  pub answers : SaySame is_answer_for (standing g) (standing h)
+  pub turns : SaySame is_turn_of (in_flight g) (in_flight h)
+  pub permits : SaySame is_numbered (unspent g) (unspent h)
+  pub runs : SaySame is_numbered (running g) (running h)
+  pub slots : SaySame is_in (grants g) (grants h)
+  pub greatest : (slot : ℕ) → greatest_in g slot ≡ greatest_in h slot
+  pub granted : (number : ℕ) → was_granted h number ≡ true → was_granted g number ≡ true
+  pub begun : begins g ≡ begins h
+  pub moment : now g ≡ now h
+  pub entries : entry_count g ≡ entry_count h
+  pub started : started_count g ≡ started_count h
+
+-- whatever is asked of the lists of two histories is answered alike
+pub record AnswersAlike (g h : History) : Type 0 where
+  pub standing_of : (authority : List ℕ) → standing_of g authority ≡ standing_of h authority
+  pub past_count : (moment : ℕ) → past_count g moment ≡ past_count h moment
+  pub has_turn : (authority : List ℕ) (turn : ℕ) → has_turn g authority turn ≡ has_turn h authority turn
+  pub is_fetching : (authority : List ℕ) → is_fetching g authority ≡ is_fetching h authority
+  pub is_known : (authority : List ℕ) → is_known g authority ≡ is_known h authority
+  pub known_count : known_count g ≡ known_count h
+  pub flights : length (in_flight g) ≡ length (in_flight h)
+  pub stands : (number : ℕ) (token url : List ℕ) → stands g number token url ≡ stands h number token url
+  pub is_unspent : (number : ℕ) → is_unspent g number ≡ is_unspent h number
+  pub is_running : (number : ℕ) → is_running g number ≡ is_running h number
+  pub permits : length (unspent g) ≡ length (unspent h)
+  pub runs : length (running g) ≡ length (running h)
+  pub unspent_for : (authority : List ℕ) → listed_for (unspent g) authority ≡ listed_for (unspent h) authority
+  pub running_for : (authority : List ℕ) → listed_for (running g) authority ≡ listed_for (running h) authority
+  pub is_covered : (number : ℕ) → is_covered (grants g) number ≡ is_covered (grants h) number

@@ -1,8 +1,9 @@
 //! What is true of every history, and of every legal one.
 //! RFC 9309, sections 2.3.1 and 2.4.
-ghost use Rattle.gate_history.specs.Laws.{AboveIsNew, EachEntryCounts, EachStandsOnce, GrantedIsCovered, KnownAreCounted, LeadsToBase};
-ghost use Rattle.gate_history.specs.Laws.{LegalBehindSeal, LegalFromSeal, LivesAreBounded, NamesAreKnown, NextIsNew};
-ghost use Rattle.gate_history.specs.Laws.{NoLaterEntryCloses, OneMore, SealDecidesAlike, SealReadsAlike};
+ghost use Rattle.gate_history.specs.Laws.{AboveIsNew, DecideAlike, EachEntryCounts, EachStandsOnce, GoOnAlike, GrantedIsCovered};
+ghost use Rattle.gate_history.specs.Laws.{KnownAreCounted, LeadsToBase, LegalAhead, LegalBehind, LivesAreBounded, NamesAreKnown};
+ghost use Rattle.gate_history.specs.Laws.{NextIsNew, NoLaterEntryCloses, OneMore, SaysBase, SayingAnswersAlike};
+ghost use Rattle.gate_history.specs.Laws.{SealReadsAlike, SealSaysAlike};
 
 /// Turns in flight, answers, permits and runs stand exactly where they were opened, by the base or by
 /// an entry, and no later entry closes them.
@@ -15,9 +16,17 @@ pub fn no_later_entry_closes()
 pub fn sealing_changes_nothing()
     ensures base { LeadsToBase }
     ensures reads { SealReadsAlike }
-    ensures decides { SealDecidesAlike }
-    ensures behind { LegalBehindSeal }
-    ensures from { LegalFromSeal }
+    ensures says { SealSaysAlike }
+{}
+
+/// Histories whose lists say the same, in whatever order, answer alike and go on alike.
+pub fn order_changes_nothing()
+    ensures base { SaysBase }
+    ensures goes_on { GoOnAlike }
+    ensures answers { SayingAnswersAlike }
+    ensures decides { DecideAlike }
+    ensures behind { LegalBehind }
+    ensures ahead { LegalAhead }
 {}
 
 /// A number of a generation above those granted in its slot is new, and so is the next number.

@@ -1,4 +1,5 @@
 -- The base that a history leads to reads as the history.
+use Rattle.gate_history.proofs.OrderLaws as order
 use Rattle.gate_history.proofs.SealLaws as seals
 use Rattle.gate_history.proofs.Soundness as sound
 use Rattle.gate_history.proofs.laws.sealing_changes_nothing.Goals as goal
@@ -9,11 +10,5 @@ returns-clause-base c = sound.leads_to_base
 pub returns-clause-reads : goal.returns-clause-reads
 returns-clause-reads c = seals.reads_alike
 
-pub returns-clause-decides : goal.returns-clause-decides
-returns-clause-decides c = seals.decides_alike
-
-pub returns-clause-behind : goal.returns-clause-behind
-returns-clause-behind c = seals.legal_behind
-
-pub returns-clause-from : goal.returns-clause-from
-returns-clause-from c = seals.legal_from
+pub returns-clause-says : goal.returns-clause-says
+returns-clause-says c = order.seal_says

@@ -1,0 +1,22 @@
+-- The order of what stands changes nothing.
+use Rattle.gate_history.proofs.OrderLaws as order
+use Rattle.gate_history.proofs.LegalLaws as legal
+use Rattle.gate_history.proofs.laws.order_changes_nothing.Goals as goal
+
+pub returns-clause-base : goal.returns-clause-base
+returns-clause-base c = legal.says_base
+
+pub returns-clause-goes_on : goal.returns-clause-goes_on
+returns-clause-goes_on c = order.go_on
+
+pub returns-clause-answers : goal.returns-clause-answers
+returns-clause-answers c = order.answer_alike
+
+pub returns-clause-decides : goal.returns-clause-decides
+returns-clause-decides c = legal.decide_alike
+
+pub returns-clause-behind : goal.returns-clause-behind
+returns-clause-behind c = legal.legal_behind
+
+pub returns-clause-ahead : goal.returns-clause-ahead
+returns-clause-ahead c = legal.legal_ahead
