@@ -39,17 +39,13 @@ none-found p (x ∷ xs) none = by (p x) (none-found p xs) none
     by true rest none = absurd (true≢false none)
     by false rest none = rest none
 
--- a test that passes all that another one does has as many or more
-pub count-more : {X : Type 0} (p q : X → Bool) (xs : List X) → ((x : X) → p x ≡ true → q x ≡ true) → length (filter p xs) ≤ length (filter q xs)
-count-more p q [] more = omega arith
-count-more p q (x ∷ xs) more = by (p x) refl (count-more p q xs more)
-  where
-    after : length (filter q xs) ≤ length (filter q (x ∷ xs))
-    after = omega (arith, count-cons q x xs)
-
-    by : (b : Bool) → p x ≡ b → length (filter p xs) ≤ length (filter q xs) → length (cond b (x ∷ filter p xs) (filter p xs)) ≤ length (filter q (x ∷ xs))
-    by true passes rest = let one : one_if (q x) ≡ 1 = ap one_if (more x passes) in omega (arith, count-cons q x xs)
-    by false passes rest = omega (arith, after)
+-- a count by tests that say the same
+pub count-alike : {X : Type 0} (p q : X → Bool) (xs : List X) → ((x : X) → p x ≡ q x) → length (filter p xs) ≡ length (filter q xs)
+count-alike p q [] alike = refl
+count-alike p q (x ∷ xs) alike =
+    let rest = count-alike p q xs alike in
+    let here : one_if (p x) ≡ one_if (q x) = ap one_if (alike x) in
+    omega (arith, count-cons p x xs, count-cons q x xs)
 
 -- all pass a test that passes all that another one does, which all pass
 pub all-more : {X : Type 0} (p q : X → Bool) (xs : List X) → ((x : X) → p x ≡ true → q x ≡ true) → list_all p xs ≡ true → list_all q xs ≡ true

@@ -19,7 +19,7 @@ use Rattle.gate_history.specs.Base.{AreTurns, has_its_life}
 use Rattle.gate_history.specs.History.{begins, now}
 use Rattle.gate_history.specs.Standing.{in_flight, standing}
 use Rattle.gate_history.specs.Laws.{KnownAreCounted, LivesAreBounded, NamesAreKnown, known_names}
-use Rattle.gate_history.proofs.Counting.{count-append, count-map, none-found, some-found}
+use Rattle.gate_history.proofs.Counting.{count-alike, count-append, count-map, none-found, some-found}
 use Rattle.gate_history.proofs.Soundness.{stands_once}
 
 -- a life that an answer may have is from 60 seconds to 24 hours
@@ -85,7 +85,7 @@ less-length a (x ∷ xs) some = by (bytes_eq a x) (less-length a xs) some
     by false rest some = let later = rest some in omega arith
 
 -- two lists with as many of each text are as long
-pub same-length : (xs ys : List (List ℕ)) → ((a : List ℕ) → length (filter (bytes_eq a) xs) ≡ length (filter (bytes_eq a) ys)) → length xs ≡ length ys
+same-length : (xs ys : List (List ℕ)) → ((a : List ℕ) → length (filter (bytes_eq a) xs) ≡ length (filter (bytes_eq a) ys)) → length xs ≡ length ys
 same-length [] [] counts = refl
 same-length [] (y ∷ ys) counts =
     let none = counts y in
@@ -107,14 +107,6 @@ turned a b = by (bytes_eq a b) refl
     by : (t : Bool) → bytes_eq a b ≡ t → t ≡ bytes_eq b a
     by true is = sym ((bytes_eq-Decides b a).1 (sym ((bytes_eq-Decides a b).0 is)))
     by false is = sym (other_text a b is)
-
--- a count by tests that say the same
-count-alike : {X : Type 0} (p q : X → Bool) (xs : List X) → ((x : X) → p x ≡ q x) → length (filter p xs) ≡ length (filter q xs)
-count-alike p q [] alike = refl
-count-alike p q (x ∷ xs) alike =
-    let rest = count-alike p q xs alike in
-    let here : one_if (p x) ≡ one_if (q x) = ap one_if (alike x) in
-    omega (arith, count-cons p x xs, count-cons q x xs)
 
 -- at most one that passes is one exactly where one is found
 one_found : {X : Type 0} (p : X → Bool) (xs : List X) → length (filter p xs) ≤ 1 → length (filter p xs) ≡ one_if (list_any p xs)

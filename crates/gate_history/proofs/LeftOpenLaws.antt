@@ -28,7 +28,7 @@ module _ {X : Type 0} (closes : Entry → X → Bool) where
       by false false is rest = rw is (ap (λ ys. x ∷ ys) rest)
 
   -- what stands after entries is left open, where one entry adds what it opens to what it does not close
-  pub leaves_open : (has : History → List X) (opens : History → Entry → List X) →
+  leaves_open : (has : History → List X) (opens : History → Entry → List X) →
       ((h : History) (e : Entry) → has (h ▸ e) ≡ filter (λ x. not (closes e x)) (has h) ++ opens h e) →
       (h : History) (later : List Entry) → has (followed_by h later) ≡ left_open has opens closes h later
   leaves_open has opens step h [] = sym (append-nil (filter (λ _. true) (has h)) ∙ filter-all (has h))

@@ -20,6 +20,7 @@ use Rattle.gate_history.specs.Outstanding.{grants, running, unspent, was_granted
 use Rattle.gate_history.specs.Standing.{in_flight, standing}
 use Rattle.gate_history.specs.Seal.{SaySame, SaysAs}
 use Rattle.gate_history.specs.Laws.{GoOnAlike, SayingAnswersAlike, SealSaysAlike}
+use Rattle.gate_history.proofs.Counting.{count-alike}
 use Rattle.gate_history.proofs.SealLaws.{greatest_is}
 use Rattle.gate_history.proofs.Soundness.{granted_covered}
 use Rattle.gate_history.proofs.Saying.{says-any, says-append, says-filter, says-first, says-itself, says-length, says-map}
@@ -206,14 +207,6 @@ seal_says h = record {
   entries = refl;
   started = refl;
 }
-
--- a count by tests that say the same
-count-alike : {X : Type 0} (p q : X → Bool) (xs : List X) → ((x : X) → p x ≡ q x) → length (filter p xs) ≡ length (filter q xs)
-count-alike p q [] alike = refl
-count-alike p q (x ∷ xs) alike =
-    let rest = count-alike p q xs alike in
-    let here : one_if (p x) ≡ one_if (q x) = ap one_if (alike x) in
-    omega (arith, count-cons p x xs, count-cons q x xs)
 
 -- as many authorities are known
 known_alike : (g h : History) → SaysAs g h → known_by (standing g) (in_flight g) ≡ known_by (standing h) (in_flight h)

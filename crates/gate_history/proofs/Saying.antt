@@ -44,10 +44,6 @@ filter-map p f (x ∷ xs) = by (p (f x)) (filter-map p f xs)
 pub says-itself : {K X : Type 0} (is_of : K → X → Bool) (xs : List X) → SaySame is_of xs xs
 says-itself is_of xs = record { each = λ k. refl; counts = λ p. refl }
 
--- the other way round
-pub says-back : {K X : Type 0} (is_of : K → X → Bool) (xs ys : List X) → SaySame is_of xs ys → SaySame is_of ys xs
-says-back is_of xs ys same = record { each = λ k. sym (same.each k); counts = λ p. sym (same.counts p) }
-
 -- after a filter
 pub says-filter : {K X : Type 0} (is_of : K → X → Bool) (q : X → Bool) (xs ys : List X) → SaySame is_of xs ys → SaySame is_of (filter q xs) (filter q ys)
 says-filter is_of q xs ys same = record {

@@ -11,3 +11,4 @@ pub mod Legal
 pub mod LeftOpen
 pub mod Seal
 pub mod Laws
+pub mod Rows

@@ -7,6 +7,7 @@ mod entry;
 mod fetch_text;
 pub mod laws;
 mod outcome;
+pub mod rows;
 
 pub use base::{Base, SlotGrant};
 pub use entry::Entry;
