@@ -9,3 +9,4 @@ pub mod LegalLaws
 pub mod LeftOpenLaws
 pub mod EntryCounts
 pub mod KnownLaws
+pub mod Deciding

@@ -8,9 +8,7 @@ use Rattle.permit_book.specs.Numbers.{slot_of, generation_of}
 use Rattle.permit_book.specs.Outstanding.{fetch_of, granted_in, is_numbered, permit_for}
 use Rattle.permit_book.specs.Table.{is_fetch_of}
 use Rattle.authority_cache.specs.declared.turn.Turn.{Turn}
-use Rattle.authority_cache.specs.Calls.{one_if}
 use Rattle.authority_cache.specs.Lists.{answered, has_number, is_answer_for, is_past_answer, is_turn_of, known_by, lacks_answer, turn_for}
-use Rattle.authority_cache.proofs.EntryLaws.{count-cons}
 use Rattle.gate_history.specs.declared.base.SlotGrant.{SlotGrant}
 use Rattle.gate_history.specs.declared.entry.Entry.{Entry}
 use Rattle.gate_history.specs.declared.entry.Entry.TheVariants.{Begun, Arrived, Granted, AskDenied, Started, StartDenied, Returned, Finished, Swept}

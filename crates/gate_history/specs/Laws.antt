@@ -112,6 +112,12 @@ LivesAreBounded =
     (h : History) (authority : List ℕ) (s : StandingAnswer) → IsLegal h → standing_of h authority ≡ Some s
     → (least_life ≤ s.life) × (s.life ≤ greatest_life)
 
+-- a fetch is decided in one way
+abbrev pub DecidesOnce : Type 0
+DecidesOnce =
+    (h : History) (token url : List ℕ) (moment : ℕ) (one other : Result Reason Cause)
+    → Decides h token url moment one → Decides h token url moment other → one ≡ other
+
 -- the names are those of the known authorities, each once
 abbrev pub AreKnown : History → List (List ℕ) → Type 0
 AreKnown h names = (authority : List ℕ) → length (filter (bytes_eq authority) names) ≡ one_if (is_known h authority)

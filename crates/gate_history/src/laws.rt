@@ -1,6 +1,6 @@
 //! What is true of every history, and of every legal one.
 //! RFC 9309, sections 2.3.1 and 2.4.
-ghost use Rattle.gate_history.specs.Laws.{AboveIsNew, DecideAlike, EachEntryCounts, EachStandsOnce, GoOnAlike, GrantedIsCovered};
+ghost use Rattle.gate_history.specs.Laws.{AboveIsNew, DecideAlike, DecidesOnce, EachEntryCounts, EachStandsOnce, GoOnAlike, GrantedIsCovered};
 ghost use Rattle.gate_history.specs.Laws.{KnownAreCounted, LeadsToBase, LegalAhead, LegalBehind, LivesAreBounded, NamesAreKnown};
 ghost use Rattle.gate_history.specs.Laws.{NextIsNew, NoLaterEntryCloses, OneMore, SaysBase, SayingAnswersAlike};
 ghost use Rattle.gate_history.specs.Laws.{SealReadsAlike, SealSaysAlike};
@@ -34,6 +34,11 @@ pub fn grants_are_covered()
     ensures granted { GrantedIsCovered }
     ensures above { AboveIsNew }
     ensures next { NextIsNew }
+{}
+
+/// No fetch is both allowed and denied, nor by two lines.
+pub fn each_fetch_is_decided_once()
+    ensures { DecidesOnce }
 {}
 
 /// In a legal history nothing stands twice, and no answer stands for more than 24 hours.
