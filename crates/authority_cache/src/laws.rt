@@ -2,7 +2,8 @@
 //! RFC 9309, sections 2.3.1 and 2.4.
 ghost use Rattle.std.specs.Prelude.{◌≡◌};
 ghost use Rattle.authority_cache.specs.Lives.{greatest_life, least_life};
-ghost use Rattle.authority_cache.specs.Laws.{ArriveTells, BeginTells, NewTells, SweepTells, TellingCountsAlike, TellingReadsAlike};
+ghost use Rattle.authority_cache.specs.Laws.{ArriveTells, BeginTells, NewTells, SweepTells};
+ghost use Rattle.authority_cache.specs.Laws.{TellingCountsAlike, TellingReadsAlike};
 
 use crate::life::{LEAST_LIFE, LIFE};
 

@@ -7,8 +7,8 @@ use robots_text::Token;
 use std::alloc::{AllocError, Global};
 use std::marker::Model;
 
-/// The texts of one fetch's token and URL. They lie one after the other in one piece of memory, since
-/// a history has many of them. A clause sees it as the fetch.
+/// The texts of one fetch's token and URL. They lie one after the other in one piece of memory,
+/// since a history has many of them. A clause sees it as the fetch.
 #[derive(Debug, Drop)]
 pub struct FetchText {
     octets: Vec<u8>,

@@ -1,12 +1,14 @@
 //! What is true of every history, and of every legal one.
 //! RFC 9309, sections 2.3.1 and 2.4.
-ghost use Rattle.gate_history.specs.Laws.{AboveIsNew, DecideAlike, DecidesOnce, EachEntryCounts, EachStandsOnce, GoOnAlike, GrantedIsCovered};
-ghost use Rattle.gate_history.specs.Laws.{KnownAreCounted, LeadsToBase, LegalAhead, LegalBehind, LivesAreBounded, NamesAreKnown};
-ghost use Rattle.gate_history.specs.Laws.{NextIsNew, NoLaterEntryCloses, OneMore, SaysBase, SayingAnswersAlike};
-ghost use Rattle.gate_history.specs.Laws.{SealReadsAlike, SealSaysAlike};
+ghost use Rattle.gate_history.specs.Laws.{AboveIsNew, DecideAlike, DecidesOnce, EachEntryCounts};
+ghost use Rattle.gate_history.specs.Laws.{EachStandsOnce, GoOnAlike, GrantedIsCovered};
+ghost use Rattle.gate_history.specs.Laws.{KnownAreCounted, LeadsToBase, LegalAhead, LegalBehind};
+ghost use Rattle.gate_history.specs.Laws.{LivesAreBounded, NamesAreKnown, NextIsNew};
+ghost use Rattle.gate_history.specs.Laws.{NoLaterEntryCloses, OneMore, SaysBase};
+ghost use Rattle.gate_history.specs.Laws.{SayingAnswersAlike, SealReadsAlike, SealSaysAlike};
 
-/// Turns in flight, answers, permits and runs stand exactly where they were opened, by the base or by
-/// an entry, and no later entry closes them.
+/// Turns in flight, answers, permits and runs stand exactly where they were opened, by the base or
+/// by an entry, and no later entry closes them.
 pub fn no_later_entry_closes()
     ensures one_more { OneMore }
     ensures left_open { NoLaterEntryCloses }
@@ -53,8 +55,8 @@ pub fn known_are_counted()
     ensures counted { KnownAreCounted }
 {}
 
-/// What each kind of entry adds to the counts of entries, of started fetches, of unspent permits, of
-/// running ones and of turns in flight, and what it takes from them.
+/// What each kind of entry adds to the counts of entries, of started fetches, of unspent permits,
+/// of running ones and of turns in flight, and what it takes from them.
 pub fn each_entry_counts()
     ensures { EachEntryCounts }
 {}

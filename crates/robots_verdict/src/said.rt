@@ -1,4 +1,4 @@
-//! What an answer says, whatever spares it has: histories keep it, and two that say the same are equal.
+//! What an answer says, whatever spares it has: histories keep it, and compare by it.
 //! RFC 9309, section 2.3.1.
 ghost use Rattle.std.specs.Prelude.{◌≡◌, bytes_eq};
 ghost use Rattle.std.specs.Cmp.{partial_equiv_from_equiv};
