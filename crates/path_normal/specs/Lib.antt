@@ -3,6 +3,7 @@
 pub mod Limits
 pub mod Messages
 pub mod Normal
+pub mod Capacity
 pub mod PageText
 pub mod PageUrl
 pub mod Authority
