@@ -10,10 +10,11 @@ use Rattle.std.proofs.lemmas.Bool.Decides.{nat_tests}
 use Rattle.std.proofs.lemmas.List.Elements.{All-nil, All-cons, All-head, All-tail, All-append, All-get_or, All-take}
 use Rattle.std.proofs.lemmas.List.{length-take}
 use Rattle.std.proofs.Math.Seq.{take-append_seam}
+use Rattle.percent_encoding.specs.Percent.{percent_encode_byte}
 use Rattle.path_normal.specs.declared.normal.Octet.{Octet}
 use Rattle.path_normal.specs.declared.normal.Role.{Role}
 use Rattle.path_normal.specs.declared.normal.Role.TheVariants.{Pattern}
-use Rattle.path_normal.specs.Normal.{escape_of, escaped, is_anchored, is_escape, is_kept, is_reserved, is_sign, is_unreserved, normal, normal_pattern, plain, spelled, unanchored, units}
+use Rattle.path_normal.specs.Normal.{escaped, is_anchored, is_escape, is_kept, is_reserved, is_sign, is_unreserved, normal, normal_pattern, plain, spelled, unanchored, units}
 
 abbrev pub IsOctet : ℕ → Type 0
 IsOctet octet = octet < 256
@@ -56,15 +57,15 @@ units_plain octet (high ∷ low ∷ rest) other = cond-false (is_escape octet hi
 -- the digits that an octet is written with stand for it
 reads_back : ℕ → Bool
 reads_back octet =
-    is_escape 37 (digit_glyph true (octet / 16)) (digit_glyph true (octet % 16))
-    && (16 * digit_value (digit_glyph true (octet / 16)) + digit_value (digit_glyph true (octet % 16)) == octet)
+    is_escape 37 (digit_glyph true (octet / 16 % 16)) (digit_glyph true (octet % 16))
+    && (16 * digit_value (digit_glyph true (octet / 16 % 16)) + digit_value (digit_glyph true (octet % 16)) == octet)
 
 all_read_back : (octet : ℕ) → IsOctet octet → reads_back octet ≡ true
 unfolding reads_back
 all_read_back octet fits = agree_below_at reads_back (λ _. true) 256 octet refl fits
 
-units_escape : (octet : ℕ) (rest : List ℕ) → IsOctet octet → units (escape_of octet ++ rest) ≡ record { escaped = true; value = octet } ∷ units rest
-unfolding reads_back
+units_escape : (octet : ℕ) (rest : List ℕ) → IsOctet octet → units (percent_encode_byte octet ++ rest) ≡ record { escaped = true; value = octet } ∷ units rest
+unfolding reads_back percent_encode_byte
 units_escape octet rest fits =
     let parts = and_parts _ _ (all_read_back octet fits) in
     cond-true _ _ _ parts.0 ∙ ap (λ value. record { escaped = true; value = value } ∷ units rest) (eqb-true _ octet parts.1)
@@ -85,10 +86,10 @@ other_than true role unit is kept =
 
 units_spelled_at : (kept : Bool) (role : Role) (unit : Octet) (rest : List ℕ) → is_kept role unit ≡ kept → IsUnit unit → units (spelled role unit ++ rest) ≡ record { escaped = not kept; value = unit.value } ∷ units rest
 units_spelled_at true role unit rest is fits =
-    ap (λ text. units (text ++ rest)) (cond-true (is_kept role unit) (unit.value ∷ []) (escape_of unit.value) is)
+    ap (λ text. units (text ++ rest)) (cond-true (is_kept role unit) (unit.value ∷ []) (percent_encode_byte unit.value) is)
     ∙ units_plain unit.value rest (other_than (unit.value == 37) role unit refl is)
 units_spelled_at false role unit rest is fits =
-    ap (λ text. units (text ++ rest)) (cond-false (is_kept role unit) (unit.value ∷ []) (escape_of unit.value) is)
+    ap (λ text. units (text ++ rest)) (cond-false (is_kept role unit) (unit.value ∷ []) (percent_encode_byte unit.value) is)
     ∙ units_escape unit.value rest fits
 
 same_choice : (unreserved escaped reserved sign : Bool) → (unreserved || (not (not (unreserved || (not escaped && reserved && not sign))) && reserved && not sign)) ≡ (unreserved || (not escaped && reserved && not sign))
@@ -100,7 +101,7 @@ same_choice false false false s = refl
 
 spelled_again : (role : Role) (unit : Octet) → spelled role (rewritten role unit) ≡ spelled role unit
 spelled_again role unit =
-    ap (λ (kept : Bool). if kept then unit.value ∷ [] else escape_of unit.value) (same_choice (is_unreserved unit.value) unit.escaped (is_reserved unit.value) (is_sign role unit.value))
+    ap (λ (kept : Bool). if kept then unit.value ∷ [] else percent_encode_byte unit.value) (same_choice (is_unreserved unit.value) unit.escaped (is_reserved unit.value) (is_sign role unit.value))
 
 -- ---- all units
 
@@ -136,12 +137,13 @@ dollar_not_kept true unit is kept =
     let none : is_kept Pattern unit ≡ false = kept_no_dollar unit.value unit.escaped (eqb-true unit.value 36 is) in
     cc
 
-spelled_no_dollar : (kept : Bool) (unit : Octet) → is_kept Pattern unit ≡ kept → IsUnit unit → All IsNoDollar (if kept then unit.value ∷ [] else escape_of unit.value)
+spelled_no_dollar : (kept : Bool) (unit : Octet) → is_kept Pattern unit ≡ kept → IsUnit unit → All IsNoDollar (if kept then unit.value ∷ [] else percent_encode_byte unit.value)
+unfolding percent_encode_byte
 spelled_no_dollar true unit is fits = All-cons IsNoDollar unit.value [] (dollar_not_kept (unit.value == 36) unit refl is) (All-nil IsNoDollar)
 spelled_no_dollar false unit is fits =
-    let high = digit_glyph true (unit.value / 16) in
+    let high = digit_glyph true (unit.value / 16 % 16) in
     let low = digit_glyph true (unit.value % 16) in
-    let first : IsNoDollar high = digits_no_dollar (unit.value / 16) (omega arith) in
+    let first : IsNoDollar high = digits_no_dollar (unit.value / 16 % 16) (omega arith) in
     let second : IsNoDollar low = digits_no_dollar (unit.value % 16) (omega arith) in
     All-cons IsNoDollar 37 (high ∷ low ∷ []) refl
     (All-cons IsNoDollar high (low ∷ []) first (All-cons IsNoDollar low [] second (All-nil IsNoDollar)))
@@ -208,7 +210,8 @@ few_units (octet ∷ high ∷ low ∷ rest) =
     by true later next = omega arith
     by false later next = omega arith
 
-spelled_small : (kept : Bool) (octet : ℕ) → length (if kept then octet ∷ [] else escape_of octet) ≤ 3
+spelled_small : (kept : Bool) (octet : ℕ) → length (if kept then octet ∷ [] else percent_encode_byte octet) ≤ 3
+unfolding percent_encode_byte
 spelled_small true octet = omega arith
 spelled_small false octet = omega arith
 

@@ -1,9 +1,9 @@
 -- The normal form of a path and of a pattern, unit by unit.
 -- RFC 9309, section 2.2.2; RFC 3986, section 2.
-use Rattle.std.specs.Prelude.{ℕ, ◌+◌, ◌-◌, ◌*◌, ◌/◌, ◌%◌, Bool, true, false, not, ◌&&◌, ◌||◌, ◌==◌, List, [], ◌∷◌, ◌++◌, length, take, slice_index, codes, if◌then◌else◌}
+use Rattle.std.specs.Prelude.{ℕ, ◌+◌, ◌-◌, ◌*◌, Bool, true, false, not, ◌&&◌, ◌||◌, ◌==◌, List, [], ◌∷◌, ◌++◌, length, take, slice_index, codes, if◌then◌else◌}
 use Rattle.std.specs.List.{flat_map}
 use Rattle.std.specs.Char.{digit_value, is_digit, is_ascii_alphanumeric}
-use Rattle.std.specs.Fmt.{digit_glyph}
+use Rattle.percent_encoding.specs.Percent.{percent_encode_byte}
 use Rattle.path_normal.specs.declared.normal.Octet.{Octet}
 use Rattle.path_normal.specs.declared.normal.Role.{Role}
 use Rattle.path_normal.specs.declared.normal.Role.TheVariants.{Path, Pattern}
@@ -62,13 +62,10 @@ is_kept role unit =
     is_unreserved unit.value
     || (not unit.escaped && is_reserved unit.value && not (is_sign role unit.value))
 
--- `%` and the two digits of the octet, in upper case
-abbrev pub escape_of : ℕ → List ℕ
-escape_of octet = 37 ∷ digit_glyph true (octet / 16) ∷ digit_glyph true (octet % 16) ∷ []
-
--- how the unit is written
+-- how the unit is written: as its octet, or as `%` and two digits in upper case
 abbrev pub spelled : Role → Octet → List ℕ
-spelled role unit = if is_kept role unit then unit.value ∷ [] else escape_of unit.value
+spelled role unit =
+    if is_kept role unit then unit.value ∷ [] else percent_encode_byte unit.value
 
 -- the text with each of its units written so
 abbrev pub normal : Role → List ℕ → List ℕ

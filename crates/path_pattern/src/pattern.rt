@@ -6,10 +6,9 @@ ghost use Rattle.path_pattern.specs.Matches.{Matches, Spells};
 ghost use Rattle.path_pattern.specs.Runs.{HasNoStar, IsStarOf};
 
 use crate::runs::{
-    Star, after_first, after_start, ends_with, first_star, split_anchor, split_at_place,
-    split_at_star, star_of,
+    Star, after_first, after_start, ends_with, first_star, split_at_place, split_at_star, star_of,
 };
-use path_normal::normal_pattern;
+use path_normal::{normal_pattern, split_anchor};
 use std::alloc::{AllocError, Global};
 use std::marker::Model;
 

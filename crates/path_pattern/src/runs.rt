@@ -2,22 +2,10 @@
 //! RFC 9309, section 2.2.3.
 ghost use Rattle.std.specs.Prelude.{◌≡◌, ◌++◌, ◌↔◌, List, ℕ, IsTrue, MatchOption, Some};
 ghost use Rattle.memchr.specs.Find.{FindsNeedle, IsFirstByte, OccursAt, is_byte};
-ghost use Rattle.path_normal.specs.Normal.{is_anchored, unanchored};
 ghost use Rattle.path_pattern.specs.Runs.{BeginsNot, HasNoStar, IsAfterFirst, IsSplitAtStar, IsStarOf, StandsNowhere};
 
 use memchr::arch::all::{is_prefix, is_suffix};
 use memchr::{memchr, memmem};
-
-/// The pattern without a last `$`, and whether it had one.
-pub(crate) fn split_anchor(pattern: &[u8]) -> (&[u8], bool)
-    ensures pattern { result.0.now ≡ unanchored pattern.now }
-    ensures anchored { result.1 ≡ is_anchored pattern.now }
-{
-    match pattern {
-        [front @ .., b'$'] => (front, true),
-        _ => (pattern, false),
-    }
-}
 
 /// Where the first star of a pattern stands.
 #[derive(Clone, Copy, Debug)]
