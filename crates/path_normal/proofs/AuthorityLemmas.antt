@@ -23,6 +23,7 @@ use Rattle.path_normal.specs.PageUrl.{authority_of_parts, page_of_parts, page_ur
 use Rattle.path_normal.specs.Capacity.{Enough}
 use Rattle.path_normal.specs.Authority.{authority_from, authority_of_read, is_delimiter, IsAuthority, IsWrittenAuthority}
 use Rattle.path_normal.proofs.PageLemmas.{authority_of_text, authority_pieces, faultless_page, faultless_reads, faultless_splits, is_no_slash, page_pieces, page_reads_as_itself, page_splits, special, visible_authority}
+use Rattle.url.specs.Ascii.{dot, slash}
 
 -- the URL of a path under the same authority
 abbrev under : List ℕ → Parts → Parts
@@ -36,7 +37,7 @@ record IsShortPath (kind : SchemeType) (path : List ℕ) : Type 0 where
   segments : IsSegmentList kind path
   some : 0 < length path
   short : length path ≤ 89
-  rooted : get_or path 0 0 ≡ 47
+  rooted : get_or path 0 0 ≡ slash
 
 under_is_valid : (path : List ℕ) (url : Parts) → IsShortPath (kind_of url) path → IsValid url → IsValid (under path url)
 under_is_valid path url is_path valid = record {
@@ -142,7 +143,7 @@ authority_is page is_page =
 
 -- a letter or a dot
 abbrev is_name_octet : ℕ → Bool
-is_name_octet b = is_ascii_alphabetic b || b == 46
+is_name_octet b = is_ascii_alphabetic b || b == dot
 
 name_octets : (Q : ℕ → Type 0) → ((b : ℕ) → is_name_octet b ≡ true → Q b) → All Q (codes "robots.txt")
 name_octets Q each =

@@ -1,19 +1,21 @@
 -- What a text by itself names as an authority.
 -- RFC 3986, section 3.2, in the words of the URL Standard.
-use Rattle.std.specs.Prelude.{◌≡◌, ◌<◌, ◌≤◌, ◌++◌, ◌==◌, ◌||◌, ℕ, All, IsAscii, Bool, List, None, Result, Ok, Err, codes, length, if◌then◌else◌}
+use Rattle.std.specs.Prelude.{◌≡◌, ◌<◌, ◌≤◌, ◌++◌, ℕ, All, IsAscii, Bool, List, None, Result, Ok, Err, codes, length, if◌then◌else◌}
 use Rattle.std.specs.List.{list_any}
 use Rattle.url.specs.Parts.{Parts}
 use Rattle.path_normal.specs.declared.fault.AuthorityFault.{AuthorityFault}
 use Rattle.path_normal.specs.declared.fault.UrlFault.{UrlFault}
 use Rattle.path_normal.specs.declared.fault.UrlFault.TheVariants as urls
 use Rattle.path_normal.specs.Limits.{max_authority}
+use Rattle.path_normal.specs.Octets.{is_one_of}
 use Rattle.path_normal.specs.PageText.{authority_of}
 use Rattle.path_normal.specs.PageUrl.{authority_of_parts, page_url_from, IsPageParts}
 use Rattle.path_normal.specs.Capacity.{Capacity, Enough, unless_refused}
+use Rattle.url.specs.Ascii.{space}
 
--- the octet ends an authority or a part of it that is refused: one of `/ \ ? # @`
+-- the octet ends an authority or a part of it that is refused
 abbrev pub is_delimiter : ℕ → Bool
-is_delimiter octet = octet == 47 || octet == 92 || octet == 63 || octet == 35 || octet == 64
+is_delimiter octet = is_one_of (codes "/\\?#@") octet
 
 -- the fault of an authority whose page at the root has this one
 abbrev pub authority_fault : UrlFault → AuthorityFault
@@ -43,4 +45,4 @@ pub record IsAuthority (authority : List ℕ) : Type 0 where
   pub written : IsWrittenAuthority authority
   pub limit : length authority ≤ max_authority
   pub ascii : IsAscii authority
-  pub visible : All (λ octet. 32 < octet) authority
+  pub visible : All (λ octet. space < octet) authority

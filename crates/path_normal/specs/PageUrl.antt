@@ -12,6 +12,7 @@ use Rattle.path_normal.specs.declared.fault.UrlFault.{UrlFault}
 use Rattle.path_normal.specs.declared.fault.UrlFault.TheVariants.{BadUrl, HasUser, NoMemory, NotHttp, TooLong}
 use Rattle.path_normal.specs.PageText.{authority_of, target_of}
 use Rattle.path_normal.specs.Capacity.{Capacity, Enough, Overflows, Refused}
+use Rattle.url.specs.Ascii.{slash, space}
 
 -- the port behind its `:`, where one is written
 abbrev pub port_text : Option ℕ → List ℕ
@@ -120,6 +121,6 @@ pub record IsPage (page : List ℕ) : Type 0 where
   pub scheme : take 7 page ≡ codes "http://"
   pub limit : length page ≤ max_url
   pub authority_limit : length (authority_of page) ≤ max_authority
-  pub rooted : slice_index (target_of page) 0 ≡ 47
+  pub rooted : slice_index (target_of page) 0 ≡ slash
   pub ascii : IsAscii page
-  pub visible : All (λ octet. 32 < octet) page
+  pub visible : All (λ octet. space < octet) page
