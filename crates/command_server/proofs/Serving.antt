@@ -7,7 +7,7 @@ use Rattle.std.proofs.lemmas.List.Elements.{All-nil, All-cons, All-append}
 use Rattle.std.specs.Io.KnownBytes.{Appends, Consumes, prepend_known}
 use Rattle.std.proofs.KnownBytes.{Appends-nil, Consumes-nil, Consumes-trans, Keeps-refl, prepend_known-end}
 use Rattle.counted_io.specs.Device.{AppendsPrefix}
-use Rattle.counted_io.specs.Lines.{HasNoLineFeed, without_cr, TakesLine, TakesLast}
+use Rattle.counted_io.specs.Lines.{HasNoLineFeed, without_cr, TakesLine, TakesLast, line_feed}
 use Rattle.counted_io.specs.Output.{Passes}
 use Rattle.counted_io.proofs.Writing.{Passes-push, Passes-written, Passes-cut, Passes-cut-all, Passes-further}
 use Rattle.command_server.specs.Answers.{Answers, GivesReply, LosesReply}
@@ -62,10 +62,10 @@ Answers-more {S = S} answers old (first ∷ lines) text mid line reply ended new
     ]
 
 -- the raw lines with one more at the end
-pub with_line_feeds-append : (raws : List (List ℕ)) (raw : List ℕ) → with_line_feeds (raws ++ raw ∷ []) ≡ with_line_feeds raws ++ (raw ++ 10 ∷ [])
-with_line_feeds-append [] raw = append-nil (raw ++ 10 ∷ [])
+pub with_line_feeds-append : (raws : List (List ℕ)) (raw : List ℕ) → with_line_feeds (raws ++ raw ∷ []) ≡ with_line_feeds raws ++ (raw ++ line_feed ∷ [])
+with_line_feeds-append [] raw = append-nil (raw ++ line_feed ∷ [])
 with_line_feeds-append (first ∷ raws) raw =
-    ap (λ l. (first ++ 10 ∷ []) ++ l) (with_line_feeds-append raws raw) ∙ sym (append_assoc (first ++ 10 ∷ []) (with_line_feeds raws) (raw ++ 10 ∷ []))
+    ap (λ l. (first ++ line_feed ∷ []) ++ l) (with_line_feeds-append raws raw) ∙ sym (append_assoc (first ++ line_feed ∷ []) (with_line_feeds raws) (raw ++ line_feed ∷ []))
 
 -- octets written behind those that are pending are written behind the text
 pub Writes-after : (a b c : Option (List ℕ)) (text pending words : List ℕ) (result : Result (Unit {0}) SessionFault) → Passes a b text pending
@@ -83,7 +83,7 @@ All-one P x h = All-cons P x [] h (All-nil P)
 
 -- nothing was taken of what follows
 pub finds_none : (unread : List ℕ) (left : Option (List ℕ)) → FindsPart (prepend_known unread left) unread left
-finds_none unread left = record { part = []; taken = record { no_line_feed = All-nil (λ octet. octet ≢ 10); consumed = Consumes-nil (prepend_known unread left) } }
+finds_none unread left = record { part = []; taken = record { no_line_feed = All-nil (λ octet. octet ≢ line_feed); consumed = Consumes-nil (prepend_known unread left) } }
 
 -- lines with a line feed are lines of an input
 took_whole : {limit : ℕ} {input behind : Option (List ℕ)} {lines : List (List ℕ)} → TakesWhole limit input behind lines → TakesLines limit input behind lines
@@ -108,7 +108,7 @@ whole_more {limit} {input} {behind} {after} {lines} {line} t next = record {
   fit = All-append (λ l. length l ≤ limit) lines (line ∷ []) t.fit (All-one (λ l. length l ≤ limit) line next.fits);
   consumed =
       subst (Consumes input after) (sym (with_line_feeds-append t.raws next.raw))
-      (Consumes-trans input behind after (with_line_feeds t.raws) (next.raw ++ 10 ∷ []) t.consumed next.consumed);
+      (Consumes-trans input behind after (with_line_feeds t.raws) (next.raw ++ line_feed ∷ []) t.consumed next.consumed);
 }
 
 -- one more line with a line feed

@@ -1,9 +1,10 @@
--- What a word reads as, where a verb wants a number, a token, a URL or an authority.
+-- What a word reads as with some capacity, where a verb wants a number, a token, a URL or an authority.
 -- Cited by the contracts of `arguments` and `calls`.
-use Rattle.std.specs.Prelude.{◌≡◌, ◌⊎◌, ℕ, List, Result, Ok, Err, ok_or}
+use Rattle.std.specs.Prelude.{ℕ, List, None, Result, Ok, Err, ok_or}
 use Rattle.robots_text.specs.Token.{token_of}
-use Rattle.path_normal.specs.Authority.{parsed_authority}
-use Rattle.path_normal.specs.PageUrl.{page_url_of}
+use Rattle.path_normal.specs.Authority.{authority_from}
+use Rattle.path_normal.specs.PageUrl.{page_url_from}
+use Rattle.path_normal.specs.Capacity.{Capacity, unless_refused}
 use Rattle.robots_text.specs.declared.token.TokenFault.{TokenFault}
 use Rattle.robots_text.specs.declared.token.TokenFault.TheVariants as tokens
 use Rattle.path_normal.specs.declared.fault.AuthorityFault.{AuthorityFault}
@@ -13,11 +14,6 @@ use Rattle.path_normal.specs.declared.fault.UrlFault.TheVariants as urls
 use Rattle.command_server.specs.declared.fault.LineFault.{LineFault}
 use Rattle.command_server.specs.declared.fault.LineFault.TheVariants as faults
 use Rattle.line_text.specs.Number.{number_of}
-
--- the result is the expected one, unless there was no memory
-abbrev pub IsReading : {A : Type 0} → Result A LineFault → Result A LineFault → Type 0
-IsReading (Ok value) expected = expected ≡ Ok value
-IsReading (Err fault) expected = (expected ≡ Err fault) ⊎ (fault ≡ faults.Memory)
 
 -- the value is read on, and a fault stays
 abbrev pub read_on : {A B : Type 0}
@@ -43,23 +39,24 @@ url_fault urls.NotHttp = faults.NotHttp
 url_fault urls.HasUser = faults.HasUser
 url_fault urls.NoMemory = faults.Memory
 
--- the URL, or the line's fault
-abbrev pub page_or_fault : Result (List ℕ) UrlFault → Result (List ℕ) LineFault
-page_or_fault (Ok page) = Ok page
-page_or_fault (Err fault) = Err (url_fault fault)
+-- the text, or the line's fault where there is none
+abbrev pub or_fault : {F : Type 0} → (F → LineFault) → Result (List ℕ) F → Result (List ℕ) LineFault
+or_fault fault_of (Ok text) = Ok text
+or_fault fault_of (Err fault) = Err (fault_of fault)
 
 -- the number of a word
 abbrev pub number_word : List ℕ → Result ℕ LineFault
 number_word word = ok_or (number_of word) faults.Number
 
--- the token of a word
-abbrev pub token_word : List ℕ → Result (List ℕ) LineFault
-token_word word = ok_or (token_of word) faults.Token
+-- the token of a word, which takes memory
+abbrev pub token_word : List ℕ → Capacity → Result (List ℕ) LineFault
+token_word word capacity =
+    read_on (ok_or (token_of word) faults.Token) (λ token. unless_refused faults.Memory (Ok token) capacity)
 
 -- the authority of a word
-abbrev pub authority_word : List ℕ → Result (List ℕ) LineFault
-authority_word word = ok_or (parsed_authority word) faults.Authority
+abbrev pub authority_word : List ℕ → Capacity → Result (List ℕ) LineFault
+authority_word word capacity = or_fault authority_fault (authority_from word capacity)
 
 -- the page URL of a word
-abbrev pub page_word : List ℕ → Result (List ℕ) LineFault
-page_word word = page_or_fault (page_url_of word)
+abbrev pub page_word : List ℕ → Capacity → Result (List ℕ) LineFault
+page_word word capacity = or_fault url_fault (page_url_from None word capacity)

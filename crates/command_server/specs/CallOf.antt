@@ -3,6 +3,7 @@
 use Rattle.std.specs.Prelude.{ℕ, Bool, List, [], ◌∷◌, Result, Ok, Err, ok_or, if◌then◌else◌}
 use Rattle.std.specs.Int.{is_in_range}
 use Rattle.std.specs.List.{list_all, list_any}
+use Rattle.path_normal.specs.Capacity.{Capacity}
 use Rattle.gate_core.specs.declared.call.Call.{Call}
 use Rattle.gate_core.specs.declared.call.Call.TheVariants as calls
 use Rattle.command_server.specs.declared.command.Command.{Command}
@@ -18,30 +19,31 @@ use Rattle.command_server.specs.Verbs.{row_of, verb_of}
 use Rattle.line_text.specs.Words.{is_count_within, is_empty_word, words_of}
 
 -- `BEGIN <authority>`
-abbrev pub begin_of : ℕ → List (List ℕ) → Result Call LineFault
-begin_of moment (authority ∷ []) =
-    read_on (authority_word authority) (λ a. Ok (calls.Begin a moment))
-begin_of moment _ = Err faults.Words
+abbrev pub begin_of : ℕ → List (List ℕ) → Capacity → Result Call LineFault
+begin_of moment (authority ∷ []) capacity =
+    read_on (authority_word authority capacity) (λ a. Ok (calls.Begin a moment))
+begin_of moment _ capacity = Err faults.Words
 
 -- `ARRIVE <authority> <turn> <reply> ..`
-abbrev pub arrive_of : ℕ → List (List ℕ) → Result Call LineFault
-arrive_of moment (authority ∷ turn ∷ replies) =
-    read_on (authority_word authority) (λ a. read_on (number_word turn) (λ t.
+abbrev pub arrive_of : ℕ → List (List ℕ) → Capacity → Result Call LineFault
+arrive_of moment (authority ∷ turn ∷ replies) capacity =
+    read_on (authority_word authority capacity) (λ a. read_on (number_word turn) (λ t.
     read_on (arrival_of replies) (λ answer. Ok (calls.Arrive a t answer moment))))
-arrive_of moment _ = Err faults.Words
+arrive_of moment _ capacity = Err faults.Words
 
 -- `ASK <token> <url>`
-abbrev pub ask_of : ℕ → List (List ℕ) → Result Call LineFault
-ask_of moment (token ∷ url ∷ []) =
-    read_on (token_word token) (λ t. read_on (page_word url) (λ u. Ok (calls.Ask t u moment)))
-ask_of moment _ = Err faults.Words
+abbrev pub ask_of : ℕ → List (List ℕ) → Capacity → Result Call LineFault
+ask_of moment (token ∷ url ∷ []) capacity =
+    read_on (token_word token capacity) (λ t.
+    read_on (page_word url capacity) (λ u. Ok (calls.Ask t u moment)))
+ask_of moment _ capacity = Err faults.Words
 
 -- `START <n> <token> <url>`
-abbrev pub start_of : ℕ → List (List ℕ) → Result Call LineFault
-start_of moment (number ∷ token ∷ url ∷ []) =
-    read_on (number_word number) (λ n. read_on (token_word token) (λ t.
-    read_on (page_word url) (λ u. Ok (calls.Start n t u moment))))
-start_of moment _ = Err faults.Words
+abbrev pub start_of : ℕ → List (List ℕ) → Capacity → Result Call LineFault
+start_of moment (number ∷ token ∷ url ∷ []) capacity =
+    read_on (number_word number) (λ n. read_on (token_word token capacity) (λ t.
+    read_on (page_word url capacity) (λ u. Ok (calls.Start n t u moment))))
+start_of moment _ capacity = Err faults.Words
 
 -- `BACK <n>`
 abbrev pub back_of : List (List ℕ) → Result Call LineFault
@@ -58,40 +60,40 @@ abbrev pub calling : Result Call LineFault → Result Command LineFault
 calling call = read_on call (λ c. Ok (commands.Call c))
 
 -- check 8: the words that follow a verb, from left to right; BACK, DONE and QUIT use no moment
-abbrev pub arguments_of : Verb → ℕ → List (List ℕ) → Result Command LineFault
-arguments_of verbs.Begin moment words = calling (begin_of moment words)
-arguments_of verbs.Arrive moment words = calling (arrive_of moment words)
-arguments_of verbs.Ask moment words = calling (ask_of moment words)
-arguments_of verbs.Start moment words = calling (start_of moment words)
-arguments_of verbs.Back moment words = calling (back_of words)
-arguments_of verbs.Done moment words = calling (done_of words)
-arguments_of verbs.Quit moment words = Ok commands.Quit
+abbrev pub arguments_of : Verb → ℕ → List (List ℕ) → Capacity → Result Command LineFault
+arguments_of verbs.Begin moment words capacity = calling (begin_of moment words capacity)
+arguments_of verbs.Arrive moment words capacity = calling (arrive_of moment words capacity)
+arguments_of verbs.Ask moment words capacity = calling (ask_of moment words capacity)
+arguments_of verbs.Start moment words capacity = calling (start_of moment words capacity)
+arguments_of verbs.Back moment words capacity = calling (back_of words)
+arguments_of verbs.Done moment words capacity = calling (done_of words)
+arguments_of verbs.Quit moment words capacity = Ok commands.Quit
 
 -- the verb takes so many words
 abbrev pub takes : Verb → List (List ℕ) → Bool
 takes verb words = is_count_within (row_of verb).least (row_of verb).most words
 
 -- check 7: the number of words
-abbrev pub counted_of : Verb → ℕ → List (List ℕ) → Result Command LineFault
-counted_of verb moment words =
-    if takes verb words then arguments_of verb moment words else Err faults.Words
+abbrev pub counted_of : Verb → ℕ → List (List ℕ) → Capacity → Result Command LineFault
+counted_of verb moment words capacity =
+    if takes verb words then arguments_of verb moment words capacity else Err faults.Words
 
 -- check 6: the verb
-abbrev pub verb_words_of : ℕ → List (List ℕ) → Result Command LineFault
-verb_words_of moment [] = Err faults.Verb
-verb_words_of moment (name ∷ words) =
-    read_on (ok_or (verb_of name) faults.Verb) (λ verb. counted_of verb moment words)
+abbrev pub verb_words_of : ℕ → List (List ℕ) → Capacity → Result Command LineFault
+verb_words_of moment [] capacity = Err faults.Verb
+verb_words_of moment (name ∷ words) capacity =
+    read_on (ok_or (verb_of name) faults.Verb) (λ verb. counted_of verb moment words capacity)
 
 -- check 5: the moment
-abbrev pub timed_words_of : List (List ℕ) → Result Command LineFault
-timed_words_of [] = Err faults.Moment
-timed_words_of (first ∷ words) =
-    read_on (ok_or (number_of first) faults.Moment) (λ moment. verb_words_of moment words)
+abbrev pub timed_words_of : List (List ℕ) → Capacity → Result Command LineFault
+timed_words_of [] capacity = Err faults.Moment
+timed_words_of (first ∷ words) capacity =
+    read_on (ok_or (number_of first) faults.Moment) (λ moment. verb_words_of moment words capacity)
 
 -- check 4: no word is empty
-abbrev pub full_words_of : List (List ℕ) → Result Command LineFault
-full_words_of words =
-    if list_any is_empty_word words then Err faults.Words else timed_words_of words
+abbrev pub full_words_of : List (List ℕ) → Capacity → Result Command LineFault
+full_words_of words capacity =
+    if list_any is_empty_word words then Err faults.Words else timed_words_of words capacity
 
 -- the octet may stand in a command line
 abbrev pub is_line_octet : ℕ → Bool
@@ -101,6 +103,7 @@ is_line_octet octet = is_in_range 32 126 octet
 abbrev pub is_plain : List ℕ → Bool
 is_plain line = list_all is_line_octet line
 
--- the command of a line, or the first fault that it has; check 3: its octets
-abbrev pub command_of : List ℕ → Result Command LineFault
-command_of line = if is_plain line then full_words_of (words_of line) else Err faults.Chars
+-- the command of a line, or the first fault that it has with some capacity; check 3: its octets
+abbrev pub command_of : List ℕ → Capacity → Result Command LineFault
+command_of line capacity =
+    if is_plain line then full_words_of (words_of line) capacity else Err faults.Chars

@@ -2,12 +2,12 @@
 -- The definition of a session cites it.
 use Rattle.std.specs.Prelude.{◌≡◌, ◌⊎◌, ℕ, ◌<◌, ◌≤◌, List, [], ◌∷◌, ◌++◌, length, map, All, Option, MatchOption, option_to_list, unwrap_or}
 use Rattle.std.specs.Io.KnownBytes.{Consumes, IsAtEnd, prepend_known}
-use Rattle.counted_io.specs.Lines.{HasNoLineFeed, without_cr, IsDrained, TakesLine, TakesLast, TakesPart}
+use Rattle.counted_io.specs.Lines.{HasNoLineFeed, without_cr, IsDrained, TakesLine, TakesLast, TakesPart, line_feed}
 
 -- the lines as they stand in an input, a line feed after each
 abbrev pub with_line_feeds : List (List ℕ) → List ℕ
 with_line_feeds [] = []
-with_line_feeds (raw ∷ raws) = (raw ++ 10 ∷ []) ++ with_line_feeds raws
+with_line_feeds (raw ∷ raws) = (raw ++ line_feed ∷ []) ++ with_line_feeds raws
 
 -- a line that has no line feed after it, since the input ends there
 pub record IsLastLine (behind : Option (List ℕ)) (line : List ℕ) : Type 0 where

@@ -1,6 +1,7 @@
 -- What a book answers a line: the text of a reply that the line's call may have.
 -- The contract of `replay` cites it.
 use Rattle.std.specs.Prelude.{◌≡◌, ◌⊎◌, ℕ, Bool, true, false, List, Result, Ok, Err}
+use Rattle.path_normal.specs.Capacity.{Enough, Overflows, Refused}
 use Rattle.gate_core.specs.declared.call.Call.{Call}
 use Rattle.gate_core.specs.declared.call.Reply.{Reply}
 use Rattle.gate_core.specs.Gate.{Gate, Stays}
@@ -9,7 +10,6 @@ use Rattle.gate_core.specs.Replies.{Step}
 use Rattle.command_server.specs.declared.command.Command.{Command}
 use Rattle.command_server.specs.declared.command.Command.TheVariants as commands
 use Rattle.command_server.specs.declared.fault.LineFault.{LineFault}
-use Rattle.command_server.specs.declared.fault.LineFault.TheVariants as faults
 use Rattle.command_server.specs.CallOf.{command_of}
 use Rattle.command_server.specs.FaultText.{fault_text}
 use Rattle.command_server.specs.ReplyText.{bye_text, reply_text}
@@ -29,7 +29,10 @@ AnswersCommand old (Ok (commands.Call call)) text ended new = AnswersCall old ca
 AnswersCommand old (Ok commands.Quit) text ended new = (text ≡ bye_text) × (ended ≡ true) × Stays old new
 AnswersCommand old (Err fault) text ended new = (text ≡ fault_text fault) × (ended ≡ false) × Stays old new
 
--- what a line is answered: what it means; or, where memory was refused, that, and nothing changes
+-- what a line is answered: what it means with enough capacity; or, with too little, the fault of the word
+-- that needs more, and nothing changes
 abbrev pub AnswersLine : Gate → List ℕ → List ℕ → Bool → Gate → Type 0
 AnswersLine old line text ended new =
-    AnswersCommand old (command_of line) text ended new ⊎ AnswersCommand old (Err faults.Memory) text ended new
+    AnswersCommand old (command_of line Enough) text ended new
+    ⊎ AnswersCommand old (command_of line Overflows) text ended new
+    ⊎ AnswersCommand old (command_of line Refused) text ended new

@@ -1,7 +1,8 @@
 //! One word of a command line as a number, a token, a URL or an authority.
 //! Used by `calls`, in the order of the words.
 ghost use Rattle.std.specs.Prelude.{◌≡◌};
-ghost use Rattle.command_server.specs.Arguments.{IsReading, authority_word, number_word, page_word};
+ghost use Rattle.path_normal.specs.Capacity.{IsRead};
+ghost use Rattle.command_server.specs.Arguments.{authority_word, number_word, page_word};
 ghost use Rattle.command_server.specs.Arguments.{token_word};
 
 use crate::fault::LineFault;
@@ -19,7 +20,7 @@ pub fn read_number(word: &str) -> Result<u64, LineFault>
 
 /// Reads a product token.
 pub fn read_token(alloc: Global, word: &str) -> Result<Token, LineFault>
-    ensures { IsReading result (token_word word.now) }
+    ensures { IsRead result (token_word word.now) }
 {
     let token = Token::new(alloc, word.as_bytes())?;
     Ok(token)
@@ -27,7 +28,7 @@ pub fn read_token(alloc: Global, word: &str) -> Result<Token, LineFault>
 
 /// Reads an authority.
 pub fn read_authority(alloc: Global, word: &str) -> Result<Authority, LineFault>
-    ensures { IsReading result (authority_word word.now) }
+    ensures { IsRead result (authority_word word.now) }
 {
     let authority = Authority::new(alloc, word)?;
     Ok(authority)
@@ -35,7 +36,7 @@ pub fn read_authority(alloc: Global, word: &str) -> Result<Authority, LineFault>
 
 /// Reads the URL of a page.
 pub fn read_page(alloc: Global, word: &str) -> Result<PageUrl, LineFault>
-    ensures { IsReading result (page_word word.now) }
+    ensures { IsRead result (page_word word.now) }
 {
     let url = PageUrl::parse(alloc, word)?;
     Ok(url)

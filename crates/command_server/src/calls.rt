@@ -1,7 +1,7 @@
 //! The words that follow each verb, read from left to right into a call.
 //! Used by `command`, once their number is right.
 ghost use Rattle.std.specs.Prelude.{◌≡◌, IsTrue};
-ghost use Rattle.command_server.specs.Arguments.{IsReading};
+ghost use Rattle.path_normal.specs.Capacity.{IsRead};
 ghost use Rattle.command_server.specs.CallOf.{arrive_of, ask_of, back_of, begin_of, done_of, start_of};
 ghost use Rattle.command_server.specs.CallOf.{takes};
 ghost use Rattle.line_text.specs.Words.{words_left};
@@ -17,7 +17,7 @@ use std::alloc::Global;
 /// Reads `BEGIN <authority>`.
 pub fn read_begin(alloc: Global, moment: u64, words: Words<'_>) -> Result<Call, LineFault>
     requires { IsTrue (takes Verb.Begin (words_left words)) }
-    ensures { IsReading result (begin_of moment (words_left words.entry)) }
+    ensures { IsRead result (begin_of moment (words_left words.entry)) }
 {
     let mut words = words;
     let authority = words.first();
@@ -28,7 +28,7 @@ pub fn read_begin(alloc: Global, moment: u64, words: Words<'_>) -> Result<Call, 
 /// Reads `ARRIVE <authority> <turn> <reply> ..`.
 pub fn read_arrive(alloc: Global, moment: u64, words: Words<'_>) -> Result<Call, LineFault>
     requires { IsTrue (takes Verb.Arrive (words_left words)) }
-    ensures { IsReading result (arrive_of moment (words_left words.entry)) }
+    ensures { IsRead result (arrive_of moment (words_left words.entry)) }
 {
     let mut words = words;
     let authority = words.first();
@@ -47,7 +47,7 @@ pub fn read_arrive(alloc: Global, moment: u64, words: Words<'_>) -> Result<Call,
 /// Reads `ASK <token> <url>`.
 pub fn read_ask(alloc: Global, moment: u64, words: Words<'_>) -> Result<Call, LineFault>
     requires { IsTrue (takes Verb.Ask (words_left words)) }
-    ensures { IsReading result (ask_of moment (words_left words.entry)) }
+    ensures { IsRead result (ask_of moment (words_left words.entry)) }
 {
     let mut words = words;
     let token = words.first();
@@ -60,7 +60,7 @@ pub fn read_ask(alloc: Global, moment: u64, words: Words<'_>) -> Result<Call, Li
 /// Reads `START <n> <token> <url>`.
 pub fn read_start(alloc: Global, moment: u64, words: Words<'_>) -> Result<Call, LineFault>
     requires { IsTrue (takes Verb.Start (words_left words)) }
-    ensures { IsReading result (start_of moment (words_left words.entry)) }
+    ensures { IsRead result (start_of moment (words_left words.entry)) }
 {
     let mut words = words;
     let number = words.first();

@@ -1,7 +1,7 @@
 //! One command line as a command, or its first fault.
 //! Used by the session; `CallOf` has the order of the checks.
 ghost use Rattle.std.specs.Prelude.{◌≡◌, IsTrue, MatchOption, false, true};
-ghost use Rattle.command_server.specs.Arguments.{IsReading};
+ghost use Rattle.path_normal.specs.Capacity.{IsRead};
 ghost use Rattle.command_server.specs.CallOf.{arguments_of, command_of, counted_of, is_line_octet};
 ghost use Rattle.command_server.specs.CallOf.{is_plain, takes, timed_words_of, verb_words_of};
 ghost use Rattle.line_text.specs.Words.{words_left};
@@ -24,7 +24,7 @@ pub enum Command {
 
 /// Reads a command line, without its line end.
 pub fn read_command(alloc: Global, line: &[u8]) -> Result<Command, LineFault>
-    ensures { IsReading result (command_of line.now) }
+    ensures { IsRead result (command_of line.now) }
 {
     let Some(text) = plain_text(line) else {
         return Err(LineFault::Chars);
@@ -59,7 +59,7 @@ fn is_line_octet(octet: u8) -> bool
 }
 
 fn read_timed(alloc: Global, words: Words<'_>) -> Result<Command, LineFault>
-    ensures { IsReading result (timed_words_of (words_left words.entry)) }
+    ensures { IsRead result (timed_words_of (words_left words.entry)) }
 {
     let mut words = words;
     let Some(first) = words.next() else {
@@ -72,7 +72,7 @@ fn read_timed(alloc: Global, words: Words<'_>) -> Result<Command, LineFault>
 }
 
 fn read_verb(alloc: Global, moment: u64, words: Words<'_>) -> Result<Command, LineFault>
-    ensures { IsReading result (verb_words_of moment (words_left words.entry)) }
+    ensures { IsRead result (verb_words_of moment (words_left words.entry)) }
 {
     let mut words = words;
     let Some(name) = words.next() else {
@@ -90,7 +90,7 @@ fn read_counted(
     moment: u64,
     words: Words<'_>,
 ) -> Result<Command, LineFault>
-    ensures { IsReading result (counted_of verb moment (words_left words.entry)) }
+    ensures { IsRead result (counted_of verb moment (words_left words.entry)) }
 {
     let row = verb.row();
     if !words.count_is_within(row.least, row.most) {
@@ -106,7 +106,7 @@ fn read_arguments(
     words: Words<'_>,
 ) -> Result<Command, LineFault>
     requires { IsTrue (takes verb (words_left words)) }
-    ensures { IsReading result (arguments_of verb moment (words_left words.entry)) }
+    ensures { IsRead result (arguments_of verb moment (words_left words.entry)) }
 {
     Ok(Command::Call(match verb {
         Verb::Begin => read_begin(alloc, moment, words)?,

@@ -32,7 +32,7 @@ pub enum LineFault {
     NotHttp,
     /// A URL has a user name or a password.
     HasUser,
-    /// A URL, or its authority, is too long.
+    /// A URL, or its authority, is too long, or the crate `url` overflowed.
     LongUrl,
     /// A word is no status that an arrival takes.
     Status,

@@ -1,11 +1,12 @@
 -- What the fields of a head say of the body that follows it.
 -- RFC 9112, section 6.3; RFC 9110, sections 5.6.1, 8.4 and 8.6.
-use Rattle.std.specs.Prelude.{◌≡◌, ℕ, ◌^◌, Bool, ◌&&◌, ◌||◌, not, nat_lt, nat_le, ◌==◌, if◌then◌else◌, List, [], ◌∷◌, map, length, flat_map, codes, IsUtf8, Option, None, Some, Result, Ok, Err, bytes_eq}
+use Rattle.std.specs.Prelude.{◌≡◌, ℕ, Bool, ◌&&◌, ◌||◌, not, nat_lt, nat_le, ◌==◌, if◌then◌else◌, List, [], ◌∷◌, map, length, flat_map, codes, IsUtf8, Option, None, Some, Result, Ok, Err, bytes_eq}
 use Rattle.std.specs.List.{list_all, list_any}
-use Rattle.std.specs.Char.{is_ascii_digit, to_ascii_lowercase}
+use Rattle.std.specs.Char.{to_ascii_lowercase}
 use Rattle.std.specs.Str.Parse.{digits_value}
 use Rattle.httparse.specs.Ascii.{comma}
 use Rattle.httparse.specs.Grammar.{trim_ows}
+use Rattle.line_text.specs.Number.{is_number}
 use Rattle.http_wire.specs.declared.framing.Framing.{Framing}
 use Rattle.http_wire.specs.declared.framing.Framing.TheVariants.{Counted, Chunked, ToEnd}
 use Rattle.http_wire.specs.declared.framing.Unframed.{Unframed}
@@ -45,15 +46,7 @@ members value = map trim_ows (pieces value)
 abbrev pub members_of : List ℕ → List Pair → List (List ℕ)
 members_of name fields = flat_map members (values_of name fields)
 
--- 1*DIGIT
-abbrev pub is_numeral : List ℕ → Bool
-is_numeral member = nat_lt 0 (length member) && list_all is_ascii_digit member
-
--- digits of a number below 2 to the 64
-abbrev pub is_number : List ℕ → Bool
-is_number member = is_numeral member && nat_lt (digits_value 10 member) (2 ^ 64)
-
--- the text writes this number
+-- 1*DIGIT: the text writes this number, which is below 2 to the 64
 abbrev pub is_number_of : ℕ → List ℕ → Bool
 is_number_of n member = is_number member && (digits_value 10 member == n)
 

@@ -1,13 +1,13 @@
 //! Where the body of a response ends.
 //! RFC 9112, section 6.3.
-ghost use Rattle.std.specs.Prelude.{◌≡◌, if◌then◌else◌, Option, Some, None, MatchOption, true, false};
+ghost use Rattle.std.specs.Prelude.{◌≡◌};
 ghost use Rattle.std.specs.List.{list_all};
-ghost use Rattle.std.specs.Char.{is_ascii_digit};
-ghost use Rattle.std.specs.Str.Parse.{digits_value};
-ghost use Rattle.http_wire.specs.Fields.{chunked, counted, framing_of, has_coding, is_coded, is_number, is_number_of, is_numeral, is_plain, IsLocation};
+ghost use Rattle.http_wire.specs.Fields.{chunked, counted, framing_of, has_coding, is_coded, is_number_of, is_plain, IsLocation};
 ghost use Rattle.http_wire.specs.Left.{members_left, pairs, text_of};
+ghost use Rattle.line_text.specs.Number.{number_of};
 
 use crate::fields::{Field, Members, Values, is_same_word};
+use line_text::number_of;
 
 /// What tells where a body ends.
 #[derive(Clone, Copy, Debug, PartialEq, Eq)]
@@ -62,7 +62,7 @@ fn chunked(coding: &[u8], mut others: Members<'_>) -> Result<Framing, Unframed>
 fn counted(length: &[u8], others: Members<'_>) -> Result<Framing, Unframed>
     ensures { result ≡ counted length.now (members_left others.entry) }
 {
-    match number_of(length) {
+    match number_in(length) {
         Some(size) if are_all(size, others) => Ok(Framing::Counted(size)),
         _ => Err(Unframed::BadLength),
     }
@@ -77,43 +77,17 @@ fn are_all(number: u64, mut members: Members<'_>) -> bool
 fn is_number_of(number: u64, member: &[u8]) -> bool
     ensures { result ≡ is_number_of number member.now }
 {
-    number_of(member) == Some(number)
+    number_in(member) == Some(number)
 }
 
 // Content-Length = 1*DIGIT: the number that a member writes.
-fn number_of(member: &[u8]) -> Option<u64>
-    ensures { result ≡ (if is_number member.now then Some (digits_value 10 member.now) else None) }
+fn number_in(member: &[u8]) -> Option<u64>
+    ensures { result ≡ number_of member.now }
 {
-    match numeral_of(member) {
-        Some(text) => text.parse().ok(),
-        None => None,
-    }
-}
-
-// The member as a text, where it is digits: `parse` would take a sign.
-fn numeral_of(member: &[u8]) -> Option<&str>
-    ensures { MatchOption result (is_numeral member.now ≡ false)
-        (λ text. (text.now ≡ member.now) × (is_numeral member.now ≡ true)) }
-{
-    if !is_numeral(member) {
-        return None;
-    }
     match str::from_utf8(member) {
-        Ok(text) => Some(text),
+        Ok(text) => number_of(text),
         Err(_) => None,
     }
-}
-
-fn is_numeral(member: &[u8]) -> bool
-    ensures { result ≡ is_numeral member.now }
-{
-    !member.is_empty() && are_digits(member)
-}
-
-fn are_digits(member: &[u8]) -> bool
-    ensures { result ≡ list_all is_ascii_digit member.now }
-{
-    member.iter().all(|octet| octet.is_ascii_digit())
 }
 
 /// Whether the body would be used and is in a content coding.

@@ -1,12 +1,12 @@
 -- The steps as the table asks for them: whatever it is when a step is made, the rule is kept.
 -- Used by the answers of `JobLine`.
-use Rattle.std.proofs.Common.{◌≡◌, ◌≢◌, ℕ, zero, suc, ◌+◌, ◌-◌, ◌%◌, ◌^◌, ◌<◌, ◌≤◌, Bool, true, false, List, [], ◌∷◌, ◌++◌, length, sym, refl, ap, ◌∙◌, subst, arith, rules}
-use Rattle.std.specs.Prelude.{All, ◌||◌, nat_lt, slice_set, slice_index}
+use Rattle.std.proofs.Common.{◌≡◌, ℕ, zero, suc, ◌+◌, ◌%◌, ◌^◌, ◌<◌, ◌≤◌, Bool, true, false, List, [], ◌∷◌, ◌++◌, sym, refl, ap, ◌∙◌, subst, arith}
+use Rattle.std.specs.Prelude.{◌||◌, nat_lt, slice_set, slice_index}
 use Rattle.std.proofs.lemmas.Bool.{cond-false, cond-true, ltb-true, ltb-false}
 use Rattle.std.proofs.lemmas.List.Elements.{All-set, All-weaker, All-append, All-cons, All-nil}
 use Rattle.std.proofs.lemmas.List.{set-get_or}
 use Rattle.std.proofs.Math.Nat.{mod-eq_of_lt}
-use mathlib.Core.Option.{some, none, some-injective, some-ne-none}
+use mathlib.Core.Option.{some, none, some-ne-none}
 use lib.ListN.{get_elem?}
 use Rattle.atomic_table.specs.Table.{State, Me, Act, opening, keeps, Valid, carried_after, stepped, Allows, Splits, Joins, step}
 use Rattle.atomic_table.proofs.Lists.{set_else, set_again}

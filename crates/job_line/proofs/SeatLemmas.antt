@@ -1,14 +1,14 @@
 -- Seats in a list: one more, the parts that all have, and what who took them all in knows.
 -- Used by the answers of `JobLine`.
-use Rattle.std.proofs.Common.{◌≡◌, ℕ, ◌+◌, ◌<◌, ◌∙◌, Bool, true, false, List, [], ◌∷◌, ◌++◌, append-nil, refl, sym, ap, arith}
-use Rattle.std.specs.Prelude.{All, ◌||◌, map}
+use Rattle.std.proofs.Common.{◌≡◌, ℕ, ◌+◌, ◌∙◌, Bool, true, false, List, [], ◌∷◌, ◌++◌, refl, sym, ap, arith}
+use Rattle.std.specs.Prelude.{All, ◌||◌}
 use Rattle.std.proofs.lemmas.List.Elements.{All-head, All-tail, All-cons, All-nil}
 use Rattle.atomic_table.specs.Seated.{TableId}
 use Rattle.atomic_table.specs.Table.{Me}
 use Rattle.job_line.specs.declared.rule.Hand.{Hand}
 use Rattle.job_line.specs.declared.seat.JobSeat.TheInside.{Inside}
 use Rattle.job_line.specs.Limits.{max_workers}
-use Rattle.job_line.specs.Sums.{weigh, weigh_all, weigh_below}
+use Rattle.job_line.specs.Sums.{weigh, weigh_all}
 use Rattle.job_line.specs.Rule.{IsAll, hand_of_both}
 use Rattle.job_line.specs.Covers.{Covers, SeatView, has_ended, lists_of, parts_of}
 use Rattle.job_line.specs.Seats.{HasTaken, IsSeated, seat_view}

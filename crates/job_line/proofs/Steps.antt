@@ -1,20 +1,17 @@
 -- Each kind of step keeps the rule.
 -- Used by the answers of `JobLine`.
-use Rattle.std.proofs.Common.{◌≡◌, ◌≢◌, ℕ, zero, suc, ◌+◌, ◌-◌, ◌%◌, ◌^◌, ◌<◌, ◌≤◌, Bool, true, false, List, [], ◌∷◌, ◌++◌, length, sym, refl, ap, ◌∙◌, subst, arith, rules}
-use Rattle.std.specs.Prelude.{All, ◌||◌, nat_lt, slice_set, slice_index}
+use Rattle.std.proofs.Common.{◌≡◌, ℕ, zero, suc, ◌+◌, ◌<◌, ◌≤◌, Bool, true, false, List, [], ◌∷◌, ◌++◌, length, sym, refl, ap, ◌∙◌, subst, arith, rules}
+use Rattle.std.specs.Prelude.{All, nat_lt, slice_set, slice_index}
 use Rattle.std.proofs.lemmas.Bool.{cond-false, cond-true}
-use Rattle.std.proofs.lemmas.List.Elements.{All-head, All-tail, All-set, All-weaker, All-append, All-cons, All-nil}
+use Rattle.std.proofs.lemmas.List.Elements.{All-head, All-tail, All-set, All-weaker}
 use Rattle.std.proofs.lemmas.Bool.{lt-ltb, le-ltb, ltb-true, ltb-false}
-use Rattle.std.proofs.Math.Nat.{mod-eq_of_lt}
 use mathlib.Core.Option.{some, some-injective, some-ne-none}
 use lib.ListN.{get_elem?}
-use Rattle.atomic_table.specs.Table.{State, Step, Me, Valid, stepped, keeps, carried_after}
-use Rattle.atomic_table.proofs.Lists.{set_else, set_again}
+use Rattle.atomic_table.specs.Table.{State}
 use Rattle.job_line.specs.declared.rule.Hand.{Hand}
-use Rattle.job_line.specs.Limits.{max_jobs, max_workers}
 use Rattle.job_line.specs.Sums.{weigh, weigh_below}
-use Rattle.job_line.specs.Rule.{total, smaller, Fits, Holds, Draws, IsAll, hand_after, hand_left, hand_dealt, hand_of_both, spent_hand}
-use Rattle.job_line.proofs.SumLemmas.{total-put, total-push, total-at, total-le, total-owner, weigh-append, weigh-one, weigh_below-one}
+use Rattle.job_line.specs.Rule.{total, smaller, Fits, Holds}
+use Rattle.job_line.proofs.SumLemmas.{total-put, total-at, total-le, weigh-append, weigh-one, weigh_below-one}
 
 -- a list of one word, with another in its place
 record IsOne (words : List ℕ) (word : ℕ) : Type 0 where

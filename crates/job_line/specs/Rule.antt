@@ -1,7 +1,7 @@
 -- The rule of the shared word, and its kinds of step. All lists together are the numbers below the
 -- smaller of word and jobs, each once; the word is at most the jobs and as many as have found the end;
 -- and where a seat has found it, the word is at least the jobs.
-use Rattle.std.specs.Prelude.{◌≡◌, ℕ, ◌+◌, ◌-◌, ◌<◌, ◌≤◌, Bool, true, false, ◌||◌, nat_lt, All, List, [], ◌∷◌, ◌++◌, length, slice_index, if◌then◌else◌}
+use Rattle.std.specs.Prelude.{◌≡◌, ℕ, ◌+◌, ◌-◌, ◌<◌, ◌≤◌, true, false, ◌||◌, nat_lt, All, List, [], ◌∷◌, ◌++◌, length, slice_index, if◌then◌else◌}
 use Rattle.atomic_table.specs.Table.{State, Step, Me}
 use Rattle.job_line.specs.declared.rule.Hand.{Hand}
 use Rattle.job_line.specs.Limits.{max_jobs, max_workers}

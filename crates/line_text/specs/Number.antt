@@ -1,5 +1,5 @@
--- The numbers of command lines: decimal digits below 2 to the 64, with any count of leading zeros.
--- Cited by the contracts that read a moment, a number or a status.
+-- Numbers in text: decimal digits below 2 to the 64, with any count of leading zeros.
+-- Cited by the contracts that read the numbers of command lines and the length of a response's body.
 use Rattle.std.specs.Prelude.{◌&&◌, ◌^◌, ℕ, Bool, List, Option, Some, None, length, nat_lt, if◌then◌else◌}
 use Rattle.std.specs.Char.{is_ascii_digit}
 use Rattle.std.specs.List.{list_all}
@@ -13,6 +13,10 @@ is_numeral word = nat_lt 0 (length word) && list_all is_ascii_digit word
 abbrev pub is_small : List ℕ → Bool
 is_small word = nat_lt (digits_value 10 word) (2 ^ 64)
 
+-- the word writes such a number
+abbrev pub is_number : List ℕ → Bool
+is_number word = is_numeral word && is_small word
+
 -- the number that the word writes, if it writes one
 abbrev pub number_of : List ℕ → Option ℕ
-number_of word = if is_numeral word && is_small word then Some (digits_value 10 word) else None
+number_of word = if is_number word then Some (digits_value 10 word) else None

@@ -7,6 +7,7 @@ use Rattle.line_text.specs.Escapes.{escaped}
 use Rattle.line_text.specs.declared.piece.Piece.{Piece}
 use Rattle.line_text.specs.declared.piece.Piece.TheVariants.{Text, Number, LowerCase, Escaped}
 use Rattle.line_text.specs.declared.piece.Pieces.{Pieces}
+use Rattle.robots_text.specs.Octets.{space}
 
 -- the text of one piece
 abbrev pub piece_text : Piece → List ℕ
@@ -21,4 +22,4 @@ pieces_text pieces = flat_map piece_text pieces.pieces
 
 -- a line: its words with single spaces between them, and a line feed
 abbrev pub line_of : List (List ℕ) → List ℕ
-line_of words = join_with_byte 32 words ++ codes "\n"
+line_of words = join_with_byte space words ++ codes "\n"

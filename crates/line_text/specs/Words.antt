@@ -4,10 +4,11 @@ use Rattle.std.specs.Prelude.{◌≡◌, ◌==◌, ◌&&◌, nat_le, ℕ, Bool, 
 use Rattle.std.specs.List.{slice_split}
 use Rattle.std.specs.Borrow.{Bor}
 use Rattle.line_text.specs.declared.words.Words.{Words}
+use Rattle.robots_text.specs.Octets.{space}
 
 -- the octet is a space
 abbrev pub is_space : ℕ → Bool
-is_space octet = octet == 32
+is_space octet = octet == space
 
 -- the words of a text, in order
 abbrev pub words_of : List ℕ → List (List ℕ)

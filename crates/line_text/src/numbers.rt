@@ -1,5 +1,5 @@
-//! The numbers of command lines, which have neither sign nor bound on their zeros.
-//! Used by the modules that read a moment, a number or a status.
+//! Numbers in text, which have neither sign nor bound on their zeros.
+//! Used where a moment, a number, a status or a Content-Length is read.
 ghost use Rattle.std.specs.Prelude.{◌≡◌};
 ghost use Rattle.std.specs.Char.{is_ascii_digit};
 ghost use Rattle.std.specs.List.{list_all};

@@ -1,9 +1,8 @@
 -- The authority of a page reads as itself, by the page at its root; its robots file has a page's URL.
 -- Used by `Authority::of` and `PageUrl::of_robots`.
-use Rattle.std.proofs.Common.{◌≡◌, ℕ, ◌≤◌, true, false, List, [], ◌∷◌, ◌++◌, length, get_or, Some, None, Ok, All, sym, refl, ap, ◌∙◌, subst, inl, arith, append-nil, length-append}
-use Rattle.std.specs.Prelude.{Bool, IsAscii, ◌||◌, ◌==◌, ◌<◌, codes, drop, option_map}
+use Rattle.std.proofs.Common.{◌≡◌, ℕ, ◌≤◌, true, false, List, [], ◌∷◌, ◌++◌, length, get_or, None, Ok, All, sym, refl, ap, ◌∙◌, subst, inl, arith, append-nil, length-append}
+use Rattle.std.specs.Prelude.{Bool, IsAscii, ◌||◌, ◌==◌, ◌<◌, codes, drop}
 use Rattle.std.specs.List.{list_any}
-use Rattle.std.specs.Result.{result_ok}
 use Rattle.std.proofs.lemmas.Bool.{cond-false}
 use Rattle.std.proofs.lemmas.Bool.Decides.{nat_tests}
 use Rattle.std.proofs.lemmas.List.Elements.{All-nil, All-cons, All-head, All-tail, All-weaker}
@@ -20,9 +19,11 @@ use Rattle.url.proofs.TextLemmas.{is_host_byte, host_and_port_bytes}
 use Rattle.url.proofs.ValidLemmas.{IsAscii-serialize, special_has_authority}
 use Rattle.path_normal.specs.Limits.{max_authority, max_url}
 use Rattle.path_normal.specs.PageText.{authority_of, target_of, robots_url_of}
-use Rattle.path_normal.specs.PageUrl.{authority_of_parts, page_of_parts, page_url_of, page_url_of_parts, IsFaultless, IsPage, IsPageParts, IsWritten}
-use Rattle.path_normal.specs.Authority.{parsed_authority, is_delimiter, IsAuthority, IsWrittenAuthority}
+use Rattle.path_normal.specs.PageUrl.{authority_of_parts, page_of_parts, page_url_of, IsFaultless, IsPage, IsPageParts, IsWritten}
+use Rattle.path_normal.specs.Capacity.{Enough}
+use Rattle.path_normal.specs.Authority.{authority_from, authority_of_read, is_delimiter, IsAuthority, IsWrittenAuthority}
 use Rattle.path_normal.proofs.PageLemmas.{authority_of_text, authority_pieces, faultless_page, faultless_reads, faultless_splits, is_no_slash, page_pieces, page_reads_as_itself, page_splits, special, visible_authority}
+use Rattle.url.specs.Ascii.{dot, slash}
 
 -- the URL of a path under the same authority
 abbrev under : List ℕ → Parts → Parts
@@ -36,7 +37,7 @@ record IsShortPath (kind : SchemeType) (path : List ℕ) : Type 0 where
   segments : IsSegmentList kind path
   some : 0 < length path
   short : length path ≤ 89
-  rooted : get_or path 0 0 ≡ 47
+  rooted : get_or path 0 0 ≡ slash
 
 under_is_valid : (path : List ℕ) (url : Parts) → IsShortPath (kind_of url) path → IsValid url → IsValid (under path url)
 under_is_valid path url is_path valid = record {
@@ -110,13 +111,13 @@ no_delimiter (b ∷ bytes) all =
     let first : is_delimiter b ≡ false = other_byte b passes in
     rw first (no_delimiter bytes (All-tail (Passes is_host_byte) b bytes all))
 
-reads_as_itself : (url : Parts) → IsPageParts url → length (authority_of_parts url) ≤ max_authority → parsed_authority (authority_of_parts url) ≡ Some (authority_of_parts url)
+reads_as_itself : (url : Parts) → IsPageParts url → length (authority_of_parts url) ≤ max_authority → authority_from (authority_of_parts url) Enough ≡ Ok (authority_of_parts url)
 reads_as_itself url parts limit =
     let bytes = subst (All (Passes is_host_byte)) (authority_pieces url) (host_and_port_bytes url parts.valid.head) in
     let plain = All-weaker (Passes is_host_byte) (Passes is_no_slash) (λ b passes. grind (arith, nat_tests)) _ bytes in
     cond-false _ _ _ (no_delimiter (authority_of_parts url) bytes)
-    ∙ ap (λ r. option_map authority_of (result_ok r)) (root_reads url parts limit)
-    ∙ ap Some (authority_of_text (authority_of_parts url) (codes "/") plain refl)
+    ∙ ap authority_of_read (root_reads url parts limit)
+    ∙ ap Ok (authority_of_text (authority_of_parts url) (codes "/") plain refl)
 
 authority_is_ascii : (page : List ℕ) → IsAscii page → IsAscii (authority_of page)
 authority_is_ascii page ascii = IsAscii-take (drop 7 page) _ (IsAscii-drop page 7 ascii)
@@ -142,7 +143,7 @@ authority_is page is_page =
 
 -- a letter or a dot
 abbrev is_name_octet : ℕ → Bool
-is_name_octet b = is_ascii_alphabetic b || b == 46
+is_name_octet b = is_ascii_alphabetic b || b == dot
 
 name_octets : (Q : ℕ → Type 0) → ((b : ℕ) → is_name_octet b ≡ true → Q b) → All Q (codes "robots.txt")
 name_octets Q each =

@@ -10,10 +10,13 @@ use Rattle.std.proofs.lemmas.Bool.Decides.{nat_tests}
 use Rattle.std.proofs.lemmas.List.Elements.{All-nil, All-cons, All-head, All-tail, All-append, All-get_or, All-take}
 use Rattle.std.proofs.lemmas.List.{length-take}
 use Rattle.std.proofs.Math.Seq.{take-append_seam}
+use Rattle.percent_encoding.specs.Percent.{percent_encode_byte}
 use Rattle.path_normal.specs.declared.normal.Octet.{Octet}
 use Rattle.path_normal.specs.declared.normal.Role.{Role}
 use Rattle.path_normal.specs.declared.normal.Role.TheVariants.{Pattern}
-use Rattle.path_normal.specs.Normal.{escape_of, escaped, is_anchored, is_escape, is_kept, is_reserved, is_sign, is_unreserved, normal, normal_pattern, plain, spelled, unanchored, units}
+use Rattle.path_normal.specs.Normal.{escaped, is_anchored, is_escape, is_kept, is_reserved, is_sign, is_unreserved, normal, normal_pattern, plain, spelled, unanchored, units}
+use Rattle.path_normal.specs.Octets.{dollar_sign}
+use Rattle.url.specs.Ascii.{percent_sign}
 
 abbrev pub IsOctet : ℕ → Type 0
 IsOctet octet = octet < 256
@@ -25,8 +28,8 @@ IsUnit unit = IsOctet unit.value
 
 escaped_fits : (octet high low : ℕ) → is_escape octet high low ≡ true → IsUnit (escaped high low)
 escaped_fits octet high low is =
-    let parts = and_parts (octet == 37 && is_digit high 16) (is_digit low 16) is in
-    let first = and_parts (octet == 37) (is_digit high 16) parts.0 in
+    let parts = and_parts (octet == percent_sign && is_digit high 16) (is_digit low 16) is in
+    let first = and_parts (octet == percent_sign) (is_digit high 16) parts.0 in
     let high_fits : digit_value high < 16 = grind (arith, nat_tests) in
     let low_fits : digit_value low < 16 = grind (arith, nat_tests) in
     omega arith
@@ -48,7 +51,7 @@ units_fit (octet ∷ high ∷ low ∷ rest) all =
 
 -- ---- one unit, written and read again
 
-units_plain : (octet : ℕ) (rest : List ℕ) → (octet == 37) ≡ false → units (octet ∷ rest) ≡ plain octet ∷ units rest
+units_plain : (octet : ℕ) (rest : List ℕ) → (octet == percent_sign) ≡ false → units (octet ∷ rest) ≡ plain octet ∷ units rest
 units_plain octet [] other = refl
 units_plain octet (next ∷ []) other = refl
 units_plain octet (high ∷ low ∷ rest) other = cond-false (is_escape octet high low) _ _ (ap (λ is. is && is_digit high 16 && is_digit low 16) other)
@@ -56,15 +59,15 @@ units_plain octet (high ∷ low ∷ rest) other = cond-false (is_escape octet hi
 -- the digits that an octet is written with stand for it
 reads_back : ℕ → Bool
 reads_back octet =
-    is_escape 37 (digit_glyph true (octet / 16)) (digit_glyph true (octet % 16))
-    && (16 * digit_value (digit_glyph true (octet / 16)) + digit_value (digit_glyph true (octet % 16)) == octet)
+    is_escape percent_sign (digit_glyph true (octet / 16 % 16)) (digit_glyph true (octet % 16))
+    && (16 * digit_value (digit_glyph true (octet / 16 % 16)) + digit_value (digit_glyph true (octet % 16)) == octet)
 
 all_read_back : (octet : ℕ) → IsOctet octet → reads_back octet ≡ true
 unfolding reads_back
 all_read_back octet fits = agree_below_at reads_back (λ _. true) 256 octet refl fits
 
-units_escape : (octet : ℕ) (rest : List ℕ) → IsOctet octet → units (escape_of octet ++ rest) ≡ record { escaped = true; value = octet } ∷ units rest
-unfolding reads_back
+units_escape : (octet : ℕ) (rest : List ℕ) → IsOctet octet → units (percent_encode_byte octet ++ rest) ≡ record { escaped = true; value = octet } ∷ units rest
+unfolding reads_back percent_encode_byte
 units_escape octet rest fits =
     let parts = and_parts _ _ (all_read_back octet fits) in
     cond-true _ _ _ parts.0 ∙ ap (λ value. record { escaped = true; value = value } ∷ units rest) (eqb-true _ octet parts.1)
@@ -73,22 +76,22 @@ units_escape octet rest fits =
 abbrev rewritten : Role → Octet → Octet
 rewritten role unit = record { escaped = not (is_kept role unit); value = unit.value }
 
-no_percent : (role : Role) (is : Bool) (octet : ℕ) → octet ≡ 37 → is_kept role (record { escaped = is; value = octet }) ≡ false
+no_percent : (role : Role) (is : Bool) (octet : ℕ) → octet ≡ percent_sign → is_kept role (record { escaped = is; value = octet }) ≡ false
 no_percent role true octet same = rw same refl
 no_percent role false octet same = rw same refl
 
-other_than : (tested : Bool) (role : Role) (unit : Octet) → (unit.value == 37) ≡ tested → is_kept role unit ≡ true → tested ≡ false
+other_than : (tested : Bool) (role : Role) (unit : Octet) → (unit.value == percent_sign) ≡ tested → is_kept role unit ≡ true → tested ≡ false
 other_than false role unit is kept = refl
 other_than true role unit is kept =
-    let none : is_kept role unit ≡ false = no_percent role unit.escaped unit.value (eqb-true unit.value 37 is) in
+    let none : is_kept role unit ≡ false = no_percent role unit.escaped unit.value (eqb-true unit.value percent_sign is) in
     cc
 
 units_spelled_at : (kept : Bool) (role : Role) (unit : Octet) (rest : List ℕ) → is_kept role unit ≡ kept → IsUnit unit → units (spelled role unit ++ rest) ≡ record { escaped = not kept; value = unit.value } ∷ units rest
 units_spelled_at true role unit rest is fits =
-    ap (λ text. units (text ++ rest)) (cond-true (is_kept role unit) (unit.value ∷ []) (escape_of unit.value) is)
-    ∙ units_plain unit.value rest (other_than (unit.value == 37) role unit refl is)
+    ap (λ text. units (text ++ rest)) (cond-true (is_kept role unit) (unit.value ∷ []) (percent_encode_byte unit.value) is)
+    ∙ units_plain unit.value rest (other_than (unit.value == percent_sign) role unit refl is)
 units_spelled_at false role unit rest is fits =
-    ap (λ text. units (text ++ rest)) (cond-false (is_kept role unit) (unit.value ∷ []) (escape_of unit.value) is)
+    ap (λ text. units (text ++ rest)) (cond-false (is_kept role unit) (unit.value ∷ []) (percent_encode_byte unit.value) is)
     ∙ units_escape unit.value rest fits
 
 same_choice : (unreserved escaped reserved sign : Bool) → (unreserved || (not (not (unreserved || (not escaped && reserved && not sign))) && reserved && not sign)) ≡ (unreserved || (not escaped && reserved && not sign))
@@ -100,7 +103,7 @@ same_choice false false false s = refl
 
 spelled_again : (role : Role) (unit : Octet) → spelled role (rewritten role unit) ≡ spelled role unit
 spelled_again role unit =
-    ap (λ (kept : Bool). if kept then unit.value ∷ [] else escape_of unit.value) (same_choice (is_unreserved unit.value) unit.escaped (is_reserved unit.value) (is_sign role unit.value))
+    ap (λ (kept : Bool). if kept then unit.value ∷ [] else percent_encode_byte unit.value) (same_choice (is_unreserved unit.value) unit.escaped (is_reserved unit.value) (is_sign role unit.value))
 
 -- ---- all units
 
@@ -121,29 +124,30 @@ normal_again role text fits =
 -- ---- `$` in a pattern
 
 abbrev IsNoDollar : ℕ → Type 0
-IsNoDollar octet = (octet == 36) ≡ false
+IsNoDollar octet = (octet == dollar_sign) ≡ false
 
 digits_no_dollar : (value : ℕ) → value < 16 → IsNoDollar (digit_glyph true value)
 digits_no_dollar value fits = grind (arith, nat_tests)
 
-kept_no_dollar : (octet : ℕ) (is : Bool) → octet ≡ 36 → is_kept Pattern (record { escaped = is; value = octet }) ≡ false
+kept_no_dollar : (octet : ℕ) (is : Bool) → octet ≡ dollar_sign → is_kept Pattern (record { escaped = is; value = octet }) ≡ false
 kept_no_dollar octet true same = rw same refl
 kept_no_dollar octet false same = rw same refl
 
-dollar_not_kept : (tested : Bool) (unit : Octet) → (unit.value == 36) ≡ tested → is_kept Pattern unit ≡ true → tested ≡ false
+dollar_not_kept : (tested : Bool) (unit : Octet) → (unit.value == dollar_sign) ≡ tested → is_kept Pattern unit ≡ true → tested ≡ false
 dollar_not_kept false unit is kept = refl
 dollar_not_kept true unit is kept =
-    let none : is_kept Pattern unit ≡ false = kept_no_dollar unit.value unit.escaped (eqb-true unit.value 36 is) in
+    let none : is_kept Pattern unit ≡ false = kept_no_dollar unit.value unit.escaped (eqb-true unit.value dollar_sign is) in
     cc
 
-spelled_no_dollar : (kept : Bool) (unit : Octet) → is_kept Pattern unit ≡ kept → IsUnit unit → All IsNoDollar (if kept then unit.value ∷ [] else escape_of unit.value)
-spelled_no_dollar true unit is fits = All-cons IsNoDollar unit.value [] (dollar_not_kept (unit.value == 36) unit refl is) (All-nil IsNoDollar)
+spelled_no_dollar : (kept : Bool) (unit : Octet) → is_kept Pattern unit ≡ kept → IsUnit unit → All IsNoDollar (if kept then unit.value ∷ [] else percent_encode_byte unit.value)
+unfolding percent_encode_byte
+spelled_no_dollar true unit is fits = All-cons IsNoDollar unit.value [] (dollar_not_kept (unit.value == dollar_sign) unit refl is) (All-nil IsNoDollar)
 spelled_no_dollar false unit is fits =
-    let high = digit_glyph true (unit.value / 16) in
+    let high = digit_glyph true (unit.value / 16 % 16) in
     let low = digit_glyph true (unit.value % 16) in
-    let first : IsNoDollar high = digits_no_dollar (unit.value / 16) (omega arith) in
+    let first : IsNoDollar high = digits_no_dollar (unit.value / 16 % 16) (omega arith) in
     let second : IsNoDollar low = digits_no_dollar (unit.value % 16) (omega arith) in
-    All-cons IsNoDollar 37 (high ∷ low ∷ []) refl
+    All-cons IsNoDollar percent_sign (high ∷ low ∷ []) refl
     (All-cons IsNoDollar high (low ∷ []) first (All-cons IsNoDollar low [] second (All-nil IsNoDollar)))
 
 no_dollar : (all : List Octet) → All IsUnit all → All IsNoDollar (flat_map (spelled Pattern) all)
@@ -158,12 +162,12 @@ ends_in_none (octet ∷ text) all = All-get_or IsNoDollar (octet ∷ text) (leng
 length_before : (text : List ℕ) → length (text ++ codes "$") - 1 ≡ length text
 length_before text = omega (arith, length-append text (codes "$"))
 
-seam : (text : List ℕ) → get_or (text ++ codes "$") (length text) 0 ≡ 36
+seam : (text : List ℕ) → get_or (text ++ codes "$") (length text) 0 ≡ dollar_sign
 seam [] = refl
 seam (octet ∷ text) = seam text
 
 ends_in_one : (text : List ℕ) → is_anchored (text ++ codes "$") ≡ true
-ends_in_one text = ap (λ n. get_or (text ++ codes "$") n 0 == 36) (length_before text) ∙ ap (λ octet. octet == 36) (seam text)
+ends_in_one text = ap (λ n. get_or (text ++ codes "$") n 0 == dollar_sign) (length_before text) ∙ ap (λ octet. octet == dollar_sign) (seam text)
 
 without_last : (text : List ℕ) → unanchored (text ++ codes "$") ≡ text
 without_last text =
@@ -208,7 +212,8 @@ few_units (octet ∷ high ∷ low ∷ rest) =
     by true later next = omega arith
     by false later next = omega arith
 
-spelled_small : (kept : Bool) (octet : ℕ) → length (if kept then octet ∷ [] else escape_of octet) ≤ 3
+spelled_small : (kept : Bool) (octet : ℕ) → length (if kept then octet ∷ [] else percent_encode_byte octet) ≤ 3
+unfolding percent_encode_byte
 spelled_small true octet = omega arith
 spelled_small false octet = omega arith
 

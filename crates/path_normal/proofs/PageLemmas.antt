@@ -26,26 +26,27 @@ use Rattle.url.proofs.TextLemmas.{is_host_byte, host_and_port_bytes, All_part, q
 use Rattle.url.proofs.ValidLemmas.{segment_list_kept, hierarchical, special_has_authority, base_from_authority}
 use Rattle.path_normal.specs.PageText.{authority_of, target_of}
 use Rattle.path_normal.specs.PageUrl.{page_url_of, page_url_of_parsed, page_url_of_parts, authority_of_parts, page_of_parts, port_text, query_text, target_of_parts, HasPartsOf, IsFaultless, IsPage, IsPageParts, IsWritten}
+use Rattle.url.specs.Ascii.{question_mark, slash, space}
 
 -- ---- the split of a text
 
 abbrev pub is_no_slash : ℕ → Bool
-is_no_slash b = not (b == 47)
+is_no_slash b = not (b == slash)
 
-stops_at_slash : (target : List ℕ) → get_or target 0 0 ≡ 47 → StopsAt is_no_slash target
+stops_at_slash : (target : List ℕ) → get_or target 0 0 ≡ slash → StopsAt is_no_slash target
 stops_at_slash [] first = tt
 stops_at_slash (b ∷ target) first = rw first
 
-no_slashes : (authority target : List ℕ) → All (Passes is_no_slash) authority → get_or target 0 0 ≡ 47 → prefix_len is_no_slash (authority ++ target) ≡ length authority
+no_slashes : (authority target : List ℕ) → All (Passes is_no_slash) authority → get_or target 0 0 ≡ slash → prefix_len is_no_slash (authority ++ target) ≡ length authority
 no_slashes authority target none first =
     prefix_len_at is_no_slash authority target none (stops_at_slash target first)
 
 -- the authority and the target of a text that is made of them
-pub authority_of_text : (authority target : List ℕ) → All (Passes is_no_slash) authority → get_or target 0 0 ≡ 47 → authority_of (codes "http://" ++ (authority ++ target)) ≡ authority
+pub authority_of_text : (authority target : List ℕ) → All (Passes is_no_slash) authority → get_or target 0 0 ≡ slash → authority_of (codes "http://" ++ (authority ++ target)) ≡ authority
 authority_of_text authority target none first =
     ap (λ n. take n (authority ++ target)) (no_slashes authority target none first) ∙ take_at authority target _ refl
 
-pub target_of_text : (authority target : List ℕ) → All (Passes is_no_slash) authority → get_or target 0 0 ≡ 47 → target_of (codes "http://" ++ (authority ++ target)) ≡ target
+pub target_of_text : (authority target : List ℕ) → All (Passes is_no_slash) authority → get_or target 0 0 ≡ slash → target_of (codes "http://" ++ (authority ++ target)) ≡ target
 target_of_text authority target none first =
     ap (λ a. drop (length a) (authority ++ target)) (authority_of_text authority target none first) ∙ drop_at authority target _ refl
 
@@ -62,7 +63,7 @@ port_pieces (Some n) rest = refl
 
 query_pieces : (query : Option (List ℕ)) → when (is_some query) (codes "?") ++ (unwrap_or query [] ++ []) ≡ query_text query
 query_pieces None = refl
-query_pieces (Some q) = ap (λ t. 63 ∷ t) (append-nil q)
+query_pieces (Some q) = ap (λ t. question_mark ∷ t) (append-nil q)
 
 pub authority_pieces : (url : Parts) → text_between url BeforeHost AfterPort ≡ authority_of_parts url
 authority_pieces url =
@@ -89,11 +90,11 @@ authority_without_slash : (url : Parts) → IsValid url → All (Passes is_no_sl
 authority_without_slash url valid =
     subst (All (Passes is_no_slash)) (authority_pieces url) (All-weaker (Passes is_host_byte) (Passes is_no_slash) (λ b passes. grind (arith, nat_tests)) _ (host_and_port_bytes url valid.head))
 
-first_of_path : (path rest : List ℕ) → 0 < length path → get_or path 0 0 ≡ 47 → get_or (path ++ rest) 0 0 ≡ 47
+first_of_path : (path rest : List ℕ) → 0 < length path → get_or path 0 0 ≡ slash → get_or (path ++ rest) 0 0 ≡ slash
 first_of_path [] rest some first = absurd (omega arith)
 first_of_path (b ∷ path) rest some first = first
 
-target_from_slash : (url : Parts) → IsValid url → url.scheme ≡ codes "http" → get_or (target_of_parts url) 0 0 ≡ 47
+target_from_slash : (url : Parts) → IsValid url → url.scheme ≡ codes "http" → get_or (target_of_parts url) 0 0 ≡ slash
 target_from_slash url valid scheme =
     let authority = special_has_authority url valid.head (special url scheme) in
     let path = hierarchical url valid.path (base_from_authority url authority) in
@@ -104,7 +105,7 @@ target_from_slash url valid scheme =
 pub record Splits (page : List ℕ) (url : Parts) : Type 0 where
   pub scheme : take 7 page ≡ codes "http://"
   pub parts : HasPartsOf page url
-  pub rooted : get_or (target_of page) 0 0 ≡ 47
+  pub rooted : get_or (target_of page) 0 0 ≡ slash
 
 pub page_splits : (url : Parts) → IsValid url → url.scheme ≡ codes "http" → url.username ≡ [] → url.password ≡ [] → Splits (page_of_parts url) url
 page_splits url valid scheme username password =
@@ -151,11 +152,11 @@ page_reads_as_itself url page valid scheme spelled made limit =
 -- ---- no octet is a space
 
 abbrev pub IsVisible : ℕ → Type 0
-IsVisible octet = 32 < octet
+IsVisible octet = space < octet
 
 visible_query : (query : Option (List ℕ)) → All IsVisible (unwrap_or query []) → All IsVisible (query_text query)
 visible_query None all = all
-visible_query (Some query) all = All-cons IsVisible 63 query (omega arith) all
+visible_query (Some query) all = All-cons IsVisible question_mark query (omega arith) all
 
 own_query : (url : Parts) → IsValid url → All IsVisible (query_text url.query)
 own_query url valid =
@@ -163,7 +164,7 @@ own_query url valid =
 
 visible_path : (kind : SchemeType) (path : List ℕ) → IsSegmentList kind path → All IsVisible path
 visible_path kind path list =
-    All-weaker _ IsVisible (λ b kept. let passes = passes_from_kept PATH (λ x. ltb 32 x) refl b kept in grind (arith, nat_tests)) path (segment_list_kept kind path list)
+    All-weaker _ IsVisible (λ b kept. let passes = passes_from_kept PATH (λ x. ltb space x) refl b kept in grind (arith, nat_tests)) path (segment_list_kept kind path list)
 
 pub visible_authority : (url : Parts) → IsValid url → All IsVisible (authority_of_parts url)
 visible_authority url valid =

@@ -1,30 +1,38 @@
 -- What a text by itself names as an authority.
 -- RFC 3986, section 3.2, in the words of the URL Standard.
-use Rattle.std.specs.Prelude.{◌≡◌, ◌<◌, ◌≤◌, ◌++◌, ◌==◌, ◌||◌, ℕ, All, IsAscii, Bool, List, Option, None, Some, codes, length, option_map, if◌then◌else◌}
+use Rattle.std.specs.Prelude.{◌≡◌, ◌<◌, ◌≤◌, ◌++◌, ℕ, All, IsAscii, Bool, List, None, Result, Ok, Err, codes, length, if◌then◌else◌}
 use Rattle.std.specs.List.{list_any}
-use Rattle.std.specs.Result.{result_ok}
 use Rattle.url.specs.Parts.{Parts}
 use Rattle.path_normal.specs.declared.fault.AuthorityFault.{AuthorityFault}
 use Rattle.path_normal.specs.declared.fault.UrlFault.{UrlFault}
 use Rattle.path_normal.specs.declared.fault.UrlFault.TheVariants as urls
 use Rattle.path_normal.specs.Limits.{max_authority}
+use Rattle.path_normal.specs.Octets.{is_one_of}
 use Rattle.path_normal.specs.PageText.{authority_of}
-use Rattle.path_normal.specs.PageUrl.{authority_of_parts, page_url_of, IsPageParts}
+use Rattle.path_normal.specs.PageUrl.{authority_of_parts, page_url_from, IsPageParts}
+use Rattle.path_normal.specs.Capacity.{Capacity, Enough, unless_refused}
+use Rattle.url.specs.Ascii.{space}
 
--- the octet ends an authority or a part of it that is refused: one of `/ \ ? # @`
+-- the octet ends an authority or a part of it that is refused
 abbrev pub is_delimiter : ℕ → Bool
-is_delimiter octet = octet == 47 || octet == 92 || octet == 63 || octet == 35 || octet == 64
-
--- the authority of the page at the root of the one that the text writes, if it writes one
-abbrev pub parsed_authority : List ℕ → Option (List ℕ)
-parsed_authority text =
-    if list_any is_delimiter text then None
-    else option_map authority_of (result_ok (page_url_of (codes "http://" ++ text ++ codes "/")))
+is_delimiter octet = is_one_of (codes "/\\?#@") octet
 
 -- the fault of an authority whose page at the root has this one
 abbrev pub authority_fault : UrlFault → AuthorityFault
 authority_fault urls.NoMemory = AuthorityFault.NoMemory
 authority_fault fault = AuthorityFault.BadAuthority
+
+-- the authority of a page, or the fault where there is none
+abbrev pub authority_of_read : Result (List ℕ) UrlFault → Result (List ℕ) AuthorityFault
+authority_of_read (Ok page) = Ok (authority_of page)
+authority_of_read (Err fault) = Err (authority_fault fault)
+
+-- the authority of the page at the root of the one that the text writes, or the fault
+abbrev pub authority_from : List ℕ → Capacity → Result (List ℕ) AuthorityFault
+authority_from text capacity =
+    if list_any is_delimiter text then Err AuthorityFault.BadAuthority
+    else unless_refused AuthorityFault.NoMemory
+    (authority_of_read (page_url_from None (codes "http://" ++ text ++ codes "/") capacity)) capacity
 
 -- a valid URL has the authority
 unfoldable pub IsWrittenAuthority : List ℕ → Type 0
@@ -33,8 +41,8 @@ IsWrittenAuthority authority = (url : Parts) × IsPageParts url × (authority_of
 -- the authority reads as itself, and is that of a valid URL within the limit, in ASCII with no octet
 -- that is a space or a control before it
 pub record IsAuthority (authority : List ℕ) : Type 0 where
-  pub own : parsed_authority authority ≡ Some authority
+  pub own : authority_from authority Enough ≡ Ok authority
   pub written : IsWrittenAuthority authority
   pub limit : length authority ≤ max_authority
   pub ascii : IsAscii authority
-  pub visible : All (λ octet. 32 < octet) authority
+  pub visible : All (λ octet. space < octet) authority

@@ -1,16 +1,18 @@
 -- The normal form of a path and of a pattern, unit by unit.
 -- RFC 9309, section 2.2.2; RFC 3986, section 2.
-use Rattle.std.specs.Prelude.{ℕ, ◌+◌, ◌-◌, ◌*◌, ◌/◌, ◌%◌, Bool, true, false, not, ◌&&◌, ◌||◌, ◌==◌, List, [], ◌∷◌, ◌++◌, length, take, slice_index, codes, if◌then◌else◌}
+use Rattle.std.specs.Prelude.{ℕ, ◌+◌, ◌-◌, ◌*◌, Bool, true, false, not, ◌&&◌, ◌||◌, ◌==◌, List, [], ◌∷◌, ◌++◌, length, take, slice_index, codes, if◌then◌else◌}
 use Rattle.std.specs.List.{flat_map}
 use Rattle.std.specs.Char.{digit_value, is_digit, is_ascii_alphanumeric}
-use Rattle.std.specs.Fmt.{digit_glyph}
+use Rattle.percent_encoding.specs.Percent.{percent_encode_byte}
+use Rattle.path_normal.specs.Octets.{is_one_of, dollar_sign, star}
 use Rattle.path_normal.specs.declared.normal.Octet.{Octet}
 use Rattle.path_normal.specs.declared.normal.Role.{Role}
 use Rattle.path_normal.specs.declared.normal.Role.TheVariants.{Path, Pattern}
+use Rattle.url.specs.Ascii.{percent_sign}
 
 -- `%` and two hexadecimal digits
 abbrev pub is_escape : ℕ → ℕ → ℕ → Bool
-is_escape octet high low = octet == 37 && is_digit high 16 && is_digit low 16
+is_escape octet high low = octet == percent_sign && is_digit high 16 && is_digit low 16
 
 -- the octet stands for itself
 abbrev pub plain : ℕ → Octet
@@ -29,31 +31,26 @@ units (octet ∷ high ∷ low ∷ rest) =
     if is_escape octet high low then escaped high low ∷ units rest
     else plain octet ∷ units (high ∷ low ∷ rest)
 
--- an unreserved octet: a letter, a digit, or one of `- . _ ~`
+-- the octet is unreserved: a letter, a digit, or one of the four others
 abbrev pub is_unreserved : ℕ → Bool
-is_unreserved octet =
-    is_ascii_alphanumeric octet || octet == 45 || octet == 46 || octet == 95 || octet == 126
+is_unreserved octet = is_ascii_alphanumeric octet || is_one_of (codes "-._~") octet
 
--- gen-delims: one of `: / ? # [ ] @`
+-- the octet is one of the gen-delims
 abbrev pub is_gen_delim : ℕ → Bool
-is_gen_delim octet =
-    octet == 58 || octet == 47 || octet == 63 || octet == 35 || octet == 91 || octet == 93
-    || octet == 64
+is_gen_delim octet = is_one_of (codes ":/?#[]@") octet
 
--- sub-delims: one of `! $ & ' ( ) * + , ; =`
+-- the octet is one of the sub-delims
 abbrev pub is_sub_delim : ℕ → Bool
-is_sub_delim octet =
-    octet == 33 || octet == 36 || octet == 38 || octet == 39 || octet == 40 || octet == 41
-    || octet == 42 || octet == 43 || octet == 44 || octet == 59 || octet == 61
+is_sub_delim octet = is_one_of (codes "!$&'()*+,;=") octet
 
--- a reserved octet: gen-delims and sub-delims
+-- the octet is reserved: one of the gen-delims or of the sub-delims
 abbrev pub is_reserved : ℕ → Bool
 is_reserved octet = is_gen_delim octet || is_sub_delim octet
 
 -- a sign of patterns: `$`, and in a path `*` too, since in a pattern `*` means itself
 abbrev pub is_sign : Role → ℕ → Bool
-is_sign Path octet = octet == 36 || octet == 42
-is_sign Pattern octet = octet == 36
+is_sign Path octet = octet == dollar_sign || octet == star
+is_sign Pattern octet = octet == dollar_sign
 
 -- the unit is written as its octet: an unreserved one always, a reserved one that stands plain
 -- where it is no sign
@@ -62,13 +59,10 @@ is_kept role unit =
     is_unreserved unit.value
     || (not unit.escaped && is_reserved unit.value && not (is_sign role unit.value))
 
--- `%` and the two digits of the octet, in upper case
-abbrev pub escape_of : ℕ → List ℕ
-escape_of octet = 37 ∷ digit_glyph true (octet / 16) ∷ digit_glyph true (octet % 16) ∷ []
-
--- how the unit is written
+-- how the unit is written: as its octet, or as `%` and two digits in upper case
 abbrev pub spelled : Role → Octet → List ℕ
-spelled role unit = if is_kept role unit then unit.value ∷ [] else escape_of unit.value
+spelled role unit =
+    if is_kept role unit then unit.value ∷ [] else percent_encode_byte unit.value
 
 -- the text with each of its units written so
 abbrev pub normal : Role → List ℕ → List ℕ
@@ -80,7 +74,7 @@ normal_path path = normal Path path
 
 -- the last octet of the pattern is `$`
 abbrev pub is_anchored : List ℕ → Bool
-is_anchored pattern = slice_index pattern (length pattern - 1) == 36
+is_anchored pattern = slice_index pattern (length pattern - 1) == dollar_sign
 
 -- the pattern without a last `$`
 abbrev pub unanchored : List ℕ → List ℕ

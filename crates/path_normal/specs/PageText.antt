@@ -2,10 +2,11 @@
 -- RFC 3986, sections 3.2 to 3.4.
 use Rattle.std.specs.Prelude.{◌==◌, ◌++◌, ℕ, List, codes, drop, length}
 use Rattle.std.specs.List.{before_first}
+use Rattle.url.specs.Ascii.{slash}
 
 -- what stands between `http://` and the next `/`
 abbrev pub authority_of : List ℕ → List ℕ
-authority_of page = before_first (λ octet. octet == 47) (drop 7 page)
+authority_of page = before_first (λ octet. octet == slash) (drop 7 page)
 
 -- what stands from that `/` on: the path, and `?` and the query where there is one
 abbrev pub target_of : List ℕ → List ℕ

@@ -11,6 +11,8 @@ use Rattle.path_normal.specs.Limits.{max_authority, max_url}
 use Rattle.path_normal.specs.declared.fault.UrlFault.{UrlFault}
 use Rattle.path_normal.specs.declared.fault.UrlFault.TheVariants.{BadUrl, HasUser, NoMemory, NotHttp, TooLong}
 use Rattle.path_normal.specs.PageText.{authority_of, target_of}
+use Rattle.path_normal.specs.Capacity.{Capacity, Enough, Overflows, Refused}
+use Rattle.url.specs.Ascii.{slash, space}
 
 -- the port behind its `:`, where one is written
 abbrev pub port_text : Option ℕ → List ℕ
@@ -47,24 +49,35 @@ page_url_of_parts url =
     else (if is_too_long url then Err TooLong
     else Ok (page_of_parts url)))
 
+-- the fault where the parser gives an error
+abbrev pub fault_of : ParseError → UrlFault
+fault_of Overflow = TooLong
+fault_of OutOfMemory = NoMemory
+fault_of error = BadUrl
+
 -- the page of what the parser gave, or the fault
 abbrev pub page_url_of_parsed : Parsed Parts → Result (List ℕ) UrlFault
 page_url_of_parsed (Ok url) = page_url_of_parts url
-page_url_of_parsed (Err Overflow) = Err TooLong
-page_url_of_parsed (Err error) = Err BadUrl
+page_url_of_parsed (Err error) = Err (fault_of error)
+
+-- what the parser gives for a text, beside a base or by itself: what the standard does, with enough capacity
+abbrev pub parsed_in : Option Parts → List ℕ → Capacity → Parsed Parts
+parsed_in base text Enough = parse_url base text
+parsed_in base text Overflows = Err Overflow
+parsed_in base text Refused = Err OutOfMemory
 
 -- the page that the text reads as, beside a base or by itself, or the first fault that it has
-abbrev pub page_url_from : Option Parts → List ℕ → Result (List ℕ) UrlFault
-page_url_from base text =
-    if nat_lt max_url (length text) then Err TooLong else page_url_of_parsed (parse_url base text)
+abbrev pub page_url_from : Option Parts → List ℕ → Capacity → Result (List ℕ) UrlFault
+page_url_from base text capacity =
+    if nat_lt max_url (length text) then Err TooLong else page_url_of_parsed (parsed_in base text capacity)
 
--- the page that the text reads as by itself, or the first fault that it has
+-- the page that the text reads as by itself, with enough capacity, or the first fault that it has
 abbrev pub page_url_of : List ℕ → Result (List ℕ) UrlFault
-page_url_of text = page_url_from None text
+page_url_of text = page_url_from None text Enough
 
 -- the page that the text names on a page, which has no fragment, or the first fault that it has
-abbrev pub page_url_on : List ℕ → List ℕ → Result (List ℕ) UrlFault
-page_url_on page text = page_url_from (result_ok (parse_url None page)) text
+abbrev pub page_url_on : List ℕ → List ℕ → Capacity → Result (List ℕ) UrlFault
+page_url_on page text capacity = page_url_from (result_ok (parse_url None page)) text capacity
 
 -- the result is the expected one, unless there was no memory
 abbrev pub IsAnswer : Result (List ℕ) UrlFault → Result (List ℕ) UrlFault → Type 0
@@ -82,13 +95,6 @@ abbrev pub IsNamedOn : List ℕ → List ℕ → List ℕ → Type 0
 IsNamedOn page text named =
     (base url : Parts) × (parse_url None page ≡ Ok base) × (parse_url (Some base) text ≡ Ok url)
     × HasPartsOf named url
-
--- the fault where the parser gives an error. Its contract lets any text overflow, though only 4 GB do,
--- so that counts as no memory, and `TooLong` is told of no text that isn't
-abbrev pub fault_of : ParseError → UrlFault
-fault_of Overflow = NoMemory
-fault_of OutOfMemory = NoMemory
-fault_of error = BadUrl
 
 -- a valid `http` URL without user
 pub record IsPageParts (url : Parts) : Type 0 where
@@ -115,6 +121,6 @@ pub record IsPage (page : List ℕ) : Type 0 where
   pub scheme : take 7 page ≡ codes "http://"
   pub limit : length page ≤ max_url
   pub authority_limit : length (authority_of page) ≤ max_authority
-  pub rooted : slice_index (target_of page) 0 ≡ 47
+  pub rooted : slice_index (target_of page) 0 ≡ slash
   pub ascii : IsAscii page
-  pub visible : All (λ octet. 32 < octet) page
+  pub visible : All (λ octet. space < octet) page

@@ -5,7 +5,8 @@ ghost use Rattle.std.specs.Cmp.{partial_equiv_from_equiv};
 ghost use Rattle.std.specs.Cmp.Lexicographic.{nat_list_eq_equiv};
 ghost use Rattle.std.specs.List.{list_any};
 ghost use Rattle.path_normal.specs.PageText.{authority_of};
-ghost use Rattle.path_normal.specs.Authority.{IsAuthority, parsed_authority, is_delimiter};
+ghost use Rattle.path_normal.specs.Authority.{IsAuthority, authority_from, is_delimiter};
+ghost use Rattle.path_normal.specs.Capacity.{IsRead};
 
 use crate::fault::AuthorityFault;
 use crate::page_url::PageUrl;
@@ -37,11 +38,7 @@ impl Model for Authority {
 impl Authority {
     /// Reads an authority as it stands in a URL: the port may be 80, and letters of either case.
     pub fn new(alloc: Global, text: &str) -> Result<Authority, AuthorityFault>
-        ensures ok { IfOk result (λ authority. parsed_authority text.now ≡ Some authority) }
-        ensures bad { IfErr result (λ fault. fault ≡ AuthorityFault.BadAuthority
-            → parsed_authority text.now ≡ None) }
-        ensures delimited { IsTrue (list_any is_delimiter text.now)
-            → result ≡ Err AuthorityFault.BadAuthority }
+        ensures { IsRead result (authority_from text.now) }
     {
         if has_delimiter(text.as_bytes()) {
             return Err(AuthorityFault::BadAuthority);

@@ -9,7 +9,7 @@ use url::ParseError;
 #[derive(Clone, Copy, Debug, PartialEq, Eq)]
 pub enum UrlFault {
     /// The text, or the URL as it would be written back, has more than 4,096 bytes, or the
-    /// authority of the latter more than 4,000.
+    /// authority of the latter more than 4,000; or the crate `url` overflowed, as it does at 4 GB.
     TooLong,
     /// The URL Standard's parser refuses the text.
     BadUrl,
@@ -40,8 +40,8 @@ impl From<ParseError> for UrlFault {
 
     fn from(error: ParseError) -> UrlFault {
         match error {
-            // It overflows at 4 GB, but by its contract at any text: `TooLong` has to stay exact.
-            ParseError::Overflow | ParseError::OutOfMemory => UrlFault::NoMemory,
+            ParseError::Overflow => UrlFault::TooLong,
+            ParseError::OutOfMemory => UrlFault::NoMemory,
             _ => UrlFault::BadUrl,
         }
     }

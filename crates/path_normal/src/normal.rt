@@ -2,9 +2,9 @@
 //! RFC 9309, section 2.2.2; RFC 3986, section 2.
 ghost use Rattle.std.specs.Prelude.{◌≡◌, ◌++◌, ◌∷◌, ◌<◌, ◌≤◌, vec_len, [], true, length, IfOk, IsTrue, MatchOption};
 ghost use Rattle.std.specs.Char.{digit_value, is_digit};
-ghost use Rattle.std.specs.Fmt.{digit_glyph};
 ghost use Rattle.path_normal.specs.Normal.{is_anchored, is_gen_delim, is_kept, is_reserved, is_sign, is_sub_delim, is_unreserved, normal, normal_path, normal_pattern, spelled, unanchored, units};
 
+use percent_encoding::percent_encode_byte;
 use std::alloc::{AllocError, Global};
 
 /// What a text is to be compared as.
@@ -55,8 +55,8 @@ pub fn push_normal_pattern(form: &mut Vec<u8>, pattern: &[u8]) -> Result<(), All
     Ok(())
 }
 
-// The pattern without a last `$`, and whether it had one.
-fn split_anchor(pattern: &[u8]) -> (&[u8], bool)
+/// The pattern without a last `$`, and whether it had one.
+pub fn split_anchor(pattern: &[u8]) -> (&[u8], bool)
     ensures pattern { result.0.now ≡ unanchored pattern.now }
     ensures anchored { result.1 ≡ is_anchored pattern.now }
 {
@@ -112,10 +112,7 @@ fn push_spelled(form: &mut Vec<u8>, role: Role, unit: Octet) -> Result<(), Alloc
         form.push(unit.value)?;
         return Ok(());
     }
-    form.push(b'%')?;
-    form.push(hex_digit(unit.value / 16))?;
-    form.push(hex_digit(unit.value % 16))?;
-    Ok(())
+    form.extend_from_slice(percent_encode_byte(unit.value).as_bytes())
 }
 
 fn is_kept(role: Role, unit: Octet) -> bool
@@ -164,7 +161,7 @@ fn is_sign(role: Role, octet: u8) -> bool
 fn is_hex(digit: u8) -> bool
     ensures { result ≡ is_digit digit 16 }
 {
-    matches!(digit, b'0'..=b'9' | b'A'..=b'F' | b'a'..=b'f')
+    char::from(digit).is_digit(16)
 }
 
 fn hex_value(digit: u8) -> u8
@@ -172,20 +169,5 @@ fn hex_value(digit: u8) -> u8
     ensures value { result ≡ digit_value digit }
     ensures bound { result < 16 }
 {
-    match digit {
-        b'0'..=b'9' => digit - b'0',
-        b'A'..=b'F' => digit - b'A' + 10,
-        _ => digit - b'a' + 10,
-    }
-}
-
-fn hex_digit(value: u8) -> u8
-    requires { value < 16 }
-    ensures { result ≡ digit_glyph true value }
-{
-    if value < 10 {
-        b'0' + value
-    } else {
-        b'A' + (value - 10)
-    }
+    char::from(digit).to_digit(16).unwrap() as u8
 }

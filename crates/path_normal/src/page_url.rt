@@ -8,7 +8,8 @@ ghost use Rattle.url.specs.Parts.{IsValid, Parts};
 ghost use Rattle.path_normal.specs.Limits.{max_url};
 ghost use Rattle.path_normal.specs.Normal.{normal_path};
 ghost use Rattle.path_normal.specs.PageText.{authority_of, robots_url_of, target_of};
-ghost use Rattle.path_normal.specs.PageUrl.{HasPartsOf, IsAnswer, IsFaultless, IsNamedOn, IsPage, authority_of_parts, page_of_parts, page_url_of, page_url_of_parts, page_url_on, target_of_parts};
+ghost use Rattle.path_normal.specs.PageUrl.{HasPartsOf, IsAnswer, IsFaultless, IsNamedOn, IsPage, authority_of_parts, page_of_parts, page_url_from, page_url_of_parts, page_url_on, target_of_parts};
+ghost use Rattle.path_normal.specs.Capacity.{IsRead};
 
 use crate::authority::Authority;
 use crate::fault::UrlFault;
@@ -59,8 +60,7 @@ impl Model for PageUrl {
 impl PageUrl {
     /// Reads the URL of a page, and drops its fragment.
     pub fn parse(alloc: Global, text: &str) -> Result<PageUrl, UrlFault>
-        ensures long { max_url < length text.now → result ≡ Err UrlFault.TooLong }
-        ensures answer { IsAnswer result (page_url_of text.now) }
+        ensures answer { IsRead result (page_url_from None text.now) }
         ensures parts { IfOk result (λ page. (url : Parts) × (parse_url None text.now ≡ Ok url)
             × HasPartsOf page url) }
     {
@@ -76,16 +76,13 @@ impl PageUrl {
     /// Reads the URL of the page that a text names on this one, as a link or a redirect does
     /// (RFC 3986, 5.2).
     pub fn join(&self, text: &str) -> Result<PageUrl, UrlFault>
-        ensures long { max_url < length text.now → result ≡ Err UrlFault.TooLong }
-        ensures answer { IsAnswer result (page_url_on self.now text.now) }
+        ensures answer { IsRead result (page_url_on self.now text.now) }
         ensures parts { IfOk result (IsNamedOn self.now text.now) }
     {
         if is_long(text) {
             return Err(UrlFault::TooLong);
         }
-        let Ok(base) = Url::parse(self.allocator(), self.text()) else {
-            return Err(UrlFault::NoMemory);
-        };
+        let base = Url::parse(self.allocator(), self.text())?;
         match base.join(text) {
             Ok(url) => PageUrl::of_parsed(self.allocator(), &url),
             Err(error) => Err(UrlFault::from(error)),

@@ -8,6 +8,7 @@ use Rattle.std.proofs.lemmas.List.Elements.{All-head, All-tail}
 use Rattle.std.proofs.Math.Seq.{drop-append_seam}
 use Rattle.path_pattern.specs.Matches.{filled, stars, Spells}
 use Rattle.path_pattern.specs.Runs.{BeginsNot, HasNoStar, IsAfterFirst, IsSplitAtStar, StandsNowhere}
+use Rattle.path_normal.specs.Octets.{star}
 
 -- ---- the empty pattern
 
@@ -19,14 +20,14 @@ off_nothing anchored path spells is = spells.spelled ∙ spells.ended is
 
 -- ---- an octet that is no star
 
-filled_plain : (octet : ℕ) (pattern : List ℕ) (texts : List (List ℕ)) → (octet == 42) ≡ false → filled (octet ∷ pattern) texts ≡ octet ∷ filled pattern texts
+filled_plain : (octet : ℕ) (pattern : List ℕ) (texts : List (List ℕ)) → (octet == star) ≡ false → filled (octet ∷ pattern) texts ≡ octet ∷ filled pattern texts
 filled_plain octet pattern [] plain = refl
-filled_plain octet pattern (text ∷ texts) plain = cond-false (octet == 42) _ _ plain
+filled_plain octet pattern (text ∷ texts) plain = cond-false (octet == star) _ _ plain
 
-stars_plain : (octet : ℕ) (pattern : List ℕ) → (octet == 42) ≡ false → stars (octet ∷ pattern) ≡ stars pattern
-stars_plain octet pattern plain = cond-false (octet == 42) _ _ plain
+stars_plain : (octet : ℕ) (pattern : List ℕ) → (octet == star) ≡ false → stars (octet ∷ pattern) ≡ stars pattern
+stars_plain octet pattern plain = cond-false (octet == star) _ _ plain
 
-pub on_octet : (octet : ℕ) (pattern : List ℕ) (anchored : Bool) (path : List ℕ) → (octet == 42) ≡ false → Spells pattern anchored path → Spells (octet ∷ pattern) anchored (octet ∷ path)
+pub on_octet : (octet : ℕ) (pattern : List ℕ) (anchored : Bool) (path : List ℕ) → (octet == star) ≡ false → Spells pattern anchored path → Spells (octet ∷ pattern) anchored (octet ∷ path)
 on_octet octet pattern anchored path plain spells = record {
   texts = spells.texts;
   rest = spells.rest;
@@ -35,7 +36,7 @@ on_octet octet pattern anchored path plain spells = record {
   ended = spells.ended;
 }
 
-pub off_octet : (octet : ℕ) (pattern : List ℕ) (anchored : Bool) (path : List ℕ) → (octet == 42) ≡ false → Spells (octet ∷ pattern) anchored path → (after : List ℕ) × (path ≡ octet ∷ after) × Spells pattern anchored after
+pub off_octet : (octet : ℕ) (pattern : List ℕ) (anchored : Bool) (path : List ℕ) → (octet == star) ≡ false → Spells (octet ∷ pattern) anchored path → (after : List ℕ) × (path ≡ octet ∷ after) × Spells pattern anchored after
 off_octet octet pattern anchored path plain spells = (
   filled pattern spells.texts ++ spells.rest,
   spells.spelled ∙ ap (λ t. t ++ spells.rest) (filled_plain octet pattern spells.texts plain),
@@ -50,7 +51,7 @@ off_octet octet pattern anchored path plain spells = (
 
 -- ---- a star
 
-pub on_star : (front pattern : List ℕ) (anchored : Bool) (path : List ℕ) → Spells pattern anchored path → Spells (42 ∷ pattern) anchored (front ++ path)
+pub on_star : (front pattern : List ℕ) (anchored : Bool) (path : List ℕ) → Spells pattern anchored path → Spells (star ∷ pattern) anchored (front ++ path)
 on_star front pattern anchored path spells = record {
   texts = front ∷ spells.texts;
   rest = spells.rest;
@@ -59,7 +60,7 @@ on_star front pattern anchored path spells = record {
   ended = spells.ended;
 }
 
-off_texts : (pattern : List ℕ) (anchored : Bool) (path rest : List ℕ) (texts : List (List ℕ)) → length texts ≡ suc (stars pattern) → path ≡ filled (42 ∷ pattern) texts ++ rest → (IsTrue anchored → rest ≡ []) → (front after : List ℕ) × (path ≡ front ++ after) × Spells pattern anchored after
+off_texts : (pattern : List ℕ) (anchored : Bool) (path rest : List ℕ) (texts : List (List ℕ)) → length texts ≡ suc (stars pattern) → path ≡ filled (star ∷ pattern) texts ++ rest → (IsTrue anchored → rest ≡ []) → (front after : List ℕ) × (path ≡ front ++ after) × Spells pattern anchored after
 off_texts pattern anchored path rest [] many spelled ended = absurd (omega arith)
 off_texts pattern anchored path rest (text ∷ texts) many spelled ended = (
   text,
@@ -68,28 +69,28 @@ off_texts pattern anchored path rest (text ∷ texts) many spelled ended = (
   record { texts = texts; rest = rest; as_many = omega arith; spelled = refl; ended = ended },
 )
 
-pub off_star : (pattern : List ℕ) (anchored : Bool) (path : List ℕ) → Spells (42 ∷ pattern) anchored path → (front after : List ℕ) × (path ≡ front ++ after) × Spells pattern anchored after
+pub off_star : (pattern : List ℕ) (anchored : Bool) (path : List ℕ) → Spells (star ∷ pattern) anchored path → (front after : List ℕ) × (path ≡ front ++ after) × Spells pattern anchored after
 off_star pattern anchored path spells =
     off_texts pattern anchored path spells.rest spells.texts spells.as_many spells.spelled spells.ended
 
 -- what fits after a star still fits with more octets before it
-pub star_longer : (more pattern : List ℕ) (anchored : Bool) (path : List ℕ) → Spells (42 ∷ pattern) anchored path → Spells (42 ∷ pattern) anchored (more ++ path)
+pub star_longer : (more pattern : List ℕ) (anchored : Bool) (path : List ℕ) → Spells (star ∷ pattern) anchored path → Spells (star ∷ pattern) anchored (more ++ path)
 star_longer more pattern anchored path spells =
     let off = off_star pattern anchored path spells in
-    subst (Spells (42 ∷ pattern) anchored) (append_assoc more off.0 off.1 ∙ ap (λ t. more ++ t) (sym off.2)) (on_star (more ++ off.0) pattern anchored off.1 off.3)
+    subst (Spells (star ∷ pattern) anchored) (append_assoc more off.0 off.1 ∙ ap (λ t. more ++ t) (sym off.2)) (on_star (more ++ off.0) pattern anchored off.1 off.3)
 
 -- ---- a run
 
 pub on_run : (run pattern : List ℕ) (anchored : Bool) (path : List ℕ) → HasNoStar run → Spells pattern anchored path → Spells (run ++ pattern) anchored (run ++ path)
 on_run [] pattern anchored path plain spells = spells
 on_run (octet ∷ run) pattern anchored path plain spells =
-    on_octet octet (run ++ pattern) anchored (run ++ path) (All-head (λ o. (o == 42) ≡ false) octet run plain) (on_run run pattern anchored path (All-tail (λ o. (o == 42) ≡ false) octet run plain) spells)
+    on_octet octet (run ++ pattern) anchored (run ++ path) (All-head (λ o. (o == star) ≡ false) octet run plain) (on_run run pattern anchored path (All-tail (λ o. (o == star) ≡ false) octet run plain) spells)
 
 pub off_run : (run pattern : List ℕ) (anchored : Bool) (path : List ℕ) → HasNoStar run → Spells (run ++ pattern) anchored path → (after : List ℕ) × (path ≡ run ++ after) × Spells pattern anchored after
 off_run [] pattern anchored path plain spells = (path, refl, spells)
 off_run (octet ∷ run) pattern anchored path plain spells =
-    let off = off_octet octet (run ++ pattern) anchored path (All-head (λ o. (o == 42) ≡ false) octet run plain) spells in
-    let more = off_run run pattern anchored off.0 (All-tail (λ o. (o == 42) ≡ false) octet run plain) off.2 in
+    let off = off_octet octet (run ++ pattern) anchored path (All-head (λ o. (o == star) ≡ false) octet run plain) spells in
+    let more = off_run run pattern anchored off.0 (All-tail (λ o. (o == star) ≡ false) octet run plain) off.2 in
     (more.0, off.1 ∙ ap (λ t. octet ∷ t) more.1, more.2)
 
 pub on_last : (run : List ℕ) (anchored : Bool) (path rest : List ℕ) → HasNoStar run → path ≡ run ++ rest → (IsTrue anchored → rest ≡ []) → Spells run anchored path
@@ -104,31 +105,31 @@ off_last run anchored path plain spells =
 
 -- ---- a run and a star after it, at the start of the path and after a star
 
-pub on_start : (pattern run after : List ℕ) (anchored : Bool) (path rest : List ℕ) → IsSplitAtStar pattern run after → path ≡ run ++ rest → Spells (42 ∷ after) anchored rest → Spells pattern anchored path
+pub on_start : (pattern run after : List ℕ) (anchored : Bool) (path rest : List ℕ) → IsSplitAtStar pattern run after → path ≡ run ++ rest → Spells (star ∷ after) anchored rest → Spells pattern anchored path
 on_start pattern run after anchored path rest split is spells =
-    subst (λ p. Spells p anchored path) (sym split.parts) (subst (Spells (run ++ 42 ∷ after) anchored) (sym is) (on_run run (42 ∷ after) anchored rest split.plain spells))
+    subst (λ p. Spells p anchored path) (sym split.parts) (subst (Spells (run ++ star ∷ after) anchored) (sym is) (on_run run (star ∷ after) anchored rest split.plain spells))
 
-pub off_start : (pattern run after : List ℕ) (anchored : Bool) (path : List ℕ) → IsSplitAtStar pattern run after → Spells pattern anchored path → (rest : List ℕ) × (path ≡ run ++ rest) × Spells (42 ∷ after) anchored rest
+pub off_start : (pattern run after : List ℕ) (anchored : Bool) (path : List ℕ) → IsSplitAtStar pattern run after → Spells pattern anchored path → (rest : List ℕ) × (path ≡ run ++ rest) × Spells (star ∷ after) anchored rest
 off_start pattern run after anchored path split spells =
-    off_run run (42 ∷ after) anchored path split.plain (subst (λ p. Spells p anchored path) split.parts spells)
+    off_run run (star ∷ after) anchored path split.plain (subst (λ p. Spells p anchored path) split.parts spells)
 
-pub on_first : (pattern run after : List ℕ) (anchored : Bool) (path rest : List ℕ) → IsSplitAtStar pattern run after → IsAfterFirst path run rest → Spells (42 ∷ after) anchored rest → Spells (42 ∷ pattern) anchored path
+pub on_first : (pattern run after : List ℕ) (anchored : Bool) (path rest : List ℕ) → IsSplitAtStar pattern run after → IsAfterFirst path run rest → Spells (star ∷ after) anchored rest → Spells (star ∷ pattern) anchored path
 on_first pattern run after anchored path rest split first spells =
     let fits = on_start pattern run after anchored (run ++ rest) rest split refl spells in
-    subst (Spells (42 ∷ pattern) anchored) (sym first.stands) (on_star first.front pattern anchored (run ++ rest) fits)
+    subst (Spells (star ∷ pattern) anchored) (sym first.stands) (on_star first.front pattern anchored (run ++ rest) fits)
 
-pub off_first : (pattern run after : List ℕ) (anchored : Bool) (path rest : List ℕ) → IsSplitAtStar pattern run after → IsAfterFirst path run rest → Spells (42 ∷ pattern) anchored path → Spells (42 ∷ after) anchored rest
+pub off_first : (pattern run after : List ℕ) (anchored : Bool) (path rest : List ℕ) → IsSplitAtStar pattern run after → IsAfterFirst path run rest → Spells (star ∷ pattern) anchored path → Spells (star ∷ after) anchored rest
 off_first pattern run after anchored path rest split first spells =
-    let star = off_star pattern anchored path spells in
-    let start = off_start pattern run after anchored star.1 split star.3 in
-    let between = first.first star.0 start.0 (star.2 ∙ ap (λ t. star.0 ++ t) start.1) in
-    subst (Spells (42 ∷ after) anchored) (sym between.1) (star_longer between.0 after anchored start.0 start.2)
+    let tail = off_star pattern anchored path spells in
+    let start = off_start pattern run after anchored tail.1 split tail.3 in
+    let between = first.first tail.0 start.0 (tail.2 ∙ ap (λ t. tail.0 ++ t) start.1) in
+    subst (Spells (star ∷ after) anchored) (sym between.1) (star_longer between.0 after anchored start.0 start.2)
 
-pub off_nowhere : (pattern run after : List ℕ) (anchored : Bool) (path : List ℕ) → IsSplitAtStar pattern run after → StandsNowhere path run → Spells (42 ∷ pattern) anchored path → ⊥
+pub off_nowhere : (pattern run after : List ℕ) (anchored : Bool) (path : List ℕ) → IsSplitAtStar pattern run after → StandsNowhere path run → Spells (star ∷ pattern) anchored path → ⊥
 off_nowhere pattern run after anchored path split nowhere spells =
-    let star = off_star pattern anchored path spells in
-    let start = off_start pattern run after anchored star.1 split star.3 in
-    nowhere star.0 start.0 (star.2 ∙ ap (λ t. star.0 ++ t) start.1)
+    let tail = off_star pattern anchored path spells in
+    let start = off_start pattern run after anchored tail.1 split tail.3 in
+    nowhere tail.0 start.0 (tail.2 ∙ ap (λ t. tail.0 ++ t) start.1)
 
 -- ---- a last run
 
@@ -156,30 +157,30 @@ fits_nowhere run anchored path plain begins spells =
     let off = off_last run anchored path plain spells in
     begins off.0 off.1
 
-pub last_ended : (run : List ℕ) (anchored ends : Bool) (path : List ℕ) → HasNoStar run → anchored ≡ true → (IsTrue ends ↔ ((front : List ℕ) × (path ≡ front ++ run))) → IsTrue ends ↔ Spells (42 ∷ run) anchored path
+pub last_ended : (run : List ℕ) (anchored ends : Bool) (path : List ℕ) → HasNoStar run → anchored ≡ true → (IsTrue ends ↔ ((front : List ℕ) × (path ≡ front ++ run))) → IsTrue ends ↔ Spells (star ∷ run) anchored path
 last_ended run anchored ends path plain bound tested = (
   λ is.
       let stands = tested.0 is in
       let fits = on_last run anchored run [] plain (sym (append-nil run)) (λ _. refl) in
-      subst (Spells (42 ∷ run) anchored) (sym stands.1) (on_star stands.0 run anchored run fits),
+      subst (Spells (star ∷ run) anchored) (sym stands.1) (on_star stands.0 run anchored run fits),
   λ spells.
-      let star = off_star run anchored path spells in
-      let off = off_last run anchored star.1 plain star.3 in
-      tested.1 (star.0, star.2 ∙ ap (λ t. star.0 ++ t) (off.1 ∙ ap (λ t. run ++ t) (off.2 bound) ∙ append-nil run)),
+      let tail = off_star run anchored path spells in
+      let off = off_last run anchored tail.1 plain tail.3 in
+      tested.1 (tail.0, tail.2 ∙ ap (λ t. tail.0 ++ t) (off.1 ∙ ap (λ t. run ++ t) (off.2 bound) ∙ append-nil run)),
 )
 
-pub last_open : (run : List ℕ) (anchored : Bool) (path : List ℕ) (found : Option (Bor (List ℕ))) → HasNoStar run → anchored ≡ false → MatchOption found (StandsNowhere path run) (λ rest. IsAfterFirst path run rest.now) → IsTrue (is_some found) ↔ Spells (42 ∷ run) anchored path
+pub last_open : (run : List ℕ) (anchored : Bool) (path : List ℕ) (found : Option (Bor (List ℕ))) → HasNoStar run → anchored ≡ false → MatchOption found (StandsNowhere path run) (λ rest. IsAfterFirst path run rest.now) → IsTrue (is_some found) ↔ Spells (star ∷ run) anchored path
 last_open run anchored path None plain free nowhere = (
   λ no. absurd (true≢false (sym no)),
   λ spells.
-      let star = off_star run anchored path spells in
-      let off = off_last run anchored star.1 plain star.3 in
-      absurd (nowhere star.0 off.0 (star.2 ∙ ap (λ t. star.0 ++ t) off.1)),
+      let tail = off_star run anchored path spells in
+      let off = off_last run anchored tail.1 plain tail.3 in
+      absurd (nowhere tail.0 off.0 (tail.2 ∙ ap (λ t. tail.0 ++ t) off.1)),
 )
 last_open run anchored path (Some rest) plain free first = (
   λ _.
       let fits = fits_open run anchored (run ++ rest.now) rest.now plain refl free in
-      subst (Spells (42 ∷ run) anchored) (sym first.stands) (on_star first.front run anchored (run ++ rest.now) fits),
+      subst (Spells (star ∷ run) anchored) (sym first.stands) (on_star first.front run anchored (run ++ rest.now) fits),
   λ _. refl,
 )
 
@@ -196,27 +197,27 @@ cuts_none_ended [] anchored empty path none bound tested = (
 )
 cuts_none_ended (octet ∷ pattern) anchored empty path none bound tested = absurd (omega arith)
 
-later_cut : (after : List ℕ) (anchored : Bool) (first : ℕ) (rest front back : List ℕ) → (Spells after anchored (first ∷ rest) → ⊥) → first ∷ rest ≡ front ++ back → Spells after anchored back → Spells (42 ∷ after) anchored rest
+later_cut : (after : List ℕ) (anchored : Bool) (first : ℕ) (rest front back : List ℕ) → (Spells after anchored (first ∷ rest) → ⊥) → first ∷ rest ≡ front ++ back → Spells after anchored back → Spells (star ∷ after) anchored rest
 later_cut after anchored first rest [] back not_here is spells = absurd (not_here (subst (Spells after anchored) (sym is) spells))
 later_cut after anchored first rest (octet ∷ front) back not_here is spells =
     let same : rest ≡ front ++ back = cc in
-    subst (Spells (42 ∷ after) anchored) (sym same) (on_star front after anchored back spells)
+    subst (Spells (star ∷ after) anchored) (sym same) (on_star front after anchored back spells)
 
-pub cuts_star : (after : List ℕ) (anchored : Bool) (first : ℕ) (rest : List ℕ) → (Spells after anchored (first ∷ rest) → ⊥) → Spells (42 ∷ after) anchored (first ∷ rest) → Spells (42 ∷ after) anchored rest
+pub cuts_star : (after : List ℕ) (anchored : Bool) (first : ℕ) (rest : List ℕ) → (Spells after anchored (first ∷ rest) → ⊥) → Spells (star ∷ after) anchored (first ∷ rest) → Spells (star ∷ after) anchored rest
 cuts_star after anchored first rest not_here spells =
-    let star = off_star after anchored (first ∷ rest) spells in
-    later_cut after anchored first rest star.0 star.1 not_here star.2 star.3
+    let tail = off_star after anchored (first ∷ rest) spells in
+    later_cut after anchored first rest tail.0 tail.1 not_here tail.2 tail.3
 
 no_later_cut : (after : List ℕ) (anchored : Bool) (front back : List ℕ) → (Spells after anchored [] → ⊥) → [] ≡ front ++ back → Spells after anchored back → ⊥
 no_later_cut after anchored [] back not_here is spells = not_here (subst (Spells after anchored) (sym is) spells)
 no_later_cut after anchored (octet ∷ front) back not_here is spells = cc
 
-pub cuts_star_at_end : (after : List ℕ) (anchored : Bool) → (Spells after anchored [] → ⊥) → Spells (42 ∷ after) anchored [] → ⊥
+pub cuts_star_at_end : (after : List ℕ) (anchored : Bool) → (Spells after anchored [] → ⊥) → Spells (star ∷ after) anchored [] → ⊥
 cuts_star_at_end after anchored not_here spells =
-    let star = off_star after anchored [] spells in
-    no_later_cut after anchored star.0 star.1 not_here star.2 star.3
+    let tail = off_star after anchored [] spells in
+    no_later_cut after anchored tail.0 tail.1 not_here tail.2 tail.3
 
-pub cuts_at_end : (pattern after path : List ℕ) (anchored result : Bool) → pattern ≡ 42 ∷ after → length path ≡ 0 → (IsTrue result ↔ Spells after anchored path) → IsTrue result ↔ Spells pattern anchored path
+pub cuts_at_end : (pattern after path : List ℕ) (anchored result : Bool) → pattern ≡ star ∷ after → length path ≡ 0 → (IsTrue result ↔ Spells after anchored path) → IsTrue result ↔ Spells pattern anchored path
 cuts_at_end pattern after [] anchored true is none tested = (λ _. subst (λ p. Spells p anchored []) (sym is) (on_star [] after anchored [] (tested.0 refl)), λ _. refl)
 cuts_at_end pattern after [] anchored false is none tested = (
   λ no. absurd (true≢false (sym no)),
@@ -224,17 +225,17 @@ cuts_at_end pattern after [] anchored false is none tested = (
 )
 cuts_at_end pattern after (octet ∷ path) anchored result is none tested = absurd (omega arith)
 
-pub cuts_here : (pattern after path : List ℕ) (anchored result : Bool) → pattern ≡ 42 ∷ after → (IsTrue result ↔ Spells after anchored path) → result ≡ true → Spells pattern anchored path
+pub cuts_here : (pattern after path : List ℕ) (anchored result : Bool) → pattern ≡ star ∷ after → (IsTrue result ↔ Spells after anchored path) → result ≡ true → Spells pattern anchored path
 cuts_here pattern after path anchored result is tested holds =
     subst (λ p. Spells p anchored path) (sym is) (on_star [] after anchored path (tested.0 holds))
 
-pub cuts_later : (pattern after path rest : List ℕ) (first : ℕ) (anchored here later : Bool) → pattern ≡ 42 ∷ after → path ≡ first ∷ rest → (IsTrue here ↔ Spells after anchored path) → here ≡ false → (IsTrue later ↔ Spells pattern anchored rest) → IsTrue later ↔ Spells pattern anchored path
+pub cuts_later : (pattern after path rest : List ℕ) (first : ℕ) (anchored here later : Bool) → pattern ≡ star ∷ after → path ≡ first ∷ rest → (IsTrue here ↔ Spells after anchored path) → here ≡ false → (IsTrue later ↔ Spells pattern anchored rest) → IsTrue later ↔ Spells pattern anchored path
 cuts_later pattern after path rest first anchored here later is cut tested fails goes = (
   λ holds.
       let spells = subst (λ p. Spells p anchored rest) is (goes.0 holds) in
-      subst (λ p. Spells p anchored path) (sym is) (subst (Spells (42 ∷ after) anchored) (sym cut) (star_longer (first ∷ []) after anchored rest spells)),
+      subst (λ p. Spells p anchored path) (sym is) (subst (Spells (star ∷ after) anchored) (sym cut) (star_longer (first ∷ []) after anchored rest spells)),
   λ spells.
       let not_here : Spells after anchored (first ∷ rest) → ⊥ = λ fits. true≢false (sym (tested.1 (subst (Spells after anchored) (sym cut) fits)) ∙ fails) in
-      let whole = subst (Spells (42 ∷ after) anchored) cut (subst (λ p. Spells p anchored path) is spells) in
+      let whole = subst (Spells (star ∷ after) anchored) cut (subst (λ p. Spells p anchored path) is spells) in
       goes.1 (subst (λ p. Spells p anchored rest) (sym is) (cuts_star after anchored first rest not_here whole)),
 )

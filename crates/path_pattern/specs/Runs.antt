@@ -5,15 +5,16 @@ use Rattle.std.specs.Prelude as prelude
 use Rattle.memchr.specs.Find.{IsFirstByte, is_byte}
 use Rattle.path_pattern.specs.declared.runs.Star.{Star}
 use Rattle.path_pattern.specs.declared.runs.Star.TheVariants.{None, Only, First}
+use Rattle.path_normal.specs.Octets.{star}
 
 -- no `*` stands in the run
 abbrev pub HasNoStar : List ℕ → Type 0
-HasNoStar run = All (λ octet. (octet == 42) ≡ false) run
+HasNoStar run = All (λ octet. (octet == star) ≡ false) run
 
 -- the first `*` of the pattern stands between the run and what follows
 pub record IsSplitAtStar (pattern run after : List ℕ) : Type 0 where
   pub plain : HasNoStar run
-  pub parts : pattern ≡ run ++ 42 ∷ after
+  pub parts : pattern ≡ run ++ star ∷ after
 
 -- no second `*` stands behind the first one of the pattern
 abbrev pub HasNoSecondStar : List ℕ → Type 0
@@ -22,8 +23,8 @@ HasNoSecondStar pattern = (run after : List ℕ) → IsSplitAtStar pattern run a
 -- this is where the first star of the pattern stands; behind an only one no other does
 abbrev pub IsStarOf : List ℕ → Star → Type 0
 IsStarOf pattern None = HasNoStar pattern
-IsStarOf pattern (Only place) = IsFirstByte (is_byte 42) pattern (prelude.Some place) × HasNoSecondStar pattern
-IsStarOf pattern (First place) = IsFirstByte (is_byte 42) pattern (prelude.Some place)
+IsStarOf pattern (Only place) = IsFirstByte (is_byte star) pattern (prelude.Some place) × HasNoSecondStar pattern
+IsStarOf pattern (First place) = IsFirstByte (is_byte star) pattern (prelude.Some place)
 
 -- the run does not begin the path
 abbrev pub BeginsNot : List ℕ → List ℕ → Type 0

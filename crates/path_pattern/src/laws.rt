@@ -4,7 +4,7 @@ ghost use Rattle.std.specs.Prelude.{◌↔◌, IsTrue};
 ghost use Rattle.path_pattern.specs.Matches.{Matches, Spells};
 
 use crate::Pattern;
-use crate::runs::split_anchor;
+use path_normal::split_anchor;
 
 /// Whether the pattern matches the path, by all texts that each `*` may stand for. It is slow.
 pub fn matches_by_all_cuts(pattern: &Pattern, path: &[u8]) -> bool

@@ -2,14 +2,14 @@
 //! RFC 9309, section 2.2.3.
 ghost use Rattle.std.specs.Prelude.{◌≡◌, ◌↔◌, ◌∷◌, IfOk, IsTrue, length};
 ghost use Rattle.path_normal.specs.Normal.{normal_pattern, unanchored};
+ghost use Rattle.path_normal.specs.Octets.{star};
 ghost use Rattle.path_pattern.specs.Matches.{Matches, Spells};
 ghost use Rattle.path_pattern.specs.Runs.{HasNoStar, IsStarOf};
 
 use crate::runs::{
-    Star, after_first, after_start, ends_with, first_star, split_anchor, split_at_place,
-    split_at_star, star_of,
+    Star, after_first, after_start, ends_with, first_star, split_at_place, split_at_star, star_of,
 };
-use path_normal::normal_pattern;
+use path_normal::{normal_pattern, split_anchor};
 use std::alloc::{AllocError, Global};
 use std::marker::Model;
 
@@ -127,7 +127,7 @@ fn fits_run(run: &[u8], anchored: bool, path: &[u8]) -> bool
 // Whether the pattern fits from some octet of the path on: a star stands before it. Each run
 // is taken at its first place: what a later place would leave is the end of what that leaves.
 fn fits_after_star(pattern: &[u8], anchored: bool, path: &[u8]) -> bool
-    ensures { IsTrue result ↔ Spells (42 ∷ pattern.now) anchored path.now }
+    ensures { IsTrue result ↔ Spells (star ∷ pattern.now) anchored path.now }
 {
     let mut left = pattern;
     let mut rest = path;
@@ -144,7 +144,7 @@ fn fits_after_star(pattern: &[u8], anchored: bool, path: &[u8]) -> bool
 // The same of a run without a star.
 fn fits_last(run: &[u8], anchored: bool, path: &[u8]) -> bool
     requires { HasNoStar run.now }
-    ensures { IsTrue result ↔ Spells (42 ∷ run.now) anchored path.now }
+    ensures { IsTrue result ↔ Spells (star ∷ run.now) anchored path.now }
 {
     if anchored {
         ends_with(path, run)

@@ -2,22 +2,11 @@
 //! RFC 9309, section 2.2.3.
 ghost use Rattle.std.specs.Prelude.{◌≡◌, ◌++◌, ◌↔◌, List, ℕ, IsTrue, MatchOption, Some};
 ghost use Rattle.memchr.specs.Find.{FindsNeedle, IsFirstByte, OccursAt, is_byte};
-ghost use Rattle.path_normal.specs.Normal.{is_anchored, unanchored};
+ghost use Rattle.path_normal.specs.Octets.{star};
 ghost use Rattle.path_pattern.specs.Runs.{BeginsNot, HasNoStar, IsAfterFirst, IsSplitAtStar, IsStarOf, StandsNowhere};
 
 use memchr::arch::all::{is_prefix, is_suffix};
 use memchr::{memchr, memmem};
-
-/// The pattern without a last `$`, and whether it had one.
-pub(crate) fn split_anchor(pattern: &[u8]) -> (&[u8], bool)
-    ensures pattern { result.0.now ≡ unanchored pattern.now }
-    ensures anchored { result.1 ≡ is_anchored pattern.now }
-{
-    match pattern {
-        [front @ .., b'$'] => (front, true),
-        _ => (pattern, false),
-    }
-}
 
 /// Where the first star of a pattern stands.
 #[derive(Clone, Copy, Debug)]
@@ -62,7 +51,7 @@ pub(crate) fn split_at_star(pattern: &[u8]) -> Option<(&[u8], &[u8])>
 }
 
 fn star_place(pattern: &[u8]) -> Option<usize>
-    ensures { IsFirstByte (is_byte 42) pattern.now result }
+    ensures { IsFirstByte (is_byte star) pattern.now result }
 {
     memchr(b'*', pattern)
 }
@@ -75,7 +64,7 @@ fn has_no_star(pattern: &[u8]) -> bool
 
 /// What stands before the first `*`, of which the place is known, and after it.
 pub(crate) fn split_at_place(pattern: &[u8], place: usize) -> (&[u8], &[u8])
-    requires { IsFirstByte (is_byte 42) pattern.now (Some place) }
+    requires { IsFirstByte (is_byte star) pattern.now (Some place) }
     ensures { IsSplitAtStar pattern.now result.0.now result.1.now }
 {
     (&pattern[..place], &pattern[place + 1..])

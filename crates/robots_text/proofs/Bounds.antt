@@ -1,15 +1,16 @@
 -- A text has at most as many lines as octets, and what its records name lies in it once.
 -- Used by `RobotsText::records` and `RobotsText::groups`.
-use Rattle.std.proofs.Common.{◌≡◌, ℕ, ◌+◌, ◌<◌, ◌≤◌, suc, Bool, true, false, List, [], ◌∷◌, ◌++◌, length, take, drop, map, All, refl, sym, ap, ◌∙◌, arith}
+use Rattle.std.proofs.Common.{◌≡◌, ℕ, ◌+◌, ◌≤◌, suc, Bool, true, false, List, [], ◌∷◌, length, take, drop, map, All, refl, ap, arith}
 use Rattle.std.specs.Prelude.{◌==◌, Option, Some, None, codes, if◌then◌else◌}
 use Rattle.std.specs.List.{onto_first, position, before_first, position_or_len, list_all}
 use Rattle.std.proofs.lemmas.List.{length-take, length-drop}
 use Rattle.std.proofs.lemmas.List.Elements.{All-cons, All-nil}
 use Rattle.robots_text.specs.Grouped.{IsWithin, grouped_from, name_octets, value_octets, values_octets}
 use Rattle.robots_text.specs.Grouping.{begins_behind, group_at}
-use Rattle.robots_text.specs.Lines.{lines_from, unmarked, with_octet}
-use Rattle.robots_text.specs.Records.{everybody, Named, Record, agent, rule, other, ends_token, is_blank, is_colon, is_everybody, is_hash, is_same_name, named, named_by, numbered_from, record_at, record_in, record_named, record_of, trimmed, without_leading, without_trailing}
+use Rattle.robots_text.specs.Lines.{lines_from}
+use Rattle.robots_text.specs.Records.{everybody, Record, agent, rule, other, ends_token, is_blank, is_colon, is_everybody, is_number_sign, is_same_name, named, named_by, numbered_from, record_at, record_of, trimmed, without_leading, without_trailing}
 use Rattle.robots_text.specs.declared.record.RuleKind.TheVariants.{Allow, Disallow}
+use Rattle.robots_text.specs.Octets.{carriage_return, line_feed}
 
 -- how many octets the lines have together
 abbrev pub octets_of : List (List ℕ) → ℕ
@@ -35,8 +36,8 @@ with_few false false cr octet lines = onto_few octet lines
 pub few_lines : (cr : Bool) (text : List ℕ) → (length (lines_from cr text) ≤ length text) × (octets_of (lines_from cr text) ≤ length text)
 few_lines cr [] = (omega arith, omega arith)
 few_lines cr (octet ∷ text) =
-    let later = few_lines (octet == 13) text in
-    let here = with_few (octet == 13) (octet == 10) cr octet (lines_from (octet == 13) text) in
+    let later = few_lines (octet == carriage_return) text in
+    let here = with_few (octet == carriage_return) (octet == line_feed) cr octet (lines_from (octet == carriage_return) text) in
     (omega (arith, later.0, here.0), omega (arith, later.1, here.1))
 
 -- parts of a line are no longer than it
@@ -99,8 +100,8 @@ record_at_within (Some colon) text =
 
 record_within : (line : List ℕ) → value_octets (record_of line) ≤ length line
 record_within line =
-    let text = before_first is_hash line in
-    omega (arith, record_at_within (position is_colon text) text, take_within (position_or_len is_hash line) line)
+    let text = before_first is_number_sign line in
+    omega (arith, record_at_within (position is_colon text) text, take_within (position_or_len is_number_sign line) line)
 
 pub small_values : (group : ℕ) (begins : Bool) (n : ℕ) (lines : List (List ℕ)) →
     values_octets (grouped_from group begins (numbered_from n (map record_of lines))) ≤ octets_of lines

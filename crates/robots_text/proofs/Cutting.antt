@@ -6,6 +6,7 @@ use Rattle.std.specs.List.{position_or_len, before_first, onto_first}
 use Rattle.std.proofs.lemmas.Bool.Decides.{nat_tests}
 use Rattle.robots_text.specs.Cut.{behind_end}
 use Rattle.robots_text.specs.Lines.{is_line_end, lines_from}
+use Rattle.robots_text.specs.Octets.{carriage_return, line_feed}
 
 pub tells : (b : Bool) → (b ≡ true) ⊎ (b ≡ false)
 tells true = inl refl
@@ -23,28 +24,28 @@ second true b e other = absurd (grind arith)
 second false b e other = e
 
 -- behind a CR an LF ends nothing, and else the lines are as they stand
-pub behind_cr : (text : List ℕ) → lines_from true text ≡ lines_from false (behind_end (13 ∷ text))
+pub behind_cr : (text : List ℕ) → lines_from true text ≡ lines_from false (behind_end (carriage_return ∷ text))
 behind_cr [] = refl
-behind_cr (c ∷ text) = elim (tells (c == 10)) [
-  | inl e ↦ subst (λ d. lines_from true (d ∷ text) ≡ lines_from false (behind_end (13 ∷ d ∷ text))) (sym (is_number c 10 e)) refl
+behind_cr (c ∷ text) = elim (tells (c == line_feed)) [
+  | inl e ↦ subst (λ d. lines_from true (d ∷ text) ≡ lines_from false (behind_end (carriage_return ∷ d ∷ text))) (sym (is_number c line_feed e)) refl
   | inr e ↦ rw e (rw e refl)
 ]
 
 -- an octet that is no line end belongs to the first line
 pub plain_octet : (c : ℕ) (text : List ℕ) → is_line_end c ≡ false → lines_from false (c ∷ text) ≡ onto_first c (lines_from false text)
 plain_octet c text e =
-    let parts = plain_parts (c == 13) (c == 10) e in
+    let parts = plain_parts (c == carriage_return) (c == line_feed) e in
     rw parts.0 (rw parts.1 refl)
 
-pub behind_lf : (text : List ℕ) → behind_end (10 ∷ text) ≡ text
+pub behind_lf : (text : List ℕ) → behind_end (line_feed ∷ text) ≡ text
 behind_lf [] = refl
 behind_lf (c ∷ text) = refl
 
 -- at a line end the first line is empty
 pub end_octet : (c : ℕ) (text : List ℕ) → is_line_end c ≡ true → lines_from false (c ∷ text) ≡ [] ∷ lines_from false (behind_end (c ∷ text))
-end_octet c text e = elim (tells (c == 13)) [
-  | inl cr ↦ subst (λ d. lines_from false (d ∷ text) ≡ [] ∷ lines_from false (behind_end (d ∷ text))) (sym (is_number c 13 cr)) (ap (λ l. [] ∷ l) (behind_cr text))
-  | inr other ↦ (let lf : c ≡ 10 = is_number c 10 (second (c == 13) (c == 10) e other) in
+end_octet c text e = elim (tells (c == carriage_return)) [
+  | inl cr ↦ subst (λ d. lines_from false (d ∷ text) ≡ [] ∷ lines_from false (behind_end (d ∷ text))) (sym (is_number c carriage_return cr)) (ap (λ l. [] ∷ l) (behind_cr text))
+  | inr other ↦ (let lf : c ≡ line_feed = is_number c line_feed (second (c == carriage_return) (c == line_feed) e other) in
       subst (λ d. lines_from false (d ∷ text) ≡ [] ∷ lines_from false (behind_end (d ∷ text))) (sym lf) (ap (λ l. [] ∷ lines_from false l) (sym (behind_lf text))))
 ]
 

@@ -10,7 +10,7 @@ use Rattle.robots_text.specs.Grouping.{begins_behind, group_at}
 use Rattle.robots_text.specs.Groups.{Governs, is_agent, is_rule}
 use Rattle.robots_text.specs.Records.{Record, agent, rule, other, Numbered, numbered_from}
 use Rattle.robots_text.proofs.LineEntries.{at, behind, entry_of, first_of, late_from, none_of, numbered_above}
-use Rattle.robots_text.proofs.Reaches.{Carried, NoBreak, NoHead, break_behind_rule, break_down, break_up, head_down, head_from_break, head_up, no_head_here}
+use Rattle.robots_text.proofs.Reaches.{Carried, NoBreak, break_behind_rule, break_down, break_up, head_down, head_from_break, head_up, no_head_here}
 
 -- a record with its line and its group
 abbrev in_group : ℕ → ℕ → Record → Grouped

@@ -6,6 +6,7 @@ use Rattle.std.specs.List.{list_any, onto_first}
 use Rattle.robots_text.specs.Cut.{behind_end}
 use Rattle.robots_text.specs.Lines.{AreLines, Ends, begins_with_lf, is_line_end, lines_from}
 use Rattle.robots_text.proofs.Cutting.{tells, is_number, plain_parts, second, behind_cr, end_octet, plain_octet}
+use Rattle.robots_text.specs.Octets.{carriage_return, line_feed}
 
 longer : (c : ℕ) (line end rest : List ℕ) → Ends line end rest → Ends (c ∷ line) end rest
 longer c line end rest (inl e) = inl e
@@ -33,18 +34,18 @@ with_plain c text (line ∷ lines) plain more = record {
 }
 
 -- a CR in front of a text ends an empty line
-with_cr : (text : List ℕ) (lines : List (List ℕ)) → AreLines (behind_end (13 ∷ text)) lines → AreLines (13 ∷ text) ([] ∷ lines)
+with_cr : (text : List ℕ) (lines : List (List ℕ)) → AreLines (behind_end (carriage_return ∷ text)) lines → AreLines (carriage_return ∷ text) ([] ∷ lines)
 with_cr [] lines more = record {
-  end = 13 ∷ [];
+  end = carriage_return ∷ [];
   rest = [];
   text_is = refl;
   plain = refl;
   ends = inr (inl (refl, refl));
   goes_on = more;
 }
-with_cr (d ∷ text) lines more = elim (tells (d == 10)) [
-  | inl e ↦ subst (λ x. AreLines (behind_end (13 ∷ x ∷ text)) lines → AreLines (13 ∷ x ∷ text) ([] ∷ lines)) (sym (is_number d 10 e)) (λ later. record {
-    end = 13 ∷ 10 ∷ [];
+with_cr (d ∷ text) lines more = elim (tells (d == line_feed)) [
+  | inl e ↦ subst (λ x. AreLines (behind_end (carriage_return ∷ x ∷ text)) lines → AreLines (carriage_return ∷ x ∷ text) ([] ∷ lines)) (sym (is_number d line_feed e)) (λ later. record {
+    end = carriage_return ∷ line_feed ∷ [];
     rest = text;
     text_is = refl;
     plain = refl;
@@ -52,7 +53,7 @@ with_cr (d ∷ text) lines more = elim (tells (d == 10)) [
     goes_on = later;
   }) more
   | inr e ↦ record {
-    end = 13 ∷ [];
+    end = carriage_return ∷ [];
     rest = d ∷ text;
     text_is = refl;
     plain = refl;
@@ -62,9 +63,9 @@ with_cr (d ∷ text) lines more = elim (tells (d == 10)) [
 ]
 
 -- so does an LF
-with_lf : (text : List ℕ) (lines : List (List ℕ)) → AreLines text lines → AreLines (10 ∷ text) ([] ∷ lines)
+with_lf : (text : List ℕ) (lines : List (List ℕ)) → AreLines text lines → AreLines (line_feed ∷ text) ([] ∷ lines)
 with_lf text lines more = record {
-  end = 10 ∷ [];
+  end = line_feed ∷ [];
   rest = text;
   text_is = refl;
   plain = refl;
@@ -73,25 +74,25 @@ with_lf text lines more = record {
 }
 
 -- one octet more, where both the text behind it and that behind a CR are known
-one_more : (c : ℕ) (text : List ℕ) → AreLines text (lines_from false text) → AreLines (behind_end (13 ∷ text)) (lines_from false (behind_end (13 ∷ text))) → AreLines (c ∷ text) (lines_from false (c ∷ text))
+one_more : (c : ℕ) (text : List ℕ) → AreLines text (lines_from false text) → AreLines (behind_end (carriage_return ∷ text)) (lines_from false (behind_end (carriage_return ∷ text))) → AreLines (c ∷ text) (lines_from false (c ∷ text))
 one_more c text as_text behind = elim (tells (is_line_end c)) [
-  | inl e ↦ elim (tells (c == 13)) [
-    | inl cr ↦ subst (λ d. AreLines (d ∷ text) (lines_from false (d ∷ text))) (sym (is_number c 13 cr))
-        (subst (AreLines (13 ∷ text)) (sym (end_octet 13 text refl)) (with_cr text _ behind))
-    | inr other ↦ subst (λ d. AreLines (d ∷ text) (lines_from false (d ∷ text))) (sym (is_number c 10 (second (c == 13) (c == 10) e other)))
+  | inl e ↦ elim (tells (c == carriage_return)) [
+    | inl cr ↦ subst (λ d. AreLines (d ∷ text) (lines_from false (d ∷ text))) (sym (is_number c carriage_return cr))
+        (subst (AreLines (carriage_return ∷ text)) (sym (end_octet carriage_return text refl)) (with_cr text _ behind))
+    | inr other ↦ subst (λ d. AreLines (d ∷ text) (lines_from false (d ∷ text))) (sym (is_number c line_feed (second (c == carriage_return) (c == line_feed) e other)))
         (with_lf text _ as_text)
   ]
   | inr e ↦ subst (AreLines (c ∷ text)) (sym (plain_octet c text e)) (with_plain c text _ e as_text)
 ]
 
-both : (text : List ℕ) → AreLines text (lines_from false text) × AreLines (behind_end (13 ∷ text)) (lines_from false (behind_end (13 ∷ text)))
+both : (text : List ℕ) → AreLines text (lines_from false text) × AreLines (behind_end (carriage_return ∷ text)) (lines_from false (behind_end (carriage_return ∷ text)))
 both [] = (refl, refl)
 both (c ∷ text) =
     let later = both text in
     let first = one_more c text later.0 later.1 in (
       first,
-      elim (tells (c == 10)) [
-        | inl e ↦ subst (λ d. AreLines (behind_end (13 ∷ d ∷ text)) (lines_from false (behind_end (13 ∷ d ∷ text)))) (sym (is_number c 10 e)) later.0
+      elim (tells (c == line_feed)) [
+        | inl e ↦ subst (λ d. AreLines (behind_end (carriage_return ∷ d ∷ text)) (lines_from false (behind_end (carriage_return ∷ d ∷ text)))) (sym (is_number c line_feed e)) later.0
         | inr e ↦ subst (λ b. AreLines (if b then text else c ∷ text) (lines_from false (if b then text else c ∷ text))) (sym e) first
       ],
     )
@@ -100,13 +101,13 @@ both (c ∷ text) =
 pub are_lines : (text : List ℕ) → AreLines text (lines_from false text)
 are_lines text = (both text).0
 
-no_lf : (rest : List ℕ) → begins_with_lf rest ≡ false → behind_end (13 ∷ rest) ≡ rest
+no_lf : (rest : List ℕ) → begins_with_lf rest ≡ false → behind_end (carriage_return ∷ rest) ≡ rest
 no_lf [] e = refl
 no_lf (d ∷ rest) e = rw e refl
 
 -- a line end, and not the end of the text
 abbrev Ended : (end rest : List ℕ) → Type 0
-Ended end rest = (end ≡ 13 ∷ 10 ∷ []) ⊎ ((end ≡ 13 ∷ []) × (begins_with_lf rest ≡ false)) ⊎ (end ≡ 10 ∷ [])
+Ended end rest = (end ≡ carriage_return ∷ line_feed ∷ []) ⊎ ((end ≡ carriage_return ∷ []) × (begins_with_lf rest ≡ false)) ⊎ (end ≡ line_feed ∷ [])
 
 at_end : (end rest : List ℕ) → Ended end rest → lines_from false (end ++ rest) ≡ [] ∷ lines_from false rest
 at_end end rest (inl e) = subst (λ x. lines_from false (x ++ rest) ≡ [] ∷ lines_from false rest) (sym e) refl

@@ -7,6 +7,7 @@ pub mod Grouping
 pub mod Groups
 pub mod Left
 pub mod Lines
+pub mod Octets
 pub mod Plain
 pub mod Records
 pub mod Token

@@ -2,6 +2,7 @@
 -- RFC 9309, sections 2.2 and 2.5.
 use Rattle.std.specs.Prelude.{◌≡◌, ◌≢◌, ◌⊎◌, ◌≤◌, ℕ, Bool, true, false, ◌&&◌, ◌||◌, ◌==◌, nat_le, List, [], ◌∷◌, ◌++◌, length, take, if◌then◌else◌}
 use Rattle.std.specs.List.{list_any, onto_first}
+use Rattle.robots_text.specs.Octets.{carriage_return, line_feed}
 
 -- how many octets of a robots text are read (RFC 9309, 2.5: at least 500 kibibytes)
 abbrev pub text_limit : ℕ
@@ -9,7 +10,7 @@ text_limit = 512000
 
 -- the octet is CR or LF
 abbrev pub is_line_end : ℕ → Bool
-is_line_end octet = octet == 13 || octet == 10
+is_line_end octet = octet == carriage_return || octet == line_feed
 
 -- the octets up to and with the last CR or LF, and none where there is none
 abbrev pub whole_lines : List ℕ → List ℕ
@@ -46,14 +47,14 @@ unmarked text = text
 -- LF behind CR ends nothing; any other octet belongs to the first line
 abbrev pub with_octet : Bool → ℕ → List (List ℕ) → List (List ℕ)
 with_octet behind_cr octet lines =
-    if octet == 13 then [] ∷ lines
-    else if octet == 10 then (if behind_cr then lines else [] ∷ lines)
+    if octet == carriage_return then [] ∷ lines
+    else if octet == line_feed then (if behind_cr then lines else [] ∷ lines)
     else onto_first octet lines
 
 -- the lines of a text that stands behind a CR or not
 abbrev pub lines_from : Bool → List ℕ → List (List ℕ)
 lines_from behind_cr [] = []
-lines_from behind_cr (octet ∷ text) = with_octet behind_cr octet (lines_from (octet == 13) text)
+lines_from behind_cr (octet ∷ text) = with_octet behind_cr octet (lines_from (octet == carriage_return) text)
 
 -- the lines of a text, without its mark
 abbrev pub lines_of : List ℕ → List (List ℕ)
@@ -62,15 +63,15 @@ lines_of text = lines_from false (unmarked text)
 -- the text begins with LF
 abbrev pub begins_with_lf : List ℕ → Bool
 begins_with_lf [] = false
-begins_with_lf (octet ∷ text) = octet == 10
+begins_with_lf (octet ∷ text) = octet == line_feed
 
 -- a line is followed by CR LF, by CR not followed by LF, or by LF; the last may lack its end, and is then
 -- not empty
 abbrev pub Ends : (line end rest : List ℕ) → Type 0
 Ends line end rest =
-    (end ≡ 13 ∷ 10 ∷ [])
-    ⊎ ((end ≡ 13 ∷ []) × (begins_with_lf rest ≡ false))
-    ⊎ (end ≡ 10 ∷ [])
+    (end ≡ carriage_return ∷ line_feed ∷ [])
+    ⊎ ((end ≡ carriage_return ∷ []) × (begins_with_lf rest ≡ false))
+    ⊎ (end ≡ line_feed ∷ [])
     ⊎ ((end ≡ []) × (rest ≡ []) × (line ≢ []))
 
 -- the text is a line free of CR and LF, its end, and a rest

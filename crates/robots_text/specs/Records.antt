@@ -11,6 +11,7 @@ use Rattle.robots_text.specs.declared.record.RuleKind.{RuleKind}
 use Rattle.robots_text.specs.declared.record.RuleKind.TheVariants.{Allow, Disallow}
 use Rattle.robots_text.specs.Lines.{lines_of}
 use Rattle.robots_text.specs.Token.{is_token_octet, lower_case}
+use Rattle.robots_text.specs.Octets.{colon, number_sign, space, star, tab}
 
 -- whom a user-agent line names: everybody, one token, or nobody
 pub data Named : Type 0 where
@@ -31,7 +32,7 @@ pub record Numbered : Type 0 where
 
 -- a space or a tab
 abbrev pub is_blank : ℕ → Bool
-is_blank octet = octet == 32 || octet == 9
+is_blank octet = octet == space || octet == tab
 
 -- the octets without blanks at their start
 abbrev pub without_leading : List ℕ → List ℕ
@@ -51,8 +52,8 @@ trimmed octets = without_trailing (without_leading octets)
 -- the value is `*`, alone or before a blank
 abbrev pub is_everybody : List ℕ → Bool
 is_everybody [] = false
-is_everybody (octet ∷ []) = octet == 42
-is_everybody (octet ∷ next ∷ octets) = octet == 42 && is_blank next
+is_everybody (octet ∷ []) = octet == star
+is_everybody (octet ∷ next ∷ octets) = octet == star && is_blank next
 
 -- the octet is not one of a token
 abbrev pub ends_token : ℕ → Bool
@@ -82,14 +83,15 @@ record_named name value =
 -- the record of a text whose first ":" stands at this place: the name before it and the value behind it
 abbrev pub record_at : Option ℕ → List ℕ → Record
 record_at None text = other
-record_at (Some colon) text = record_named (trimmed (take colon text)) (trimmed (drop (colon + 1) text))
+record_at (Some place) text = record_named (trimmed (take place text)) (trimmed (drop (place + 1) text))
 
--- the octet is ":", and "#"
+-- the octet ends a name
 abbrev pub is_colon : ℕ → Bool
-is_colon octet = octet == 58
+is_colon octet = octet == colon
 
-abbrev pub is_hash : ℕ → Bool
-is_hash octet = octet == 35
+-- the octet begins a comment
+abbrev pub is_number_sign : ℕ → Bool
+is_number_sign octet = octet == number_sign
 
 -- the record of a text without a comment
 abbrev pub record_in : List ℕ → Record
@@ -97,7 +99,7 @@ record_in text = record_at (position is_colon text) text
 
 -- the record of a line: of its part before the first "#"
 abbrev pub record_of : List ℕ → Record
-record_of line = record_in (before_first is_hash line)
+record_of line = record_in (before_first is_number_sign line)
 
 -- the records of a text, one for each line
 abbrev pub records_of : List ℕ → List Record

@@ -3,10 +3,11 @@
 use Rattle.std.specs.Prelude.{ℕ, Bool, ◌&&◌, ◌||◌, ◌==◌, nat_lt, nat_le, List, map, length, Option, Some, None, if◌then◌else◌}
 use Rattle.std.specs.List.{list_all}
 use Rattle.std.specs.Char.{is_ascii_alphabetic, to_ascii_lowercase}
+use Rattle.robots_text.specs.Octets.{hyphen, underscore}
 
 -- a letter, `-` or `_`
 abbrev pub is_token_octet : ℕ → Bool
-is_token_octet octet = is_ascii_alphabetic octet || octet == 45 || octet == 95
+is_token_octet octet = is_ascii_alphabetic octet || octet == hyphen || octet == underscore
 
 -- the most octets that a product token has
 abbrev pub token_limit : ℕ

@@ -3,7 +3,7 @@
 ghost use Rattle.std.specs.Prelude.{◌≡◌, ◌<◌, length, IfSome};
 ghost use Rattle.std.specs.List.{position, before_first};
 ghost use Rattle.robots_text.specs.Records.{agent_seen, ends_token, is_blank};
-ghost use Rattle.robots_text.specs.Records.{is_colon, is_everybody, is_hash, is_same_name};
+ghost use Rattle.robots_text.specs.Records.{is_colon, is_everybody, is_number_sign, is_same_name};
 ghost use Rattle.robots_text.specs.Records.{kind_seen, named, record_in, record_named, record_of};
 ghost use Rattle.robots_text.specs.Records.{trimmed, without_leading, without_trailing};
 
@@ -53,7 +53,7 @@ pub(crate) fn record_of(line: &[u8]) -> RecordKind<'_>
 }
 
 fn without_comment(line: &[u8]) -> &[u8]
-    ensures { result.now ≡ before_first is_hash line.now }
+    ensures { result.now ≡ before_first is_number_sign line.now }
 {
     match hash_place(line) {
         Some(place) => line.split_at(place).0,
@@ -136,7 +136,7 @@ fn token_end(value: &[u8]) -> Option<usize>
 }
 
 fn hash_place(line: &[u8]) -> Option<usize>
-    ensures place { result ≡ position is_hash line.now }
+    ensures place { result ≡ position is_number_sign line.now }
     ensures within { IfSome result (λ place. place < length line.now) }
 {
     line.iter().position(|octet| *octet == b'#')

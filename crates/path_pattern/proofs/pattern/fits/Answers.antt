@@ -6,14 +6,15 @@ use Rattle.path_pattern.specs.Matches.{Spells}
 use Rattle.path_pattern.specs.Runs.{BeginsNot, IsSplitAtStar}
 use Rattle.path_pattern.proofs.SpellsLemmas.{off_start, on_start, rest_is}
 use Rattle.path_pattern.proofs.pattern.fits.Goals as goal
+use Rattle.path_normal.specs.Octets.{star}
 
-begun : (pattern run after path rest : List ℕ) (anchored result : Bool) → IsSplitAtStar pattern run after → path ≡ run ++ rest → (IsTrue result ↔ Spells (42 ∷ after) anchored rest) → IsTrue result ↔ Spells pattern anchored path
+begun : (pattern run after path rest : List ℕ) (anchored result : Bool) → IsSplitAtStar pattern run after → path ≡ run ++ rest → (IsTrue result ↔ Spells (star ∷ after) anchored rest) → IsTrue result ↔ Spells pattern anchored path
 begun pattern run after path rest anchored result split is tested = (
   λ fits. on_start pattern run after anchored path rest split is (tested.0 fits),
   λ spells.
       let off = off_start pattern run after anchored path split spells in
       let same = rest_is run path off.0 rest off.1 is in
-      tested.1 (subst (Spells (42 ∷ after) anchored) same off.2),
+      tested.1 (subst (Spells (star ∷ after) anchored) same off.2),
 )
 
 not_begun : (pattern run after path : List ℕ) (anchored : Bool) → IsSplitAtStar pattern run after → BeginsNot path run → IsTrue false ↔ Spells pattern anchored path

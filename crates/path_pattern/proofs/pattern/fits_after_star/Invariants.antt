@@ -3,10 +3,11 @@
 use Rattle.std.proofs.Common.{◌↔◌, ◌∷◌, length}
 use Rattle.path_pattern.specs.Matches.{Spells}
 use Rattle.path_pattern.proofs.pattern.fits_after_star.Given as goal
+use Rattle.path_normal.specs.Octets.{star}
 
 abbrev pub invariant-loop-run : goal.invariant-loop-run
 invariant-loop-run l =
-    Spells (42 ∷ l.left) l.anchored l.rest ↔ Spells (42 ∷ l.fn.pattern) l.anchored l.fn.path
+    Spells (star ∷ l.left) l.anchored l.rest ↔ Spells (star ∷ l.fn.pattern) l.anchored l.fn.path
 
 abbrev pub decreases-loop-run : goal.decreases-loop-run
 decreases-loop-run l = length l.left

@@ -5,17 +5,18 @@ use Rattle.std.proofs.lemmas.Bool.{eq-eqb, true≢false}
 use Rattle.std.proofs.lemmas.List.Elements.{All-head, All-tail}
 use Rattle.path_pattern.specs.Runs.{HasNoSecondStar, HasNoStar, IsSplitAtStar}
 use Rattle.path_pattern.proofs.runs.star_of.Goals as goal
+use Rattle.path_normal.specs.Octets.{star}
 
-same_cut : (run after other more : List ℕ) → HasNoStar run → HasNoStar other → run ++ 42 ∷ after ≡ other ++ 42 ∷ more → after ≡ more
+same_cut : (run after other more : List ℕ) → HasNoStar run → HasNoStar other → run ++ star ∷ after ≡ other ++ star ∷ more → after ≡ more
 same_cut [] after [] more plain plain' is = cc
 same_cut [] after (octet ∷ other) more plain plain' is =
-    let star : octet ≡ 42 = cc in
-    absurd (true≢false (sym (eq-eqb octet 42 star) ∙ All-head (λ o. (o == 42) ≡ false) octet other plain'))
+    let same : octet ≡ star = cc in
+    absurd (true≢false (sym (eq-eqb octet star same) ∙ All-head (λ o. (o == star) ≡ false) octet other plain'))
 same_cut (octet ∷ run) after [] more plain plain' is =
-    let star : octet ≡ 42 = cc in
-    absurd (true≢false (sym (eq-eqb octet 42 star) ∙ All-head (λ o. (o == 42) ≡ false) octet run plain))
+    let same : octet ≡ star = cc in
+    absurd (true≢false (sym (eq-eqb octet star same) ∙ All-head (λ o. (o == star) ≡ false) octet run plain))
 same_cut (octet ∷ run) after (first ∷ other) more plain plain' is =
-    same_cut run after other more (All-tail (λ o. (o == 42) ≡ false) octet run plain) (All-tail (λ o. (o == 42) ≡ false) first other plain') cc
+    same_cut run after other more (All-tail (λ o. (o == star) ≡ false) octet run plain) (All-tail (λ o. (o == star) ≡ false) first other plain') cc
 
 one_cut : (pattern run after : List ℕ) → IsSplitAtStar pattern run after → HasNoStar after → HasNoSecondStar pattern
 one_cut pattern run after split plain other more split' =

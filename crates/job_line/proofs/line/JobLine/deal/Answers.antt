@@ -1,6 +1,6 @@
 -- The rule is kept as a seat is dealt.
 -- Used by `JobLine::deal`.
-use Rattle.std.proofs.Common.{◌≡◌, ◌<◌, ◌∙◌, ap, sym, arith}
+use Rattle.std.proofs.Common.{◌∙◌, ap, sym, arith}
 use Rattle.job_line.specs.Covers.{SeatView}
 use Rattle.job_line.proofs.Plays.{splits_deal}
 use Rattle.job_line.proofs.line.JobLine.deal.Goals as goal

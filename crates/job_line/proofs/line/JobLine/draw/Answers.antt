@@ -1,6 +1,6 @@
 -- A draw keeps the rule.
 -- Used by `JobLine::draw`.
-use Rattle.std.proofs.Common.{◌≡◌, ◌<◌, ◌∙◌, ap, sym, arith}
+use Rattle.std.proofs.Common.{◌∙◌, ap, sym, arith}
 use Rattle.job_line.specs.Covers.{SeatView}
 use Rattle.job_line.proofs.Plays.{allows_draw}
 use Rattle.job_line.proofs.line.JobLine.draw.Goals as goal

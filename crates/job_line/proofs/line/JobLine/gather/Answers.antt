@@ -1,6 +1,6 @@
 -- The rule is kept as the seats are taken in, and who has all parts has all lists.
 -- Used by `JobLine::gather`.
-use Rattle.std.proofs.Common.{Vec, Global, ℕ, ◌≡◌, ◌<◌, ◌≤◌, ◌+◌, ◌∙◌, List, [], ◌∷◌, ◌++◌, length, length-append, append_assoc, append-nil, ap, sym, refl, subst, arith, rules}
+use Rattle.std.proofs.Common.{Vec, Global, ℕ, ◌≡◌, ◌∙◌, List, [], ◌∷◌, ◌++◌, length, length-append, append_assoc, append-nil, ap, sym, refl, subst, arith}
 use Rattle.std.specs.Prelude.{All, map}
 use Rattle.std.proofs.lemmas.List.{map-append}
 use Rattle.atomic_table.specs.Seated.{TableId}
@@ -8,7 +8,7 @@ use Rattle.atomic_table.specs.Table.{Me}
 use Rattle.job_line.specs.declared.rule.Hand.{Hand}
 use Rattle.job_line.specs.Rule.{hand_of_both}
 use Rattle.job_line.specs.Covers.{SeatView, lists_of}
-use Rattle.job_line.specs.Seats.{HasTaken, seat_view}
+use Rattle.job_line.specs.Seats.{HasTaken}
 use Rattle.job_line.proofs.Plays.{allows_learn, joins_take_in}
 use Rattle.job_line.proofs.SeatLemmas.{All-middle, covers_all, lists_of-push, takes_itself, takes_more}
 use Rattle.job_line.proofs.line.JobLine.gather.Goals as goal

@@ -1,6 +1,6 @@
 -- The rule holds of a new line, and is kept as seats are dealt.
 -- Used by `JobLine::new`.
-use Rattle.std.proofs.Common.{◌≡◌, ◌<◌, ◌+◌, ◌∙◌, [], ◌∷◌, length, ap, sym, refl, subst, arith, rules}
+use Rattle.std.proofs.Common.{◌∙◌, [], ◌∷◌, ap, sym, refl, subst, arith}
 use Rattle.std.specs.Prelude.{All}
 use Rattle.std.proofs.lemmas.List.Elements.{All-append, All-cons, All-nil}
 use Rattle.job_line.specs.Covers.{IsNew, SeatView, dealt_seat, parts_of}

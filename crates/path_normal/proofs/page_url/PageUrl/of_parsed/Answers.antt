@@ -1,8 +1,8 @@
 -- What has no fault is a page, and has the parts of the URL.
 -- Used by `PageUrl::of_parsed`.
-use Rattle.std.proofs.Common.{◌≡◌, ◌∙◌, ◌+◌, length, sym, ap, subst, IsAscii}
+use Rattle.std.proofs.Common.{◌∙◌, ◌+◌, length, sym, ap, subst, IsAscii}
 use Rattle.path_normal.specs.Normal.{normal_path}
-use Rattle.path_normal.specs.PageUrl.{page_of_parts, IsFaultless, IsPage}
+use Rattle.path_normal.specs.PageUrl.{IsPage}
 use Rattle.path_normal.proofs.PageLemmas.{faultless_page, faultless_splits, Splits}
 use Rattle.path_normal.proofs.page_url.PageUrl.of_parsed.Goals as goal
 

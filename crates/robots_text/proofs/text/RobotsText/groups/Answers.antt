@@ -1,6 +1,6 @@
 -- The records with their groups are no more than the octets, and what they name lies in the text once.
 -- The lemmas of `Bounds` say so.
-use Rattle.std.proofs.Common.{◌≤◌, true, false, All, List, length, map, sym, ap, ◌∙◌, subst, arith}
+use Rattle.std.proofs.Common.{◌≤◌, true, false, All, List, length, sym, ap, ◌∙◌, subst, arith}
 use Rattle.robots_text.specs.Grouped.{Grouped, IsWithin, grouped_from, values_octets}
 use Rattle.robots_text.specs.Lines.{lines_from, text_limit}
 use Rattle.robots_text.proofs.Bounds.{few_grouped, few_lines, small_values, within_text}
