@@ -69,6 +69,7 @@ pub(crate) fn places_of(alloc: Global, rows: &Rows, plain: bool) -> Result<Vec<u
             places.push(place as u32)?;
         }
     }
+    places.shrink_to_fit();
     Ok(places)
 }
 

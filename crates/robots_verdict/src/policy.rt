@@ -49,6 +49,8 @@ impl Policy {
         ensures { IfOk result (λ policy. policy ≡ text) }
     {
         let (mut rows, names) = read(alloc, &text)?;
+        // What is left of growing goes before the lists of places are made.
+        rows.fit();
         rows.sort();
         let places = Places::of(alloc, &rows)?;
         let heads = Heads::of(alloc, names)?;

@@ -75,6 +75,14 @@ impl Rows {
         Ok(())
     }
 
+    /// Gives back the memory that no row needs.
+    pub(crate) fn fit(&mut self)
+        ensures { self.new ≡ self.old }
+    {
+        self.octets.shrink_to_fit();
+        self.rows.shrink_to_fit();
+    }
+
     /// Puts the strongest first. It takes no memory.
     pub(crate) fn sort(&mut self)
         ensures permutation { IsPermutation self.old.rows self.new.rows }
