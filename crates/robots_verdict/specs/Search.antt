@@ -1,6 +1,6 @@
 -- How rows are found by their texts: two lists of places, and for each plain row the one that begins it.
 -- Cited by the contracts of `Places`.
-use Rattle.std.specs.Prelude.{◌≡◌, ℕ, ◌+◌, ◌<◌, ◌≤◌, Bool, true, false, not, ◌&&◌, ◌==◌, nat_lt, ◌↔◌, Contains, List, [], ◌∷◌, length, map, Option, Some, None, slice_index, slice_index_or, if◌then◌else◌}
+use Rattle.std.specs.Prelude.{◌≡◌, ℕ, zero, suc, ◌+◌, ◌*◌, ◌<◌, ◌≤◌, Bool, true, false, not, ◌&&◌, ◌==◌, nat_lt, ◌↔◌, Contains, List, [], ◌∷◌, length, map, Option, Some, None, slice_index, slice_index_or, if◌then◌else◌}
 use Rattle.std.specs.List.{list_all}
 use Rattle.std.specs.List.Sorted.{IsSortedBy}
 use Rattle.std.specs.declared.cmp.Ordering.{Ordering}
@@ -24,6 +24,12 @@ abbrev pub common : List ℕ → List ℕ → ℕ
 common [] other = 0
 common (octet ∷ one) [] = 0
 common (octet ∷ one) (first ∷ other) = if octet == first then common one other + 1 else 0
+
+-- the number that the next octets of a text, so many, spell behind those that spell this one
+abbrev pub spell : ℕ → ℕ → List ℕ → ℕ
+spell zero so_far text = so_far
+spell (suc count) so_far [] = so_far
+spell (suc count) so_far (octet ∷ text) = spell count (so_far * 256 + octet) text
 
 -- the pattern matches just what it begins: it has no sign, and is not empty
 abbrev pub is_plain : List ℕ → Bool

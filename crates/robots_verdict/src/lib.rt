@@ -13,6 +13,7 @@ mod row;
 mod rows;
 mod rules;
 mod search;
+mod texts;
 mod walk;
 mod weight;
 

@@ -13,6 +13,7 @@ ghost use Rattle.robots_verdict.specs.Rows.{is_row_above, row_at};
 ghost use Rattle.robots_verdict.specs.Search.{AreParents, ArePlaces, common, compare_plain, groups_at, is_plain, IsCut, IsLast, IsPlainHit, IsPlainIndex, key_at};
 
 use crate::rows::Rows;
+use crate::texts::compare_texts;
 use std::alloc::{AllocError, Global};
 use std::cmp::Ordering;
 
@@ -208,7 +209,7 @@ fn compare_key(rows: &Rows, of: u32, place: u32, group: u32, text: &[u8]) -> Ord
     ensures { result ≡ slice_cmp nat_cmp (of ∷ (row_at rows.now.rows place).form) (group ∷ text.now) }
 {
     match of.cmp(&group) {
-        Ordering::Equal => rows.form(place as usize).cmp(text),
+        Ordering::Equal => compare_texts(rows.form(place as usize), text),
         unequal => unequal,
     }
 }
