@@ -1,8 +1,7 @@
 -- One place more, whose row is plain or is not, and the groups beside places.
 -- Used by `places_of`, and by the searches of both lists.
-use Rattle.std.proofs.Common.{◌≡◌, ℕ, ◌+◌, ◌<◌, Bool, true, false, inl, inr, List, [], ◌∷◌, ◌++◌, Contains, length, refl, sym, ap, ◌∙◌, subst, arith, length-append}
-use Rattle.std.proofs.lemmas.Bool.{cases_lt, true≢false}
-use Rattle.std.proofs.Math.Bool.{beq}
+use Rattle.std.proofs.Common.{◌≡◌, ℕ, ◌+◌, ◌<◌, Bool, inl, inr, List, [], ◌∷◌, ◌++◌, Contains, length, ap, ◌∙◌, subst, arith, length-append}
+use Rattle.std.proofs.lemmas.Bool.{cases_lt}
 use Rattle.std.specs.Prelude.{◌↔◌, slice_index}
 use Rattle.std.specs.List.Sorted.{IsPermutation}
 use Rattle.std.proofs.lemmas.List.{get_or-map, length-map}
@@ -52,19 +51,6 @@ passed rows plain places count known other = record {
     ],
   );
 }
-
-pub same_test : (one other : Bool) → beq one other ≡ true → one ≡ other
-same_test true true is = refl
-same_test true false is = absurd (true≢false (sym is))
-same_test false true is = absurd (true≢false (sym is))
-same_test false false is = refl
-
-pub other_test : (one other : Bool) → beq one other ≡ false → one ≡ other → ⊥
-other_test one other is same = true≢false (sym (itself one) ∙ ap (beq one) same ∙ is)
-  where
-    itself : (b : Bool) → beq b b ≡ true
-    itself true = refl
-    itself false = refl
 
 -- put in another order they are the same places
 pub still_places : (rows : List Placed) (plain : Bool) (places ordered : List ℕ) (count : ℕ) → ArePlaces rows plain places count → IsPermutation places ordered →

@@ -1,9 +1,9 @@
 -- The plain rows that match a path are those that begin it, and the last of them by text is the strongest.
 -- Used by `Plain`.
-use Rattle.std.proofs.Common.{◌≡◌, ◌≢◌, ℕ, ◌+◌, ◌-◌, ◌<◌, ◌≤◌, Bool, true, false, not, inl, inr, List, [], ◌∷◌, ◌++◌, length, take, get_or, Contains, refl, sym, ap, ◌∙◌, subst, arith, eqb-true}
+use Rattle.std.proofs.Common.{◌≡◌, ◌≢◌, ℕ, ◌+◌, ◌-◌, ◌<◌, ◌≤◌, Bool, true, false, not, inl, inr, List, [], ◌∷◌, ◌++◌, length, take, Contains, refl, sym, ap, ◌∙◌, subst, arith, eqb-true}
 use Rattle.std.specs.Prelude.{◌==◌, ◌&&◌, ◌↔◌, nat_lt, slice_index, Some, None}
 use Rattle.std.specs.List.{list_all}
-use Rattle.std.specs.List.Sorted.{IsPartitionedBy, IsPartitionPoint, IsSortedBy}
+use Rattle.std.specs.List.Sorted.{IsSortedBy}
 use Rattle.std.specs.declared.cmp.Ordering.{Ordering}
 use Rattle.std.specs.Ordering.{is_gt, is_lt, nat_cmp, ordering_then}
 use Rattle.std.specs.Cmp.Lexicographic.{slice_cmp}
@@ -19,10 +19,10 @@ use Rattle.path_pattern.proofs.SpellsLemmas.{off_last, on_last}
 use Rattle.robots_verdict.specs.Index.{FindsLeast}
 use Rattle.robots_verdict.specs.Placed.{Placed}
 use Rattle.robots_verdict.specs.Rows.{is_row_above, row_at, no_row, weight_at}
-use Rattle.robots_verdict.specs.Search.{begins, compare_plain, is_plain, IsCut, IsLast, IsPlainHit, key, key_at}
+use Rattle.robots_verdict.specs.Search.{begins, is_plain, IsCut, IsLast, IsPlainHit, key, key_at}
 use Rattle.robots_verdict.proofs.Begins.{begins_below, begins_between, begins_shorter, begins_whole, on_both}
-use Rattle.robots_verdict.proofs.Chains.{far, first_text, keys_rise, plain_total, Rise}
-use Rattle.robots_verdict.proofs.HeadLemmas.{below_not, true_not, not_true, turned}
+use Rattle.robots_verdict.proofs.Chains.{far, keys_rise, Rise}
+use Rattle.robots_verdict.proofs.HeadLemmas.{below_not, true_not, turned}
 use Rattle.robots_verdict.proofs.Weighing.{falling_total, last_level, level}
 
 abbrev words : List ℕ → List ℕ → Ordering

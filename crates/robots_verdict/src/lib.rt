@@ -7,6 +7,7 @@ mod decision;
 mod heads;
 pub mod laws;
 mod others;
+mod places;
 mod plain;
 mod policy;
 mod row;

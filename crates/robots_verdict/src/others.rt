@@ -2,11 +2,10 @@
 //! RFC 9309, section 2.2.2.
 ghost use Rattle.std.specs.Prelude.{◌≡◌, ◌⊎◌, ◌<◌, ◌≤◌, false, IfOk, IsTrue, ◌↔◌, length};
 ghost use Rattle.std.specs.List.Sorted.{IsNonDecreasing};
-ghost use Rattle.robots_text.specs.Lines.{text_limit};
 ghost use Rattle.robots_verdict.specs.Index.{FindsLeast};
-ghost use Rattle.robots_verdict.specs.Search.{compare_others, IsAbove, IsFound, IsGroupCut, IsOtherHit, IsOtherIndex};
+ghost use Rattle.robots_verdict.specs.Search.{ArePlaces, compare_others, IsAbove, IsFound, IsGroupCut, IsOtherHit, IsOtherIndex};
 
-use crate::plain::{groups_at, places_of};
+use crate::places::groups_at;
 use crate::rows::Rows;
 use path_pattern::matches;
 use std::alloc::{AllocError, Global};
@@ -21,12 +20,11 @@ pub(crate) struct Others {
 }
 
 impl Others {
-    /// The others of the rows.
-    pub(crate) fn of(alloc: Global, rows: &Rows) -> Result<Others, AllocError>
-        requires { length rows.now.rows ≤ text_limit }
+    /// The index of the rows' other places.
+    pub(crate) fn of(alloc: Global, rows: &Rows, mut places: Vec<u32>) -> Result<Others, AllocError>
+        requires { ArePlaces rows.now.rows false places.items (length rows.now.rows) }
         ensures { IfOk result (λ others. IsOtherIndex rows.now.rows others.places.items others.groups.items) }
     {
-        let mut places = places_of(alloc, rows, false)?;
         places.sort_unstable_by(|one, other| compare_others(rows, *one, *other));
         let groups = groups_at(alloc, rows, places.as_slice())?;
         Ok(Others { places, groups })

@@ -12,6 +12,7 @@ ghost use Rattle.robots_verdict.specs.Index.{FindsLeast};
 ghost use Rattle.robots_verdict.specs.Rows.{is_row_above, row_at};
 ghost use Rattle.robots_verdict.specs.Search.{AreParents, ArePlaces, common, compare_plain, groups_at, is_plain, IsCut, IsLast, IsPlainHit, IsPlainIndex, key_at};
 
+use crate::places::groups_at;
 use crate::rows::Rows;
 use crate::texts::compare_texts;
 use std::alloc::{AllocError, Global};
@@ -28,13 +29,13 @@ pub(crate) struct Plain {
 }
 
 impl Plain {
-    /// The plain ones of the rows.
-    pub(crate) fn of(alloc: Global, rows: &Rows) -> Result<Plain, AllocError>
-        requires { length rows.now.rows ≤ text_limit }
+    /// The index of the rows' plain places.
+    pub(crate) fn of(alloc: Global, rows: &Rows, mut places: Vec<u32>) -> Result<Plain, AllocError>
+        requires few { length rows.now.rows ≤ text_limit }
+        requires plain { ArePlaces rows.now.rows true places.items (length rows.now.rows) }
         ensures { IfOk result (λ plain.
             IsPlainIndex rows.now.rows plain.places.items plain.groups.items plain.parents.items) }
     {
-        let mut places = places_of(alloc, rows, true)?;
         places.sort_unstable_by(|one, other| compare_plain(rows, *one, *other));
         let groups = groups_at(alloc, rows, places.as_slice())?;
         let parents = parents_of(alloc, rows, places.as_slice())?;
@@ -48,8 +49,7 @@ impl Plain {
     /// The place of the strongest plain row of the group that begins the path.
     pub(crate) fn least(&self, rows: &Rows, group: u32, path: &[u8]) -> Option<usize>
         requires falling { IsSortedBy is_row_above rows.now.rows }
-        requires index {
-            IsPlainIndex rows.now.rows self.now.places.items self.now.groups.items self.now.parents.items }
+        requires index { IsPlainIndex rows.now.rows self.now.places.items self.now.groups.items self.now.parents.items }
         ensures { FindsLeast (IsPlainHit rows.now.rows group path.now) result }
     {
         let places = self.places.as_slice();
@@ -57,32 +57,6 @@ impl Plain {
         let last = last_begun(rows, places, self.parents.as_slice(), count, group, path)?;
         Some(self.places[last as usize] as usize)
     }
-}
-
-/// The places of the rows that are plain, or of those that are not.
-pub(crate) fn places_of(alloc: Global, rows: &Rows, plain: bool) -> Result<Vec<u32>, AllocError>
-    requires { length rows.now.rows ≤ text_limit }
-    ensures { IfOk result (λ places. ArePlaces rows.now.rows plain places.items (length rows.now.rows)) }
-{
-    let mut places = Vec::new(alloc);
-    for place in 0..rows.len() {
-        if is_plain(rows.form(place)) == plain {
-            places.push(place as u32)?;
-        }
-    }
-    places.shrink_to_fit();
-    Ok(places)
-}
-
-/// The groups of the rows at these places.
-pub(crate) fn groups_at(alloc: Global, rows: &Rows, places: &[u32]) -> Result<Vec<u32>, AllocError>
-    ensures { IfOk result (λ groups. groups.items ≡ groups_at rows.now.rows places.now) }
-{
-    let mut groups = Vec::with_capacity(alloc, places.len())?;
-    for place in places {
-        groups.push(rows.group(*place as usize))?;
-    }
-    Ok(groups)
 }
 
 fn parents_of(alloc: Global, rows: &Rows, places: &[u32]) -> Result<Vec<Option<u32>>, AllocError>
@@ -212,22 +186,4 @@ fn compare_key(rows: &Rows, of: u32, place: u32, group: u32, text: &[u8]) -> Ord
         Ordering::Equal => compare_texts(rows.form(place as usize), text),
         unequal => unequal,
     }
-}
-
-fn is_plain(form: &[u8]) -> bool
-    ensures { result ≡ is_plain form.now }
-{
-    !form.is_empty() && !is_anchored(form) && has_no_star(form)
-}
-
-fn is_anchored(form: &[u8]) -> bool
-    ensures { result ≡ is_anchored form.now }
-{
-    matches!(form, [.., b'$'])
-}
-
-fn has_no_star(form: &[u8]) -> bool
-    ensures { result ≡ list_all (λ octet. not (octet == 42)) form.now }
-{
-    form.iter().all(|octet| *octet != b'*')
 }

@@ -8,6 +8,7 @@ ghost use Rattle.robots_verdict.specs.Rows.{is_row_above};
 ghost use Rattle.robots_verdict.specs.Search.{IsFound, IsHitIn, IsSearchable};
 
 use crate::others::Others;
+use crate::places::places_of;
 use crate::plain::Plain;
 use crate::rows::Rows;
 use std::alloc::{AllocError, Global};
@@ -25,8 +26,9 @@ impl Places {
         requires { length rows.now.rows ≤ text_limit }
         ensures { IfOk result (λ places. IsSearchable rows.now.rows places) }
     {
-        let plain = Plain::of(alloc, rows)?;
-        let others = Others::of(alloc, rows)?;
+        let (plain, others) = places_of(alloc, rows)?;
+        let plain = Plain::of(alloc, rows, plain)?;
+        let others = Others::of(alloc, rows, others)?;
         Ok(Places { plain, others })
     }
 

@@ -1,6 +1,6 @@
 -- The numbers tell the order where they differ, and else what is behind them does.
 -- The lemmas of `Spelling` say so.
-use Rattle.std.proofs.Common.{◌≡◌, ◌-◌, List, ℕ, length, take, drop, sym, ap, ◌∙◌, subst}
+use Rattle.std.proofs.Common.{◌≡◌, drop, sym, ap, ◌∙◌, subst}
 use Rattle.std.specs.declared.cmp.Ordering.{Ordering}
 use Rattle.std.specs.Ordering.{nat_cmp, ordering_then}
 use Rattle.std.specs.Cmp.Lexicographic.{slice_cmp}
@@ -26,8 +26,8 @@ loop-left-preserved c =
     let rest = slice_cmp nat_cmp (drop 8 left) (drop 8 right) in
     let is : order ≡ nat_cmp (spell 8 0 left) (spell 8 0 right) = c.cmp-order.ensures ∙ (λ i. nat_cmp (c.front.ensures i) (c.front-in-loop-left.ensures i)) in (
       (λ i. slice_cmp nat_cmp (rest_of 8 left i) (rest_of 8 right i))
-      ∙ sym (equal_first order rest (sym c.is_ne.ensures ∙ c.if-is_ne.false)) ∙ ap (λ (o : Ordering). ordering_then o rest) is
-      ∙ sym (by_numbers 8 0 left right c.loop-left-test.true c.if-right-ge8.true c.loop-left.invariant.1 c.loop-left.invariant.2) ∙ c.loop-left.invariant.0,
+          ∙ sym (equal_first order rest (sym c.is_ne.ensures ∙ c.if-is_ne.false)) ∙ ap (λ (o : Ordering). ordering_then o rest) is
+          ∙ sym (by_numbers 8 0 left right c.loop-left-test.true c.if-right-ge8.true c.loop-left.invariant.1 c.loop-left.invariant.2) ∙ c.loop-left.invariant.0,
       subst AreOctets (sym (rest_of 8 left)) (rest_octets 8 left c.loop-left.invariant.1),
       subst AreOctets (sym (rest_of 8 right)) (rest_octets 8 right c.loop-left.invariant.2),
     )

@@ -20,12 +20,12 @@ parents_of-requires-clause-rise c =
 pub returns : goal.returns
 returns c =
     let rows = c.args.rows.now.rows in
-    let places = c.in_ok-places.places.items in
+    let places = c.args.places.items in
     let ordered = c.sort_unstable_by.new.self.items in
     let value = c.as_slice-2.ensures.value in
     record {
-      few = omega (arith, c.sort_unstable_by.ensures.len, c.in_ok-places.ensures.few, c.requires);
-      are = still_places rows true places ordered (length rows) c.in_ok-places.ensures c.sort_unstable_by.ensures.permutation;
+      few = omega (arith, c.sort_unstable_by.ensures.len, c.requires.plain.few, c.requires.few);
+      are = still_places rows true places ordered (length rows) c.requires.plain c.sort_unstable_by.ensures.permutation;
       rise = c.sort_unstable_by.ensures.sorted (λ one other. is_lt (compare_plain rows one other)) (ranks_by (plain_total rows) (λ (n : ℕ). n))
           (always_returns_same _ _ _ (λ a r f k. search (rules, of_calls)));
       groups_are = c.in_ok-groups.ensures ∙ ap (groups_at rows) c.as_slice.ensures.value;
