@@ -1,4 +1,4 @@
-//! The order of texts, eight octets at a time.
+//! The order of texts, their first octets eight at a time.
 //! Used by `Plain`: patterns of a robots text often begin alike, and eight are compared as fast as one.
 ghost use Rattle.std.specs.Prelude.{◌≡◌, ◌≤◌, length};
 ghost use Rattle.std.specs.Ordering.{nat_cmp};
@@ -13,7 +13,11 @@ pub(crate) fn compare_texts(one: &[u8], other: &[u8]) -> Ordering
 {
     let mut left = one;
     let mut right = other;
-    while left.len() >= 8 && right.len() >= 8 {
+    // What is alike for longer, std passes faster, by larger steps.
+    for _ in 0..4 {
+        if left.len() < 8 || right.len() < 8 {
+            break;
+        }
         let order = front(left).cmp(&front(right));
         if order.is_ne() {
             return order;
