@@ -1,11 +1,13 @@
 //! What is true of verdicts, and other readings of them to compare the one of `Policy` with.
 //! RFC 9309, section 2.2.2.
-ghost use Rattle.std.specs.Prelude.{◌≡◌, ℕ, List, IfOk};
+ghost use Rattle.std.specs.Prelude.{◌≡◌, ◌↔◌, ℕ, List, IfOk, IsTrue};
 ghost use Rattle.robots_text.specs.Records.{Numbered, numbered_records};
 ghost use Rattle.robots_verdict.specs.declared.decision.Verdict.{Verdict as VerdictValue};
+ghost use Rattle.robots_verdict.specs.Answer.{said};
 ghost use Rattle.robots_verdict.specs.Strongest.{IsBest, stronger};
 ghost use Rattle.robots_verdict.specs.Verdict.{IsVerdict};
 
+use crate::answer::Answer;
 use crate::decision::{Allowed, Verdict, is_robots_path, verdict_of};
 use crate::policy::Policy;
 use crate::weight::Weight;
@@ -18,6 +20,13 @@ pub fn one_verdict()
     ensures { (lines : List Numbered) (word path : List ℕ) (one other : VerdictValue)
         → IsVerdict lines word path one → IsVerdict lines word path other → one ≡ other }
 {}
+
+/// Whether two answers are equal, which they are just where they say the same.
+pub fn are_equal(one: &Answer, other: &Answer) -> bool
+    ensures { IsTrue result ↔ (said one.now ≡ said other.now) }
+{
+    one == other
+}
 
 /// The verdict by the first row that matches of the groups for the token, in the order in which rows rank.
 /// It takes no memory.

@@ -1,7 +1,7 @@
 //! Which lines decide, by each reading of verdicts.
 //! RFC 9309, sections 2.2.1, 2.2.2 and 5.1.
 use super::*;
-use crate::laws::{verdict_plain, verdict_sorted};
+use crate::laws::{are_equal, verdict_plain, verdict_sorted};
 use path_normal::normal_path;
 use robots_text::{RobotsText, Token};
 use std::test::Fail;
@@ -211,7 +211,7 @@ fn answers_give_twins(rt: HostRuntime) -> Result<(), Fail> {
     let twin = answer.twin();
     assert_eq!(rt; answer.spares(), 1, "behind a twin");
     assert_eq!(rt; twin.spares(), 0, "of the twin");
-    assert!(rt; twin == answer, "the twin says the same");
+    assert!(rt; are_equal(&twin, &answer), "the twin says the same");
     let last = answer.twin();
     assert!(rt; last == twin && answer.spares() == 0, "behind two twins");
     assert!(rt;
