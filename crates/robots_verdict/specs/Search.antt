@@ -43,6 +43,10 @@ key rows place = (row_at rows place).group ∷ (row_at rows place).form
 abbrev pub compare_plain : List Placed → ℕ → ℕ → Ordering
 compare_plain rows one other = ordering_then (slice_cmp nat_cmp (key rows one) (key rows other)) (nat_cmp other one)
 
+-- the places are in the order of plain places
+abbrev pub IsPlainOrder : List Placed → List ℕ → Type 0
+IsPlainOrder rows places = IsSortedBy (λ one other. is_lt (compare_plain rows one other)) places
+
 -- the order of the other places: by groups, and the stronger first
 abbrev pub compare_others : List Placed → ℕ → ℕ → Ordering
 compare_others rows one other = ordering_then (nat_cmp (row_at rows one).group (row_at rows other).group) (nat_cmp one other)
@@ -81,7 +85,7 @@ groups_at rows places = map (λ place. (row_at rows place).group) places
 pub record IsPlainIndex (rows : List Placed) (places groups : List ℕ) (parents : List (Option ℕ)) : Type 0 where
   pub few : length places ≤ text_limit
   pub are : (place : ℕ) → Contains places place ↔ ((place < length rows) × (is_plain (row_at rows place).form ≡ true))
-  pub rise : IsSortedBy (λ one other. is_lt (compare_plain rows one other)) places
+  pub rise : IsPlainOrder rows places
   pub groups_are : groups ≡ groups_at rows places
   pub known : length parents ≡ length places
   pub parents_are : AreParents rows places parents (length places)

@@ -28,8 +28,8 @@ pub fn are_equal(one: &Answer, other: &Answer) -> bool
     one == other
 }
 
-/// The verdict by the first row that matches of the groups for the token, in the order in which rows rank.
-/// It takes no memory.
+/// The verdict by the first row that matches of the groups for the token, in the order in which
+/// rows rank. It takes no memory.
 pub fn verdict_sorted(policy: &Policy, token: &Token, path: &[u8]) -> Verdict
     ensures { IsVerdict (numbered_records policy.now) token.now path.now result }
 {
@@ -43,7 +43,8 @@ pub fn verdict_plain(
     token: &Token,
     path: &[u8],
 ) -> Result<Verdict, AllocError>
-    ensures { IfOk result (λ verdict. IsVerdict (numbered_records text.now) token.now path.now verdict) }
+    ensures { IfOk result (λ verdict.
+        IsVerdict (numbered_records text.now) token.now path.now verdict) }
 {
     if is_robots_path(path) {
         return Ok(Verdict::Allow(Allowed::RobotsPath));

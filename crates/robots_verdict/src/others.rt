@@ -11,7 +11,8 @@ use path_pattern::matches;
 use std::alloc::{AllocError, Global};
 use std::cmp::Ordering;
 
-/// The places of the rows that are not plain, in the order of their groups, of each the strongest first.
+/// The places of the rows that are not plain, in the order of their groups, of each group the
+/// strongest first.
 #[derive(Debug, Drop)]
 pub(crate) struct Others {
     places: Vec<u32>,
@@ -23,15 +24,16 @@ impl Others {
     /// The index of the rows' other places.
     pub(crate) fn of(alloc: Global, rows: &Rows, mut places: Vec<u32>) -> Result<Others, AllocError>
         requires { ArePlaces rows.now.rows false places.items (length rows.now.rows) }
-        ensures { IfOk result (λ others. IsOtherIndex rows.now.rows others.places.items others.groups.items) }
+        ensures { IfOk result (λ others.
+            IsOtherIndex rows.now.rows others.places.items others.groups.items) }
     {
         places.sort_unstable_by(|one, other| compare_others(rows, *one, *other));
         let groups = groups_at(alloc, rows, places.as_slice())?;
         Ok(Others { places, groups })
     }
 
-    /// The place of the strongest other row of the group that matches the path, or the place that was
-    /// found so far where that row is stronger.
+    /// The place of the strongest other row of the group that matches the path, or the place that
+    /// was found so far where that row is stronger.
     pub(crate) fn least(
         &self,
         rows: &Rows,

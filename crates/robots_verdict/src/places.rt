@@ -12,8 +12,10 @@ use std::alloc::{AllocError, Global};
 /// The places of the plain rows, and those of the others.
 pub(crate) fn places_of(alloc: Global, rows: &Rows) -> Result<(Vec<u32>, Vec<u32>), AllocError>
     requires { length rows.now.rows ≤ text_limit }
-    ensures plain { IfOk result (λ lists. ArePlaces rows.now.rows true lists.0.items (length rows.now.rows)) }
-    ensures others { IfOk result (λ lists. ArePlaces rows.now.rows false lists.1.items (length rows.now.rows)) }
+    ensures plain { IfOk result (λ lists.
+        ArePlaces rows.now.rows true lists.0.items (length rows.now.rows)) }
+    ensures others { IfOk result (λ lists.
+        ArePlaces rows.now.rows false lists.1.items (length rows.now.rows)) }
 {
     let mut plain = Vec::new(alloc);
     let mut others = Vec::new(alloc);

@@ -1,5 +1,5 @@
-//! The plain rows by their texts: rows of a group whose pattern is free of signs match just the paths
-//! that begin with it.
+//! The plain rows by their texts: a pattern that is free of signs matches just the paths that begin
+//! with it.
 //! RFC 9309, section 2.2.2.
 ghost use Rattle.std.specs.Prelude.{◌≡◌, ◌∷◌, ◌<◌, ◌≤◌, ◌==◌, ℕ, Bool, false, true, not, IfOk, length};
 ghost use Rattle.std.specs.List.{list_all};
@@ -10,7 +10,7 @@ ghost use Rattle.path_normal.specs.Normal.{is_anchored};
 ghost use Rattle.robots_text.specs.Lines.{text_limit};
 ghost use Rattle.robots_verdict.specs.Index.{FindsLeast};
 ghost use Rattle.robots_verdict.specs.Rows.{is_row_above, row_at};
-ghost use Rattle.robots_verdict.specs.Search.{AreParents, ArePlaces, common, compare_plain, groups_at, is_plain, IsCut, IsLast, IsPlainHit, IsPlainIndex, key_at};
+ghost use Rattle.robots_verdict.specs.Search.{AreParents, ArePlaces, common, compare_plain, groups_at, IsCut, IsLast, IsPlainHit, IsPlainIndex, IsPlainOrder, key_at};
 
 use crate::places::groups_at;
 use crate::rows::Rows;
@@ -49,7 +49,8 @@ impl Plain {
     /// The place of the strongest plain row of the group that begins the path.
     pub(crate) fn least(&self, rows: &Rows, group: u32, path: &[u8]) -> Option<usize>
         requires falling { IsSortedBy is_row_above rows.now.rows }
-        requires index { IsPlainIndex rows.now.rows self.now.places.items self.now.groups.items self.now.parents.items }
+        requires index { IsPlainIndex rows.now.rows self.now.places.items self.now.groups.items
+            self.now.parents.items }
         ensures { FindsLeast (IsPlainHit rows.now.rows group path.now) result }
     {
         let places = self.places.as_slice();
@@ -61,9 +62,10 @@ impl Plain {
 
 fn parents_of(alloc: Global, rows: &Rows, places: &[u32]) -> Result<Vec<Option<u32>>, AllocError>
     requires few { length places.now ≤ text_limit }
-    requires rise { IsSortedBy (λ one other. is_lt (compare_plain rows.now.rows one other)) places.now }
+    requires rise { IsPlainOrder rows.now.rows places.now }
     ensures known { IfOk result (λ parents. length parents.items ≡ length places.now) }
-    ensures parents { IfOk result (λ parents. AreParents rows.now.rows places.now parents.items (length places.now)) }
+    ensures parents { IfOk result (λ parents.
+        AreParents rows.now.rows places.now parents.items (length places.now)) }
 {
     let mut parents = Vec::with_capacity(alloc, places.len())?;
     for index in 0..places.len() {
@@ -83,7 +85,7 @@ fn parents_of(alloc: Global, rows: &Rows, places: &[u32]) -> Result<Vec<Option<u
 
 // How many of the keys are not behind a group and a path.
 fn count_to(rows: &Rows, places: &[u32], groups: &[u32], group: u32, path: &[u8]) -> usize
-    requires rise { IsSortedBy (λ one other. is_lt (compare_plain rows.now.rows one other)) places.now }
+    requires rise { IsPlainOrder rows.now.rows places.now }
     requires groups { groups.now ≡ groups_at rows.now.rows places.now }
     ensures { IsCut rows.now.rows places.now (group ∷ path.now) result }
 {
@@ -100,8 +102,8 @@ fn count_to(rows: &Rows, places: &[u32], groups: &[u32], group: u32, path: &[u8]
     low
 }
 
-// The last of the first keys that begins a group and a path, none of them behind these. What begins the
-// path begins the last of them, so the chain of those that begin it has them all.
+// The last of the first keys that begins a group and a path, none of them behind these. What begins
+// the path begins the last of them, so the chain of those that begin it has them all.
 fn last_begun(
     rows: &Rows,
     places: &[u32],
@@ -113,10 +115,11 @@ fn last_begun(
     requires few { length places.now ≤ text_limit }
     requires fits { count ≤ length places.now }
     requires known { count ≤ length parents.now }
-    requires rise { IsSortedBy (λ one other. is_lt (compare_plain rows.now.rows one other)) places.now }
+    requires rise { IsPlainOrder rows.now.rows places.now }
     requires parents { AreParents rows.now.rows places.now parents.now count }
     requires behind { (index : ℕ) → index < count
-        → is_lt (slice_cmp nat_cmp (group ∷ path.now) (key_at rows.now.rows places.now index)) ≡ false }
+        → is_lt (slice_cmp nat_cmp (group ∷ path.now) (key_at rows.now.rows places.now index))
+        ≡ false }
     ensures { IsLast rows.now.rows places.now count (group ∷ path.now) result }
 {
     if count == 0 {
@@ -174,13 +177,15 @@ fn compare_plain(rows: &Rows, one: u32, other: u32) -> Ordering
 
 // Whether the pattern of a place, of this group, is behind a group and a path.
 fn is_behind(rows: &Rows, of: u32, place: u32, group: u32, path: &[u8]) -> bool
-    ensures { result ≡ is_gt (slice_cmp nat_cmp (of ∷ (row_at rows.now.rows place).form) (group ∷ path.now)) }
+    ensures { result ≡ is_gt (slice_cmp nat_cmp (of ∷ (row_at rows.now.rows place).form)
+        (group ∷ path.now)) }
 {
     compare_key(rows, of, place, group, path).is_gt()
 }
 
 fn compare_key(rows: &Rows, of: u32, place: u32, group: u32, text: &[u8]) -> Ordering
-    ensures { result ≡ slice_cmp nat_cmp (of ∷ (row_at rows.now.rows place).form) (group ∷ text.now) }
+    ensures { result ≡ slice_cmp nat_cmp (of ∷ (row_at rows.now.rows place).form)
+        (group ∷ text.now) }
 {
     match of.cmp(&group) {
         Ordering::Equal => compare_texts(rows.form(place as usize), text),

@@ -13,7 +13,8 @@ use crate::plain::Plain;
 use crate::rows::Rows;
 use std::alloc::{AllocError, Global};
 
-/// The places of the rows in two lists. A place is a rank: the smaller one is that of the stronger row.
+/// The places of the rows in two lists. A place is a rank: the smaller one is that of the stronger
+/// row.
 #[derive(Debug, Drop)]
 pub(crate) struct Places {
     plain: Plain,
@@ -49,7 +50,8 @@ impl Places {
     fn first_of(&self, rows: &Rows, group: u32, path: &[u8], found: Option<usize>) -> Option<usize>
         requires falling { IsSortedBy is_row_above rows.now.rows }
         requires searchable { IsSearchable rows.now.rows self.now }
-        ensures { FindsLeast (λ place. IsFound found place ⊎ IsHitIn rows.now.rows group path.now place) result }
+        ensures { FindsLeast (λ place. IsFound found place
+            ⊎ IsHitIn rows.now.rows group path.now place) result }
     {
         let stronger = lesser(found, self.plain.least(rows, group, path));
         self.others.least(rows, group, path, stronger)

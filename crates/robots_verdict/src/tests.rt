@@ -11,11 +11,15 @@ mod speed;
 
 // The example of RFC 9309, section 5.1.
 const EXAMPLE: &str =
-    "User-Agent: *\nDisallow: *.gif$\nDisallow: /example/\nAllow: /publications/\n\nUser-Agent: foobot\nDisallow:/\nAllow:/example/page.html\nAllow:/example/allowed.gif\n\nUser-Agent: barbot\nUser-Agent: bazbot\nDisallow: /example/page.html\n\nUser-Agent: quxbot\n\n";
+    "User-Agent: *\nDisallow: *.gif$\nDisallow: /example/\nAllow: /publications/\n\n\
+    User-Agent: foobot\nDisallow:/\nAllow:/example/page.html\nAllow:/example/allowed.gif\n\n\
+    User-Agent: barbot\nUser-Agent: bazbot\nDisallow: /example/page.html\n\n\
+    User-Agent: quxbot\n\n";
 
 // Two groups of one name, with other records inside them.
 const MERGED: &str =
-    "User-agent: foobot\n\nDisallow: /a\nSitemap: http://a.example/s.xml\nDisallow: /b\nUser-agent: other\nDisallow: /c\nUser-agent: FOOBOT/2.0\nSitemap: /s\nDisallow: /d";
+    "User-agent: foobot\n\nDisallow: /a\nSitemap: http://a.example/s.xml\nDisallow: /b\n\
+    User-agent: other\nDisallow: /c\nUser-agent: FOOBOT/2.0\nSitemap: /s\nDisallow: /d";
 
 // Patterns with escapes.
 const ENCODED: &str =

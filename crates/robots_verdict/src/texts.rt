@@ -1,5 +1,5 @@
 //! The order of texts, their first octets eight at a time.
-//! Used by `Plain`: patterns of a robots text often begin alike, and eight are compared as fast as one.
+//! Used by `Plain`: patterns of a text often begin alike, and eight are compared as fast as one.
 ghost use Rattle.std.specs.Prelude.{◌≡◌, ◌≤◌, length};
 ghost use Rattle.std.specs.Ordering.{nat_cmp};
 ghost use Rattle.std.specs.Cmp.Lexicographic.{slice_cmp};
