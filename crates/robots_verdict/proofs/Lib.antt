@@ -8,6 +8,7 @@ pub mod HeadLemmas
 pub mod Verdicts
 pub mod Readings
 pub mod Begins
+pub mod Spelling
 pub mod Chains
 pub mod Placing
 pub mod PlainHits

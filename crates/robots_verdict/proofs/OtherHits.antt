@@ -2,19 +2,20 @@
 -- Used by `Others`.
 use Rattle.std.proofs.Common.{◌≡◌, ◌≢◌, ◌⊎◌, ℕ, ◌<◌, ◌≤◌, true, false, inl, inr, List, length, get_or, refl, sym, ap, ◌∙◌, subst, arith}
 use Rattle.std.specs.Prelude.{nat_lt, slice_index, Option, Some, None, unwrap_or, is_some}
-use Rattle.std.specs.List.Sorted.{IsPartitionedBy, IsPartitionPoint, IsSortedBy}
+use Rattle.std.specs.List.Sorted.{IsNonDecreasing, IsPartitionedBy, IsPartitionPoint, IsSortedBy}
 use Rattle.std.specs.Ordering.{is_lt}
 use Rattle.std.specs.Cmp.{IsTotalOrder}
 use Rattle.std.proofs.lemmas.Bool.{cases_lt, true≢false}
 use Rattle.std.proofs.lemmas.Bool.Decides.{nat_tests}
 use Rattle.std.proofs.lemmas.Cmp.{nat_cmp_total, on_total, then_total}
-use Rattle.std.proofs.lemmas.List.{get_or_default}
+use Rattle.std.proofs.lemmas.List.{get_or_default, get_or-map, length-map}
 use Rattle.std.proofs.lemmas.List.Sorted.{ranks_by, sorted_far}
 use Rattle.path_pattern.specs.Matches.{Matches}
 use Rattle.robots_verdict.specs.Index.{FindsLeast}
 use Rattle.robots_verdict.specs.Placed.{Placed}
 use Rattle.robots_verdict.specs.Rows.{row_at}
-use Rattle.robots_verdict.specs.Search.{compare_others, IsAbove, IsFound, IsGroupCut, IsOtherHit, IsOtherIndex, IsPassed}
+use Rattle.robots_verdict.specs.Search.{compare_others, groups_at, IsAbove, IsFound, IsGroupCut, IsOtherHit, IsOtherIndex, IsPassed}
+use Rattle.robots_verdict.proofs.Placing.{as_many, group_at}
 use Rattle.robots_verdict.proofs.Weighing.{last_level, level}
 
 pub others_total : (rows : List Placed) → IsTotalOrder (compare_others rows)
@@ -34,6 +35,18 @@ in_order rows places rise i j d order within =
     (sorted_far (λ a b. is_lt (compare_others rows a b)) (ranks_by (others_total rows) (λ (n : ℕ). n)) places rise i j d order within) in
     (levels.0, λ same. last_level other one (levels.1 same))
 
+-- the groups of the places do not fall
+pub groups_rise : (rows : List Placed) (places groups : List ℕ) → RiseByGroup rows places → groups ≡ groups_at rows places → IsNonDecreasing groups
+groups_rise rows places groups rise are = subst IsNonDecreasing (sym are) by
+  where
+    by : IsNonDecreasing (groups_at rows places)
+    by i j d order within =
+        let inside : j < length places = omega (arith, within, length-map places (λ (place : ℕ). (row_at rows place).group)) in
+        let one = get_or-map (λ (place : ℕ). (row_at rows place).group) places i 0 d (omega arith) in
+        let other = get_or-map (λ (place : ℕ). (row_at rows place).group) places j 0 d inside in
+        let levels = in_order rows places rise i j 0 order inside in
+        omega (arith, one, other, levels.0)
+
 below : (group of : ℕ) → nat_lt of group ≡ true → of < group
 below group of is = grind (arith, nat_tests)
 
@@ -43,17 +56,13 @@ not_below group of is = grind (arith, nat_tests)
 is_below : (group of : ℕ) → of < group → nat_lt of group ≡ true
 is_below group of less = grind (arith, nat_tests)
 
--- the places of earlier groups come first
-pub below_falls : (rows : List Placed) (places : List ℕ) (group : ℕ) → RiseByGroup rows places → IsPartitionedBy (λ place. nat_lt (row_at rows place).group group) places
-below_falls rows places group rise i j d order within is =
-    let one = (row_at rows (get_or places i d)).group in
-    let other = (row_at rows (get_or places j d)).group in
-    is_below group one (omega (arith, (in_order rows places rise i j d order within).0, below group other is))
+-- the earlier groups come first
+pub below_falls : (groups : List ℕ) (group : ℕ) → IsNonDecreasing groups → IsPartitionedBy (λ of. nat_lt of group) groups
+below_falls groups group rise i j d order within is = is_below group (get_or groups i d) (omega (arith, rise i j d order within, below group (get_or groups j d) is))
 
-pub group_cut_of : (rows : List Placed) (places : List ℕ) (group count : ℕ) → count ≤ length places →
-    IsPartitionPoint (λ place. nat_lt (row_at rows place).group group ≡ true) (λ place. nat_lt (row_at rows place).group group ≡ false) places count →
-    IsGroupCut rows places group count
-group_cut_of rows places group count fits point = record {
+pub group_cut_of : (groups : List ℕ) (group count : ℕ) → count ≤ length groups →
+    IsPartitionPoint (λ of. nat_lt of group ≡ true) (λ of. nat_lt of group ≡ false) groups count → IsGroupCut groups group count
+group_cut_of groups group count fits point = record {
   fits = fits;
   below = λ k less. below group _ (point.0 k 0 (omega arith) less);
   above = λ k more within. not_below group _ (point.1 k 0 more within);
@@ -62,8 +71,15 @@ group_cut_of rows places group count fits point = record {
 some_is : (one other : ℕ) → Some one ≡ Some other → one ≡ other
 some_is one other same = ap (λ (o : Option ℕ). unwrap_or o one) same
 
-module _ (rows : List Placed) (places : List ℕ) (index : IsOtherIndex rows places) (group : ℕ) (path : List ℕ) (start : ℕ) (cut : IsGroupCut rows places group start)
+module _ (rows : List Placed) (places groups : List ℕ) (index : IsOtherIndex rows places groups) (group : ℕ) (path : List ℕ) (start : ℕ) (cut : IsGroupCut groups group start)
     (found : Option ℕ) where
+  -- the group at an index, and that there is one
+  at_group : (k : ℕ) → k < length places → slice_index groups k ≡ (row_at rows (slice_index places k)).group
+  at_group = group_at rows places groups index.groups_are
+
+  many : length groups ≡ length places
+  many = as_many rows places groups index.groups_are
+
   -- where a hit stands
   record StandsAt (place : ℕ) : Type 0 where
     at : ℕ
@@ -75,14 +91,14 @@ module _ (rows : List Placed) (places : List ℕ) (index : IsOtherIndex rows pla
   hit_index place hit =
       let stands = (index.are place).1 (hit.within, hit.other) in
       let is : slice_index places stands.0 ≡ place = get_or_default places stands.0 0 place stands.1 ∙ stands.2 in
-      record { at = stands.0; from = from stands.0 is; within = stands.1; is = is }
+      record { at = stands.0; from = from stands.0 stands.1 is; within = stands.1; is = is }
     where
-      from : (k : ℕ) → slice_index places k ≡ place → start ≤ k
-      from k is = elim (cases_lt k start) [
+      from : (k : ℕ) → k < length places → slice_index places k ≡ place → start ≤ k
+      from k within is = elim (cases_lt k start) [
         | inr order ↦ order
         | inl less ↦ (
             let same = ap (λ (p : ℕ). (row_at rows p).group) is ∙ hit.in_group in
-            absurd (omega (arith, cut.below k less, same))
+            absurd (omega (arith, cut.below k less, at_group k within, same))
             )
       ]
 
@@ -125,15 +141,15 @@ module _ (rows : List Placed) (places : List ℕ) (index : IsOtherIndex rows pla
           | inr order ↦ (
               let levels = in_order rows places index.rise at stands.at 0 order stands.within in
               let group_is = ap (λ (p : ℕ). (row_at rows p).group) place_is ∙ hit.in_group in
-              let low = cut.above at from inside in
-              let same : (row_at rows (slice_index places at)).group ≡ group = omega (arith, levels.0, group_is, low) in
+              let low = cut.above at from (omega (arith, inside, many)) in
+              let same : (row_at rows (slice_index places at)).group ≡ group = omega (arith, levels.0, group_is, low, at_group at inside) in
               let order' = levels.1 (group_is ∙ sym same) in
               record { within = inside; in_group = same; behind = omega (arith, order', place_is) }
               )
         ]
 
-    pub at_other_group : at < length places → ((row_at rows (slice_index places at)).group ≢ group) → FindsLeast Test found
-    at_other_group inside other = outranked found refl (λ place hit. absurd (other (behind place hit inside).in_group))
+    pub at_other_group : at < length places → (slice_index groups at ≢ group) → FindsLeast Test found
+    at_other_group inside other = outranked found refl (λ place hit. absurd (other (at_group at inside ∙ (behind place hit inside).in_group)))
 
     pub at_weaker : at < length places → IsAbove found (slice_index places at) → FindsLeast Test found
     at_weaker inside above = outranked found refl (λ place hit. by found refl above place hit)
@@ -147,7 +163,7 @@ module _ (rows : List Placed) (places : List ℕ) (index : IsOtherIndex rows pla
         let stands = hit_index place hit in
         absurd (passed stands.at stands.from (omega (arith, stands.within, over)) (subst (IsOtherHit rows group path) (sym stands.is) hit)))
 
-    pub at_hit : at < length places → ((row_at rows (slice_index places at)).group ≡ group) → (IsAbove found (slice_index places at) → ⊥) →
+    pub at_hit : at < length places → (slice_index groups at ≡ group) → (IsAbove found (slice_index places at) → ⊥) →
         Matches (row_at rows (slice_index places at)).form path → FindsLeast Test (Some (slice_index places at))
     at_hit inside same not_above matches = (
       inr hit,
@@ -157,7 +173,7 @@ module _ (rows : List Placed) (places : List ℕ) (index : IsOtherIndex rows pla
         hit : IsOtherHit rows group path (slice_index places at)
         hit =
             let both = (index.are (slice_index places at)).0 (at, inside, get_or_default places at (slice_index places at) 0 inside) in
-            record { within = both.0; other = both.1; in_group = same; matches = matches }
+            record { within = both.0; other = both.1; in_group = sym (at_group at inside) ∙ same; matches = matches }
 
         by : (place : ℕ) → Test place → slice_index places at ≤ place
         by place (inl is) = elim (cases_lt place (slice_index places at)) [

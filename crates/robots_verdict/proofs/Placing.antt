@@ -1,15 +1,24 @@
--- One place more, whose row is plain or is not.
--- Used by `places_of`.
-use Rattle.std.proofs.Common.{◌≡◌, ℕ, ◌+◌, ◌<◌, Bool, true, false, inl, inr, List, [], ◌∷◌, ◌++◌, Contains, refl, sym, ap, ◌∙◌, subst, arith, length-append}
-use Rattle.std.proofs.lemmas.Bool.{cases_lt, true≢false}
-use Rattle.std.proofs.Math.Bool.{beq}
-use Rattle.std.specs.Prelude.{◌↔◌}
+-- One place more, whose row is plain or is not, and the groups beside places.
+-- Used by `places_of`, and by the searches of both lists.
+use Rattle.std.proofs.Common.{◌≡◌, ℕ, ◌+◌, ◌<◌, Bool, inl, inr, List, [], ◌∷◌, ◌++◌, Contains, length, ap, ◌∙◌, subst, arith, length-append}
+use Rattle.std.proofs.lemmas.Bool.{cases_lt}
+use Rattle.std.specs.Prelude.{◌↔◌, slice_index}
 use Rattle.std.specs.List.Sorted.{IsPermutation}
+use Rattle.std.proofs.lemmas.List.{get_or-map, length-map}
 use Rattle.std.proofs.lemmas.List.Elements.{Contains-append_left, Contains-push, Contains-push_cases}
 use Rattle.std.proofs.lemmas.List.Sorted.{Contains-permutation, IsPermutation-sym}
 use Rattle.robots_verdict.specs.Placed.{Placed}
 use Rattle.robots_verdict.specs.Rows.{row_at}
-use Rattle.robots_verdict.specs.Search.{ArePlaces, is_plain}
+use Rattle.robots_verdict.specs.Search.{ArePlaces, groups_at, is_plain}
+
+-- the group at an index is that of the row at its place
+pub group_at : (rows : List Placed) (places groups : List ℕ) → groups ≡ groups_at rows places → (k : ℕ) → k < length places →
+    slice_index groups k ≡ (row_at rows (slice_index places k)).group
+group_at rows places groups are k within =
+    ap (λ (l : List ℕ). slice_index l k) are ∙ get_or-map (λ (place : ℕ). (row_at rows place).group) places k 0 0 within
+
+pub as_many : (rows : List Placed) (places groups : List ℕ) → groups ≡ groups_at rows places → length groups ≡ length places
+as_many rows places groups are = ap length are ∙ length-map places (λ (place : ℕ). (row_at rows place).group)
 
 pub pushed : (rows : List Placed) (plain : Bool) (places : List ℕ) (count : ℕ) → ArePlaces rows plain places count →
     is_plain (row_at rows count).form ≡ plain → ArePlaces rows plain (places ++ count ∷ []) (count + 1)
@@ -42,19 +51,6 @@ passed rows plain places count known other = record {
     ],
   );
 }
-
-pub same_test : (one other : Bool) → beq one other ≡ true → one ≡ other
-same_test true true is = refl
-same_test true false is = absurd (true≢false (sym is))
-same_test false true is = absurd (true≢false (sym is))
-same_test false false is = refl
-
-pub other_test : (one other : Bool) → beq one other ≡ false → one ≡ other → ⊥
-other_test one other is same = true≢false (sym (itself one) ∙ ap (beq one) same ∙ is)
-  where
-    itself : (b : Bool) → beq b b ≡ true
-    itself true = refl
-    itself false = refl
 
 -- put in another order they are the same places
 pub still_places : (rows : List Placed) (plain : Bool) (places ordered : List ℕ) (count : ℕ) → ArePlaces rows plain places count → IsPermutation places ordered →

@@ -1,9 +1,9 @@
 -- The plain rows that match a path are those that begin it, and the last of them by text is the strongest.
 -- Used by `Plain`.
-use Rattle.std.proofs.Common.{◌≡◌, ◌≢◌, ℕ, ◌-◌, ◌<◌, ◌≤◌, Bool, true, false, not, inl, inr, List, [], ◌∷◌, ◌++◌, length, take, get_or, Contains, refl, sym, ap, ◌∙◌, subst, arith, eqb-true}
+use Rattle.std.proofs.Common.{◌≡◌, ◌≢◌, ℕ, ◌+◌, ◌-◌, ◌<◌, ◌≤◌, Bool, true, false, not, inl, inr, List, [], ◌∷◌, ◌++◌, length, take, Contains, refl, sym, ap, ◌∙◌, subst, arith, eqb-true}
 use Rattle.std.specs.Prelude.{◌==◌, ◌&&◌, ◌↔◌, nat_lt, slice_index, Some, None}
 use Rattle.std.specs.List.{list_all}
-use Rattle.std.specs.List.Sorted.{IsPartitionedBy, IsPartitionPoint, IsSortedBy}
+use Rattle.std.specs.List.Sorted.{IsSortedBy}
 use Rattle.std.specs.declared.cmp.Ordering.{Ordering}
 use Rattle.std.specs.Ordering.{is_gt, is_lt, nat_cmp, ordering_then}
 use Rattle.std.specs.Cmp.Lexicographic.{slice_cmp}
@@ -19,10 +19,10 @@ use Rattle.path_pattern.proofs.SpellsLemmas.{off_last, on_last}
 use Rattle.robots_verdict.specs.Index.{FindsLeast}
 use Rattle.robots_verdict.specs.Placed.{Placed}
 use Rattle.robots_verdict.specs.Rows.{is_row_above, row_at, no_row, weight_at}
-use Rattle.robots_verdict.specs.Search.{begins, compare_plain, is_plain, IsCut, IsLast, IsPlainHit, key, key_at}
+use Rattle.robots_verdict.specs.Search.{begins, is_plain, IsCut, IsLast, IsPlainHit, key, key_at}
 use Rattle.robots_verdict.proofs.Begins.{begins_below, begins_between, begins_shorter, begins_whole, on_both}
-use Rattle.robots_verdict.proofs.Chains.{far, first_text, keys_rise, plain_total, Rise}
-use Rattle.robots_verdict.proofs.HeadLemmas.{below_not, true_not, not_true, turned}
+use Rattle.robots_verdict.proofs.Chains.{far, keys_rise, Rise}
+use Rattle.robots_verdict.proofs.HeadLemmas.{below_not, true_not, turned}
 use Rattle.robots_verdict.proofs.Weighing.{falling_total, last_level, level}
 
 abbrev words : List ℕ → List ℕ → Ordering
@@ -85,29 +85,48 @@ plain_matches form path is =
 
 -- ---- the strongest of the plain rows
 
-rise_or : (rows : List Placed) (places : List ℕ) → Rise rows places → (i j d : ℕ) → i ≤ j → j < length places →
-    is_lt (words (key rows (get_or places j d)) (key rows (get_or places i d))) ≡ false
-rise_or rows places rise i j d order within =
-    first_text (words (key rows (get_or places j d)) (key rows (get_or places i d))) _
-    (sorted_far (λ one other. is_lt (compare_plain rows one other)) (ranks_by (plain_total rows) (λ (n : ℕ). n)) places rise i j d order within)
+-- the cut stands between these two
+pub record IsCutWithin (rows : List Placed) (places text : List ℕ) (low high : ℕ) : Type 0 where
+  pub order : low ≤ high
+  pub fits : high ≤ length places
+  pub below : (k : ℕ) → k < low → is_gt (words (key_at rows places k) text) ≡ false
+  pub above : (k : ℕ) → high ≤ k → k < length places → is_gt (words (key_at rows places k) text) ≡ true
 
--- the keys that are not behind a text come first
-pub not_behind_falls : (rows : List Placed) (places text : List ℕ) → Rise rows places → IsPartitionedBy (λ place. not (is_gt (words (key rows place) text))) places
-not_behind_falls rows places text rise i j d order within is =
-    not_true _ (below_not (words (key rows (get_or places i d)) text) (key rows (get_or places i d)) (key rows (get_or places j d)) text refl
-    (rise_or rows places rise i j d order within) (true_not (is_gt (words (key rows (get_or places j d)) text)) is))
-
-not_not : (b : Bool) → not b ≡ false → b ≡ true
-not_not true is = refl
-not_not false is = absurd (true≢false is)
-
-pub cut_of : (rows : List Placed) (places text : List ℕ) (count : ℕ) → count ≤ length places →
-    IsPartitionPoint (λ place. not (is_gt (words (key rows place) text)) ≡ true) (λ place. not (is_gt (words (key rows place) text)) ≡ false) places count → IsCut rows places text count
-cut_of rows places text count fits point = record {
-  fits = fits;
-  below = λ k less. true_not _ (point.0 k 0 (omega arith) less);
-  above = λ k more within. not_not _ (point.1 k 0 more within);
+pub cut_of : (rows : List Placed) (places text : List ℕ) (low high : ℕ) → IsCutWithin rows places text low high → high ≤ low → IsCut rows places text low
+cut_of rows places text low high within met = record {
+  fits = let order = within.order in let fits = within.fits in omega arith;
+  below = within.below;
+  above = λ k more less. let order = within.order in within.above k (omega arith) less;
 }
+
+module _ (rows : List Placed) (places text : List ℕ) (rise : Rise rows places) (low high middle : ℕ) (within : IsCutWithin rows places text low high) (from : low ≤ middle)
+    (to : middle < high) where
+  inside : middle < length places
+  inside = let fits = within.fits in omega arith
+
+  -- where the key in the middle is not behind the text, it stands above
+  pub cut_above : is_gt (words (key_at rows places middle) text) ≡ false → IsCutWithin rows places text (middle + 1) high
+  cut_above is = record {
+    order = omega arith;
+    fits = within.fits;
+    below = λ k less. below_not (words (key_at rows places k) text) (key_at rows places k) (key_at rows places middle) text refl (keys_rise rows places rise k middle (omega arith) inside) is;
+    above = within.above;
+  }
+
+  -- and where it is, below
+  pub cut_below : is_gt (words (key_at rows places middle) text) ≡ true → IsCutWithin rows places text low middle
+  cut_below is = record {
+    order = from;
+    fits = omega (arith, inside);
+    below = within.below;
+    above = λ k more less. by k more less (is_gt (words (key_at rows places k) text)) refl;
+  }
+    where
+      by : (k : ℕ) → middle ≤ k → k < length places → (behind : Bool) → is_gt (words (key_at rows places k) text) ≡ behind → is_gt (words (key_at rows places k) text) ≡ true
+      by k more less true behind = behind
+      by k more less false behind =
+          let low = keys_rise rows places rise middle k more less in
+          absurd (true≢false (sym is ∙ below_not (words (key_at rows places middle) text) (key_at rows places middle) (key_at rows places k) text refl low behind))
 
 module _ (rows : List Placed) (places : List ℕ) (rise : Rise rows places) (group : ℕ) (path : List ℕ) (count : ℕ) (cut : IsCut rows places (group ∷ path) count) where
   pub none_behind : (index : ℕ) → index < count → is_lt (words (group ∷ path) (key_at rows places index)) ≡ false

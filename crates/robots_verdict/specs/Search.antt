@@ -1,6 +1,6 @@
 -- How rows are found by their texts: two lists of places, and for each plain row the one that begins it.
 -- Cited by the contracts of `Places`.
-use Rattle.std.specs.Prelude.{◌≡◌, ℕ, ◌+◌, ◌<◌, ◌≤◌, Bool, true, false, not, ◌&&◌, ◌==◌, nat_lt, ◌↔◌, Contains, List, [], ◌∷◌, length, Option, Some, None, slice_index, slice_index_or, if◌then◌else◌}
+use Rattle.std.specs.Prelude.{◌≡◌, ℕ, zero, suc, ◌+◌, ◌*◌, ◌<◌, ◌≤◌, Bool, true, false, not, ◌&&◌, ◌==◌, nat_lt, ◌↔◌, Contains, List, [], ◌∷◌, length, map, Option, Some, None, slice_index, slice_index_or, if◌then◌else◌}
 use Rattle.std.specs.List.{list_all}
 use Rattle.std.specs.List.Sorted.{IsSortedBy}
 use Rattle.std.specs.declared.cmp.Ordering.{Ordering}
@@ -25,6 +25,12 @@ common [] other = 0
 common (octet ∷ one) [] = 0
 common (octet ∷ one) (first ∷ other) = if octet == first then common one other + 1 else 0
 
+-- the number that the next octets of a text, so many, spell behind those that spell this one
+abbrev pub spell : ℕ → ℕ → List ℕ → ℕ
+spell zero so_far text = so_far
+spell (suc count) so_far [] = so_far
+spell (suc count) so_far (octet ∷ text) = spell count (so_far * 256 + octet) text
+
 -- the pattern matches just what it begins: it has no sign, and is not empty
 abbrev pub is_plain : List ℕ → Bool
 is_plain form = nat_lt 0 (length form) && not (is_anchored form) && list_all (λ octet. not (octet == 42)) form
@@ -36,6 +42,10 @@ key rows place = (row_at rows place).group ∷ (row_at rows place).form
 -- the order of plain places: by keys, and of equal ones the stronger last
 abbrev pub compare_plain : List Placed → ℕ → ℕ → Ordering
 compare_plain rows one other = ordering_then (slice_cmp nat_cmp (key rows one) (key rows other)) (nat_cmp other one)
+
+-- the places are in the order of plain places
+abbrev pub IsPlainOrder : List Placed → List ℕ → Type 0
+IsPlainOrder rows places = IsSortedBy (λ one other. is_lt (compare_plain rows one other)) places
 
 -- the order of the other places: by groups, and the stronger first
 abbrev pub compare_others : List Placed → ℕ → ℕ → Ordering
@@ -67,11 +77,16 @@ pub record ArePlaces (rows : List Placed) (plain : Bool) (places : List ℕ) (co
   pub few : length places ≤ count
   pub are : (place : ℕ) → Contains places place ↔ ((place < count) × (is_plain (row_at rows place).form ≡ plain))
 
--- the plain places in the order of their keys, each with its parent
-pub record IsPlainIndex (rows : List Placed) (places : List ℕ) (parents : List (Option ℕ)) : Type 0 where
+-- the groups of the rows at these places
+abbrev pub groups_at : List Placed → List ℕ → List ℕ
+groups_at rows places = map (λ place. (row_at rows place).group) places
+
+-- the plain places in the order of their keys, each with its group and its parent
+pub record IsPlainIndex (rows : List Placed) (places groups : List ℕ) (parents : List (Option ℕ)) : Type 0 where
   pub few : length places ≤ text_limit
   pub are : (place : ℕ) → Contains places place ↔ ((place < length rows) × (is_plain (row_at rows place).form ≡ true))
-  pub rise : IsSortedBy (λ one other. is_lt (compare_plain rows one other)) places
+  pub rise : IsPlainOrder rows places
+  pub groups_are : groups ≡ groups_at rows places
   pub known : length parents ≡ length places
   pub parents_are : AreParents rows places parents (length places)
 
@@ -82,10 +97,11 @@ pub record IsPlainHit (rows : List Placed) (group : ℕ) (path : List ℕ) (plac
   pub in_group : (row_at rows place).group ≡ group
   pub begun : begins (row_at rows place).form path ≡ true
 
--- the other places in the order of their groups
-pub record IsOtherIndex (rows : List Placed) (places : List ℕ) : Type 0 where
+-- the other places in the order of their groups, each with its group
+pub record IsOtherIndex (rows : List Placed) (places groups : List ℕ) : Type 0 where
   pub are : (place : ℕ) → Contains places place ↔ ((place < length rows) × (is_plain (row_at rows place).form ≡ false))
   pub rise : IsSortedBy (λ one other. is_lt (compare_others rows one other)) places
+  pub groups_are : groups ≡ groups_at rows places
 
 -- the other row at the place is of the group, and matches the path
 pub record IsOtherHit (rows : List Placed) (group : ℕ) (path : List ℕ) (place : ℕ) : Type 0 where
@@ -109,11 +125,11 @@ abbrev pub IsAbove : Option ℕ → ℕ → Type 0
 IsAbove None place = ⊥
 IsAbove (Some found) place = found < place
 
--- the first places, so many, are of groups before this one, and the others are not
-pub record IsGroupCut (rows : List Placed) (places : List ℕ) (group count : ℕ) : Type 0 where
-  pub fits : count ≤ length places
-  pub below : (k : ℕ) → k < count → (row_at rows (slice_index places k)).group < group
-  pub above : (k : ℕ) → count ≤ k → k < length places → group ≤ (row_at rows (slice_index places k)).group
+-- the first groups, so many, are before this one, and the others are not
+pub record IsGroupCut (groups : List ℕ) (group count : ℕ) : Type 0 where
+  pub fits : count ≤ length groups
+  pub below : (k : ℕ) → k < count → slice_index groups k < group
+  pub above : (k : ℕ) → count ≤ k → k < length groups → group ≤ slice_index groups k
 
 -- none of the places from the one index up to the other is that of an other hit
 abbrev pub IsPassed : List Placed → List ℕ → ℕ → List ℕ → ℕ → ℕ → Type 0
@@ -122,5 +138,5 @@ IsPassed rows places group path start index =
 
 -- both lists of places are those of the rows
 pub record IsSearchable (rows : List Placed) (places : Places) : Type 0 where
-  pub plain : IsPlainIndex rows places.plain.places.items places.plain.parents.items
-  pub others : IsOtherIndex rows places.others.places.items
+  pub plain : IsPlainIndex rows places.plain.places.items places.plain.groups.items places.plain.parents.items
+  pub others : IsOtherIndex rows places.others.places.items places.others.groups.items

@@ -93,8 +93,10 @@ impl Names {
 impl Heads {
     /// Puts the names and the groups of everybody in order.
     pub(crate) fn of(alloc: Global, names: Names) -> Result<Heads, AllocError>
-        ensures named { IfOk result (λ heads. IsPermutation (map name_seen names.names.items) heads.named) }
-        ensures everybody { IfOk result (λ heads. IsPermutation names.everybody.items heads.everybody) }
+        ensures named { IfOk result (λ heads.
+            IsPermutation (map name_seen names.names.items) heads.named) }
+        ensures everybody { IfOk result (λ heads.
+            IsPermutation names.everybody.items heads.everybody) }
     {
         let Names {
             mut names,
@@ -110,10 +112,11 @@ impl Heads {
         })
     }
 
-    /// The groups for a token, in lower case: those of its name, or of everybody where none has it. Their
-    /// numbers rise.
+    /// The groups for a token, in lower case: those of its name, or of everybody where none has it.
+    /// Their numbers rise.
     pub(crate) fn groups_for(&self, token: &[u8]) -> &[u32]
-        ensures groups { (group : ℕ) → Contains result.now group ↔ IsGroupFor self.now token.now group }
+        ensures groups { (group : ℕ) → Contains result.now group
+            ↔ IsGroupFor self.now token.now group }
         ensures rise { IsNonDecreasing result.now }
     {
         let low = self.names.partition_point(|name| is_before(name, token));

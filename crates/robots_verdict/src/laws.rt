@@ -1,11 +1,13 @@
 //! What is true of verdicts, and other readings of them to compare the one of `Policy` with.
 //! RFC 9309, section 2.2.2.
-ghost use Rattle.std.specs.Prelude.{◌≡◌, ℕ, List, IfOk};
+ghost use Rattle.std.specs.Prelude.{◌≡◌, ◌↔◌, ℕ, List, IfOk, IsTrue};
 ghost use Rattle.robots_text.specs.Records.{Numbered, numbered_records};
 ghost use Rattle.robots_verdict.specs.declared.decision.Verdict.{Verdict as VerdictValue};
+ghost use Rattle.robots_verdict.specs.Answer.{said};
 ghost use Rattle.robots_verdict.specs.Strongest.{IsBest, stronger};
 ghost use Rattle.robots_verdict.specs.Verdict.{IsVerdict};
 
+use crate::answer::Answer;
 use crate::decision::{Allowed, Verdict, is_robots_path, verdict_of};
 use crate::policy::Policy;
 use crate::weight::Weight;
@@ -19,8 +21,15 @@ pub fn one_verdict()
         → IsVerdict lines word path one → IsVerdict lines word path other → one ≡ other }
 {}
 
-/// The verdict by the first row that matches of the groups for the token, in the order in which rows rank.
-/// It takes no memory.
+/// Whether two answers are equal, which they are just where they say the same.
+pub fn are_equal(one: &Answer, other: &Answer) -> bool
+    ensures { IsTrue result ↔ (said one.now ≡ said other.now) }
+{
+    one == other
+}
+
+/// The verdict by the first row that matches of the groups for the token, in the order in which
+/// rows rank. It takes no memory.
 pub fn verdict_sorted(policy: &Policy, token: &Token, path: &[u8]) -> Verdict
     ensures { IsVerdict (numbered_records policy.now) token.now path.now result }
 {
@@ -34,7 +43,8 @@ pub fn verdict_plain(
     token: &Token,
     path: &[u8],
 ) -> Result<Verdict, AllocError>
-    ensures { IfOk result (λ verdict. IsVerdict (numbered_records text.now) token.now path.now verdict) }
+    ensures { IfOk result (λ verdict.
+        IsVerdict (numbered_records text.now) token.now path.now verdict) }
 {
     if is_robots_path(path) {
         return Ok(Verdict::Allow(Allowed::RobotsPath));

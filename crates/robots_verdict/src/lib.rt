@@ -7,6 +7,7 @@ mod decision;
 mod heads;
 pub mod laws;
 mod others;
+mod places;
 mod plain;
 mod policy;
 mod row;
@@ -14,6 +15,7 @@ mod rows;
 mod rules;
 mod said;
 mod search;
+mod texts;
 mod walk;
 mod weight;
 

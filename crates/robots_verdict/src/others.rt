@@ -1,38 +1,39 @@
 //! The rows whose pattern has a sign or is empty: they are tried one after another.
 //! RFC 9309, section 2.2.2.
 ghost use Rattle.std.specs.Prelude.{◌≡◌, ◌⊎◌, ◌<◌, ◌≤◌, false, IfOk, IsTrue, ◌↔◌, length};
-ghost use Rattle.std.specs.List.Sorted.{IsSortedBy};
-ghost use Rattle.std.specs.Ordering.{is_lt};
-ghost use Rattle.robots_text.specs.Lines.{text_limit};
+ghost use Rattle.std.specs.List.Sorted.{IsNonDecreasing};
 ghost use Rattle.robots_verdict.specs.Index.{FindsLeast};
-ghost use Rattle.robots_verdict.specs.Rows.{row_at};
-ghost use Rattle.robots_verdict.specs.Search.{compare_others, IsAbove, IsFound, IsGroupCut, IsOtherHit, IsOtherIndex};
+ghost use Rattle.robots_verdict.specs.Search.{ArePlaces, compare_others, IsAbove, IsFound, IsGroupCut, IsOtherHit, IsOtherIndex};
 
-use crate::plain::places_of;
+use crate::places::groups_at;
 use crate::rows::Rows;
 use path_pattern::matches;
 use std::alloc::{AllocError, Global};
 use std::cmp::Ordering;
 
-/// The places of the rows that are not plain, in the order of their groups, of each the strongest first.
+/// The places of the rows that are not plain, in the order of their groups, of each group the
+/// strongest first.
 #[derive(Debug, Drop)]
 pub(crate) struct Others {
     places: Vec<u32>,
+    // The groups of the places, index by index: a search looks at many, and seldom at their rows.
+    groups: Vec<u32>,
 }
 
 impl Others {
-    /// The others of the rows.
-    pub(crate) fn of(alloc: Global, rows: &Rows) -> Result<Others, AllocError>
-        requires { length rows.now.rows ≤ text_limit }
-        ensures { IfOk result (λ others. IsOtherIndex rows.now.rows others.places.items) }
+    /// The index of the rows' other places.
+    pub(crate) fn of(alloc: Global, rows: &Rows, mut places: Vec<u32>) -> Result<Others, AllocError>
+        requires { ArePlaces rows.now.rows false places.items (length rows.now.rows) }
+        ensures { IfOk result (λ others.
+            IsOtherIndex rows.now.rows others.places.items others.groups.items) }
     {
-        let mut places = places_of(alloc, rows, false)?;
         places.sort_unstable_by(|one, other| compare_others(rows, *one, *other));
-        Ok(Others { places })
+        let groups = groups_at(alloc, rows, places.as_slice())?;
+        Ok(Others { places, groups })
     }
 
-    /// The place of the strongest other row of the group that matches the path, or the place that was
-    /// found so far where that row is stronger.
+    /// The place of the strongest other row of the group that matches the path, or the place that
+    /// was found so far where that row is stronger.
     pub(crate) fn least(
         &self,
         rows: &Rows,
@@ -40,15 +41,16 @@ impl Others {
         path: &[u8],
         found: Option<usize>,
     ) -> Option<usize>
-        requires { IsOtherIndex rows.now.rows self.now.places.items }
+        requires { IsOtherIndex rows.now.rows self.now.places.items self.now.groups.items }
         ensures { FindsLeast (λ place. IsFound found place
             ⊎ IsOtherHit rows.now.rows group path.now place) result }
     {
         let places = self.places.as_slice();
-        let start = count_below(rows, places, group);
+        let groups = self.groups.as_slice();
+        let start = count_below(groups, group);
         for index in start..places.len() {
             let place = places[index] as usize;
-            if rows.group(place) != group || is_above(found, place) {
+            if groups[index] != group || is_above(found, place) {
                 return found;
             }
             if matches(rows.form(place), path) {
@@ -69,12 +71,12 @@ fn is_above(found: Option<usize>, place: usize) -> bool
     }
 }
 
-// How many of the places are of groups before this one.
-fn count_below(rows: &Rows, places: &[u32], group: u32) -> usize
-    requires { IsSortedBy (λ one other. is_lt (compare_others rows.now.rows one other)) places.now }
-    ensures { IsGroupCut rows.now.rows places.now group result }
+// How many of the groups are before this one.
+fn count_below(groups: &[u32], group: u32) -> usize
+    requires { IsNonDecreasing groups.now }
+    ensures { IsGroupCut groups.now group result }
 {
-    places.partition_point(|place| rows.group(*place as usize) < group)
+    groups.partition_point(|of| *of < group)
 }
 
 fn compare_others(rows: &Rows, one: u32, other: u32) -> Ordering

@@ -1,5 +1,5 @@
-//! The plain rows by their texts: rows of a group whose pattern is free of signs match just the paths
-//! that begin with it.
+//! The plain rows by their texts: a pattern that is free of signs matches just the paths that begin
+//! with it.
 //! RFC 9309, section 2.2.2.
 ghost use Rattle.std.specs.Prelude.{◌≡◌, ◌∷◌, ◌<◌, ◌≤◌, ◌==◌, ℕ, Bool, false, true, not, IfOk, length};
 ghost use Rattle.std.specs.List.{list_all};
@@ -9,10 +9,12 @@ ghost use Rattle.std.specs.Cmp.Lexicographic.{slice_cmp};
 ghost use Rattle.path_normal.specs.Normal.{is_anchored};
 ghost use Rattle.robots_text.specs.Lines.{text_limit};
 ghost use Rattle.robots_verdict.specs.Index.{FindsLeast};
-ghost use Rattle.robots_verdict.specs.Rows.{is_row_above};
-ghost use Rattle.robots_verdict.specs.Search.{AreParents, ArePlaces, common, compare_plain, is_plain, IsCut, IsLast, IsPlainHit, IsPlainIndex, key, key_at};
+ghost use Rattle.robots_verdict.specs.Rows.{is_row_above, row_at};
+ghost use Rattle.robots_verdict.specs.Search.{AreParents, ArePlaces, common, compare_plain, groups_at, IsCut, IsLast, IsPlainHit, IsPlainIndex, IsPlainOrder, key_at};
 
+use crate::places::groups_at;
 use crate::rows::Rows;
+use crate::texts::compare_texts;
 use std::alloc::{AllocError, Global};
 use std::cmp::Ordering;
 
@@ -20,54 +22,50 @@ use std::cmp::Ordering;
 #[derive(Debug, Drop)]
 pub(crate) struct Plain {
     places: Vec<u32>,
+    // The groups of the places, index by index: a search looks at many, and seldom at their rows.
+    groups: Vec<u32>,
     // The index of the longest other that begins it, of the same group.
     parents: Vec<Option<u32>>,
 }
 
 impl Plain {
-    /// The plain ones of the rows.
-    pub(crate) fn of(alloc: Global, rows: &Rows) -> Result<Plain, AllocError>
-        requires { length rows.now.rows ≤ text_limit }
-        ensures { IfOk result (λ plain. IsPlainIndex rows.now.rows plain.places.items plain.parents.items) }
+    /// The index of the rows' plain places.
+    pub(crate) fn of(alloc: Global, rows: &Rows, mut places: Vec<u32>) -> Result<Plain, AllocError>
+        requires few { length rows.now.rows ≤ text_limit }
+        requires plain { ArePlaces rows.now.rows true places.items (length rows.now.rows) }
+        ensures { IfOk result (λ plain.
+            IsPlainIndex rows.now.rows plain.places.items plain.groups.items plain.parents.items) }
     {
-        let mut places = places_of(alloc, rows, true)?;
         places.sort_unstable_by(|one, other| compare_plain(rows, *one, *other));
+        let groups = groups_at(alloc, rows, places.as_slice())?;
         let parents = parents_of(alloc, rows, places.as_slice())?;
-        Ok(Plain { places, parents })
+        Ok(Plain {
+            places,
+            groups,
+            parents,
+        })
     }
 
     /// The place of the strongest plain row of the group that begins the path.
     pub(crate) fn least(&self, rows: &Rows, group: u32, path: &[u8]) -> Option<usize>
         requires falling { IsSortedBy is_row_above rows.now.rows }
-        requires index { IsPlainIndex rows.now.rows self.now.places.items self.now.parents.items }
+        requires index { IsPlainIndex rows.now.rows self.now.places.items self.now.groups.items
+            self.now.parents.items }
         ensures { FindsLeast (IsPlainHit rows.now.rows group path.now) result }
     {
         let places = self.places.as_slice();
-        let count = count_to(rows, places, group, path);
+        let count = count_to(rows, places, self.groups.as_slice(), group, path);
         let last = last_begun(rows, places, self.parents.as_slice(), count, group, path)?;
         Some(self.places[last as usize] as usize)
     }
 }
 
-/// The places of the rows that are plain, or of those that are not.
-pub(crate) fn places_of(alloc: Global, rows: &Rows, plain: bool) -> Result<Vec<u32>, AllocError>
-    requires { length rows.now.rows ≤ text_limit }
-    ensures { IfOk result (λ places. ArePlaces rows.now.rows plain places.items (length rows.now.rows)) }
-{
-    let mut places = Vec::new(alloc);
-    for place in 0..rows.len() {
-        if is_plain(rows.form(place)) == plain {
-            places.push(place as u32)?;
-        }
-    }
-    Ok(places)
-}
-
 fn parents_of(alloc: Global, rows: &Rows, places: &[u32]) -> Result<Vec<Option<u32>>, AllocError>
     requires few { length places.now ≤ text_limit }
-    requires rise { IsSortedBy (λ one other. is_lt (compare_plain rows.now.rows one other)) places.now }
+    requires rise { IsPlainOrder rows.now.rows places.now }
     ensures known { IfOk result (λ parents. length parents.items ≡ length places.now) }
-    ensures parents { IfOk result (λ parents. AreParents rows.now.rows places.now parents.items (length places.now)) }
+    ensures parents { IfOk result (λ parents.
+        AreParents rows.now.rows places.now parents.items (length places.now)) }
 {
     let mut parents = Vec::with_capacity(alloc, places.len())?;
     for index in 0..places.len() {
@@ -86,15 +84,26 @@ fn parents_of(alloc: Global, rows: &Rows, places: &[u32]) -> Result<Vec<Option<u
 }
 
 // How many of the keys are not behind a group and a path.
-fn count_to(rows: &Rows, places: &[u32], group: u32, path: &[u8]) -> usize
-    requires { IsSortedBy (λ one other. is_lt (compare_plain rows.now.rows one other)) places.now }
+fn count_to(rows: &Rows, places: &[u32], groups: &[u32], group: u32, path: &[u8]) -> usize
+    requires rise { IsPlainOrder rows.now.rows places.now }
+    requires groups { groups.now ≡ groups_at rows.now.rows places.now }
     ensures { IsCut rows.now.rows places.now (group ∷ path.now) result }
 {
-    places.partition_point(|place| !is_behind(rows, *place, group, path))
+    let mut low = 0;
+    let mut high = places.len();
+    while low < high {
+        let middle = low + (high - low) / 2;
+        if is_behind(rows, groups[middle], places[middle], group, path) {
+            high = middle;
+        } else {
+            low = middle + 1;
+        }
+    }
+    low
 }
 
-// The last of the first keys that begins a group and a path, none of them behind these. What begins the
-// path begins the last of them, so the chain of those that begin it has them all.
+// The last of the first keys that begins a group and a path, none of them behind these. What begins
+// the path begins the last of them, so the chain of those that begin it has them all.
 fn last_begun(
     rows: &Rows,
     places: &[u32],
@@ -106,10 +115,11 @@ fn last_begun(
     requires few { length places.now ≤ text_limit }
     requires fits { count ≤ length places.now }
     requires known { count ≤ length parents.now }
-    requires rise { IsSortedBy (λ one other. is_lt (compare_plain rows.now.rows one other)) places.now }
+    requires rise { IsPlainOrder rows.now.rows places.now }
     requires parents { AreParents rows.now.rows places.now parents.now count }
     requires behind { (index : ℕ) → index < count
-        → is_lt (slice_cmp nat_cmp (group ∷ path.now) (key_at rows.now.rows places.now index)) ≡ false }
+        → is_lt (slice_cmp nat_cmp (group ∷ path.now) (key_at rows.now.rows places.now index))
+        ≡ false }
     ensures { IsLast rows.now.rows places.now count (group ∷ path.now) result }
 {
     if count == 0 {
@@ -157,6 +167,7 @@ fn compare_plain(rows: &Rows, one: u32, other: u32) -> Ordering
 {
     compare_key(
         rows,
+        rows.group(one as usize),
         one,
         rows.group(other as usize),
         rows.form(other as usize),
@@ -164,36 +175,20 @@ fn compare_plain(rows: &Rows, one: u32, other: u32) -> Ordering
     .then(other.cmp(&one))
 }
 
-fn is_behind(rows: &Rows, place: u32, group: u32, path: &[u8]) -> bool
-    ensures { result ≡ is_gt (slice_cmp nat_cmp (key rows.now.rows place) (group ∷ path.now)) }
+// Whether the pattern of a place, of this group, is behind a group and a path.
+fn is_behind(rows: &Rows, of: u32, place: u32, group: u32, path: &[u8]) -> bool
+    ensures { result ≡ is_gt (slice_cmp nat_cmp (of ∷ (row_at rows.now.rows place).form)
+        (group ∷ path.now)) }
 {
-    compare_key(rows, place, group, path).is_gt()
+    compare_key(rows, of, place, group, path).is_gt()
 }
 
-fn compare_key(rows: &Rows, place: u32, group: u32, text: &[u8]) -> Ordering
-    ensures { result ≡ slice_cmp nat_cmp (key rows.now.rows place) (group ∷ text.now) }
+fn compare_key(rows: &Rows, of: u32, place: u32, group: u32, text: &[u8]) -> Ordering
+    ensures { result ≡ slice_cmp nat_cmp (of ∷ (row_at rows.now.rows place).form)
+        (group ∷ text.now) }
 {
-    let place = place as usize;
-    match rows.group(place).cmp(&group) {
-        Ordering::Equal => rows.form(place).cmp(text),
+    match of.cmp(&group) {
+        Ordering::Equal => compare_texts(rows.form(place as usize), text),
         unequal => unequal,
     }
-}
-
-fn is_plain(form: &[u8]) -> bool
-    ensures { result ≡ is_plain form.now }
-{
-    !form.is_empty() && !is_anchored(form) && has_no_star(form)
-}
-
-fn is_anchored(form: &[u8]) -> bool
-    ensures { result ≡ is_anchored form.now }
-{
-    matches!(form, [.., b'$'])
-}
-
-fn has_no_star(form: &[u8]) -> bool
-    ensures { result ≡ list_all (λ octet. not (octet == 42)) form.now }
-{
-    form.iter().all(|octet| *octet != b'*')
 }

@@ -17,7 +17,8 @@ use robots_text::{GroupedRecord, RecordKind, RobotsText, Token};
 use std::alloc::{AllocError, Global};
 use std::marker::Model;
 
-/// A robots text, its rule lines with the strongest first, where each is found, and the names of its groups.
+/// A robots text, its rule lines with the strongest first, where each is found, and the names of
+/// its groups.
 #[derive(Debug, Drop)]
 pub struct Policy {
     text: RobotsText,
@@ -49,6 +50,8 @@ impl Policy {
         ensures { IfOk result (λ policy. policy ≡ text) }
     {
         let (mut rows, names) = read(alloc, &text)?;
+        // What is left of growing goes before the lists of places are made.
+        rows.fit();
         rows.sort();
         let places = Places::of(alloc, &rows)?;
         let heads = Heads::of(alloc, names)?;
@@ -67,8 +70,8 @@ impl Policy {
         &self.text
     }
 
-    /// Whether a crawler of this token may fetch the path, which is to be in normal form, and by which
-    /// line. It takes no memory.
+    /// Whether a crawler of this token may fetch the path, which is to be in normal form, and by
+    /// which line. It takes no memory.
     pub fn verdict(&self, token: &Token, path: &[u8]) -> Verdict
         ensures { IsVerdict (numbered_records self.now) token.now path.now result }
     {
@@ -96,8 +99,10 @@ impl Policy {
 fn read(alloc: Global, text: &RobotsText) -> Result<(Rows, Names), AllocError>
     ensures rows { IfOk result (λ parts. parts.0.rows ≡ placed_in (grouped_records text.now)) }
     ensures few { IfOk result (λ parts. length parts.0.rows ≤ text_limit) }
-    ensures named { IfOk result (λ parts. map name_seen parts.1.names.items ≡ named_in (grouped_records text.now)) }
-    ensures everybody { IfOk result (λ parts. parts.1.everybody.items ≡ everybody_in (grouped_records text.now)) }
+    ensures named { IfOk result (λ parts. map name_seen parts.1.names.items
+        ≡ named_in (grouped_records text.now)) }
+    ensures everybody { IfOk result (λ parts. parts.1.everybody.items
+        ≡ everybody_in (grouped_records text.now)) }
 {
     let mut rows = Rows::new(alloc);
     let mut names = Names::new(alloc);
@@ -123,7 +128,8 @@ fn take(
     ensures octets { IfOk result (λ _. rows.new.octets
         ≤ rows.old.octets + 3 * value_octets (kind_seen item.entry.kind)) }
     ensures named { IfOk result (λ _. map name_seen names.new.names.items
-        ≡ map name_seen names.old.names.items ++ named_at item.entry.group (kind_seen item.entry.kind)) }
+        ≡ map name_seen names.old.names.items
+        ++ named_at item.entry.group (kind_seen item.entry.kind)) }
     ensures everybody { IfOk result (λ _. names.new.everybody.items
         ≡ names.old.everybody.items ++ everybody_at item.entry.group (kind_seen item.entry.kind)) }
 {

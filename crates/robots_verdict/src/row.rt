@@ -3,7 +3,8 @@
 
 use robots_text::RuleKind;
 
-/// A rule line: where its pattern in normal form lies, its kind, and the numbers of its line and group.
+/// A rule line: where its pattern in normal form lies, its kind, and the numbers of its line and
+/// group.
 #[derive(Clone, Copy, Debug)]
 pub(crate) struct Row {
     pub start: u32,

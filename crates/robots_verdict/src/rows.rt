@@ -59,8 +59,10 @@ impl Rows {
     ) -> Result<(), AllocError>
         requires { self.old.octets + 3 * length pattern.now < 2 ^ 32 }
         ensures row { IfOk result (λ _. self.new.rows ≡ self.old.rows
-            ++ record { group = group; line = line; kind = kind; form = normal_pattern pattern.now } ∷ []) }
-        ensures octets { IfOk result (λ _. self.new.octets ≤ self.old.octets + 3 * length pattern.now) }
+            ++ record { group = group; line = line; kind = kind; form = normal_pattern pattern.now }
+            ∷ []) }
+        ensures octets { IfOk result (λ _. self.new.octets
+            ≤ self.old.octets + 3 * length pattern.now) }
     {
         let start = self.octets.len();
         push_normal_pattern(&mut self.octets, pattern)?;
@@ -73,6 +75,14 @@ impl Rows {
             kind,
         })?;
         Ok(())
+    }
+
+    /// Gives back the memory that no row needs.
+    pub(crate) fn fit(&mut self)
+        ensures { self.new ≡ self.old }
+    {
+        self.octets.shrink_to_fit();
+        self.rows.shrink_to_fit();
     }
 
     /// Puts the strongest first. It takes no memory.

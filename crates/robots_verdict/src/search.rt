@@ -8,11 +8,13 @@ ghost use Rattle.robots_verdict.specs.Rows.{is_row_above};
 ghost use Rattle.robots_verdict.specs.Search.{IsFound, IsHitIn, IsSearchable};
 
 use crate::others::Others;
+use crate::places::places_of;
 use crate::plain::Plain;
 use crate::rows::Rows;
 use std::alloc::{AllocError, Global};
 
-/// The places of the rows in two lists. A place is a rank: the smaller one is that of the stronger row.
+/// The places of the rows in two lists. A place is a rank: the smaller one is that of the stronger
+/// row.
 #[derive(Debug, Drop)]
 pub(crate) struct Places {
     plain: Plain,
@@ -25,8 +27,9 @@ impl Places {
         requires { length rows.now.rows ≤ text_limit }
         ensures { IfOk result (λ places. IsSearchable rows.now.rows places) }
     {
-        let plain = Plain::of(alloc, rows)?;
-        let others = Others::of(alloc, rows)?;
+        let (plain, others) = places_of(alloc, rows)?;
+        let plain = Plain::of(alloc, rows, plain)?;
+        let others = Others::of(alloc, rows, others)?;
         Ok(Places { plain, others })
     }
 
@@ -47,7 +50,8 @@ impl Places {
     fn first_of(&self, rows: &Rows, group: u32, path: &[u8], found: Option<usize>) -> Option<usize>
         requires falling { IsSortedBy is_row_above rows.now.rows }
         requires searchable { IsSearchable rows.now.rows self.now }
-        ensures { FindsLeast (λ place. IsFound found place ⊎ IsHitIn rows.now.rows group path.now place) result }
+        ensures { FindsLeast (λ place. IsFound found place
+            ⊎ IsHitIn rows.now.rows group path.now place) result }
     {
         let stronger = lesser(found, self.plain.least(rows, group, path));
         self.others.least(rows, group, path, stronger)

@@ -1,7 +1,7 @@
 //! Which lines decide, by each reading of verdicts.
 //! RFC 9309, sections 2.2.1, 2.2.2 and 5.1.
 use super::*;
-use crate::laws::{verdict_plain, verdict_sorted};
+use crate::laws::{are_equal, verdict_plain, verdict_sorted};
 use path_normal::normal_path;
 use robots_text::{RobotsText, Token};
 use std::test::Fail;
@@ -11,11 +11,15 @@ mod speed;
 
 // The example of RFC 9309, section 5.1.
 const EXAMPLE: &str =
-    "User-Agent: *\nDisallow: *.gif$\nDisallow: /example/\nAllow: /publications/\n\nUser-Agent: foobot\nDisallow:/\nAllow:/example/page.html\nAllow:/example/allowed.gif\n\nUser-Agent: barbot\nUser-Agent: bazbot\nDisallow: /example/page.html\n\nUser-Agent: quxbot\n\n";
+    "User-Agent: *\nDisallow: *.gif$\nDisallow: /example/\nAllow: /publications/\n\n\
+    User-Agent: foobot\nDisallow:/\nAllow:/example/page.html\nAllow:/example/allowed.gif\n\n\
+    User-Agent: barbot\nUser-Agent: bazbot\nDisallow: /example/page.html\n\n\
+    User-Agent: quxbot\n\n";
 
 // Two groups of one name, with other records inside them.
 const MERGED: &str =
-    "User-agent: foobot\n\nDisallow: /a\nSitemap: http://a.example/s.xml\nDisallow: /b\nUser-agent: other\nDisallow: /c\nUser-agent: FOOBOT/2.0\nSitemap: /s\nDisallow: /d";
+    "User-agent: foobot\n\nDisallow: /a\nSitemap: http://a.example/s.xml\nDisallow: /b\n\
+    User-agent: other\nDisallow: /c\nUser-agent: FOOBOT/2.0\nSitemap: /s\nDisallow: /d";
 
 // Patterns with escapes.
 const ENCODED: &str =
@@ -211,7 +215,7 @@ fn answers_give_twins(rt: HostRuntime) -> Result<(), Fail> {
     let twin = answer.twin();
     assert_eq!(rt; answer.spares(), 1, "behind a twin");
     assert_eq!(rt; twin.spares(), 0, "of the twin");
-    assert!(rt; twin == answer, "the twin says the same");
+    assert!(rt; are_equal(&twin, &answer), "the twin says the same");
     let last = answer.twin();
     assert!(rt; last == twin && answer.spares() == 0, "behind two twins");
     assert!(rt;

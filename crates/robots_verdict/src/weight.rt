@@ -7,8 +7,8 @@ ghost use Rattle.std.specs.Ordering.{nat_cmp};
 use robots_text::RuleKind;
 use std::cmp::Ordering;
 
-/// What makes a rule line stronger than another: the octets of its pattern in normal form, then its kind,
-/// then the number of its line.
+/// What makes a rule line stronger than another: the octets of its pattern in normal form, then its
+/// kind, then the number of its line.
 #[derive(Clone, Copy, Debug)]
 pub(crate) struct Weight {
     pub octets: usize,
