@@ -2,7 +2,7 @@
 //! RFC 9309, section 2.3.
 ghost use Rattle.std.specs.Prelude.{◌≡◌, ◌^◌, ◌<◌, ◌∷◌, ◌++◌, [], None, IfErr, OnErr, OnOk, length};
 ghost use Rattle.std.specs.HashMap.{get_by_text};
-ghost use Rattle.authority_cache.specs.Sites.{nothing, with_flight};
+ghost use Rattle.authority_cache.specs.Sites.{IsApart, nothing, with_flight};
 ghost use Rattle.authority_cache.specs.Calls.{Begins};
 ghost use Rattle.authority_cache.specs.Kept.{AllKnown, known_in, said_entries};
 
@@ -20,7 +20,9 @@ impl Cache {
         turn: TurnNo,
         moment: u64,
     ) -> Result<(), BeginRefusal>
-        ensures { Begins self.old authority.now (record { turn = turn; begun = moment }) result self.new }
+        ensures reply { Begins self.old authority.now (record { turn = turn; begun = moment }) result
+            self.new }
+        ensures apart { IsApart self.old }
     {
         let flight = Flight {
             turn,
@@ -39,6 +41,7 @@ fn open(sites: &mut Sites, limit: u64, authority: &str, flight: Flight) -> Resul
         (known_in limit sites.new.entries) }
     ensures known { AllKnown sites.new.entries }
     ensures few { length sites.old.entries < 2 ^ 63 }
+    ensures apart { IsApart (known_in limit sites.old.entries) }
 {
     let is_full = sites.len() as u64 >= limit;
     match sites.get_mut(authority) {

@@ -66,8 +66,11 @@ impl Cache {
 
     /// How many turns are in flight.
     pub fn flight_count(&self) -> u64
-        ensures { result ≡ flight_count self.now }
+        ensures value { result ≡ flight_count self.now }
+        ensures apart { IsApart self.now }
     {
+        // The map's length says that its keys are apart.
+        let _ = self.sites.len();
         self.flights
     }
 

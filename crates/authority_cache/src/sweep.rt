@@ -1,7 +1,7 @@
 //! The sweep: answers that are older than their lives are dropped.
 //! RFC 9309, section 2.4.
 ghost use Rattle.std.specs.Prelude.{◌≡◌};
-ghost use Rattle.authority_cache.specs.Sites.{is_known, past_count, said_site, swept};
+ghost use Rattle.authority_cache.specs.Sites.{IsApart, is_known, past_count, said_site, swept};
 ghost use Rattle.authority_cache.specs.Calls.{Sweeps};
 ghost use Rattle.authority_cache.specs.Kept.{known_in};
 ghost use Rattle.std.specs.HashMap.{IsUnique};
@@ -14,7 +14,8 @@ impl Cache {
     /// Drops the answers that are older than their lives at this moment, in seconds, and tells how
     /// many they were. Turns stay in flight. It takes no memory.
     pub fn sweep(&mut self, moment: u64) -> u64
-        ensures { Sweeps self.old moment result self.new }
+        ensures swept { Sweeps self.old moment result self.new }
+        ensures apart { IsApart self.old }
     {
         let dropped = count_past(&self.sites, moment);
         self.sites.retain(

@@ -1,6 +1,8 @@
-pub mod Lists
-pub mod Opened
-pub mod Entries
-pub mod Space
-pub mod Outcomes
+-- Lemmas on the definitions of `specs/`.
+-- Used by the answers beside them.
+pub mod Keeping
+pub mod Ending
+pub mod Looking
+pub mod Refusing
+pub mod Calling
 pub mod Headlines

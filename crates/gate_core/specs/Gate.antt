@@ -1,53 +1,58 @@
--- What contracts see of a book: its limits and its history.
+-- What contracts see of a book: its limits, its base and the entries since, which together are its history.
+-- RFC 9309, sections 2.3.1 and 2.4.
 use Rattle.std.specs.Prelude.{◌≡◌, ℕ, ◌+◌, ◌*◌, ◌<◌, ◌≤◌, List, [], ◌∷◌, ◌++◌, length}
-use Rattle.gate_core.specs.Limits.{last_generation, max_slots, max_log, max_authorities}
-use Rattle.gate_core.specs.declared.config.Config.{Config}
-use Rattle.gate_core.specs.declared.entry.Entry.{Entry}
-use Rattle.gate_core.specs.Standing.{in_flight}
-use Rattle.gate_core.specs.Outstanding.{unspent, running}
-use Rattle.gate_core.specs.Legal.{MayFollow, AreLegalAfter}
+use Rattle.permit_book.specs.Outstanding.{listed_for}
+use Rattle.gate_history.specs.declared.entry.Entry.{Entry}
+use Rattle.gate_history.specs.Base.{Base}
+use Rattle.gate_history.specs.History.{History, followed_by, from}
+use Rattle.gate_history.specs.Legal.{IsLegal, MayFollow}
+use Rattle.gate_history.specs.Outstanding.{running, unspent}
+use Rattle.gate_history.specs.Standing.{in_flight}
+use Rattle.gate_core.specs.declared.config.Limits.{Limits}
 
 -- a book as its callers see it
 pub record Gate : Type 0 where
-  pub config : Config
-  pub history : List Entry
+  pub limits : Limits
+  pub base : Base
+  pub entries : List Entry
 
--- the limits are within their bounds
-pub record IsConfig (config : Config) : Type 0 where
-  pub some_slot : 1 ≤ config.slots
-  pub slots : config.slots ≤ max_slots
-  pub first : 1 ≤ config.first_generation
-  pub last : config.first_generation ≤ last_generation
-  pub some_entry : 1 ≤ config.log_limit
-  pub entries : config.log_limit ≤ max_log
-  pub some_authority : 1 ≤ config.authority_limit
-  pub authorities : config.authority_limit ≤ max_authorities
+-- its history: the entries after the base
+abbrev pub history : Gate → History
+history g = followed_by (from g.base) g.entries
 
--- how many entries the book has made; an entry's place is how many were made before it
-abbrev pub entry_count : Gate → ℕ
-entry_count g = length g.history
+-- the entries that are promised to what a history left open: one to each turn in flight, two to each
+-- unspent permit and one to each running one
+abbrev pub promised : History → ℕ
+promised h = length (in_flight h) + 2 * length (unspent h) + length (running h)
 
--- the room that the history takes: its entries, one for each turn in flight, two for each unspent
--- permit and one for each running number
-abbrev pub room : List Entry → ℕ
-room h = length h + length (in_flight h) + 2 * length (unspent h) + length (running h)
+-- the room that a book takes under the limit of its log: its entries, and those that it has promised
+abbrev pub room : Gate → ℕ
+room g = length g.entries + promised (history g)
 
 -- this many more fit under the limit of the log
 abbrev pub HasRoom : Gate → ℕ → Type 0
-HasRoom g more = room g.history + more ≤ g.config.log_limit
+HasRoom g more = room g + more ≤ g.limits.log_limit
 
--- this many more do not fit under the limit of the log
+-- this many more do not fit under it
 abbrev pub IsFull : Gate → ℕ → Type 0
-IsFull g more = g.config.log_limit < room g.history + more
+IsFull g more = g.limits.log_limit < room g + more
+
+-- how many permits are out for an authority, unspent or running
+abbrev pub held : History → List ℕ → ℕ
+held h authority = listed_for (unspent h) authority + listed_for (running h) authority
 
 -- the book's history is legal
-abbrev pub IsLegal : Gate → Type 0
-IsLegal g = AreLegalAfter [] g.history
+abbrev pub HasLegalHistory : Gate → Type 0
+HasLegalHistory g = IsLegal (history g)
+
+-- the book with one entry more
+abbrev pub with_entry : Gate → Entry → Gate
+with_entry g e = record { limits = g.limits; base = g.base; entries = g.entries ++ e ∷ [] }
 
 -- one legal entry was added, and nothing else changed
 pub record Adds (old : Gate) (entry : Entry) (new : Gate) : Type 0 where
-  pub adds : new ≡ record { config = old.config; history = old.history ++ entry ∷ [] }
-  pub fit : MayFollow old.history entry
+  pub adds : new ≡ with_entry old entry
+  pub fit : MayFollow (history old) entry
 
 -- nothing changed
 abbrev pub Stays : Gate → Gate → Type 0

@@ -1,64 +1,33 @@
--- What a book keeps beside its history, and what ties each list to it.
-use Rattle.std.specs.Prelude.{◌≡◌, ℕ, ◌+◌, ◌*◌, ◌<◌, ◌≤◌, List, [], ◌∷◌, ◌++◌, length, map, slice_index, vec_capacity}
-use Rattle.gate_core.specs.declared.entry.Entry.{Entry}
-use Rattle.gate_core.specs.declared.standing.Turn.{Turn}
-use Rattle.gate_core.specs.declared.standing.Standing.{Standing}
-use Rattle.gate_core.specs.declared.standing.Permit.{Permit}
-use Rattle.gate_core.specs.declared.waiting.Waiting.{Waiting}
+-- What a book keeps beside its history, and what ties each part to it.
+-- The invariant of `book.rt`.
+use Rattle.std.specs.Prelude.{◌≡◌, ℕ, ◌+◌, ◌≤◌, List, Option, length, vec_capacity}
+use Rattle.authority_cache.specs.Lists.{TellsCache}
+use Rattle.permit_book.specs.Outstanding.{TellsPermits}
+use Rattle.gate_history.specs.History.{begins, now}
+use Rattle.gate_history.specs.Legal.{IsLegal}
+use Rattle.gate_history.specs.Outstanding.{greatest_in, running, unspent}
+use Rattle.gate_history.specs.Standing.{in_flight, standing}
 use Rattle.gate_core.specs.declared.book.Book.TheInside.{Inside}
-use Rattle.gate_core.specs.History.{now, begins}
-use Rattle.gate_core.specs.Standing.{in_flight, standing}
-use Rattle.gate_core.specs.Outstanding.{unspent, running, greatest_in}
-use Rattle.gate_core.specs.Legal.{AreLegalAfter}
-use Rattle.gate_core.specs.Gate.{Gate, IsConfig}
-
--- the turns of what waits
-abbrev pub turns_of : List Waiting → List Turn
-turns_of waiting = map (λ w. w.turn) waiting
-
--- the list without one of its elements
-pub record IsTakenOut (old : List Waiting) (taken : Waiting) (new : List Waiting) : Type 0 where
-  pub before : List Waiting
-  pub after : List Waiting
-  pub was : old ≡ before ++ taken ∷ after
-  pub left : new ≡ before ++ after
-
--- the turns' numbers rise, from above the one to the other
-abbrev pub RiseTo : ℕ → List Turn → ℕ → Type 0
-RiseTo low [] high = low ≤ high
-RiseTo low (t ∷ later) high = (low < t.turn) × RiseTo t.turn later high
-
--- each slot's generation is the greatest granted in it
-abbrev pub AreGenerations : List ℕ → List Entry → Type 0
-AreGenerations generations h = (slot : ℕ) → slot < length generations → slice_index generations slot ≡ greatest_in h slot
-
--- the lists say what the history says
-pub record Tells (h : List Entry) (clock count : ℕ) (turns : List Turn) (answers : List Standing) (permits : List Permit) (runs : List ℕ) (generations : List ℕ) : Type 0 where
-  pub clock_is : clock ≡ now h
-  pub count_is : count ≡ begins h
-  pub turns_are : turns ≡ in_flight h
-  pub answers_are : answers ≡ standing h
-  pub permits_are : permits ≡ unspent h
-  pub runs_are : runs ≡ running h
-  pub generations_are : AreGenerations generations h
-  pub numbered : RiseTo 0 turns count
-  pub legal : AreLegalAfter [] h
-
--- the room that the calls to come have been promised, in the log's limit and in memory
-pub record HasSpace (entries turns answers permits runs limit entry_space answer_space run_space : ℕ) : Type 0 where
-  pub answered : answers ≤ entries
-  pub logged : entries + turns + 2 * permits + runs ≤ limit
-  pub entry_room : entries + turns + 2 * permits + runs ≤ entry_space
-  pub answer_room : answers + turns ≤ answer_space
-  pub run_room : runs + permits ≤ run_space
-
--- what is true of every book
-pub record IsKept (b : Inside) : Type 0 where
-  pub config : IsConfig b.config
-  pub slots : length b.generations.items ≡ b.config.slots
-  pub tells : Tells b.entries.items b.clock b.begins (turns_of b.waiting.items) b.answers.items b.permits.items b.runs.items b.generations.items
-  pub space : HasSpace (length b.entries.items) (length b.waiting.items) (length b.answers.items) (length b.permits.items) (length b.runs.items) b.config.log_limit (vec_capacity b.entries) (vec_capacity b.answers) (vec_capacity b.runs)
+use Rattle.gate_core.specs.Gate.{Gate, history, promised}
+use Rattle.gate_core.specs.Limits.{AreLimits}
+use Rattle.gate_core.specs.Names.{HasNames, names_by}
 
 -- the book as its callers see it
 abbrev pub gate_of : Inside → Gate
-gate_of b = record { config = b.config; history = b.entries.items }
+gate_of b = record { limits = b.limits; base = b.base; entries = b.entries.items }
+
+-- what is true of every book
+pub record IsKept (b : Inside) : Type 0 where
+  pub limits : AreLimits b.limits
+  pub legal : IsLegal (history (gate_of b))
+  pub clock : b.clock ≡ now (history (gate_of b))
+  pub begins : b.begins ≡ begins (history (gate_of b))
+  pub few_begins : b.begins ≤ length b.entries.items
+  pub cache : TellsCache b.cache (standing (history (gate_of b))) (in_flight (history (gate_of b)))
+  pub authorities : b.cache.limit ≡ b.limits.authority_limit
+  pub permits : TellsPermits b.permits (unspent (history (gate_of b))) (running (history (gate_of b))) (greatest_in (history (gate_of b)))
+  pub slots : length b.permits.slots ≡ b.limits.slots
+  pub first : b.permits.first_generation ≡ b.limits.first_generation
+  pub names : HasNames (names_by b.names) (in_flight (history (gate_of b)))
+  pub logged : length b.entries.items + promised (history (gate_of b)) ≤ b.limits.log_limit
+  pub entry_room : length b.entries.items + promised (history (gate_of b)) ≤ vec_capacity b.entries

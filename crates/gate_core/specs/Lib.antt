@@ -1,14 +1,14 @@
--- What the gate's contracts cite: the history, what stands in it, and what each call may reply.
+-- What the contracts of the gate cite.
+-- RFC 9309, sections 2.2 to 2.4.
 pub mod Limits
-pub mod LeftOpen
-pub mod History
-pub mod Standing
-pub mod Outstanding
-pub mod Cause
-pub mod Legal
 pub mod Gate
-pub mod Replies
+pub mod Names
+pub mod Refused
 pub mod Kept
-pub mod Slots
+pub mod Judged
+pub mod Replies
+pub mod Opened
+pub mod States
+pub mod Calls
 pub mod Headline
 pub mod Rows

@@ -1,32 +1,34 @@
 -- The limits of a book as numbers; the code's constants are these.
--- RFC 9309, section 2.4, for the life of an answer.
-use Rattle.std.specs.Prelude.{ℕ}
-use Rattle.gate_core.specs.declared.config.Config.{Config}
+-- RFC 9309, section 2.4, leaves them to the crawler.
+use Rattle.std.specs.Prelude.{ℕ, ◌≤◌}
+use Rattle.permit_book.specs.Numbers.{last_generation, most_slots}
+use Rattle.gate_core.specs.declared.config.Limits.{Limits}
 
--- the seconds for which an answer is in force: 24 hours
-abbrev pub life : ℕ
-life = 86400
+-- the most entries of a history
+abbrev pub most_entries : ℕ
+most_entries = 1000000
 
--- how many permit numbers a generation has
-abbrev pub slots_per_generation : ℕ
-slots_per_generation = 65536
+-- the most authorities that are known at a time
+abbrev pub most_authorities : ℕ
+most_authorities = 65536
 
--- the last generation of a permit slot
-abbrev pub last_generation : ℕ
-last_generation = 281474976710655
-
--- the most permit slots of a book
-abbrev pub max_slots : ℕ
-max_slots = 65536
-
--- the most entries of its history
-abbrev pub max_log : ℕ
-max_log = 1000000
-
--- the most authorities that it knows at a time
-abbrev pub max_authorities : ℕ
-max_authorities = 65536
+-- the most permits that are out for an authority at a time
+abbrev pub most_places : ℕ
+most_places = 65536
 
 -- the limits that stand where nobody chose others
-abbrev pub usual_limits : Config
-usual_limits = record { slots = 1024; first_generation = 1; log_limit = 1000000; authority_limit = 65536 }
+abbrev pub usual_limits : Limits
+usual_limits = record { slots = 1024; first_generation = 1; log_limit = 1000000; authority_limit = 65536; places = 65536 }
+
+-- each limit is within its bounds
+pub record AreLimits (limits : Limits) : Type 0 where
+  pub some_slot : 1 ≤ limits.slots
+  pub slots : limits.slots ≤ most_slots
+  pub first : 1 ≤ limits.first_generation
+  pub last : limits.first_generation ≤ last_generation
+  pub some_entry : 1 ≤ limits.log_limit
+  pub entries : limits.log_limit ≤ most_entries
+  pub some_authority : 1 ≤ limits.authority_limit
+  pub authorities : limits.authority_limit ≤ most_authorities
+  pub some_place : 1 ≤ limits.places
+  pub places : limits.places ≤ most_places

@@ -1,29 +1,40 @@
--- Worked rows: short histories of one site without a robots file, with the replies that they give.
+-- Worked rows: short histories of one site, with the replies that they give.
+-- The contracts of `rows.rt`.
 use Rattle.std.specs.Prelude.{ℕ, List, [], ◌∷◌, codes}
-use Rattle.gate_core.specs.declared.answer.Opening.TheVariants.{Unavailable}
-use Rattle.gate_core.specs.declared.answer.Answer.{Answer}
-use Rattle.gate_core.specs.declared.answer.Answer.TheVariants as answers
-use Rattle.gate_core.specs.declared.entry.Entry.{Entry}
-use Rattle.gate_core.specs.declared.entry.Entry.TheVariants.{Begun, Arrived, Granted, Started, StartDenied, Returned, Finished}
-use Rattle.gate_core.specs.declared.outcome.Reason.TheVariants as reasons
-use Rattle.gate_core.specs.declared.outcome.Cause.{Cause}
-use Rattle.gate_core.specs.declared.outcome.Cause.TheVariants as causes
+use Rattle.permit_book.specs.declared.refusal.NotOut.{NotOut}
+use Rattle.robots_verdict.specs.declared.answer.Opening.TheVariants.{Unavailable}
+use Rattle.robots_verdict.specs.declared.said.Said.{Said}
+use Rattle.robots_verdict.specs.declared.said.Said.TheVariants as says
+use Rattle.gate_history.specs.declared.entry.Entry.{Entry}
+use Rattle.gate_history.specs.declared.entry.Entry.TheVariants.{Begun, Arrived, Granted, Started, StartDenied, Returned, Finished}
+use Rattle.gate_history.specs.declared.outcome.Cause.{Cause}
+use Rattle.gate_history.specs.declared.outcome.Cause.TheVariants as causes
+use Rattle.gate_history.specs.declared.outcome.Reason.TheVariants as reasons
+use Rattle.gate_history.specs.Base.{empty_base}
 use Rattle.gate_core.specs.declared.refusal.Denial.{Denial}
-use Rattle.gate_core.specs.declared.refusal.NotOut.{NotOut}
 use Rattle.gate_core.specs.declared.refusal.Started.{Started as Start}
 use Rattle.gate_core.specs.Gate.{Gate}
 use Rattle.gate_core.specs.Limits.{usual_limits}
 
--- a book with this many slots, this first generation and this history
+-- a book with this many slots, this first generation and these entries
 abbrev pub book : ℕ → ℕ → List Entry → Gate
-book slots first h = record {
-  config = record { slots = slots; first_generation = first; log_limit = 1000000; authority_limit = 65536 };
-  history = h;
+book slots first entries = record {
+  limits = record { slots = slots; first_generation = first; log_limit = 1000000; authority_limit = 65536; places = 65536 };
+  base = empty_base;
+  entries = entries;
 }
 
--- a book with the usual limits and this history
+-- a book with the usual limits and these entries
 abbrev pub usual : List Entry → Gate
-usual h = record { config = usual_limits; history = h }
+usual entries = record { limits = usual_limits; base = empty_base; entries = entries }
+
+-- a book that lets one permit out for an authority
+abbrev pub one_place : List Entry → Gate
+one_place entries = record {
+  limits = record { slots = 1024; first_generation = 1; log_limit = 1000000; authority_limit = 65536; places = 1 };
+  base = empty_base;
+  entries = entries;
+}
 
 -- the site of the rows
 abbrev pub site : List ℕ
@@ -46,8 +57,8 @@ abbrev pub barbot : List ℕ
 barbot = codes "barbot"
 
 -- the answer of a site without a robots file
-abbrev pub no_file : Answer
-no_file = answers.Open Unavailable
+abbrev pub no_file : Said
+no_file = says.Open Unavailable
 
 -- the site's first turn has begun
 abbrev pub begun : List Entry
@@ -55,16 +66,20 @@ begun = Begun 100 site 1 ∷ []
 
 -- the site has no robots file
 abbrev pub open_site : List Entry
-open_site = Begun 100 site 1 ∷ Arrived 105 site 1 no_file ∷ []
+open_site = Begun 100 site 1 ∷ Arrived 105 site 1 no_file 86400 ∷ []
+
+-- a permit for the page is granted at this moment
+abbrev pub grant : ℕ → ℕ → List ℕ → Entry
+grant moment number url = Granted moment number (record { token = foobot; url = url })
 
 -- a permit was granted
 abbrev pub granted : List Entry
-granted = Begun 100 site 1 ∷ Arrived 105 site 1 no_file ∷ Granted 110 65536 foobot page ∷ []
+granted = Begun 100 site 1 ∷ Arrived 105 site 1 no_file 86400 ∷ grant 110 65536 page ∷ []
 
 -- its fetch was started at this moment
 abbrev pub started_at : ℕ → List Entry
 started_at moment =
-    Begun 100 site 1 ∷ Arrived 105 site 1 no_file ∷ Granted 110 65536 foobot page ∷ Started moment 65536 reasons.Open ∷ []
+    Begun 100 site 1 ∷ Arrived 105 site 1 no_file 86400 ∷ grant 110 65536 page ∷ Started moment 65536 reasons.Open ∷ []
 
 -- what a start of this permit is answered
 abbrev pub go : ℕ → List ℕ → Start
@@ -77,18 +92,19 @@ no url cause = record { url = url; cause = cause }
 -- two permits were granted
 abbrev pub two_granted : List Entry
 two_granted =
-    Begun 100 site 1 ∷ Arrived 105 site 1 no_file ∷ Granted 110 65536 foobot page ∷ Granted 111 65537 foobot other_page ∷ []
+    Begun 100 site 1 ∷ Arrived 105 site 1 no_file 86400 ∷ grant 110 65536 page ∷ grant 111 65537 other_page ∷ []
 
 -- the second one's start came too late
 abbrev pub one_expired : List Entry
 one_expired =
-    Begun 100 site 1 ∷ Arrived 105 site 1 no_file ∷ Granted 110 65536 foobot page ∷ Granted 111 65537 foobot other_page
+    Begun 100 site 1 ∷ Arrived 105 site 1 no_file 86400 ∷ grant 110 65536 page ∷ grant 111 65537 other_page
     ∷ StartDenied 86501 65537 causes.Expired ∷ []
 
 -- the fetch was started and has ended
 abbrev pub finished : List Entry
 finished =
-    Begun 100 site 1 ∷ Arrived 105 site 1 no_file ∷ Granted 110 65536 foobot page ∷ Started 112 65536 reasons.Open ∷ Finished 65536 ∷ []
+    Begun 100 site 1 ∷ Arrived 105 site 1 no_file 86400 ∷ grant 110 65536 page ∷ Started 112 65536 reasons.Open
+    ∷ Finished 65536 ∷ []
 
 -- no permit of the number is out
 abbrev pub not_out : NotOut
@@ -100,4 +116,5 @@ last_number = 18446744073709486080
 
 -- the permit of the last generation was granted and given back
 abbrev pub last_returned : List Entry
-last_returned = Begun 100 site 1 ∷ Arrived 105 site 1 no_file ∷ Granted 110 last_number foobot page ∷ Returned last_number ∷ []
+last_returned =
+    Begun 100 site 1 ∷ Arrived 105 site 1 no_file 86400 ∷ grant 110 last_number page ∷ Returned last_number ∷ []

@@ -1,56 +1,66 @@
-//! `Book::ask`: a permit for one fetch of a URL under a token (RFC 9309, sections 2.2 and 2.3.1).
-
-ghost use Rattle.std.specs.Prelude.{◌≡◌, ◌+◌, ◌≤◌, ◌<◌, ℕ, Ok, Err, OnOk, OnErr, IfOk, length, vec_len, vec_capacity};
-ghost use Rattle.gate_core.specs.declared.entry.Entry.TheVariants.{Granted, AskDenied};
-ghost use Rattle.gate_core.specs.declared.outcome.Reason.{Reason as Why};
-ghost use Rattle.gate_core.specs.History.{now};
-ghost use Rattle.gate_core.specs.Cause.{Decides};
-ghost use Rattle.gate_core.specs.Outstanding.{IsNext};
-ghost use Rattle.gate_core.specs.Gate.{HasRoom, Adds, Stays};
-ghost use Rattle.gate_core.specs.Replies.{Asks};
-ghost use Rattle.gate_core.specs.Headline.{IsAskTold};
+//! `Book::ask` and `Book::ask_judged`: a permit for one fetch of a URL under a token.
+//! RFC 9309, sections 2.2 and 2.3.1.
+ghost use Rattle.std.specs.Prelude.{◌≡◌, ◌+◌, ◌≤◌, ◌↔◌, Err, IfErr, IfOk, IsTrue, length, OnErr, OnOk, Ok, vec_capacity};
+ghost use Rattle.permit_book.specs.declared.out.Out.TheVariants.{Unspent};
+ghost use Rattle.permit_book.specs.Next.{IsNext};
+ghost use Rattle.permit_book.specs.Table.{with_out};
+ghost use Rattle.gate_history.specs.declared.entry.Entry.TheVariants.{AskDenied};
+ghost use Rattle.gate_history.specs.declared.outcome.Reason.{Reason as Why};
+ghost use Rattle.gate_history.specs.Cause.{Decides};
+ghost use Rattle.gate_history.specs.History.{now};
+ghost use Rattle.gate_core.specs.Gate.{Adds, HasRoom, history, Stays};
+ghost use Rattle.gate_core.specs.Opened.{Grants, RefusesGrant};
+ghost use Rattle.gate_core.specs.Replies.{Asks, HasPlace, IsBusy};
 
 use crate::book::Book;
-use crate::entry::Entry;
-use crate::numbers::PermitNo;
-use crate::outcome::Cause;
-use crate::refusal::{AskRefusal, Denial, NoMemory};
-use crate::standing::Permit;
+use crate::judged::Judged;
+use crate::refusal::{AskRefusal, Denial};
+use gate_history::{Cause, Entry, FetchText};
 use path_normal::PageUrl;
+use permit_book::{PermitNo, Permits};
 use robots_text::Token;
 use std::alloc::AllocError;
 
 impl Book {
     /// Asks for a permit. Room is made for its start and its end, which then take no memory.
-    #[tactic(auto, using(std::proofs::lemmas::Grind::common_steps, crate::proofs::Headlines::ask_told))]
     pub fn ask(&mut self, token: Token, url: PageUrl, moment: u64) -> Result<PermitNo, AskRefusal>
-        ensures reply { Asks self.old token url moment result self.new }
-        ensures told { IsAskTold self.old.history token url moment result }
-    {
-        self.request(token, url, moment)
-    }
-
-    // Grants a permit, where there is room, an answer that allows it and a free slot.
-    fn request(&mut self, token: Token, url: PageUrl, moment: u64) -> Result<PermitNo, AskRefusal>
         ensures { Asks self.old token url moment result self.new }
     {
-        if self.room() as u64 + 3 > self.config().log_limit {
+        self.ask_judged(Judged::new(None, token, url), moment)
+    }
+
+    /// The same, where the verdict may be at hand. It counts only where the answer then in force has
+    /// the text of the policy that was judged by.
+    pub fn ask_judged(&mut self, judged: Judged, moment: u64) -> Result<PermitNo, AskRefusal>
+        ensures { Asks self.old judged.token judged.url moment result self.new }
+    {
+        if !self.has_room(3) {
             return Err(AskRefusal::LogFull);
         }
         let moment = self.moment_of_call(moment);
-        if let Err(cause) = self.decide(&token, &url, moment) {
-            return match self.deny(token, url, cause, moment) {
-                Ok(denial) => Err(AskRefusal::Denied(denial)),
-                Err(NoMemory) => Err(AskRefusal::NoMemory),
-            };
+        let Judged { token, url, ruling } = judged;
+        match self.decide(&token, &url, ruling.as_ref(), moment) {
+            Ok(_) => {
+                if self.is_busy(&url) {
+                    return Err(AskRefusal::Busy);
+                }
+                self.grant(token, url, moment)
+            }
+            Err(cause) => {
+                let denial = self.deny(token, url, cause, moment)?;
+                Err(AskRefusal::Denied(denial))
+            }
         }
-        let Some(number) = self.next_number() else {
-            return Err(AskRefusal::PermitsFull);
-        };
-        match self.grant(number, token, url, moment) {
-            Ok(()) => Ok(number),
-            Err(NoMemory) => Err(AskRefusal::NoMemory),
-        }
+    }
+
+    // Whether as many permits as the places are out for the URL's authority. They are counted only
+    // where so many are out at all.
+    fn is_busy(&self, url: &PageUrl) -> bool
+        ensures { IsTrue result ↔ IsBusy self.now url.now }
+    {
+        let places = self.limits.places;
+        self.permits.unspent_count() + self.permits.running_count() >= places
+            && self.permits.held(url.authority()) >= places
     }
 
     // Enters a denied ask.
@@ -60,25 +70,20 @@ impl Book {
         url: PageUrl,
         cause: Cause,
         moment: u64,
-    ) -> Result<Denial, NoMemory>
+    ) -> Result<Denial, AllocError>
         requires room { HasRoom self.old 3 }
-        requires late { now self.old.history ≤ moment }
-        requires decided { Decides self.old.history token url moment (Err cause) }
+        requires late { now (history self.old) ≤ moment }
+        requires decided { Decides (history self.old) token url moment (Err cause) }
         ensures ok { IfOk result (λ denial. (denial.url ≡ url) × (denial.cause ≡ cause)
-            × Adds self.old (AskDenied moment token url cause) self.new) }
+            × Adds self.old (AskDenied moment (record { token = token; url = url }) cause) self.new) }
         ensures err { OnErr result (Stays self.old self.new) }
     {
-        let Ok(kept) = url.copy() else {
-            return Err(NoMemory);
-        };
-        let more = self.waiting.len() + 2 * self.permits.len() + self.runs.len() + 1;
-        let Ok(()) = self.entries.reserve(more) else {
-            return Err(NoMemory);
-        };
+        let promised = self.promised();
+        let fetch = FetchText::of(*self.entries.allocator(), &token, &url)?;
+        self.entries.reserve(promised as usize + 1)?;
         self.entries.push_reserved(Entry::AskDenied {
             moment,
-            token,
-            url: kept,
+            fetch,
             cause,
         });
         self.clock = moment;
@@ -86,65 +91,49 @@ impl Book {
     }
 
     // Makes room for the permit, its start and its end, and enters the grant.
-    fn grant(
-        &mut self,
-        number: PermitNo,
-        token: Token,
-        url: PageUrl,
-        moment: u64,
-    ) -> Result<(), NoMemory>
+    fn grant(&mut self, token: Token, url: PageUrl, moment: u64) -> Result<PermitNo, AskRefusal>
         requires room { HasRoom self.old 3 }
-        requires late { now self.old.history ≤ moment }
-        requires decided { (reason : Why) × Decides self.old.history token url moment (Ok reason) }
-        requires next { IsNext self.old.config self.old.history number }
-        ensures ok { OnOk result (Adds self.old (Granted moment number token url) self.new) }
-        ensures err { OnErr result (Stays self.old self.new) }
+        requires late { now (history self.old) ≤ moment }
+        requires decided { (reason : Why) × Decides (history self.old) token url moment (Ok reason) }
+        requires place { HasPlace self.old url }
+        ensures { Grants self.old token url moment result self.new }
     {
-        let Ok(kept_token) = token.copy() else {
-            return Err(NoMemory);
-        };
-        let Ok(kept_url) = url.copy() else {
-            return Err(NoMemory);
-        };
-        let more = self.waiting.len() + 2 * self.permits.len() + self.runs.len() + 3;
-        let Ok(()) = reserve_permit(&mut self.entries, &mut self.permits, &mut self.runs, more)
-        else {
-            return Err(NoMemory);
-        };
+        let room = self.promised() as usize + 3;
+        let (number, fetch) = take_permit(&mut self.permits, &mut self.entries, room, token, url)?;
         self.entries.push_reserved(Entry::Granted {
             moment,
             number,
-            token,
-            url,
+            fetch,
         });
-        self.permits.push_reserved(Permit {
-            number,
-            token: kept_token,
-            url: kept_url,
-        });
-        self.generations[number.slot() as usize] = number.generation();
         self.clock = moment;
-        Ok(())
+        Ok(number)
     }
 }
 
-// Room for `more` entries, one permit, and its run beside those of the other permits.
-fn reserve_permit(
+// Grants the next permit of the table, where a slot is free and memory suffices for its entries. The
+// draft leaves the table as it is where memory is refused.
+fn take_permit(
+    permits: &mut Permits,
     entries: &mut Vec<Entry>,
-    permits: &mut Vec<Permit>,
-    runs: &mut Vec<PermitNo>,
-    more: usize,
-) -> Result<(), AllocError>
-    ensures same { (entries.new.items ≡ entries.old.items) × (permits.new.items ≡ permits.old.items)
-        × (runs.new.items ≡ runs.old.items) }
-    ensures grown { (vec_capacity entries.old ≤ vec_capacity entries.new)
-        × (vec_capacity runs.old ≤ vec_capacity runs.new) }
-    ensures ok { OnOk result ((length entries.old.items + more ≤ vec_capacity entries.new)
-        × (length permits.old.items < vec_capacity permits.new)
-        × (length runs.old.items + length permits.old.items + 1 ≤ vec_capacity runs.new)) }
+    room: usize,
+    token: Token,
+    url: PageUrl,
+) -> Result<(PermitNo, FetchText), AskRefusal>
+    ensures next { IfOk result (λ taken. IsNext permits.old taken.0) }
+    ensures granted { IfOk result (λ taken. permits.new
+        ≡ with_out permits.old taken.0 (Unspent (record { token = token; url = url }))) }
+    ensures fetch { IfOk result (λ taken. taken.1 ≡ record { token = token; url = url }) }
+    ensures refused { IfErr result (RefusesGrant permits.old) }
+    ensures same { OnErr result (permits.new ≡ permits.old) }
+    ensures items { entries.new.items ≡ entries.old.items }
+    ensures room { OnOk result (length entries.old.items + room ≤ vec_capacity entries.new) }
+    ensures capacity { vec_capacity entries.old ≤ vec_capacity entries.new }
 {
-    entries.reserve(more)?;
-    permits.reserve(1)?;
-    runs.reserve(permits.len() + 1)?;
-    Ok(())
+    let alloc = *entries.allocator();
+    let Ok(draft) = permits.draft() else {
+        return Err(AskRefusal::PermitsFull);
+    };
+    let fetch = FetchText::of(alloc, &token, &url)?;
+    entries.reserve(room)?;
+    Ok((draft.commit(token, url), fetch))
 }

@@ -1,34 +1,33 @@
-//! The book: the gate's history, with what stands in it at hand.
+//! The book: the gate's history, and what stands in it in two tables.
+//! RFC 9309, sections 2.3.1 and 2.4.
+ghost use Rattle.std.specs.Prelude.{◌≡◌, ◌+◌, ◌≤◌, [], ◌↔◌, IfOk, IsTrue};
+ghost use Rattle.gate_history.specs.Base.{empty_base};
+ghost use Rattle.gate_history.specs.History.{at_moment};
+ghost use Rattle.gate_core.specs.Gate.{HasLegalHistory, HasRoom, history, promised, room};
+ghost use Rattle.gate_core.specs.Limits.{AreLimits, most_entries};
 
-ghost use Rattle.std.specs.Prelude.{◌≡◌, ◌+◌, ◌≤◌, [], length, replicate, IfOk};
-ghost use Rattle.gate_core.specs.Gate.{IsConfig, IsLegal, room};
-ghost use Rattle.gate_core.specs.History.{at_moment};
-ghost use Rattle.gate_core.specs.Limits.{max_log};
-
-use crate::config::Config;
-use crate::entry::Entry;
-use crate::numbers::PermitNo;
+use crate::config::{Config, Limits};
+use crate::names::Names;
 use crate::refusal::NoMemory;
-use crate::standing::{Permit, Standing};
-use crate::waiting::Waiting;
-use std::alloc::{AllocError, Global};
+use authority_cache::Cache;
+use gate_history::{Base, Entry};
+use permit_book::Permits;
+use std::alloc::Global;
 use std::marker::Model;
 
 /// The gate of one process: a history that only grows, and the calls that extend it.
 #[derive(Drop)]
 pub struct Book {
-    pub(crate) config: Config,
+    pub(crate) limits: Limits,
+    pub(crate) base: Base,
+    pub(crate) entries: Vec<Entry>,
     // The gate's moment, and how many begins the history has.
     pub(crate) clock: u64,
     pub(crate) begins: u64,
-    pub(crate) entries: Vec<Entry>,
-    // What stands in the history, each list in the order in which it was opened.
-    pub(crate) waiting: Vec<Waiting>,
-    pub(crate) answers: Vec<Standing>,
-    pub(crate) permits: Vec<Permit>,
-    pub(crate) runs: Vec<PermitNo>,
-    // The greatest generation granted in each slot, 0 where none was.
-    pub(crate) generations: Vec<u64>,
+    // The answers that stand with the turns in flight, and the permits that are out.
+    pub(crate) cache: Cache,
+    pub(crate) permits: Permits,
+    pub(crate) names: Names,
 }
 
 impl Model for Book {
@@ -44,67 +43,71 @@ impl Model for Book {
 }
 
 impl Book {
-    /// A book with an empty history. It takes eight octets a slot.
+    /// A book with an empty history. It takes about a hundred octets a slot.
     pub fn new(alloc: Global, config: Config) -> Result<Book, NoMemory>
-        requires { IsConfig config }
-        ensures config { IfOk result (λ book. book.config ≡ config) }
-        ensures empty { IfOk result (λ book. book.history ≡ []) }
+        requires { AreLimits config.limits }
+        ensures limits { IfOk result (λ book. book.limits ≡ config.limits) }
+        ensures base { IfOk result (λ book. book.base ≡ empty_base) }
+        ensures entries { IfOk result (λ book. book.entries ≡ []) }
     {
-        let Ok(generations) = no_generations(alloc, config.slots) else {
-            return Err(NoMemory);
-        };
+        let Config { limits, keys } = config;
+        let permits = Permits::with_slots(alloc, limits.slots, limits.first_generation)?;
         Ok(Book {
-            config,
+            limits,
+            base: Base::empty(alloc),
+            entries: Vec::new(alloc),
             clock: 0,
             begins: 0,
-            entries: Vec::new(alloc),
-            waiting: Vec::new(alloc),
-            answers: Vec::new(alloc),
-            permits: Vec::new(alloc),
-            runs: Vec::new(alloc),
-            generations,
+            cache: Cache::new(alloc, limits.authority_limit, keys),
+            permits,
+            names: Names::new(alloc, keys),
         })
     }
 
-    /// The history, oldest entry first.
+    /// The entries since the base, oldest first.
     pub fn history(&self) -> &[Entry]
-        ensures entries { result.now ≡ self.now.history }
-        ensures legal { IsLegal self.now }
-        ensures bound { room self.now.history ≤ self.now.config.log_limit }
+        ensures entries { result.now ≡ self.now.entries }
+        ensures legal { HasLegalHistory self.now }
+        ensures bound { room self.now ≤ self.now.limits.log_limit }
     {
         self.entries.as_slice()
     }
 
-    /// The limits of the book.
-    pub fn config(&self) -> Config
-        ensures value { result ≡ self.now.config }
-        ensures limits { IsConfig self.now.config }
+    /// What the history goes on from.
+    pub fn base(&self) -> &Base
+        ensures { result.now ≡ self.now.base }
     {
-        self.config
+        &self.base
+    }
+
+    /// The limits of the book.
+    pub fn limits(&self) -> Limits
+        ensures value { result ≡ self.now.limits }
+        ensures within { AreLimits self.now.limits }
+    {
+        self.limits
     }
 
     /// The moment of a call to which this one was handed in, in seconds.
     pub(crate) fn moment_of_call(&self, handed_in: u64) -> u64
-        ensures { result ≡ at_moment self.now.history handed_in }
+        ensures { result ≡ at_moment (history self.now) handed_in }
     {
         handed_in.max(self.clock)
     }
 
-    /// The room that the history takes in its limit.
-    pub(crate) fn room(&self) -> usize
-        ensures room { result ≡ room self.now.history }
-        ensures bound { result ≤ self.now.config.log_limit }
-        ensures small { result ≤ max_log }
+    /// How many entries are promised to what stands open.
+    pub(crate) fn promised(&self) -> u64
+        ensures value { result ≡ promised (history self.now) }
+        ensures bound { room self.now ≤ most_entries }
     {
-        self.entries.len() + self.waiting.len() + 2 * self.permits.len() + self.runs.len()
+        self.cache.flight_count() + 2 * self.permits.unspent_count() + self.permits.running_count()
     }
-}
 
-// No slot has had a grant.
-fn no_generations(alloc: Global, slots: u64) -> Result<Vec<u64>, AllocError>
-    ensures { IfOk result (λ v. v.items ≡ replicate slots 0) }
-{
-    let mut generations = Vec::new(alloc);
-    generations.resize(slots as usize, 0)?;
-    Ok(generations)
+    /// Whether this many more entries fit under the limit of the log.
+    pub(crate) fn has_room(&self, more: u64) -> bool
+        requires { more ≤ 3 }
+        ensures { IsTrue result ↔ HasRoom self.now more }
+    {
+        self.entries.len() as u64 + self.promised() + more <= self.limits.log_limit
+    }
 }

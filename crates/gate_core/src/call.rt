@@ -1,10 +1,13 @@
 //! The calls of a book as values, and their replies.
+//! RFC 9309, sections 2.2.2, 2.3.1 and 2.4.
 
-use crate::answer::Answer;
-use crate::numbers::{PermitNo, TurnNo};
-use crate::refusal::{AskRefusal, BeginRefusal, Denial, NotOut, Stale, Started};
+use crate::refusal::{AskRefusal, BeginRefusal, Denial, Started, SweepRefusal};
+use crate::state::Standing;
+use authority_cache::{Stale, TurnNo};
 use path_normal::{Authority, PageUrl};
+use permit_book::{NotOut, PermitNo};
 use robots_text::Token;
+use robots_verdict::Answer;
 
 /// A call of a book. Moments are seconds, any that a u64 has.
 #[derive(Debug, Drop)]
@@ -14,11 +17,12 @@ pub enum Call {
         authority: Authority,
         moment: u64,
     },
-    /// Brings the answer of a turn.
+    /// Brings the answer of a turn, with the life in seconds that its reply asked for.
     Arrive {
         authority: Authority,
         turn: TurnNo,
         answer: Answer,
+        life: u64,
         moment: u64,
     },
     /// Asks for a permit.
@@ -42,6 +46,10 @@ pub enum Call {
     Finish {
         number: PermitNo,
     },
+    /// Drops the answers that are older than their lives.
+    Sweep {
+        moment: u64,
+    },
 }
 
 /// What a call was answered: the result of the call of the same name, and what of the call its
@@ -53,10 +61,10 @@ pub enum Reply {
         authority: Authority,
         result: Result<TurnNo, BeginRefusal>,
     },
-    /// To [`Call::Arrive`].
+    /// To [`Call::Arrive`]; of the answer it names what it is in force.
     Arrive {
         authority: Authority,
-        answer: Answer,
+        brought: Standing,
         result: Result<(), Stale>,
     },
     /// To [`Call::Ask`].
@@ -76,5 +84,9 @@ pub enum Reply {
     Finish {
         number: PermitNo,
         result: Result<(), NotOut>,
+    },
+    /// To [`Call::Sweep`]: how many answers were dropped.
+    Sweep {
+        result: Result<u64, SweepRefusal>,
     },
 }

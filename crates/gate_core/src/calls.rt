@@ -1,25 +1,30 @@
 //! A list of calls, answered one after another.
-
-ghost use Rattle.std.specs.Prelude.{◌≡◌, IfOk, OnErr};
-ghost use Rattle.gate_core.specs.Replies.{Step, Replies};
+//! RFC 9309, sections 2.2.2, 2.3.1 and 2.4.
+ghost use Rattle.std.specs.Prelude.{◌≡◌, All, IfOk, OnErr};
+ghost use Rattle.gate_core.specs.Calls.{HasSpare, Replies, Step};
+ghost use Rattle.gate_core.specs.Gate.{history};
 ghost use Rattle.gate_core.specs.Headline.{IsTold, RunTells};
 
 use crate::book::Book;
 use crate::call::{Call, Reply};
 use crate::refusal::NoMemory;
+use crate::state::standing_as;
 use std::alloc::Global;
 
 impl Book {
     /// Makes a call that is given as a value.
-    #[tactic(auto, using(std::proofs::lemmas::Grind::common_steps, crate::proofs::Headlines::step_told))]
     pub fn answer(&mut self, call: Call) -> Reply
+        requires { HasSpare call }
         ensures step { Step self.old call result self.new }
-        ensures told { IsTold self.old.history call result }
+        ensures told { IsTold (history self.old) call result }
     {
+        // A history is legal, so no answer in force is older than a day.
+        let _ = self.history();
         self.make(call)
     }
 
     fn make(&mut self, call: Call) -> Reply
+        requires { HasSpare call }
         ensures { Step self.old call result self.new }
     {
         match call {
@@ -31,12 +36,14 @@ impl Book {
                 authority,
                 turn,
                 answer,
+                life,
                 moment,
             } => {
-                let result = self.arrive(&authority, turn, answer, moment);
+                let brought = standing_as(&answer);
+                let result = self.arrive(&authority, turn, answer, life, moment);
                 Reply::Arrive {
                     authority,
-                    answer,
+                    brought,
                     result,
                 }
             }
@@ -59,6 +66,9 @@ impl Book {
                 number,
                 result: self.finish(number),
             },
+            Call::Sweep { moment } => Reply::Sweep {
+                result: self.sweep(moment),
+            },
         }
     }
 }
@@ -67,10 +77,12 @@ impl Book {
 /// that no call is made where it is refused.
 #[tactic(auto, using(std::proofs::lemmas::Grind::common_steps, crate::proofs::Headlines::run_told))]
 pub fn run(alloc: Global, book: &mut Book, calls: Vec<Call>) -> Result<Vec<Reply>, NoMemory>
+    requires { All HasSpare calls.items }
     ensures replies { IfOk result (λ replies. Replies book.old calls.items replies.items book.new) }
     ensures tells { IfOk result (λ replies. RunTells book.old calls.items replies.items book.new) }
     ensures err { OnErr result (book.new ≡ book.old) }
 {
+    let _ = book.history();
     let Ok(mut replies) = Vec::with_capacity(alloc, calls.len()) else {
         return Err(NoMemory);
     };

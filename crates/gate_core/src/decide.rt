@@ -1,99 +1,74 @@
-//! What the book says of a fetch at a moment: who may ask, and who may start.
-
-ghost use Rattle.std.specs.Prelude.{◌≡◌, ◌==◌, MatchOption};
-ghost use Rattle.std.specs.List.{list_any};
-ghost use Rattle.gate_core.specs.Cause.{Decides};
-ghost use Rattle.gate_core.specs.Outstanding.{stands, is_permit_for, is_unspent, is_running, IsNext, NoneFree};
+//! What the answer in force says of a fetch.
+//! RFC 9309, sections 2.2.2, 2.3.1 and 2.4.
+ghost use Rattle.std.specs.Prelude.{◌≡◌, IfSome};
+ghost use Rattle.robots_verdict.specs.Answer.{said};
+ghost use Rattle.gate_history.specs.Cause.{Decides, IsVerdictOn, outcome_of, Says};
+ghost use Rattle.gate_core.specs.Gate.{history};
+ghost use Rattle.gate_core.specs.Judged.{IsRuling};
 
 use crate::book::Book;
-use crate::config::SLOTS_PER_GENERATION;
-use crate::judge::{judge, standing_for};
-use crate::numbers::PermitNo;
-use crate::outcome::{Cause, Reason};
-use crate::slots::{generation_after, lowest_free};
-use crate::standing::Permit;
+use crate::judged::Ruling;
+use authority_cache::Look;
+use gate_history::{Cause, Reason};
 use path_normal::PageUrl;
 use robots_text::Token;
-
-impl Permit {
-    ghost use Rattle.gate_core.specs.Outstanding.{is_permit_for};
-
-    /// Whether this is the permit of that number for that token and URL.
-    pub fn is_for(&self, number: PermitNo, token: &Token, url: &PageUrl) -> bool
-        ensures { result ≡ is_permit_for number token.now url.now self.now }
-    {
-        self.number == number && (self.token == *token && self.url == *url)
-    }
-
-    /// Whether the permit has this number.
-    pub fn has_number(&self, number: PermitNo) -> bool
-        ensures { result ≡ (self.now.number == number) }
-    {
-        self.number == number
-    }
-}
+use robots_verdict::{Allowed, Answer, Policy, Verdict};
 
 impl Book {
-    // What the answer that stands says of a fetch at this moment of the gate.
-    pub(crate) fn decide(&self, token: &Token, url: &PageUrl, moment: u64) -> Result<Reason, Cause>
-        ensures { Decides self.now.history token.now url.now moment result }
+    // What stands for the URL's authority says of its fetch at this moment of the gate.
+    pub(crate) fn decide(
+        &self,
+        token: &Token,
+        url: &PageUrl,
+        ruling: Option<&Ruling>,
+        moment: u64,
+    ) -> Result<Reason, Cause>
+        requires { IfSome ruling (λ ruling. IsRuling token.now url.now ruling.now) }
+        ensures { Decides (history self.now) token.now url.now moment result }
     {
-        judge(
-            standing_for(self.answers.as_slice(), url),
-            token,
-            url,
-            moment,
-        )
-    }
-
-    // Whether an unspent permit of that number for that token and URL stands.
-    pub(crate) fn stands(&self, number: PermitNo, token: &Token, url: &PageUrl) -> bool
-        ensures { result ≡ stands self.now.history number token.now url.now }
-    {
-        any_permit_for(self.permits.as_slice(), number, token, url)
-    }
-
-    // Whether an unspent permit of that number stands.
-    pub(crate) fn is_unspent(&self, number: PermitNo) -> bool
-        ensures { result ≡ is_unspent self.now.history number }
-    {
-        any_unspent(self.permits.as_slice(), number)
-    }
-
-    // Whether a fetch under that number is running.
-    pub(crate) fn is_running(&self, number: PermitNo) -> bool
-        ensures { result ≡ is_running self.now.history number }
-    {
-        any_running(self.runs.as_slice(), number)
-    }
-
-    // The number that the next grant gets, where a slot is free.
-    pub(crate) fn next_number(&self) -> Option<PermitNo>
-        ensures { MatchOption result (NoneFree self.now.config self.now.history)
-            (IsNext self.now.config self.now.history) }
-    {
-        let generations = self.generations.as_slice();
-        let slot = lowest_free(self.permits.as_slice(), self.runs.as_slice(), generations)?;
-        let greatest = generations[slot as usize];
-        let generation = generation_after(self.config.first_generation, greatest);
-        Some(PermitNo::new(generation * SLOTS_PER_GENERATION + slot))
+        match self.cache.look(url.authority(), moment) {
+            Look::Unknown => Err(Cause::Unknown),
+            Look::Expired => Err(Cause::Expired),
+            Look::InForce(answer) => says(answer, token, url, ruling),
+        }
     }
 }
 
-fn any_permit_for(permits: &[Permit], number: PermitNo, token: &Token, url: &PageUrl) -> bool
-    ensures { result ≡ list_any (is_permit_for number token.now url.now) permits.now }
+// What an answer in force says of a fetch.
+fn says(
+    answer: &Answer,
+    token: &Token,
+    url: &PageUrl,
+    ruling: Option<&Ruling>,
+) -> Result<Reason, Cause>
+    requires { IfSome ruling (λ ruling. IsRuling token.now url.now ruling.now) }
+    ensures { Says (said answer.now) token.now url.now result }
 {
-    permits.iter().any(|p| p.is_for(number, token, url))
+    match answer {
+        Answer::Rules(rules) => outcome_of(verdict_on(rules.policy(), token, url, ruling)),
+        Answer::Open(_) => Ok(Reason::Open),
+        Answer::Closed(_) => Err(Cause::Closed),
+    }
 }
 
-fn any_unspent(permits: &[Permit], number: PermitNo) -> bool
-    ensures { result ≡ list_any (λ p. p.number == number) permits.now }
+// The policy's verdict, which is at hand where it was found under an equal text.
+fn verdict_on(policy: &Policy, token: &Token, url: &PageUrl, ruling: Option<&Ruling>) -> Verdict
+    requires { IfSome ruling (λ ruling. IsRuling token.now url.now ruling.now) }
+    ensures { IsVerdictOn policy.now token.now url.now result }
 {
-    permits.iter().any(|p| p.has_number(number))
+    match ruling {
+        Some(ruling) if ruling.policy.text().bytes() == policy.text().bytes() => ruling.verdict,
+        _ => policy.verdict(token, url.path_to_match()),
+    }
 }
 
-fn any_running(runs: &[PermitNo], number: PermitNo) -> bool
-    ensures { result ≡ list_any (λ n. n == number) runs.now }
+fn outcome_of(verdict: Verdict) -> Result<Reason, Cause>
+    ensures { result ≡ outcome_of verdict }
 {
-    runs.iter().any(|n| *n == number)
+    match verdict {
+        Verdict::Allow(Allowed::Line(line)) => Ok(Reason::Line(line)),
+        Verdict::Allow(Allowed::NoRule) => Ok(Reason::NoRule),
+        Verdict::Allow(Allowed::RobotsPath) => Ok(Reason::RobotsPath),
+        Verdict::Deny(line) => Err(Cause::Line(line)),
+    }
 }

@@ -1,23 +1,16 @@
 //! What the calls of the gate answer in place of what was asked.
-
+//! RFC 9309, sections 2.2.2, 2.3.1 and 2.4.
 ghost use Rattle.std.specs.Prelude.{◌≡◌};
 ghost use Rattle.path_normal.specs.PageText.{authority_of};
 
-use crate::numbers::PermitNo;
-use crate::outcome::{Cause, Reason};
+use gate_history::{Cause, Reason};
 use path_normal::PageUrl;
+use permit_book::PermitNo;
+use std::alloc::AllocError;
 
 /// A growth of memory was refused, and nothing has changed.
 #[derive(Clone, Copy, Debug, PartialEq, Eq)]
 pub struct NoMemory;
-
-/// The turn is not in flight for the authority.
-#[derive(Clone, Copy, Debug, PartialEq, Eq)]
-pub struct Stale;
-
-/// No permit of that number is out in the state that the call needs.
-#[derive(Clone, Copy, Debug, PartialEq, Eq)]
-pub struct NotOut;
 
 /// Why no turn was begun. Nothing has changed.
 #[derive(Clone, Copy, Debug, PartialEq, Eq)]
@@ -39,6 +32,8 @@ pub enum AskRefusal {
     LogFull,
     /// The robots answer does not allow it.
     Denied(Denial),
+    /// As many permits are out for the URL's authority as may be.
+    Busy,
     /// No slot is free.
     PermitsFull,
     /// A growth of memory was refused.
@@ -81,4 +76,63 @@ pub struct Started {
     pub url: PageUrl,
     /// Why it is allowed.
     pub reason: Reason,
+}
+
+impl From<AllocError> for NoMemory {
+    ghost use Rattle.std.specs.Prelude.{◌≡◌};
+    ghost use Rattle.gate_core.specs.declared.refusal.NoMemory.{NoMemory};
+
+    ghost from_gives = { λ _ refusal. refusal ≡ record {} };
+
+    fn from(_: AllocError) -> NoMemory {
+        NoMemory
+    }
+}
+
+impl From<AllocError> for BeginRefusal {
+    ghost use Rattle.std.specs.Prelude.{◌≡◌};
+    ghost use Rattle.gate_core.specs.declared.refusal.BeginRefusal.{BeginRefusal};
+
+    ghost from_gives = { λ _ refusal. refusal ≡ BeginRefusal.NoMemory };
+
+    fn from(_: AllocError) -> BeginRefusal {
+        BeginRefusal::NoMemory
+    }
+}
+
+impl From<AllocError> for AskRefusal {
+    ghost use Rattle.std.specs.Prelude.{◌≡◌};
+    ghost use Rattle.gate_core.specs.declared.refusal.AskRefusal.{AskRefusal};
+
+    ghost from_gives = { λ _ refusal. refusal ≡ AskRefusal.NoMemory };
+
+    fn from(_: AllocError) -> AskRefusal {
+        AskRefusal::NoMemory
+    }
+}
+
+impl From<AllocError> for SweepRefusal {
+    ghost use Rattle.std.specs.Prelude.{◌≡◌};
+    ghost use Rattle.gate_core.specs.declared.refusal.SweepRefusal.{SweepRefusal};
+
+    ghost from_gives = { λ _ refusal. refusal ≡ SweepRefusal.NoMemory };
+
+    fn from(_: AllocError) -> SweepRefusal {
+        SweepRefusal::NoMemory
+    }
+}
+
+impl From<authority_cache::BeginRefusal> for BeginRefusal {
+    ghost use Rattle.std.specs.Prelude.{◌≡◌};
+    ghost use Rattle.gate_core.specs.Refused.{begin_refusal};
+
+    ghost from_gives = { λ refusal result. result ≡ begin_refusal refusal };
+
+    fn from(refusal: authority_cache::BeginRefusal) -> BeginRefusal {
+        match refusal {
+            authority_cache::BeginRefusal::InFlight => BeginRefusal::InFlight,
+            authority_cache::BeginRefusal::AuthoritiesFull => BeginRefusal::AuthoritiesFull,
+            authority_cache::BeginRefusal::NoMemory => BeginRefusal::NoMemory,
+        }
+    }
 }

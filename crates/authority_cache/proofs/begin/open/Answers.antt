@@ -3,6 +3,7 @@ use Rattle.std.proofs.Common.{◌≡◌, ◌<◌, ◌≤◌, ◌++◌, ◌∷◌
 use Rattle.authority_cache.specs.Kept.{known_in, said_entries}
 use Rattle.authority_cache.specs.Sites.{is_flying, nothing, with_flight}
 use Rattle.authority_cache.proofs.SiteLaws.{begun-known, begun-new, full, known-new, state-none, written}
+use Rattle.authority_cache.proofs.SweepLaws.{apart_from}
 use Rattle.authority_cache.proofs.begin.open.Goals as goal
 
 pub returns-in-Some-clause-reply : goal.returns-in-Some-clause-reply
@@ -45,3 +46,12 @@ returns-else-is_full-clause-known c =
     let added = subst (λ m. OnOk c.add.result (said_entries c.add.new.sites.entries ≡ said_entries m.entries ++ (c.args.authority.now, with_flight c.args.flight nothing) ∷ [])) old c.add.ensures.ok in
     let same = subst (λ m. OnErr c.add.result (c.add.new.sites.entries ≡ m.entries)) old c.add.ensures.same in
     known-new c.args.authority.now c.args.flight c.args.sites.now.entries c.add.new.sites.entries c.add.result c.requires added same
+
+pub returns-in-Some-clause-apart : goal.returns-in-Some-clause-apart
+returns-in-Some-clause-apart c = apart_from c.args.sites.now.entries c.len.ensures.unique
+
+pub returns-then-is_full-clause-apart : goal.returns-then-is_full-clause-apart
+returns-then-is_full-clause-apart c = apart_from c.args.sites.now.entries c.len.ensures.unique
+
+pub returns-else-is_full-clause-apart : goal.returns-else-is_full-clause-apart
+returns-else-is_full-clause-apart c = apart_from c.args.sites.now.entries c.len.ensures.unique

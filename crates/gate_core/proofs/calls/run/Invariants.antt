@@ -1,6 +1,6 @@
 -- The calls so far have their replies, and the rest have their room.
 use Rattle.std.proofs.Common.{◌+◌, ◌≤◌, vec_len, vec_capacity}
-use Rattle.gate_core.specs.Replies.{Replies}
+use Rattle.gate_core.specs.Calls.{Replies}
 use Rattle.gate_core.proofs.calls.run.Given as goal
 
 abbrev pub invariant-loop-call : goal.invariant-loop-call

@@ -1,89 +1,67 @@
--- The turn that is taken out is the one that the arrival answers.
-use Rattle.std.proofs.Common.{◌≡◌, ◌+◌, ◌≤◌, ◌++◌, ◌∷◌, List, true, not, ap, arith, rules, length, refl, ◌∙◌, subst, length-append}
-use Rattle.std.specs.Prelude.{bytes_eq, vec_len}
-use Rattle.std.specs.List.{filter}
-use Rattle.std.proofs.lemmas.List.{map-append}
-use Rattle.gate_core.specs.declared.standing.Turn.{Turn}
-use Rattle.gate_core.specs.declared.standing.Standing.{Standing}
-use Rattle.gate_core.specs.Gate.{Gate}
-use Rattle.gate_core.specs.History.{now, at_moment}
-use Rattle.gate_core.specs.Standing.{has_turn, answered}
-use Rattle.gate_core.specs.Kept.{Tells, turns_of}
-use Rattle.gate_core.proofs.Lists.{length_push, filter_no_longer, one_more}
-use Rattle.gate_core.proofs.Entries.{Tells-arrived}
-use Rattle.gate_core.proofs.Space.{HasSpace-arrived}
-use Rattle.gate_core.proofs.Outcomes.{has_turn-none, has_turn-taken, adds_by}
+-- The answer stands.
+-- The lemmas of `Keeping` say what that keeps.
+use Rattle.std.proofs.Common.{◌≡◌, ◌+◌, ◌<◌, ◌≤◌, ◌∷◌, ◌++◌, [], ℕ, List, true, false, Some, Ok, Err, length, sym, ap, ◌∙◌, subst, arith}
+use Rattle.std.specs.Prelude.{Option, unwrap_or}
+use Rattle.robots_verdict.specs.Answer.{said}
+use Rattle.robots_verdict.specs.declared.said.Said.{Said}
+use Rattle.authority_cache.specs.Calls.{Arrives as CacheArrives, Changes}
+use Rattle.authority_cache.specs.Lives.{life_of}
+use Rattle.authority_cache.specs.Sites.{arrived, site_of}
+use Rattle.gate_history.specs.declared.entry.Entry.TheVariants.{Arrived}
+use Rattle.gate_history.specs.Standing.{has_turn}
+use Rattle.gate_core.specs.Gate.{Adds, Gate, history}
+use Rattle.gate_core.specs.Replies.{Arrives, moment_at}
+use Rattle.gate_core.proofs.Keeping.{adds_of, arrived_kept, late_moment, life_again, told, turn_named, turn_promised, turn_stands}
+use Rattle.gate_core.proofs.Refusing.{arrives_refused}
 use Rattle.gate_core.proofs.book.Book.arrive.Goals as goal
 
-pub returns-in-None : goal.returns-in-None
-returns-in-None c =
-    let history : c.self.inside.entries.items ≡ c.args.self.now.history = ap (λ (g : Gate). g.history) c.self.view_is in (
-      rw (← history) (has_turn-none c.self.inside.waiting.items c.args.authority.now c.args.turn c.self.invariant.tells (rw (← c.text.ensures.value) c.in-None.ensures.none)),
-      c.self.view_is,
-    )
+pub returns-in_err-arrive : goal.returns-in_err-arrive
+returns-in_err-arrive c =
+    arrives_refused c.self.inside c.self.invariant c.args.self.now c.self.view_is c.args.authority.now c.args.turn (said c.args.answer) c.args.life c.args.moment
+    c.from_residual.result c.from_residual.ensures.0 c.in_err-arrive.ensures.0
 
-pub push_reserved-requires-2 : goal.push_reserved-requires-2
-push_reserved-requires-2 c =
-    let taken = c.in-Some.ensures.taken in
-    let turns : length c.self.inside.waiting.items ≡ length taken.before + length (c.in-Some.waiting ∷ taken.after) = rw taken.was (length-append taken.before _) in
-    let kept : vec_len c.drop_answers.new.answers ≡ length c.drop_answers.new.answers.items = search rules in
-    let fewer : length c.drop_answers.new.answers.items ≤ length c.self.inside.answers.items = rw c.drop_answers.ensures.items (filter_no_longer _ _) in
-    let room = c.self.invariant.space.answer_room in
-    let same = c.drop_answers.ensures.capacity in
-    omega arith
+pub unreachable-requires : goal.unreachable-requires
+unreachable-requires c =
+    c.in_default.not-Some c.args.authority.now (c.take.ensures.name ∙ turn_named c.self.inside c.self.invariant c.args.authority.now c.args.turn c.in_ok-arrive.ensures.0)
+
+pub push_reserved-requires : goal.push_reserved-requires
+push_reserved-requires c =
+    omega (arith, turn_promised c.self.inside c.self.invariant c.args.authority.now c.args.turn c.in_ok-arrive.ensures.0, c.self.inside.entries.ok.0)
 
 pub invariant_of-self-2 : goal.invariant_of-self-2
 invariant_of-self-2 c =
-    let taken = c.in-Some.ensures.taken in
-    let t = c.in-Some.waiting.turn in
-    let history : c.self.inside.entries.items ≡ c.args.self.now.history = ap (λ (g : Gate). g.history) c.self.view_is in
-    let late : now c.self.inside.entries.items ≤ c.moment_of_call-moment.result = rw (c.moment_of_call-moment.ensures, history) (omega arith) in
-    let spare : c.in-Some.waiting.spare ≡ c.args.authority.now = c.in-Some.waiting.same ∙ c.in-Some.ensures.authority ∙ c.text.ensures.value in
-    let authority : t.authority ≡ c.args.authority.now = c.in-Some.ensures.authority ∙ c.text.ensures.value in
-    let number : t.turn ≡ c.args.turn = c.in-Some.ensures.turn in
-    let parts : turns_of c.self.inside.waiting.items ≡ turns_of taken.before ++ t ∷ turns_of taken.after = rw taken.was (map-append _ taken.before _) in
-    let tells = subst (λ (ts : List Turn). Tells c.self.inside.entries.items c.self.inside.clock c.self.inside.begins ts c.self.inside.answers.items
-    c.self.inside.permits.items c.self.inside.runs.items c.self.inside.generations.items) parts c.self.invariant.tells in
-    let flying : has_turn c.self.inside.entries.items c.args.authority.now c.args.turn ≡ true =
-    has_turn-taken (turns_of taken.before) t (turns_of taken.after) _ _ tells number authority in
-    let standing : answered c.args.answer t ≡ record { authority = t.authority; turn = c.args.turn; begun = t.begun; answer = c.args.answer } = rw number refl in
-    let turns : length c.self.inside.waiting.items ≡ length c.take_turn.new.waiting.items + 1 =
-    rw (taken.was, taken.left) (one_more taken.before c.in-Some.waiting taken.after) in
-    let fewer = filter_no_longer (λ (s : Standing). not (bytes_eq s.authority c.args.authority.now)) c.self.inside.answers.items in
-    let dropped : c.drop_answers.new.answers.items ≡ filter (λ s. not (bytes_eq s.authority c.args.authority.now)) c.self.inside.answers.items =
-    rw (← c.text-2.ensures.value) c.drop_answers.ensures.items in
-    record {
-      config = c.self.invariant.config;
-      slots = c.self.invariant.slots;
-      tells =
-          rw (c.push_reserved.ensures.items, c.push_reserved-2.ensures.items, dropped, spare, taken.left, map-append, ← standing)
-          (Tells-arrived c.moment_of_call-moment.result c.args.authority.now c.args.turn c.args.answer (turns_of taken.before) t (turns_of taken.after)
-          tells (late, flying) number);
-      space =
-          rw (
-            c.push_reserved.ensures.items,
-            c.push_reserved.ensures.capacity,
-            c.push_reserved-2.ensures.items,
-            c.push_reserved-2.ensures.capacity,
-            c.drop_answers.ensures.capacity,
-            dropped,
-          )
-          (HasSpace-arrived c.self.invariant.space (length_push _ _) turns (omega (arith, length_push {X = Standing}, fewer)));
-    }
+    let b = c.self.inside in
+    let authority = c.args.authority.now in
+    let what = said c.args.answer in
+    let moment = c.moment_of_call-moment.result in
+    let late = late_moment b c.args.self.now c.self.view_is c.args.moment moment c.moment_of_call-moment.ensures in
+    let says_is : c.into_said-says.result ≡ what = c.into_said-says.ensures ∙ c.twin.ensures.says in
+    let life_is : c.life_of-life.result ≡ life_of what c.args.life = c.life_of-life.ensures ∙ ap (λ (s : Said). life_of s c.args.life) c.twin.ensures.stays in
+    let flying = c.in_ok-arrive.ensures.0 in
+    let name_is : c.in-Some.name ≡ authority =
+    ap (λ (o : Option (List ℕ)). unwrap_or o authority) (sym c.in-Some.is ∙ c.take.ensures.name ∙ turn_named b c.self.invariant authority c.args.turn flying) in
+    arrived_kept b c.self.invariant c.push_reserved.new.self c.arrive.new.self c.take.new.self moment c.args.turn authority what c.args.life late flying
+    (subst (λ (l : ℕ). Changes b.cache authority (arrived c.args.turn what l (site_of b.cache authority)) c.arrive.new.self) life_is
+    (subst (λ (s : Said). Changes b.cache authority (arrived c.args.turn s c.life_of-life.result (site_of b.cache authority)) c.arrive.new.self) c.twin.ensures.stays c.in_ok-arrive.ensures.1))
+    c.take.ensures.taken
+    (c.push_reserved.ensures.items ∙ (λ i. b.entries.items ++ Arrived moment (name_is i) c.args.turn (says_is i) (life_is i) ∷ [])) c.push_reserved.ensures.capacity
 
 pub returns : goal.returns
 returns c =
-    let taken = c.in-Some.ensures.taken in
-    let t = c.in-Some.waiting.turn in
-    let history : c.self.inside.entries.items ≡ c.args.self.now.history = ap (λ (g : Gate). g.history) c.self.view_is in
-    let late : now c.self.inside.entries.items ≤ at_moment c.args.self.now.history c.args.moment = rw history (omega arith) in
-    let spare : c.in-Some.waiting.spare ≡ c.args.authority.now = c.in-Some.waiting.same ∙ c.in-Some.ensures.authority ∙ c.text.ensures.value in
-    let authority : t.authority ≡ c.args.authority.now = c.in-Some.ensures.authority ∙ c.text.ensures.value in
-    let parts : turns_of c.self.inside.waiting.items ≡ turns_of taken.before ++ t ∷ turns_of taken.after = rw taken.was (map-append _ taken.before _) in
-    let tells = subst (λ (ts : List Turn). Tells c.self.inside.entries.items c.self.inside.clock c.self.inside.begins ts c.self.inside.answers.items
-    c.self.inside.permits.items c.self.inside.runs.items c.self.inside.generations.items) parts c.self.invariant.tells in
-    let flying : has_turn c.self.inside.entries.items c.args.authority.now c.args.turn ≡ true =
-    has_turn-taken (turns_of taken.before) t (turns_of taken.after) _ _ tells c.in-Some.ensures.turn authority in (
-      rw (← history) flying,
-      adds_by _ _ _ c.self.view_is (rw (c.push_reserved.ensures.items, spare, c.moment_of_call-moment.ensures) refl) (late, flying),
+    let b = c.self.inside in
+    let authority = c.args.authority.now in
+    let what = said c.args.answer in
+    let moment = c.moment_of_call-moment.result in
+    let late = late_moment b c.args.self.now c.self.view_is c.args.moment moment c.moment_of_call-moment.ensures in
+    let says_is : c.into_said-says.result ≡ what = c.into_said-says.ensures ∙ c.twin.ensures.says in
+    let life_is : c.life_of-life.result ≡ life_of what c.args.life = c.life_of-life.ensures ∙ ap (λ (s : Said). life_of s c.args.life) c.twin.ensures.stays in
+    let flying = c.in_ok-arrive.ensures.0 in
+    let name_is : c.in-Some.name ≡ authority =
+    ap (λ (o : Option (List ℕ)). unwrap_or o authority) (sym c.in-Some.is ∙ c.take.ensures.name ∙ turn_named b c.self.invariant authority c.args.turn flying) in
+    let stands = turn_stands b c.self.invariant authority c.args.turn flying in
+    let entry = Arrived moment authority c.args.turn what (life_of what c.args.life) in
+    let adds = adds_of b c.args.self.now entry c.push_reserved.new.self.items c.self.view_is
+    (c.push_reserved.ensures.items ∙ (λ i. b.entries.items ++ Arrived moment (name_is i) c.args.turn (says_is i) (life_is i) ∷ [])) (late, stands, life_again what c.args.life) in (
+      subst (λ (g : Gate). has_turn (history g) authority c.args.turn ≡ true) c.self.view_is stands,
+      subst (λ (m : ℕ). Adds c.args.self.now (Arrived m authority c.args.turn what (life_of what c.args.life)) (record { limits = b.limits; base = b.base; entries = c.push_reserved.new.self.items })) c.moment_of_call-moment.ensures adds,
     )

@@ -1,22 +1,26 @@
--- The number is out, so its end is a legal entry in the place of what it had.
-use Rattle.std.proofs.Common.{◌≡◌, ◌==◌, true, ap, rules}
-use Rattle.gate_core.specs.Gate.{Gate}
-use Rattle.gate_core.specs.Outstanding.{is_unspent}
-use Rattle.gate_core.proofs.Lists.{length_push, filter_shorter}
-use Rattle.gate_core.proofs.Entries.{Tells-returned}
-use Rattle.gate_core.proofs.Space.{HasSpace-spent}
+-- The permit is out no more.
+-- The lemmas of `Keeping` and `Ending` say what that keeps, and what is refused.
+use Rattle.std.proofs.Common.{◌≡◌, true, refl, sym, ap, ◌∙◌, subst}
+use Rattle.gate_history.specs.declared.entry.Entry.TheVariants.{Returned}
+use Rattle.gate_history.specs.Outstanding.{is_unspent}
+use Rattle.gate_core.specs.Gate.{Gate, history}
+use Rattle.gate_core.proofs.Ending.{not_unspent}
+use Rattle.gate_core.proofs.Keeping.{adds_of, reads, returned_kept}
 use Rattle.gate_core.proofs.book.Book.back.Goals as goal
 
-pub invariant_of-self : goal.invariant_of-self
-invariant_of-self c =
-    let history : c.self.inside.entries.items ≡ c.args.self.now.history = ap (λ (g : Gate). g.history) c.self.view_is in
-    let out : is_unspent c.self.inside.entries.items c.args.number ≡ true = search rules in
-    let shorter = filter_shorter (λ p. p.number == c.args.number) c.self.inside.permits.items (rw c.self.invariant.tells.permits_are out) in
-    record {
-      config = c.self.invariant.config;
-      slots = c.self.invariant.slots;
-      tells = rw (c.push_reserved.ensures.items, c.drop_permit.ensures.items) (Tells-returned c.args.number c.self.invariant.tells out);
-      space =
-          rw (c.push_reserved.ensures.items, c.push_reserved.ensures.capacity, c.drop_permit.ensures.items)
-          (HasSpace-spent c.self.invariant.space (length_push _ _) shorter);
-    }
+pub returns-in_err-give_back : goal.returns-in_err-give_back
+returns-in_err-give_back c =
+    not_unspent c.self.inside c.self.invariant c.args.self.now c.self.view_is c.args.number c.give_back.result c.in_err-give_back.field-0.0 c.in_err-give_back.was
+    c.give_back.ensures.out c.from_residual.result c.from_residual.ensures.0
+
+pub invariant_of-self-2 : goal.invariant_of-self-2
+invariant_of-self-2 c =
+    returned_kept c.self.inside c.self.invariant c.push_reserved.new.self c.args.number c.give_back.new.self (c.in_ok-give_back.ensures.out.0 refl)
+    c.push_reserved.ensures.items c.push_reserved.ensures.capacity c.in_ok-give_back.ensures.ok
+
+pub returns : goal.returns
+returns c =
+    let out = sym ((reads c.self.inside c.self.invariant c.self.inside.entries).unspent_numbers c.args.number) ∙ c.in_ok-give_back.ensures.out.0 refl in (
+      subst (λ (g : Gate). is_unspent (history g) c.args.number ≡ true) c.self.view_is out,
+      adds_of c.self.inside c.args.self.now (Returned c.args.number) c.push_reserved.new.self.items c.self.view_is c.push_reserved.ensures.items out,
+    )

@@ -1,33 +1,19 @@
--- The denied ask is a legal entry, for which room was made.
-use Rattle.std.proofs.Common.{◌≡◌, ◌+◌, ◌≤◌, ap, arith, rules, length}
-use Rattle.gate_core.specs.Gate.{Gate, room}
-use Rattle.gate_core.specs.History.{now}
-use Rattle.gate_core.specs.Cause.{Decides}
-use Rattle.std.specs.Prelude.{Err}
-use Rattle.gate_core.proofs.Lists.{length_push}
-use Rattle.gate_core.proofs.Entries.{Tells-ask_denied}
-use Rattle.gate_core.proofs.Space.{room_is, HasSpace-denied}
+-- A denied ask is an entry, and else nothing changes.
+-- The lemmas of `Keeping` say what that keeps.
+use Rattle.std.proofs.Common.{◌≡◌, ◌+◌, ◌≤◌, ◌∷◌, ◌++◌, [], ℕ, length, sym, ap, ◌∙◌, subst, arith}
+use Rattle.permit_book.specs.declared.out.Fetch.{Fetch}
+use Rattle.gate_history.specs.declared.entry.Entry.TheVariants.{AskDenied}
+use Rattle.gate_history.specs.Legal.{MayFollow}
+use Rattle.gate_core.specs.Gate.{Gate, HasRoom, history, promised}
+use Rattle.gate_core.proofs.Keeping.{ask_denied_kept, told}
 use Rattle.gate_core.proofs.book.Book.deny.Goals as goal
 
 pub invariant_of-self-2 : goal.invariant_of-self-2
 invariant_of-self-2 c =
-    let history : c.self.inside.entries.items ≡ c.args.self.now.history = ap (λ (g : Gate). g.history) c.self.view_is in
-    let late : now c.self.inside.entries.items ≤ c.args.moment = rw history c.requires.late in
-    let decided : Decides c.self.inside.entries.items c.args.token c.in-Ok.kept c.args.moment (Err c.args.cause) = rw (history, c.in-Ok.ensures) c.requires.decided in
-    let room_left : room c.self.inside.entries.items + 3 ≤ c.self.inside.config.log_limit = search rules in
-    let is = room_is c.self.inside.waiting.items c.self.invariant.tells in
-    let waiting : c.len.result ≡ length c.self.inside.waiting.items = search rules in
-    let permits : c.len-2.result ≡ length c.self.inside.permits.items = search rules in
-    let runs : c.len-3.result ≡ length c.self.inside.runs.items = search rules in
-    let entries : c.self.inside.entries.len ≡ length c.self.inside.entries.items = search rules in
-    let made = c.in-Ok-reserve.ensures.ok in
-    record {
-      config = c.self.invariant.config;
-      slots = c.self.invariant.slots;
-      tells =
-          rw (c.push_reserved.ensures.items, c.reserve.ensures.items)
-          (Tells-ask_denied c.args.moment c.args.token c.in-Ok.kept c.args.cause c.self.invariant.tells (late, decided));
-      space =
-          rw (c.push_reserved.ensures.items, c.reserve.ensures.items)
-          (HasSpace-denied c.self.invariant.space (length_push _ _) (omega arith) (omega (arith, made, c.push_reserved.ensures.capacity, c.reserve.ensures.len)));
-    }
+    let b = c.self.inside in
+    let fetch : Fetch = record { token = c.args.token; url = c.args.url } in
+    let fit = subst (λ (g : Gate). MayFollow (history g) (AskDenied c.args.moment fetch c.args.cause)) (sym c.self.view_is) (c.requires.late, c.requires.decided) in
+    let free = subst (λ (g : Gate). HasRoom g 3) (sym c.self.view_is) c.requires.room in
+    ask_denied_kept b c.self.invariant c.push_reserved.new.self c.args.moment fetch c.args.cause fit
+    (c.push_reserved.ensures.items ∙ (λ i. c.in_ok-reserve.ensures.items i ++ AskDenied c.args.moment (c.in_ok-fetch.ensures i) c.args.cause ∷ []))
+    (omega (arith, c.push_reserved.ensures.capacity, c.in_ok-reserve.ensures.ok, c.promised-promised.ensures.value, ap (λ (g : Gate). promised (history g)) c.self.view_is)) free

@@ -1,37 +1,20 @@
--- The start spends the unspent permit of its number.
-use Rattle.std.proofs.Common.{◌≡◌, ◌≤◌, true, ap, ◌==◌, subst, sym}
-use Rattle.gate_core.specs.Gate.{Gate}
-use Rattle.gate_core.specs.History.{now}
-use Rattle.gate_core.specs.Outstanding.{is_unspent}
-use Rattle.std.specs.Prelude.{List, Err}
-use Rattle.gate_core.specs.declared.entry.Entry.{Entry}
-use Rattle.gate_core.specs.Legal.{SpendsAs}
-use Rattle.gate_core.proofs.Lists.{length_push, filter_shorter}
-use Rattle.gate_core.proofs.Entries.{Tells-start_denied}
-use Rattle.gate_core.proofs.Space.{HasSpace-spent}
-use Rattle.gate_core.proofs.Outcomes.{is_unspent-stands, adds_by}
+-- The permit is spent.
+-- The lemmas of `Keeping` say what that keeps.
+use Rattle.std.proofs.Common.{Err, sym, subst}
+use Rattle.gate_history.specs.declared.entry.Entry.TheVariants.{StartDenied}
+use Rattle.gate_history.specs.Legal.{MayFollow, SpendsAs}
+use Rattle.gate_core.specs.Gate.{Gate, history}
+use Rattle.gate_core.proofs.Keeping.{denied_kept, spends_out}
 use Rattle.gate_core.proofs.book.Book.enter_denial.Goals as goal
+
+pub decide-requires : goal.decide-requires
+decide-requires c =
+    spends_out c.self.inside c.self.invariant c.self.inside.entries c.args.number c.args.moment (Err c.args.cause)
+    (subst (λ (g : Gate). SpendsAs (history g) c.args.number c.args.moment (Err c.args.cause)) (sym c.self.view_is) c.requires.spends)
 
 pub invariant_of-self : goal.invariant_of-self
 invariant_of-self c =
-    let history : c.self.inside.entries.items ≡ c.args.self.now.history = ap (λ (g : Gate). g.history) c.self.view_is in
-    let late : now c.self.inside.entries.items ≤ c.args.moment = rw history c.requires.late in
-    let spends = subst (λ (h : List Entry). SpendsAs h c.args.number c.args.moment (Err c.args.cause)) (sym history) c.requires.spends in
-    let unspent : is_unspent c.self.inside.entries.items c.args.number ≡ true =
-    rw history (is_unspent-stands c.args.self.now.history c.args.number c.requires.spends.0 c.requires.spends.1.0 c.requires.spends.1.1.0) in
-    let shorter = filter_shorter (λ p. p.number == c.args.number) c.self.inside.permits.items (rw c.self.invariant.tells.permits_are unspent) in
-    record {
-      config = c.self.invariant.config;
-      slots = c.self.invariant.slots;
-      tells = rw (c.push_reserved.ensures.items, c.drop_permit.ensures.items) (Tells-start_denied c.args.moment c.args.number c.args.cause c.self.invariant.tells (late, spends));
-      space =
-          rw (c.push_reserved.ensures.items, c.push_reserved.ensures.capacity, c.drop_permit.ensures.items)
-          (HasSpace-spent c.self.invariant.space (length_push _ _) shorter);
-    }
-
-pub returns : goal.returns
-returns c =
-    let history : c.self.inside.entries.items ≡ c.args.self.now.history = ap (λ (g : Gate). g.history) c.self.view_is in
-    let late : now c.self.inside.entries.items ≤ c.args.moment = rw history c.requires.late in
-    let spends = subst (λ (h : List Entry). SpendsAs h c.args.number c.args.moment (Err c.args.cause)) (sym history) c.requires.spends in
-    adds_by _ _ _ c.self.view_is c.push_reserved.ensures.items (late, spends)
+    let fit = subst (λ (g : Gate). MayFollow (history g) (StartDenied c.args.moment c.args.number c.args.cause)) (sym c.self.view_is) (c.requires.late, c.requires.spends) in
+    denied_kept c.self.inside c.self.invariant c.push_reserved.new.self c.args.moment c.args.number c.args.cause c.decide.new.self fit
+    (spends_out c.self.inside c.self.invariant c.self.inside.entries c.args.number c.args.moment (Err c.args.cause) fit.1)
+    c.push_reserved.ensures.items c.push_reserved.ensures.capacity c.decide.ensures

@@ -1,22 +1,26 @@
--- The number is out, so its end is a legal entry in the place of what it had.
-use Rattle.std.proofs.Common.{◌≡◌, ◌==◌, true, ap, rules}
-use Rattle.gate_core.specs.Gate.{Gate}
-use Rattle.gate_core.specs.Outstanding.{is_running}
-use Rattle.gate_core.proofs.Lists.{length_push, filter_shorter}
-use Rattle.gate_core.proofs.Entries.{Tells-finished}
-use Rattle.gate_core.proofs.Space.{HasSpace-finished}
+-- The permit is out no more.
+-- The lemmas of `Keeping` and `Ending` say what that keeps, and what is refused.
+use Rattle.std.proofs.Common.{◌≡◌, true, refl, sym, ap, ◌∙◌, subst}
+use Rattle.gate_history.specs.declared.entry.Entry.TheVariants.{Finished}
+use Rattle.gate_history.specs.Outstanding.{is_running}
+use Rattle.gate_core.specs.Gate.{Gate, history}
+use Rattle.gate_core.proofs.Ending.{not_running}
+use Rattle.gate_core.proofs.Keeping.{adds_of, reads, finished_kept}
 use Rattle.gate_core.proofs.book.Book.finish.Goals as goal
 
-pub invariant_of-self : goal.invariant_of-self
-invariant_of-self c =
-    let history : c.self.inside.entries.items ≡ c.args.self.now.history = ap (λ (g : Gate). g.history) c.self.view_is in
-    let out : is_running c.self.inside.entries.items c.args.number ≡ true = search rules in
-    let shorter = filter_shorter (λ n. n == c.args.number) c.self.inside.runs.items (rw c.self.invariant.tells.runs_are out) in
-    record {
-      config = c.self.invariant.config;
-      slots = c.self.invariant.slots;
-      tells = rw (c.push_reserved.ensures.items, c.drop_run.ensures.items) (Tells-finished c.args.number c.self.invariant.tells out);
-      space =
-          rw (c.push_reserved.ensures.items, c.push_reserved.ensures.capacity, c.drop_run.ensures.items, c.drop_run.ensures.capacity)
-          (HasSpace-finished c.self.invariant.space (length_push _ _) shorter);
-    }
+pub returns-in_err-finish : goal.returns-in_err-finish
+returns-in_err-finish c =
+    not_running c.self.inside c.self.invariant c.args.self.now c.self.view_is c.args.number c.finish.result c.in_err-finish.field-0.0 c.in_err-finish.was
+    c.finish.ensures.out c.from_residual.result c.from_residual.ensures.0
+
+pub invariant_of-self-2 : goal.invariant_of-self-2
+invariant_of-self-2 c =
+    finished_kept c.self.inside c.self.invariant c.push_reserved.new.self c.args.number c.finish.new.self (c.in_ok-finish.ensures.out.0 refl)
+    c.push_reserved.ensures.items c.push_reserved.ensures.capacity c.in_ok-finish.ensures.ok
+
+pub returns : goal.returns
+returns c =
+    let out = sym ((reads c.self.inside c.self.invariant c.self.inside.entries).running_numbers c.args.number) ∙ c.in_ok-finish.ensures.out.0 refl in (
+      subst (λ (g : Gate). is_running (history g) c.args.number ≡ true) c.self.view_is out,
+      adds_of c.self.inside c.args.self.now (Finished c.args.number) c.push_reserved.new.self.items c.self.view_is c.push_reserved.ensures.items out,
+    )

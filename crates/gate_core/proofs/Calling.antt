@@ -1,0 +1,78 @@
+-- From the steps of a call to what the call replies.
+-- Used by `Book::begin`, `Book::start` and `Book::ask_judged`.
+use Rattle.std.proofs.Common.{◌≡◌, ◌+◌, ◌<◌, ◌≤◌, ℕ, Bool, true, false, inl, inr, List, refl, sym, ap, ◌∙◌, subst, arith}
+use Rattle.std.specs.Prelude.{MatchBool, IsErr, IfErr, IfOk, OnErr, Result, Ok, Err}
+use Rattle.std.proofs.lemmas.Bool.{cases_lt, true≢false}
+use Rattle.path_normal.specs.PageText.{authority_of}
+use Rattle.authority_cache.specs.Sites.{is_flying, site_of}
+use Rattle.permit_book.specs.Table.{stands}
+use Rattle.gate_history.specs.declared.entry.Entry.TheVariants.{AskDenied, Begun, Granted, Started, StartDenied}
+use Rattle.gate_history.specs.declared.outcome.Cause.{Cause}
+use Rattle.gate_history.specs.declared.outcome.Cause.TheVariants.{Spent}
+use Rattle.gate_history.specs.declared.outcome.Reason.{Reason}
+use Rattle.gate_history.specs.Cause.{Decides}
+use Rattle.gate_history.specs.Outstanding as outstanding
+use Rattle.gate_history.specs.Standing.{is_fetching}
+use Rattle.gate_core.specs.declared.book.Book.TheInside.{Inside}
+use Rattle.gate_core.specs.declared.refusal.AskRefusal.{AskRefusal}
+use Rattle.gate_core.specs.declared.refusal.AskRefusal.TheVariants as ask
+use Rattle.gate_core.specs.declared.refusal.BeginRefusal.{BeginRefusal}
+use Rattle.gate_core.specs.declared.refusal.BeginRefusal.TheVariants as begin
+use Rattle.gate_core.specs.declared.refusal.Denial.{Denial}
+use Rattle.gate_core.specs.Gate.{Adds, Gate, HasRoom, history, Stays}
+use Rattle.gate_core.specs.Kept.{gate_of, IsKept}
+use Rattle.gate_core.specs.Opened.{Grants, OpensTurn}
+use Rattle.gate_core.specs.Replies.{Asks, Begins, HasPlace, IsAllowed, moment_at, Starts}
+use Rattle.gate_core.proofs.Keeping.{reads, told}
+use Rattle.gate_core.proofs.Looking.{fetching_is}
+
+-- whether a turn is in flight, as the cache says
+pub fetching_as : (b : Inside) → IsKept b → (g : Gate) → gate_of b ≡ g → (authority text : List ℕ) → text ≡ authority → (says : Bool) →
+    says ≡ is_flying (site_of b.cache text) → says ≡ is_fetching (history g) authority
+fetching_as b kept g is authority text same says flying =
+    flying ∙ fetching_is b kept text ∙ ap (is_fetching (told b)) same ∙ ap (λ (g : Gate). is_fetching (history g) authority) is
+
+-- a begin is what its last step says
+pub begins_by : (g : Gate) (authority : List ℕ) (m moment : ℕ) → moment ≡ moment_at g m → is_fetching (history g) authority ≡ false → HasRoom g 2 → (r : Result ℕ BeginRefusal) (new : Gate) →
+    OpensTurn g authority moment r new → Begins g authority m r new
+begins_by g authority m moment is idle room (Ok turn) new opens =
+    (idle, room, opens.0, opens.1, subst (λ (t : ℕ). Adds g (Begun t authority turn) new) is opens.2)
+begins_by g authority m moment is idle room (Err begin.AuthoritiesFull) new opens = (idle, room, opens.0, opens.1)
+begins_by g authority m moment is idle room (Err begin.NoMemory) new opens = (idle, room, opens)
+begins_by g authority m moment is idle room (Err begin.InFlight) new opens = absurd opens
+begins_by g authority m moment is idle room (Err begin.LogFull) new opens = absurd opens
+
+-- whether a permit stands, as the table says
+pub stands_as : (b : Inside) → IsKept b → (g : Gate) → gate_of b ≡ g → (number : ℕ) (token url : List ℕ) → stands b.permits number token url ≡ outstanding.stands (history g) number token url
+stands_as b kept g is number token url =
+    (reads b kept b.entries).permits number token url ∙ ap (λ (g : Gate). outstanding.stands (history g) number token url) is
+
+-- a start that finds no permit
+pub start_spent : (g : Gate) (number : ℕ) (token url : List ℕ) (m : ℕ) → outstanding.stands (history g) number token url ≡ false → Starts g number token url m (Err (record { url = url; cause = Spent })) g
+start_spent g number token url m none = (refl, by _ (outstanding.stands (history g) number token url) none)
+  where
+    by : (P : Type 0) (b : Bool) → b ≡ false → MatchBool b P ((Spent ≡ Spent) × Stays g g)
+    by P true is = absurd (true≢false is)
+    by P false is = (refl, refl)
+
+pub start_denied : (g new : Gate) (number : ℕ) (token url : List ℕ) (m : ℕ) (cause : Cause) → outstanding.stands (history g) number token url ≡ true →
+    Decides (history g) token url (moment_at g m) (Err cause) → Adds g (StartDenied (moment_at g m) number cause) new → Starts g number token url m (Err (record { url = url; cause = cause })) new
+start_denied g new number token url m cause out decided adds = (refl, by _ (outstanding.stands (history g) number token url) out)
+  where
+    by : (Q : Type 0) (b : Bool) → b ≡ true → MatchBool b (Decides (history g) token url (moment_at g m) (Err cause) × Adds g (StartDenied (moment_at g m) number cause) new) Q
+    by Q true is = (decided, adds)
+    by Q false is = absurd (true≢false (sym is))
+
+-- an ask is what its last step says
+pub asks_by : (g : Gate) (token url : List ℕ) (m moment : ℕ) → moment ≡ moment_at g m → HasRoom g 3 → IsAllowed g token url m → HasPlace g url → (r : Result ℕ AskRefusal) (new : Gate) →
+    Grants g token url moment r new → Asks g token url m r new
+asks_by g token url m moment is room allowed place (Ok number) new grants =
+    (room, allowed, place, grants.0, subst (λ (t : ℕ). Adds g (Granted t number (record { token = token; url = url })) new) is grants.1)
+asks_by g token url m moment is room allowed place (Err ask.PermitsFull) new grants = (room, allowed, place, grants.0, grants.1)
+asks_by g token url m moment is room allowed place (Err ask.NoMemory) new grants = (room, grants)
+asks_by g token url m moment is room allowed place (Err ask.LogFull) new grants = absurd grants
+asks_by g token url m moment is room allowed place (Err ask.Busy) new grants = absurd grants
+asks_by g token url m moment is room allowed place (Err (ask.Denied d)) new grants = absurd grants
+
+pub full : {a b : ℕ} → (a ≤ b → ⊥) → b < a
+full {a} {b} not = elim (cases_lt b a) [ inl less ↦ less | inr fits ↦ absurd (not fits) ]

@@ -1,0 +1,498 @@
+-- What each kind of entry does to what a book keeps beside its history.
+-- Used by the calls that make entries.
+use Rattle.std.proofs.Common.{◌≡◌, ℕ, suc, ◌+◌, ◌*◌, ◌<◌, ◌≤◌, ◌==◌, Bool, true, false, All, Vec, Global, max, min, not, List, [], ◌∷◌, ◌++◌, length, filter, replicate, refl, sym, ap, ◌∙◌, subst, arith, eqb-true}
+use Rattle.std.specs.Prelude.{◌&&◌, Option, Result, Some, None, Ok, Err, cond, if◌then◌else◌, vec_capacity}
+use Rattle.std.specs.List.{list_any}
+use Rattle.std.proofs.lemmas.Bool.{and_parts, eq-eqb, true≢false}
+use Rattle.std.proofs.lemmas.Bool.Decides.{nat_tests}
+use Rattle.robots_text.proofs.Plains.{any_passes, passes_any}
+use Rattle.std.proofs.lemmas.List.{length-replicate, length-set}
+use Rattle.std.proofs.lemmas.List.Elements.{All-cons, All-contains, All-head, All-push, All-tail}
+use Rattle.std.specs.Str.{bytes_eq}
+use Rattle.std.proofs.lemmas.Slice.Eq.{bytes_eq-Decides}
+use Rattle.path_normal.specs.PageText.{authority_of}
+use Rattle.robots_verdict.specs.declared.said.Said.{Said}
+use Rattle.robots_verdict.specs.declared.said.Said.TheVariants as says
+use Rattle.authority_cache.specs.declared.site.Flight.{Flight}
+use Rattle.authority_cache.specs.declared.turn.Turn.{Turn}
+use Rattle.authority_cache.specs.Lists.{TellsCache, has_number, is_turn_of, turn_for}
+use Rattle.authority_cache.specs.Lives.{life_of}
+use Rattle.authority_cache.specs.Sites.{IsApart, Known, arrived, flight_count, has_turn, is_flying, site_of, with_flight}
+use Rattle.authority_cache.specs.Calls.{Changes, Sweeps}
+use Rattle.authority_cache.proofs.Reading as reading
+use Rattle.authority_cache.proofs.Telling as telling
+use Rattle.permit_book.specs.declared.out.Fetch.{Fetch}
+use Rattle.permit_book.specs.declared.out.Out.TheVariants.{Nothing, Unspent}
+use Rattle.permit_book.specs.declared.permit.Permit.{Permit}
+use Rattle.permit_book.specs.Next.{IsNext, NoneFree}
+use Rattle.permit_book.specs.Outstanding.{fetch_of, is_listed, is_listed_for, is_numbered, IsNextBy, NoneFreeBy, TellsPermits}
+use Rattle.permit_book.specs.Laws.{ReadsAlike}
+use Rattle.permit_book.specs.Table.{Table, is_fetch_of, decided, held_count, is_running, is_unspent, out_under, running_count, unspent_count, unused, with_out}
+use Rattle.permit_book.proofs.Telling as tables
+use Rattle.permit_book.proofs.TellingFree as frees
+use Rattle.gate_history.specs.declared.entry.Entry.{Entry}
+use Rattle.gate_history.specs.declared.entry.Entry.TheVariants.{Begun, Arrived, Granted, AskDenied, Started, StartDenied, Returned, Finished, Swept}
+use Rattle.gate_history.specs.declared.outcome.Cause.{Cause}
+use Rattle.gate_history.specs.declared.outcome.Reason.{Reason}
+use Rattle.gate_history.specs.History.{History, ◌▸◌, at_moment, begins, followed_by, from, now}
+use Rattle.gate_history.specs.Legal.{IsLegal, MayFollow, SpendsAs}
+use Rattle.gate_history.specs.Outstanding.{greatest_in, running, unspent, was_granted}
+use Rattle.gate_history.specs.Laws.{StandsOnce}
+use Rattle.gate_history.specs.Standing.{has_turn as standing_turn, in_flight, is_fetching, past_count, standing}
+use Rattle.gate_history.proofs.EntryCounts.{each_entry_counts}
+use Rattle.gate_history.proofs.SealLaws as seals
+use Rattle.gate_history.proofs.Soundness.{stands_once}
+use Rattle.gate_history.specs.Base.{Base, empty_base, IsBase}
+use Rattle.gate_core.specs.declared.book.Book.TheInside.{Inside}
+use Rattle.gate_core.specs.declared.config.Limits.{Limits}
+use Rattle.gate_core.specs.declared.names.Names.{Names}
+use Rattle.gate_core.specs.Gate.{Adds, Gate, held, history, promised, Stays}
+use Rattle.gate_core.specs.Kept.{gate_of, IsKept}
+use Rattle.gate_core.specs.Limits.{AreLimits}
+use Rattle.gate_core.specs.Names.{HasNames, Keeps, names_by, NamesBy}
+
+pub followed_push : (h : History) (es : List Entry) (e : Entry) → followed_by h (es ++ e ∷ []) ≡ followed_by h es ▸ e
+followed_push h [] e = refl
+followed_push h (first ∷ es) e = followed_push (h ▸ first) es e
+
+-- the history of a book
+abbrev pub told : Inside → History
+told b = history (gate_of b)
+
+-- a book with one entry more is kept where its parts say what the longer history says
+pub kept_after : (b b' : Inside) (e : Entry) → IsKept b → MayFollow (told b) e → b'.limits ≡ b.limits → b'.base ≡ b.base → b'.entries.items ≡ b.entries.items ++ e ∷ [] →
+    b'.clock ≡ now (told b ▸ e) → b'.begins ≡ begins (told b ▸ e) → b'.begins ≤ length b.entries.items + 1 →
+    TellsCache b'.cache (standing (told b ▸ e)) (in_flight (told b ▸ e)) → b'.cache.limit ≡ b.cache.limit →
+    TellsPermits b'.permits (unspent (told b ▸ e)) (running (told b ▸ e)) (greatest_in (told b ▸ e)) →
+    length b'.permits.slots ≡ length b.permits.slots → b'.permits.first_generation ≡ b.permits.first_generation →
+    HasNames (names_by b'.names) (in_flight (told b ▸ e)) →
+    length b.entries.items + 1 + promised (told b ▸ e) ≤ b.limits.log_limit → length b.entries.items + 1 + promised (told b ▸ e) ≤ vec_capacity b'.entries → IsKept b'
+kept_after b b' e kept fit same_limits same_base more clock count few cache limit permits slots first names logged room =
+    let is : told b' ≡ told b ▸ e = (λ i. followed_by (from (same_base i)) (more i)) ∙ followed_push (from b.base) b.entries.items e in
+    let many : length b'.entries.items ≡ length b.entries.items + 1 = ap length more ∙ pushed b.entries.items e in
+    let same_promise = ap promised is in
+    record {
+      limits = subst AreLimits (sym same_limits) kept.limits;
+      legal = subst IsLegal (sym is) (kept.legal, fit);
+      clock = clock ∙ ap now (sym is);
+      begins = count ∙ ap begins (sym is);
+      few_begins = omega (arith, few, many);
+      cache = subst (λ h. TellsCache b'.cache (standing h) (in_flight h)) (sym is) cache;
+      authorities = limit ∙ kept.authorities ∙ ap (λ l. l.authority_limit) (sym same_limits);
+      permits = subst (λ h. TellsPermits b'.permits (unspent h) (running h) (greatest_in h)) (sym is) permits;
+      slots = slots ∙ kept.slots ∙ ap (λ l. l.slots) (sym same_limits);
+      first = first ∙ kept.first ∙ ap (λ l. l.first_generation) (sym same_limits);
+      names = subst (λ h. HasNames (names_by b'.names) (in_flight h)) (sym is) names;
+      logged = omega (arith, logged, many, same_promise, ap (λ l. l.log_limit) same_limits);
+      entry_room = omega (arith, room, many, same_promise);
+    }
+  where
+    pushed : (es : List Entry) (e : Entry) → length (es ++ e ∷ []) ≡ length es + 1
+    pushed [] e = refl
+    pushed (first ∷ es) e = omega (arith, pushed es e)
+
+-- ---- what one entry more leaves
+
+-- the book after an entry of the permits
+abbrev pub after : Inside → Vec Entry Global → ℕ → Table → Inside
+after b entries clock permits = record {
+  limits = b.limits;
+  base = b.base;
+  entries = entries;
+  clock = clock;
+  begins = b.begins;
+  cache = b.cache;
+  permits = permits;
+  names = b.names;
+}
+
+late_is : (moment clock : ℕ) → clock ≤ moment → moment ≡ max moment clock
+late_is moment clock late = omega arith
+
+early_is : (clock : ℕ) → clock ≡ max 0 clock
+early_is clock = omega arith
+
+module _ (b : Inside) (kept : IsKept b) (entries : Vec Entry Global) where
+  pub reads : ReadsAlike b.permits (unspent (told b)) (running (told b))
+  reads = frees.reads_alike b.permits (unspent (told b)) (running (told b)) (greatest_in (told b)) kept.permits
+
+  -- an allowed start
+  pub started_kept : (moment number : ℕ) (reason : Reason) (permits : Table) → MayFollow (told b) (Started moment number reason) → is_unspent b.permits number ≡ true →
+      entries.items ≡ b.entries.items ++ Started moment number reason ∷ [] → vec_capacity entries ≡ vec_capacity b.entries →
+      permits ≡ with_out b.permits number (decided true (out_under b.permits number)) → IsKept (after b entries moment permits)
+  started_kept moment number reason permits fit out more room is =
+      let e : Entry = Started moment number reason in
+      let counts = each_entry_counts (told b) e kept.legal fit in
+      let logged = kept.logged in
+      let entry_room = kept.entry_room in
+      kept_after b (after b entries moment permits) e kept fit refl refl more (late_is moment (now (told b)) fit.0) kept.begins (let few = kept.few_begins in omega arith)
+      kept.cache refl
+      (subst (λ (t : Table). TellsPermits t (unspent (told b ▸ e)) (running (told b ▸ e)) (greatest_in (told b ▸ e))) (sym is)
+      (tables.started b.permits (unspent (told b)) (running (told b)) (greatest_in (told b)) number kept.permits out))
+      (ap (λ (t : Table). length t.slots) is ∙ length-set b.permits.slots _ _) (ap (λ (t : Table). t.first_generation) is) kept.names
+      (omega (arith, logged, counts.unspent_are, counts.running_are, counts.flights_are)) (omega (arith, entry_room, room, counts.unspent_are, counts.running_are, counts.flights_are))
+
+  -- a permit that stands is unspent in the table
+  pub spends_out : (number moment : ℕ) (outcome : Result Reason Cause) → SpendsAs (told b) number moment outcome → is_unspent b.permits number ≡ true
+  spends_out number moment outcome spends = reads.unspent_numbers number ∙ listed (unspent (told b)) spends.1.1.0
+    where
+      listed : (permits : List Permit) → is_listed_for permits number spends.0 spends.1.0 ≡ true → is_listed permits number ≡ true
+      listed permits is =
+          let one = any_passes (λ p. is_numbered number p && is_fetch_of spends.0 spends.1.0 (fetch_of p)) permits is in
+          passes_any (is_numbered number) permits one.one one.stands (and_parts (is_numbered number one.one) (is_fetch_of spends.0 spends.1.0 (fetch_of one.one)) one.passes).0
+
+  -- a denied start
+  pub denied_kept : (moment number : ℕ) (cause : Cause) (permits : Table) → MayFollow (told b) (StartDenied moment number cause) → is_unspent b.permits number ≡ true →
+      entries.items ≡ b.entries.items ++ StartDenied moment number cause ∷ [] → vec_capacity entries ≡ vec_capacity b.entries →
+      permits ≡ with_out b.permits number (decided false (out_under b.permits number)) → IsKept (after b entries moment permits)
+  denied_kept moment number cause permits fit out more room is =
+      let e : Entry = StartDenied moment number cause in
+      let counts = each_entry_counts (told b) e kept.legal fit in
+      let logged = kept.logged in
+      let entry_room = kept.entry_room in
+      kept_after b (after b entries moment permits) e kept fit refl refl more (late_is moment (now (told b)) fit.0) kept.begins (let few = kept.few_begins in omega arith)
+      kept.cache refl
+      (subst (λ (t : Table). TellsPermits t (unspent (told b ▸ e)) (running (told b ▸ e)) (greatest_in (told b ▸ e))) (sym is)
+      (tables.returned b.permits (unspent (told b)) (running (told b)) (greatest_in (told b)) number kept.permits out))
+      (ap (λ (t : Table). length t.slots) is ∙ length-set b.permits.slots _ _) (ap (λ (t : Table). t.first_generation) is) kept.names
+      (omega (arith, logged, counts.unspent_are, counts.running_are, counts.flights_are)) (omega (arith, entry_room, room, counts.unspent_are, counts.running_are, counts.flights_are))
+
+  -- a return, which brings no moment
+  pub returned_kept : (number : ℕ) (permits : Table) → is_unspent b.permits number ≡ true →
+      entries.items ≡ b.entries.items ++ Returned number ∷ [] → vec_capacity entries ≡ vec_capacity b.entries →
+      permits ≡ with_out b.permits number Nothing → IsKept (after b entries b.clock permits)
+  returned_kept number permits out more room is =
+      let e : Entry = Returned number in
+      let fit = sym (reads.unspent_numbers number) ∙ out in
+      let counts = each_entry_counts (told b) e kept.legal fit in
+      let logged = kept.logged in
+      let entry_room = kept.entry_room in
+      kept_after b (after b entries b.clock permits) e kept fit refl refl more (kept.clock ∙ early_is (now (told b))) kept.begins (let few = kept.few_begins in omega arith)
+      kept.cache refl
+      (subst (λ (t : Table). TellsPermits t (unspent (told b ▸ e)) (running (told b ▸ e)) (greatest_in (told b ▸ e))) (sym is)
+      (tables.returned b.permits (unspent (told b)) (running (told b)) (greatest_in (told b)) number kept.permits out))
+      (ap (λ (t : Table). length t.slots) is ∙ length-set b.permits.slots _ _) (ap (λ (t : Table). t.first_generation) is) kept.names
+      (omega (arith, logged, counts.unspent_are, counts.running_are, counts.flights_are)) (omega (arith, entry_room, room, counts.unspent_are, counts.running_are, counts.flights_are))
+
+  -- a finish, which brings none either
+  pub finished_kept : (number : ℕ) (permits : Table) → is_running b.permits number ≡ true →
+      entries.items ≡ b.entries.items ++ Finished number ∷ [] → vec_capacity entries ≡ vec_capacity b.entries →
+      permits ≡ with_out b.permits number Nothing → IsKept (after b entries b.clock permits)
+  finished_kept number permits out more room is =
+      let e : Entry = Finished number in
+      let fit = sym (reads.running_numbers number) ∙ out in
+      let counts = each_entry_counts (told b) e kept.legal fit in
+      let logged = kept.logged in
+      let entry_room = kept.entry_room in
+      kept_after b (after b entries b.clock permits) e kept fit refl refl more (kept.clock ∙ early_is (now (told b))) kept.begins (let few = kept.few_begins in omega arith)
+      kept.cache refl
+      (subst (λ (t : Table). TellsPermits t (unspent (told b ▸ e)) (running (told b ▸ e)) (greatest_in (told b ▸ e))) (sym is)
+      (tables.finished b.permits (unspent (told b)) (running (told b)) (greatest_in (told b)) number kept.permits out))
+      (ap (λ (t : Table). length t.slots) is ∙ length-set b.permits.slots _ _) (ap (λ (t : Table). t.first_generation) is) kept.names
+      (omega (arith, logged, counts.unspent_are, counts.running_are, counts.flights_are)) (omega (arith, entry_room, room, counts.unspent_are, counts.running_are, counts.flights_are))
+
+  -- a denied ask
+  pub ask_denied_kept : (moment : ℕ) (fetch : Fetch) (cause : Cause) → MayFollow (told b) (AskDenied moment fetch cause) →
+      entries.items ≡ b.entries.items ++ AskDenied moment fetch cause ∷ [] → length b.entries.items + 1 + promised (told b) ≤ vec_capacity entries →
+      length b.entries.items + promised (told b) + 3 ≤ b.limits.log_limit → IsKept (after b entries moment b.permits)
+  ask_denied_kept moment fetch cause fit more room free =
+      let e : Entry = AskDenied moment fetch cause in
+      kept_after b (after b entries moment b.permits) e kept fit refl refl more (late_is moment (now (told b)) fit.0) kept.begins (let few = kept.few_begins in omega arith)
+      kept.cache refl kept.permits refl refl kept.names (omega (arith, free)) room
+
+  -- a grant of the next number
+  pub granted_kept : (moment number : ℕ) (fetch : Fetch) (permits : Table) → MayFollow (told b) (Granted moment number fetch) → IsNext b.permits number →
+      entries.items ≡ b.entries.items ++ Granted moment number fetch ∷ [] → length b.entries.items + 3 + promised (told b) ≤ vec_capacity entries →
+      length b.entries.items + promised (told b) + 3 ≤ b.limits.log_limit →
+      permits ≡ with_out b.permits number (Unspent fetch) → IsKept (after b entries moment permits)
+  granted_kept moment number fetch permits fit is_next more room free is =
+      let e : Entry = Granted moment number fetch in
+      let counts = each_entry_counts (told b) e kept.legal fit in
+      kept_after b (after b entries moment permits) e kept fit refl refl more (late_is moment (now (told b)) fit.0) kept.begins (let few = kept.few_begins in omega arith)
+      kept.cache refl
+      (subst (λ (t : Table). TellsPermits t (unspent (told b ▸ e)) (running (told b ▸ e)) (greatest_in (told b ▸ e))) (sym is)
+      (tables.granted b.permits (unspent (told b)) (running (told b)) (greatest_in (told b)) number fetch kept.permits is_next))
+      (ap (λ (t : Table). length t.slots) is ∙ length-set b.permits.slots _ _) (ap (λ (t : Table). t.first_generation) is) kept.names
+      (omega (arith, free, counts.unspent_are, counts.running_are, counts.flights_are)) (omega (arith, room, counts.unspent_are, counts.running_are, counts.flights_are))
+
+  -- the next number of the table is that of the history
+  pub next_is : (number : ℕ) → IsNext b.permits number → IsNextBy b.limits.slots b.limits.first_generation (unspent (told b)) (running (told b)) (greatest_in (told b)) number
+  next_is number is =
+      subst (λ (slots : ℕ). IsNextBy slots b.limits.first_generation (unspent (told b)) (running (told b)) (greatest_in (told b)) number) kept.slots
+      (subst (λ (first : ℕ). IsNextBy (length b.permits.slots) first (unspent (told b)) (running (told b)) (greatest_in (told b)) number) kept.first
+      ((frees.next_alike b.permits (unspent (told b)) (running (told b)) (greatest_in (told b)) number kept.permits).0 is))
+
+  pub none_free_is : NoneFree b.permits → NoneFreeBy b.limits.slots (unspent (told b)) (running (told b)) (greatest_in (told b))
+  none_free_is none =
+      subst (λ (slots : ℕ). NoneFreeBy slots (unspent (told b)) (running (told b)) (greatest_in (told b))) kept.slots
+      ((frees.none_free_alike b.permits (unspent (told b)) (running (told b)) (greatest_in (told b)) kept.permits).0 none)
+
+  -- a next number was never granted
+  pub next_new : (number : ℕ) → IsNext b.permits number → was_granted (told b) number ≡ false
+  next_new number is = (seals.next_new (told b) b.limits.slots b.limits.first_generation number (let some = kept.limits.first in omega arith) (next_is number is)).1
+
+-- what a call that made an entry has added
+pub adds_of : (b : Inside) (g : Gate) (e : Entry) (entries : List Entry) → gate_of b ≡ g → entries ≡ b.entries.items ++ e ∷ [] → MayFollow (told b) e →
+    Adds g e (record { limits = b.limits; base = b.base; entries = entries })
+adds_of b g e entries is more fit =
+    subst (λ (old : Gate). Adds old e (record { limits = b.limits; base = b.base; entries = entries })) is
+    (record { adds = λ i. record { limits = b.limits; base = b.base; entries = more i }; fit = fit })
+
+-- ---- what the tables count
+
+module _ (b : Inside) (kept : IsKept b) where
+  pub flights_many : IsApart b.cache → flight_count b.cache ≡ length (in_flight (told b))
+  flights_many apart = (telling.counts_alike b.cache (standing (told b)) (in_flight (told b)) kept.cache apart).flights
+
+  pub unspent_many : unspent_count b.permits ≡ length (unspent (told b))
+  unspent_many = (reads b kept b.entries).unspent_many
+
+  pub running_many : running_count b.permits ≡ length (running (told b))
+  running_many = (reads b kept b.entries).running_many
+
+  -- the room that is taken is little
+  pub few_promised : length b.entries.items + promised (told b) ≤ 1000000
+  few_promised = let logged = kept.logged in let few = kept.limits.entries in omega arith
+
+-- ---- a book that is new
+
+pub kept_new : (limits : Limits) (base : Base) (entries : Vec Entry Global) (cache : Known) (permits : Table) (names : Names) → AreLimits limits → base ≡ empty_base → IsBase base →
+    entries.items ≡ [] → cache.limit ≡ limits.authority_limit → cache.sites ≡ [] → permits.slots ≡ replicate limits.slots unused → permits.first_generation ≡ limits.first_generation →
+    IsKept (record { limits = limits; base = base; entries = entries; clock = 0; begins = 0; cache = cache; permits = permits; names = names })
+kept_new limits base entries cache permits names are base_is is_base none limit sites slots first =
+    let h : followed_by (from base) entries.items ≡ from empty_base = λ i. followed_by (from (base_is i)) (none i) in
+    let empty : length entries.items ≡ 0 = ap length none in
+    let table : permits ≡ record { first_generation = limits.first_generation; slots = replicate limits.slots unused } = λ i. record { first_generation = first i; slots = slots i } in
+    let known : cache ≡ record { limit = limits.authority_limit; sites = [] } = λ i. record { limit = limit i; sites = sites i } in
+    let many : length permits.slots ≡ limits.slots = ap length slots ∙ length-replicate limits.slots unused in
+    let nothing : promised (followed_by (from base) entries.items) ≡ 0 = ap promised h in
+    record {
+      limits = are;
+      legal = subst IsLegal (sym h) (subst IsBase base_is is_base);
+      clock = sym (ap now h);
+      begins = sym (ap begins h);
+      few_begins = omega arith;
+      cache = subst (λ (g : History). TellsCache cache (standing g) (in_flight g)) (sym h) (subst (λ (k : Known). TellsCache k [] []) (sym known) (telling.new limits.authority_limit));
+      authorities = limit;
+      permits = subst (λ (g : History). TellsPermits permits (unspent g) (running g) (greatest_in g)) (sym h)
+          (subst (λ (t : Table). TellsPermits t [] [] (λ _. 0)) (sym table)
+          (tables.new limits.first_generation limits.slots (record { some_generation = are.first; generations = are.last; slots = omega (arith, are.slots, length-replicate limits.slots unused) })));
+      slots = many;
+      first = first;
+      names = subst (λ (g : History). HasNames (names_by names) (in_flight g)) (sym h) (λ k d low. absurd (omega (arith, low)));
+      logged = let some = are.some_entry in omega (arith, empty, nothing);
+      entry_room = omega (arith, empty, nothing);
+    }
+
+-- ---- entries of turns and answers
+
+-- the book after an entry of the cache
+abbrev pub after_turn : Inside → Vec Entry Global → ℕ → ℕ → Known → Names → Inside
+after_turn b entries clock begins cache names = record {
+  limits = b.limits;
+  base = b.base;
+  entries = entries;
+  clock = clock;
+  begins = begins;
+  cache = cache;
+  permits = b.permits;
+  names = names;
+}
+
+-- no turn of the number is among these
+abbrev NoneOf : ℕ → List Turn → Type 0
+NoneOf turn turns = All (λ t. (turn == t.turn) ≡ false) turns
+
+kept_others : (old new : NamesBy) (turn : ℕ) (name : Option (List ℕ)) (turns : List Turn) → Keeps old turn name new → NoneOf turn turns → HasNames old turns → HasNames new turns
+kept_others old new turn name [] keeps none has = λ k d low. absurd (omega (arith, low))
+kept_others old new turn name (t ∷ turns) keeps none has =
+    All-cons (λ t. new t.turn ≡ Some t.authority) t turns
+    (keeps t.turn ∙ ap (λ (b : Bool). cond b name (old t.turn)) (All-head (λ t. (turn == t.turn) ≡ false) t turns none) ∙ All-head (λ t. old t.turn ≡ Some t.authority) t turns has)
+    (kept_others old new turn name turns keeps (All-tail (λ t. (turn == t.turn) ≡ false) t turns none) (All-tail (λ t. old t.turn ≡ Some t.authority) t turns has))
+
+itself : (n : ℕ) → (n == n) ≡ true
+itself n = eq-eqb n n refl
+
+-- turns that began before are of other numbers
+earlier : (turn begun : ℕ) (turns : List Turn) → begun < turn → ((n : ℕ) → 0 < length (filter (has_number n) turns) → n ≤ begun) → NoneOf turn turns
+earlier turn begun [] less few = λ k d low. absurd (omega (arith, low))
+earlier turn begun (t ∷ turns) less few =
+    All-cons (λ t. (turn == t.turn) ≡ false) t turns here (earlier turn begun turns less (λ n some. few n (more n some)))
+  where
+    first_by : (b : Bool) → (t.turn == t.turn) ≡ b → 0 < length (cond b (t ∷ filter (has_number t.turn) turns) (filter (has_number t.turn) turns))
+    first_by true is = omega arith
+    first_by false is = absurd (true≢false (sym (itself t.turn) ∙ is))
+
+    first : 0 < length (filter (has_number t.turn) (t ∷ turns))
+    first = first_by (t.turn == t.turn) refl
+
+    here : (turn == t.turn) ≡ false
+    here = let bound = few t.turn first in grind (arith, nat_tests)
+
+    more_by : (n : ℕ) (b : Bool) → 0 < length (filter (has_number n) turns) → 0 < length (cond b (t ∷ filter (has_number n) turns) (filter (has_number n) turns))
+    more_by n true some = omega arith
+    more_by n false some = some
+
+    more : (n : ℕ) → 0 < length (filter (has_number n) turns) → 0 < length (filter (has_number n) (t ∷ turns))
+    more n some = more_by n (t.turn == n) some
+
+-- a filter for other numbers leaves those of other numbers
+others_left : (turn : ℕ) (turns : List Turn) → NoneOf turn (filter (λ t. not (has_number turn t)) turns)
+others_left turn [] = λ k d low. absurd (omega (arith, low))
+others_left turn (t ∷ turns) = by (t.turn == turn) refl (others_left turn turns)
+  where
+    by : (b : Bool) → (t.turn == turn) ≡ b → NoneOf turn (filter (λ t. not (has_number turn t)) turns) →
+        All (λ t. (turn == t.turn) ≡ false) (cond (not b) (t ∷ filter (λ t. not (has_number turn t)) turns) (filter (λ t. not (has_number turn t)) turns))
+    by true is rest = rest
+    by false is rest = All-cons (λ t. (turn == t.turn) ≡ false) t (filter (λ t. not (has_number turn t)) turns) (grind (arith, nat_tests)) rest
+
+names_left : (names : NamesBy) (test : Turn → Bool) (turns : List Turn) → HasNames names turns → HasNames names (filter test turns)
+names_left names test [] has = has
+names_left names test (t ∷ turns) has = by (test t) (names_left names test turns (All-tail (λ t. names t.turn ≡ Some t.authority) t turns has))
+  where
+    by : (b : Bool) → HasNames names (filter test turns) → HasNames names (cond b (t ∷ filter test turns) (filter test turns))
+    by true rest = All-cons (λ t. names t.turn ≡ Some t.authority) t (filter test turns) (All-head (λ t. names t.turn ≡ Some t.authority) t turns has) rest
+    by false rest = rest
+
+pub life_again : (says : Said) (asked : ℕ) → life_of says (life_of says asked) ≡ life_of says asked
+life_again (says.Rules text) asked = omega arith
+life_again (says.Open opening) asked = refl
+life_again (says.Closed closure) asked = refl
+
+module _ (b : Inside) (kept : IsKept b) (entries : Vec Entry Global) (cache : Known) (names : Names) where
+  once : StandsOnce (told b)
+  once = stands_once (told b) kept.legal
+
+  -- a turn has begun
+  pub begun_kept : (moment : ℕ) (authority : List ℕ) → now (told b) ≤ moment → is_fetching (told b) authority ≡ false →
+      is_flying (site_of b.cache authority) ≡ false → Changes b.cache authority (with_flight (record { turn = b.begins + 1; begun = moment }) (site_of b.cache authority)) cache →
+      Keeps (names_by b.names) (b.begins + 1) (Some authority) (names_by names) →
+      entries.items ≡ b.entries.items ++ Begun moment authority (b.begins + 1) ∷ [] → length b.entries.items + 2 + promised (told b) ≤ vec_capacity entries →
+      length b.entries.items + promised (told b) + 2 ≤ b.limits.log_limit → IsKept (after_turn b entries moment (b.begins + 1) cache names)
+  begun_kept moment authority late idle flying changes keeps more room free =
+      let e : Entry = Begun moment authority (b.begins + 1) in
+      let flight : Flight = record { turn = b.begins + 1; begun = moment } in
+      let fit : MayFollow (told b) e = (late, idle, ap (λ n. n + 1) kept.begins) in
+      let counts = each_entry_counts (told b) e kept.legal fit in
+      kept_after b (after_turn b entries moment (b.begins + 1) cache names) e kept fit refl refl more (late_is moment (now (told b)) late) (ap (λ n. n + 1) kept.begins)
+      (let few = kept.few_begins in omega arith)
+      (telling.begun b.cache cache (standing (told b)) (in_flight (told b)) authority flight kept.cache flying changes) changes.limit
+      kept.permits refl refl
+      (All-push (λ t. names_by names t.turn ≡ Some t.authority) (in_flight (told b)) (turn_for authority flight)
+      (kept_others (names_by b.names) (names_by names) (b.begins + 1) (Some authority) (in_flight (told b)) keeps
+      (earlier (b.begins + 1) b.begins (in_flight (told b)) (omega arith)
+      (λ n some. let bound = once.turns.turns_begun n (omega (arith, some)) in let count = kept.begins in omega arith)) kept.names)
+      (keeps (b.begins + 1) ∙ ap (λ (t : Bool). cond t (Some authority) (names_by b.names (b.begins + 1))) (itself (b.begins + 1))))
+      (omega (arith, free, counts.unspent_are, counts.running_are, counts.flights_are)) (omega (arith, room, counts.unspent_are, counts.running_are, counts.flights_are))
+
+  -- an answer has arrived, with a life of its kind
+  pub arrived_kept : (moment turn : ℕ) (authority : List ℕ) (says : Said) (asked : ℕ) → now (told b) ≤ moment → has_turn turn (site_of b.cache authority) ≡ true →
+      Changes b.cache authority (arrived turn says (life_of says asked) (site_of b.cache authority)) cache → Keeps (names_by b.names) turn None (names_by names) →
+      entries.items ≡ b.entries.items ++ Arrived moment authority turn says (life_of says asked) ∷ [] → vec_capacity entries ≡ vec_capacity b.entries →
+      IsKept (after_turn b entries moment b.begins cache names)
+  arrived_kept moment turn authority says asked late flying changes keeps more room =
+      let life = life_of says asked in
+      let e : Entry = Arrived moment authority turn says life in
+      let stands = sym ((reading.reads_alike b.cache (standing (told b)) (in_flight (told b)) kept.cache).turns authority turn) ∙ flying in
+      let fit : MayFollow (told b) e = (late, stands, life_again says asked) in
+      let counts = each_entry_counts (told b) e kept.legal fit in
+      let logged = kept.logged in
+      let entry_room = kept.entry_room in
+      kept_after b (after_turn b entries moment b.begins cache names) e kept fit refl refl more (late_is moment (now (told b)) late) kept.begins (let few = kept.few_begins in omega arith)
+      (telling.arrives b.cache cache (standing (told b)) (in_flight (told b)) authority turn life says kept.cache flying (once.own_turn authority turn stands) changes) changes.limit
+      kept.permits refl refl
+      (kept_others (names_by b.names) (names_by names) turn None (filter (λ t. not (has_number turn t)) (in_flight (told b))) keeps (others_left turn (in_flight (told b)))
+      (names_left (names_by b.names) (λ t. not (has_number turn t)) (in_flight (told b)) kept.names))
+      (omega (arith, logged, counts.unspent_are, counts.running_are, counts.flights_are)) (omega (arith, entry_room, room, counts.unspent_are, counts.running_are, counts.flights_are))
+
+  -- answers were swept
+  pub swept_kept : (moment count : ℕ) → now (told b) ≤ moment → count ≡ past_count (told b) moment → Sweeps b.cache moment count cache →
+      entries.items ≡ b.entries.items ++ Swept moment count ∷ [] → length b.entries.items + 1 + promised (told b) ≤ vec_capacity entries →
+      length b.entries.items + promised (told b) + 1 ≤ b.limits.log_limit → IsKept (after_turn b entries moment b.begins cache b.names)
+  swept_kept moment count late is sweeps more room free =
+      let e : Entry = Swept moment count in
+      kept_after b (after_turn b entries moment b.begins cache b.names) e kept (late, is) refl refl more (late_is moment (now (told b)) late) kept.begins (let few = kept.few_begins in omega arith)
+      (telling.swept_away b.cache cache (standing (told b)) (in_flight (told b)) moment count kept.cache sweeps) sweeps.limit
+      kept.permits refl refl kept.names (omega (arith, free)) room
+
+-- the moment of a call is no earlier than the history's
+pub late_moment : (b : Inside) (g : Gate) → gate_of b ≡ g → (handed_in moment : ℕ) → moment ≡ at_moment (history g) handed_in → now (told b) ≤ moment
+late_moment b g is handed_in moment same = omega (arith, same, ap (λ (g : Gate). now (history g)) is)
+
+-- as many answers are swept as the history says
+pub swept_many : (b : Inside) → IsKept b → (moment count : ℕ) (cache : Known) → Sweeps b.cache moment count cache → IsApart b.cache → count ≡ past_count (told b) moment
+swept_many b kept moment count cache sweeps apart = sweeps.dropped ∙ (telling.counts_alike b.cache (standing (told b)) (in_flight (told b)) kept.cache apart).past moment
+
+-- nothing but room for entries and a name for no turn: the book is kept as it was
+pub kept_unchanged : (b : Inside) → IsKept b → (entries : Vec Entry Global) (cache : Known) (names : Names) → entries.items ≡ b.entries.items → vec_capacity b.entries ≤ vec_capacity entries →
+    cache ≡ b.cache → HasNames (names_by names) (in_flight (told b)) → IsKept (after_turn b entries b.clock b.begins cache names)
+kept_unchanged b kept entries cache names same room still named =
+    let h : followed_by (from b.base) entries.items ≡ told b = ap (followed_by (from b.base)) same in
+    let many : length entries.items ≡ length b.entries.items = ap length same in
+    let logged = kept.logged in
+    let entry_room = kept.entry_room in
+    let few = kept.few_begins in
+    record {
+      limits = kept.limits;
+      legal = subst IsLegal (sym h) kept.legal;
+      clock = kept.clock ∙ ap now (sym h);
+      begins = kept.begins ∙ ap begins (sym h);
+      few_begins = omega (arith, few, many);
+      cache = subst (λ (g : History). TellsCache cache (standing g) (in_flight g)) (sym h) (subst (λ (k : Known). TellsCache k (standing (told b)) (in_flight (told b))) (sym still) kept.cache);
+      authorities = ap (λ (k : Known). k.limit) still ∙ kept.authorities;
+      permits = subst (λ (g : History). TellsPermits b.permits (unspent g) (running g) (greatest_in g)) (sym h) kept.permits;
+      slots = kept.slots;
+      first = kept.first;
+      names = subst (λ (g : History). HasNames (names_by names) (in_flight g)) (sym h) named;
+      logged = omega (arith, logged, many, ap promised h);
+      entry_room = omega (arith, entry_room, room, many, ap promised h);
+    }
+
+-- the turns in flight keep their names where the next turn's is kept too
+pub still_named : (b : Inside) → IsKept b → (names : Names) (name : Option (List ℕ)) → Keeps (names_by b.names) (b.begins + 1) name (names_by names) →
+    HasNames (names_by names) (in_flight (told b))
+still_named b kept names name keeps =
+    kept_others (names_by b.names) (names_by names) (b.begins + 1) name (in_flight (told b)) keeps
+    (earlier (b.begins + 1) b.begins (in_flight (told b)) (omega arith)
+    (λ n some. let bound = (stands_once (told b) kept.legal).turns.turns_begun n (omega (arith, some)) in let count = kept.begins in omega arith)) kept.names
+
+-- as many are held for an authority as the history says, and no more than are out
+pub held_many : (b : Inside) → IsKept b → (authority : List ℕ) → held_count b.permits authority ≡ held (told b) authority
+held_many b kept authority = (reads b kept b.entries).held authority
+
+fewer : {X : Type 0} (test : X → Bool) (xs : List X) → length (filter test xs) ≤ length xs
+fewer test [] = omega arith
+fewer test (x ∷ xs) = by (test x) (fewer test xs)
+  where
+    by : (b : Bool) → length (filter test xs) ≤ length xs → length (cond b (x ∷ filter test xs) (filter test xs)) ≤ suc (length xs)
+    by true few = omega arith
+    by false few = omega arith
+
+pub few_held : (b : Inside) (url : List ℕ) → held (told b) (authority_of url) ≤ length (unspent (told b)) + length (running (told b))
+few_held b url =
+    let one = fewer (λ (p : Permit). bytes_eq (authority_of p.url) (authority_of url)) (unspent (told b)) in
+    let other = fewer (λ (p : Permit). bytes_eq (authority_of p.url) (authority_of url)) (running (told b)) in
+    omega arith
+
+-- a turn in flight has its authority's name, and an entry is promised to it
+pub turn_named : (b : Inside) → IsKept b → (authority : List ℕ) (turn : ℕ) → has_turn turn (site_of b.cache authority) ≡ true → names_by b.names turn ≡ Some authority
+turn_named b kept authority turn flying =
+    let stands = sym ((reading.reads_alike b.cache (standing (told b)) (in_flight (told b)) kept.cache).turns authority turn) ∙ flying in
+    let one = any_passes (λ t. has_number turn t && is_turn_of authority t) (in_flight (told b)) stands in
+    let parts = and_parts (has_number turn one.one) (is_turn_of authority one.one) one.passes in
+    let named = All-contains (λ t. names_by b.names t.turn ≡ Some t.authority) (in_flight (told b)) one.one kept.names one.stands in
+    ap (names_by b.names) (sym (eqb-true one.one.turn turn parts.0)) ∙ named ∙ ap (λ (a : List ℕ). Some a) ((bytes_eq-Decides one.one.authority authority).0 parts.1)
+
+pub turn_promised : (b : Inside) → IsKept b → (authority : List ℕ) (turn : ℕ) → has_turn turn (site_of b.cache authority) ≡ true → length b.entries.items < vec_capacity b.entries
+turn_promised b kept authority turn flying =
+    let stands = sym ((reading.reads_alike b.cache (standing (told b)) (in_flight (told b)) kept.cache).turns authority turn) ∙ flying in
+    let some = any_some (in_flight (told b)) stands in
+    let room = kept.entry_room in
+    omega arith
+  where
+    any_some : (turns : List Turn) → list_any (λ t. has_number turn t && is_turn_of authority t) turns ≡ true → 0 < length turns
+    any_some [] is = absurd (true≢false (sym is))
+    any_some (t ∷ turns) is = omega arith
+
+pub turn_stands : (b : Inside) → IsKept b → (authority : List ℕ) (turn : ℕ) → has_turn turn (site_of b.cache authority) ≡ true → standing_turn (told b) authority turn ≡ true
+turn_stands b kept authority turn flying = sym ((reading.reads_alike b.cache (standing (told b)) (in_flight (told b)) kept.cache).turns authority turn) ∙ flying

@@ -1,0 +1,28 @@
+-- What was found stands.
+-- The lemmas of `Looking` say so.
+use Rattle.std.proofs.Common.{◌≡◌, ℕ, List, sym, ap, ◌∙◌, subst}
+use Rattle.robots_verdict.specs.Answer.{said}
+use Rattle.gate_history.specs.Standing.{is_fetching, standing_of}
+use Rattle.gate_core.specs.Gate.{Gate, history}
+use Rattle.gate_core.specs.Replies.{moment_at}
+use Rattle.gate_core.specs.States.{IsState, StandsAs}
+use Rattle.gate_core.proofs.Keeping.{told}
+use Rattle.gate_core.proofs.Looking.{fetching_is, none_stands, stands_as_expired, stands_as_said, stands_as_unknown, stands_in_force, stands_past}
+use Rattle.gate_core.proofs.book.Book.state_of.Goals as goal
+use Rattle.gate_core.proofs.book.Book.state_of.Goals.{in-Unknown, in-Expired, in-InForce}
+
+pub returns : goal.returns
+returns c =
+    let b = c.self.inside in
+    let authority = c.args.authority.now in
+    let moment = c.moment_of_call-moment.result in
+    let found = standing_of (told b) authority in
+    let stands : StandsAs found moment c.match-look.standing = elim c.match-look.branch [
+      | in-Unknown w ↦ subst (StandsAs found moment) (sym w.standing-is) (stands_as_unknown found moment (none_stands b c.self.invariant authority moment w.in-Unknown.ensures))
+      | in-Expired w ↦ subst (StandsAs found moment) (sym w.standing-is) (stands_as_expired found moment (stands_past b c.self.invariant authority moment w.in-Expired.ensures))
+      | in-InForce w ↦ subst (StandsAs found moment) (sym (w.standing-is ∙ w.standing_as-standing.ensures))
+          (stands_as_said found moment (said w.in-InForce.answer.now) (stands_in_force b c.self.invariant authority moment (said w.in-InForce.answer.now) w.in-InForce.ensures.0 w.in-InForce.ensures.1))
+    ] in
+    subst (λ (m : ℕ). IsState (history c.args.self.now) authority m (record { standing = c.match-look.standing; fetching = c.in_flight.result })) c.moment_of_call-moment.ensures
+    (subst (λ (g : Gate). IsState (history g) authority moment (record { standing = c.match-look.standing; fetching = c.in_flight.result })) c.self.view_is
+    (record { standing = stands; fetching = c.in_flight.ensures ∙ fetching_is b c.self.invariant authority }))

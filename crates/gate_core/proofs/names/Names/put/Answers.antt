@@ -1,0 +1,11 @@
+-- The name is found under its turn, and the others where they were.
+-- Used by `Names::put`.
+use Rattle.std.proofs.Common.{◌≡◌, ◌==◌, ℕ, Option, Some, subst}
+use Rattle.std.specs.Prelude.{if◌then◌else◌}
+use Rattle.gate_core.specs.Names.{Keeps, names_by}
+use Rattle.gate_core.proofs.names.Names.put.Goals as goal
+
+pub returns-in-Ok-clause-ok : goal.returns-in-Ok-clause-ok
+returns-in-Ok-clause-ok c =
+    subst (λ (turn : ℕ). Keeps (names_by c.args.self.now) turn (Some c.args.name) (names_by (record { by_turn = c.insert.new.self }))) c.number.ensures
+    (λ other. c.in-Ok.ensures.updates.0 other)

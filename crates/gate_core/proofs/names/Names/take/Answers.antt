@@ -1,0 +1,11 @@
+-- The name is gone, and the others are where they were.
+-- Used by `Names::take`.
+use Rattle.std.proofs.Common.{◌≡◌, ◌==◌, ℕ, Option, None, subst}
+use Rattle.std.specs.Prelude.{if◌then◌else◌}
+use Rattle.gate_core.specs.Names.{Keeps, names_by}
+use Rattle.gate_core.proofs.names.Names.take.Goals as goal
+
+pub returns-clause-taken : goal.returns-clause-taken
+returns-clause-taken c =
+    subst (λ (turn : ℕ). Keeps (names_by c.args.self.now) turn None (names_by (record { by_turn = c.swap_remove.new.self }))) c.number.ensures
+    (λ other. c.swap_remove.ensures.updates.0 other)

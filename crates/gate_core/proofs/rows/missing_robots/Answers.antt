@@ -1,7 +1,0 @@
--- Each part computes.
-use Rattle.std.proofs.Common.{refl, lit≤}
-use Rattle.gate_core.specs.Rows.{foobot, page}
-use Rattle.gate_core.proofs.rows.missing_robots.Goals as goal
-
-pub returns-clause-start : goal.returns-clause-start
-returns-clause-start c = (refl, refl, refl, refl, record { adds = refl; fit = (lit≤ tt, (foobot, (page, (refl, refl)))) })

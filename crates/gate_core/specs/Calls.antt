@@ -1,0 +1,34 @@
+-- What a call that is given as a value may be replied, and what lists of calls are.
+-- The contracts of `calls.rt`; the refusals are those of `Replies`.
+use Rattle.std.specs.Prelude.{◌≡◌, ◌<◌, List, [], ◌∷◌}
+use Rattle.robots_verdict.specs.Answer.{said, spares_of}
+use Rattle.gate_core.specs.declared.call.Call.{Call}
+use Rattle.gate_core.specs.declared.call.Call.TheVariants as calls
+use Rattle.gate_core.specs.declared.call.Reply.{Reply}
+use Rattle.gate_core.specs.declared.call.Reply.TheVariants as replies
+use Rattle.gate_core.specs.Gate.{Gate, Stays}
+use Rattle.gate_core.specs.Replies.{Arrives, Asks, Begins, Finishes, Returns, Starts, Sweeps}
+use Rattle.gate_core.specs.States.{standing_as}
+
+-- an answer that is brought has a spare, from which the history's own is made without memory
+abbrev pub HasSpare : Call → Type 0
+HasSpare (calls.Arrive authority turn answer life m) = 0 < spares_of answer
+HasSpare _ = Unit {0}
+
+-- a call has a reply of its own kind, which names what its line names
+abbrev pub Step : Gate → Call → Reply → Gate → Type 0
+Step old (calls.Begin authority m) (replies.Begin named r) new = (named ≡ authority) × Begins old authority m r new
+Step old (calls.Arrive authority turn answer life m) (replies.Arrive named brought r) new =
+    (named ≡ authority) × (brought ≡ standing_as (said answer)) × Arrives old authority turn (said answer) life m r new
+Step old (calls.Ask token url m) (replies.Ask r) new = Asks old token url m r new
+Step old (calls.Start number token url m) (replies.Start r) new = Starts old number token url m r new
+Step old (calls.Back number) (replies.Back named r) new = (named ≡ number) × Returns old number r new
+Step old (calls.Finish number) (replies.Finish named r) new = (named ≡ number) × Finishes old number r new
+Step old (calls.Sweep m) (replies.Sweep r) new = Sweeps old m r new
+Step old _ _ new = ⊥
+
+-- a list of calls, in order, and their replies
+abbrev pub Replies : Gate → List Call → List Reply → Gate → Type 0
+Replies old [] [] new = Stays old new
+Replies old (call ∷ calls) (reply ∷ later) new = (mid : Gate) × (Step old call reply mid × Replies mid calls later new)
+Replies old _ _ new = ⊥

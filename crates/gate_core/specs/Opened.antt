@@ -1,0 +1,35 @@
+-- The last steps of a begin and of an ask, once all that comes before them was found.
+-- Cited by `open_turn` and `grant`.
+use Rattle.std.specs.Prelude.{◌≡◌, ℕ, ◌+◌, true, false, List, Result, Ok, Err}
+use Rattle.permit_book.specs.Next.{NoneFree as NoneFreeIn}
+use Rattle.permit_book.specs.Table.{Table}
+use Rattle.gate_history.specs.declared.entry.Entry.TheVariants.{Begun, Granted}
+use Rattle.gate_history.specs.History.{begins}
+use Rattle.gate_core.specs.declared.refusal.AskRefusal.{AskRefusal}
+use Rattle.gate_core.specs.declared.refusal.AskRefusal.TheVariants as ask
+use Rattle.gate_core.specs.declared.refusal.BeginRefusal.{BeginRefusal}
+use Rattle.gate_core.specs.declared.refusal.BeginRefusal.TheVariants as begin
+use Rattle.gate_core.specs.Gate.{Adds, Gate, history, Stays}
+use Rattle.gate_core.specs.Replies.{cannot_know, IsNext, NoneFree}
+
+-- the turn begins at this moment of the gate, or the authority may not be known, or memory was refused
+abbrev pub OpensTurn : Gate → List ℕ → ℕ → Result ℕ BeginRefusal → Gate → Type 0
+OpensTurn old authority moment (Ok turn) new =
+    (cannot_know old authority ≡ false) × (turn ≡ begins (history old) + 1) × Adds old (Begun moment authority turn) new
+OpensTurn old authority moment (Err begin.AuthoritiesFull) new = (cannot_know old authority ≡ true) × Stays old new
+OpensTurn old authority moment (Err begin.NoMemory) new = Stays old new
+OpensTurn old authority moment (Err _) new = ⊥
+
+-- the permit is granted at this moment of the gate, or no slot is free, or memory was refused
+abbrev pub Grants : Gate → List ℕ → List ℕ → ℕ → Result ℕ AskRefusal → Gate → Type 0
+Grants old token url moment (Ok number) new =
+    IsNext old number × Adds old (Granted moment number (record { token = token; url = url })) new
+Grants old token url moment (Err ask.PermitsFull) new = NoneFree old × Stays old new
+Grants old token url moment (Err ask.NoMemory) new = Stays old new
+Grants old token url moment (Err _) new = ⊥
+
+-- why the table gives no permit: no slot is free, or memory was refused
+abbrev pub RefusesGrant : Table → AskRefusal → Type 0
+RefusesGrant t ask.PermitsFull = NoneFreeIn t
+RefusesGrant t ask.NoMemory = Unit {0}
+RefusesGrant t _ = ⊥

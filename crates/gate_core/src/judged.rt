@@ -1,0 +1,56 @@
+//! An ask whose verdict is found before the book is at hand: matching a path takes time, and another
+//! caller may have the book meanwhile. RFC 9309, section 2.2.2.
+ghost use Rattle.std.specs.Prelude.{◌≡◌, IfOk};
+ghost use Rattle.gate_history.specs.Cause.{IsVerdictOn};
+
+use path_normal::PageUrl;
+use robots_text::Token;
+use robots_verdict::{Policy, Verdict};
+use std::marker::Model;
+use std::sync::Arc;
+
+/// The verdict of a policy.
+#[derive(Drop)]
+pub(crate) struct Ruling {
+    pub policy: Arc<Policy>,
+    pub verdict: Verdict,
+}
+
+/// A token and a URL to ask for, with the verdict of the policy that was thought to be in force. The
+/// verdict counts only where the text in force then is that policy's.
+#[derive(Drop)]
+pub struct Judged {
+    pub(crate) token: Token,
+    pub(crate) url: PageUrl,
+    pub(crate) ruling: Option<Ruling>,
+}
+
+impl Model for Judged {
+    ghost use Rattle.std.specs.Prelude.{IfSome};
+    ghost use Rattle.gate_core.specs.Judged.{Asked, IsRuling};
+
+    ghost Value = { Asked };
+
+    ghost view = { λ judged. record {
+      token = judged.token;
+      url = judged.url;
+    } };
+
+    ghost invariant = { λ judged. IfSome judged.ruling (IsRuling judged.token judged.url) };
+}
+
+impl Judged {
+    /// Judges by the policy, if there is one. It takes no memory.
+    pub fn new(policy: Option<Arc<Policy>>, token: Token, url: PageUrl) -> Judged
+        ensures { result ≡ record { token = token; url = url } }
+    {
+        let ruling = match policy {
+            Some(policy) => {
+                let verdict = policy.verdict(&token, url.path_to_match());
+                Some(Ruling { policy, verdict })
+            }
+            None => None,
+        };
+        Judged { token, url, ruling }
+    }
+}

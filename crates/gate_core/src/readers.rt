@@ -1,0 +1,65 @@
+//! What a caller that shares the book with others looks at while it waits, and what it settles by.
+//! Each reads what the book keeps, and takes no memory.
+ghost use Rattle.std.specs.Prelude.{◌≡◌, length};
+ghost use Rattle.gate_history.specs.History.{entry_count, started_count};
+ghost use Rattle.gate_history.specs.Outstanding.{is_running, is_unspent, running, stands, unspent};
+ghost use Rattle.gate_history.specs.Standing.{has_turn, in_flight, is_fetching};
+ghost use Rattle.gate_core.specs.Gate.{history};
+
+use crate::book::Book;
+use authority_cache::TurnNo;
+use gate_history::Entry;
+use path_normal::PageUrl;
+use permit_book::PermitNo;
+use robots_text::Token;
+
+impl Book {
+    /// Whether an unspent permit of this number stands.
+    pub fn is_unspent(&self, number: PermitNo) -> bool
+        ensures { result ≡ is_unspent (history self.now) number }
+    {
+        self.permits.is_unspent(number)
+    }
+
+    /// Whether an unspent permit of this number for this token and URL stands.
+    pub fn stands(&self, number: PermitNo, token: &Token, url: &PageUrl) -> bool
+        ensures { result ≡ stands (history self.now) number token.now url.now }
+    {
+        self.permits.stands(number, token, url)
+    }
+
+    /// Whether a fetch under this number is running.
+    pub fn is_running(&self, number: PermitNo) -> bool
+        ensures { result ≡ is_running (history self.now) number }
+    {
+        self.permits.is_running(number)
+    }
+
+    /// Whether a turn of the authority is in flight.
+    pub fn is_fetching(&self, authority: &str) -> bool
+        ensures { result ≡ is_fetching (history self.now) authority.now }
+    {
+        self.cache.in_flight(authority)
+    }
+
+    /// How many unspent permits are out.
+    pub fn unspent_count(&self) -> u64
+        ensures { result ≡ length (unspent (history self.now)) }
+    {
+        self.permits.unspent_count()
+    }
+
+    /// How many fetches are running.
+    pub fn running_count(&self) -> u64
+        ensures { result ≡ length (running (history self.now)) }
+    {
+        self.permits.running_count()
+    }
+
+    /// How many turns are in flight.
+    pub fn flight_count(&self) -> u64
+        ensures { result ≡ length (in_flight (history self.now)) }
+    {
+        self.cache.flight_count()
+    }
+}

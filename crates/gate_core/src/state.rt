@@ -1,0 +1,77 @@
+//! What is known of an authority, and a handle of the policy that is in force for it.
+//! RFC 9309, sections 2.3.1 and 2.4.
+ghost use Rattle.std.specs.Prelude.{◌≡◌, IfSome};
+ghost use Rattle.std.specs.Arc.{arc_value};
+ghost use Rattle.robots_verdict.specs.Answer.{said};
+ghost use Rattle.gate_core.specs.Gate.{history};
+ghost use Rattle.gate_core.specs.Replies.{moment_at};
+ghost use Rattle.gate_core.specs.States.{HasRulesInForce, IsState, standing_as};
+
+use crate::book::Book;
+use authority_cache::Look;
+use robots_verdict::{Answer, Policy};
+use std::sync::Arc;
+
+/// What stands for an authority.
+#[derive(Clone, Copy, Debug, PartialEq, Eq)]
+pub enum Standing {
+    /// No answer stands.
+    Unknown,
+    /// The answer that stands is older than its life.
+    Expired,
+    /// The answer in force is closed.
+    Closed,
+    /// The answer in force is open.
+    Open,
+    /// The rules of the answer in force bind.
+    Rules,
+}
+
+/// What is known of an authority.
+#[derive(Clone, Copy, Debug, PartialEq, Eq)]
+pub struct State {
+    /// What stands.
+    pub standing: Standing,
+    /// Whether a turn is in flight.
+    pub fetching: bool,
+}
+
+impl Book {
+    /// What is known of an authority at the moment of the call. It takes no memory.
+    pub fn state_of(&self, authority: &str, moment: u64) -> State
+        ensures { IsState (history self.now) authority.now (moment_at self.now moment) result }
+    {
+        let moment = self.moment_of_call(moment);
+        let standing = match self.cache.look(authority, moment) {
+            Look::Unknown => Standing::Unknown,
+            Look::Expired => Standing::Expired,
+            Look::InForce(answer) => standing_as(answer),
+        };
+        State {
+            standing,
+            fetching: self.cache.in_flight(authority),
+        }
+    }
+
+    /// A handle of the policy whose rules are in force, unless one was refused.
+    pub fn hint(&self, authority: &str, moment: u64) -> Option<Arc<Policy>>
+        ensures { IfSome result (λ policy. HasRulesInForce (history self.now) authority.now
+            (moment_at self.now moment) (arc_value policy)) }
+    {
+        let moment = self.moment_of_call(moment);
+        match self.cache.look(authority, moment) {
+            Look::InForce(Answer::Rules(rules)) => rules.handle().ok(),
+            _ => None,
+        }
+    }
+}
+
+pub(crate) fn standing_as(answer: &Answer) -> Standing
+    ensures { result ≡ standing_as (said answer.now) }
+{
+    match answer {
+        Answer::Rules(_) => Standing::Rules,
+        Answer::Open(_) => Standing::Open,
+        Answer::Closed(_) => Standing::Closed,
+    }
+}
