@@ -1,0 +1,11 @@
+-- The start spends the permit that stands.
+-- Used by `expiry_at_start`.
+use Rattle.std.proofs.Common.{◌≤◌, refl, arith}
+use Rattle.gate_core.specs.Rows.{foobot, page, other_page}
+use Rattle.gate_core.proofs.rows.expiry_at_start.Goals as goal
+
+pub returns-clause-in_force : goal.returns-clause-in_force
+returns-clause-in_force c = (refl, refl, refl, refl, record { adds = refl; fit = (search arith, (foobot, (page, (refl, refl)))) })
+
+pub returns-clause-expired : goal.returns-clause-expired
+returns-clause-expired c = (refl, (refl, record { adds = refl; fit = (search arith, (foobot, (other_page, (refl, refl)))) }))

@@ -1,0 +1,8 @@
+-- The start spends the permit that stands.
+-- Used by `missing_robots`.
+use Rattle.std.proofs.Common.{◌≤◌, refl, arith}
+use Rattle.gate_core.specs.Rows.{foobot, page, other_page}
+use Rattle.gate_core.proofs.rows.missing_robots.Goals as goal
+
+pub returns-clause-start : goal.returns-clause-start
+returns-clause-start c = (refl, refl, refl, refl, record { adds = refl; fit = (search arith, (foobot, (page, (refl, refl)))) })
