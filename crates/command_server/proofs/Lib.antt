@@ -3,3 +3,5 @@ pub mod PlainText
 pub mod Readings
 pub mod Giving
 pub mod Serving
+pub mod Walking
+pub mod ReplyTexts

@@ -1,50 +1,169 @@
--- What the replies of an ARRIVE line come to: a status and a second word each (RFC 9309, 2.3.1).
--- Cited by the contracts of `arrival`.
-use Rattle.std.specs.Prelude.{◌==◌, ℕ, List, [], ◌∷◌, Option, Some, None, Result, Err, codes, is_none, length, ok_or, if◌then◌else◌}
+-- What the words behind the turn of an ARRIVE line say: two words a reply, and the answer that the replies
+-- decide. RFC 9309, section 2.3.1; docs/FORMATS.md has the words.
+-- Cited by the contracts of `reply_words` and `arrival`.
+use Rattle.std.specs.Prelude.{◌≡◌, ◌≢◌, ◌==◌, ◌⊎◌, ℕ, Bool, true, false, List, [], ◌∷◌, ◌++◌, Option, Some, None, Result, Ok, Err, codes, is_none, length, nat_lt, string_bytes, if◌then◌else◌}
 use Rattle.std.specs.Int.{is_in_range}
-use Rattle.std.specs.Option.{option_and_then}
+use Rattle.std.specs.List.{after_first, before_first, position_or_len}
+use Rattle.std.specs.Option.{option_and_then, option_map}
+use Rattle.std.specs.Path.{slash}
 use Rattle.std.specs.Str.{bytes_eq}
-use Rattle.gate_core.specs.declared.answer.Answer.{Answer}
-use Rattle.gate_core.specs.declared.answer.Answer.TheVariants.{Open, Closed}
-use Rattle.gate_core.specs.declared.answer.Opening.TheVariants.{Unavailable}
-use Rattle.gate_core.specs.declared.answer.Closure.TheVariants.{Server}
+use Rattle.percent_encoding.specs.Percent.{percent_decode}
+use Rattle.robots_verdict.specs.Answer.{said}
+use Rattle.robots_verdict.specs.declared.answer.Answer.{Answer}
+use Rattle.robots_verdict.specs.declared.said.Said.{Said}
+use Rattle.robots_fetch.specs.declared.reply.RobotsReply.{RobotsReply}
+use Rattle.robots_fetch.specs.declared.reply.RobotsReply.TheVariants as replies
+use Rattle.robots_fetch.specs.declared.status.StatusClass.{StatusClass}
+use Rattle.robots_fetch.specs.declared.status.StatusClass.TheVariants as classes
+use Rattle.robots_fetch.specs.Statuses.{class_of}
+use Rattle.robots_fetch.specs.Walk.{AnswerOf}
+use Rattle.line_text.specs.Number.{number_of}
 use Rattle.command_server.specs.declared.fault.LineFault.{LineFault}
 use Rattle.command_server.specs.declared.fault.LineFault.TheVariants as faults
-use Rattle.line_text.specs.Number.{number_of}
+use Rattle.command_server.specs.declared.reply_words.Head.{Head}
+use Rattle.command_server.specs.declared.reply_words.Head.TheVariants as heads
 
--- the status that a word writes: a number of three digits
+-- the status that a word writes: a number of three digits from 100 to 999
 abbrev pub status_of : List ℕ → Option ℕ
-status_of word = if length word == 3 then number_of word else None
+status_of word =
+    if length word == 3
+    then option_and_then (λ code. if is_in_range 100 999 code then Some code else None) (number_of word)
+    else None
 
--- the answer to which a status leads (RFC 9309, 2.3.1.3 and 2.3.1.4), if an arrival takes it
-abbrev pub answer_of_status : ℕ → Option Answer
-answer_of_status status =
-    if is_in_range 400 499 status then Some (Open Unavailable)
-    else (if is_in_range 500 599 status then Some (Closed Server) else None)
+-- the class of responses whose body has rules
+abbrev pub has_rules : StatusClass → Bool
+has_rules classes.Successful = true
+has_rules _ = false
 
--- the answer of a reply whose first word this is
-abbrev pub answer_of : List ℕ → Option Answer
-answer_of word = option_and_then answer_of_status (status_of word)
+-- the classes of responses whose second word is a text: a body with rules, or a Location
+abbrev pub has_text : StatusClass → Bool
+has_text classes.Successful = true
+has_text classes.Redirect = true
+has_text _ = false
+
+-- a status and the seconds for which its rules may be kept, as `200/60`
+abbrev pub lasting_of : List ℕ → List ℕ → Option Head
+lasting_of status life =
+    option_and_then (λ code. if has_rules (class_of code)
+        then option_map (λ seconds. heads.Status code (Some seconds)) (number_of life) else None) (status_of status)
+
+-- the octet is the one between a status and a life
+abbrev pub is_slash : ℕ → Bool
+is_slash octet = octet == slash
+
+-- such an octet stands in the word
+abbrev pub has_slash : List ℕ → Bool
+has_slash word = nat_lt (position_or_len is_slash word) (length word)
+
+-- a status alone
+abbrev pub plain_of : List ℕ → Option Head
+plain_of word = option_map (λ code. heads.Status code None) (status_of word)
+
+-- what a word says of a response: its status, and behind a `/` its life
+abbrev pub response_of : List ℕ → Option Head
+response_of word =
+    if has_slash word then lasting_of (before_first is_slash word) (after_first is_slash word) else plain_of word
+
+-- what the first word of a reply says
+abbrev pub head_of : List ℕ → Option Head
+head_of word =
+    if bytes_eq word (codes "NET") then Some heads.Network
+    else (if bytes_eq word (codes "CODING") then Some heads.Coding else response_of word)
+
+-- the word stands for no text
+abbrev pub is_none_word : List ℕ → Bool
+is_none_word word = bytes_eq word (codes "-")
+
+-- the reply may have this second word
+abbrev pub may_have : Head → List ℕ → Bool
+may_have (heads.Status code max_age) word = if has_text (class_of code) then true else is_none_word word
+may_have heads.Coding word = is_none_word word
+may_have heads.Network word = is_none_word word
+
+-- the fault of a reply by what its two words say
+abbrev pub reply_fault : Option Head → List ℕ → Option LineFault
+reply_fault None second = Some faults.Status
+reply_fault (Some head) second = if may_have head second then None else Some faults.Replies
+
+-- the fault, or that of what follows where there is none
+abbrev pub or_later : Option LineFault → Option LineFault → Option LineFault
+or_later (Some fault) later = Some fault
+or_later None later = later
 
 -- the first fault of the replies, their words read from left to right
 abbrev pub replies_fault : List (List ℕ) → Option LineFault
 replies_fault [] = None
-replies_fault (status ∷ []) =
-    if is_none (answer_of status) then Some faults.Status else Some faults.Replies
-replies_fault (status ∷ second ∷ later) =
-    if is_none (answer_of status) then Some faults.Status
-    else (if bytes_eq second (codes "-") then replies_fault later else Some faults.Replies)
+replies_fault (first ∷ []) = if is_none (head_of first) then Some faults.Status else Some faults.Replies
+replies_fault (first ∷ second ∷ later) = or_later (reply_fault (head_of first) second) (replies_fault later)
 
--- the answer of the one reply, with which the walk is done
-abbrev pub one_answer : List (List ℕ) → Result Answer LineFault
-one_answer (status ∷ second ∷ []) = ok_or (answer_of status) faults.Status
-one_answer _ = Err faults.Replies
+-- the words, or the first fault that they have
+abbrev pub unless_fault : Option LineFault → List (List ℕ) → Result (List (List ℕ)) LineFault
+unless_fault (Some fault) words = Err fault
+unless_fault None words = Ok words
 
--- the fault, where there is one
-abbrev pub unless_fault : Option LineFault → Result Answer LineFault → Result Answer LineFault
-unless_fault (Some fault) answer = Err fault
-unless_fault None answer = answer
+-- the words of the replies, which are all read before the walk
+abbrev pub reply_words_of : List (List ℕ) → Result (List (List ℕ)) LineFault
+reply_words_of words = unless_fault (replies_fault words) words
 
--- the answer that the replies bring, or their fault: all their words are read before the walk
-abbrev pub arrival_of : List (List ℕ) → Result Answer LineFault
-arrival_of words = unless_fault (replies_fault words) (one_answer words)
+-- the Location that a second word is
+abbrev pub location_of : StatusClass → List ℕ → Option (List ℕ)
+location_of classes.Redirect word = if is_none_word word then None else Some word
+location_of _ word = None
+
+-- the body that a second word writes
+abbrev pub body_of : StatusClass → List ℕ → List ℕ
+body_of classes.Successful word = if is_none_word word then [] else percent_decode word
+body_of _ word = []
+
+-- the reply has this head and this second word
+abbrev pub HasWords : Head → List ℕ → RobotsReply → Type 0
+HasWords (heads.Status code max_age) word (replies.Status own location body age) =
+    (own ≡ code) × (age ≡ max_age) × (option_map string_bytes location ≡ location_of (class_of code) word)
+    × (body.items ≡ body_of (class_of code) word)
+HasWords heads.Coding word replies.CodingFault = Unit {0}
+HasWords heads.Network word replies.NetworkFault = Unit {0}
+HasWords _ word _ = ⊥
+
+-- the reply is that of the two words
+abbrev pub IsReply : List ℕ → List ℕ → RobotsReply → Type 0
+IsReply first second reply = (head : Head) × ((head_of first ≡ Some head) × HasWords head second reply)
+
+-- the replies are those of the words
+abbrev pub AreReplies : List (List ℕ) → List RobotsReply → Type 0
+AreReplies [] [] = Unit {0}
+AreReplies (first ∷ second ∷ later) (reply ∷ replies) = IsReply first second reply × AreReplies later replies
+AreReplies _ _ = ⊥
+
+-- the next reply is taken from the words, or there is none
+abbrev pub TakesReply : List (List ℕ) → Option RobotsReply → List (List ℕ) → Type 0
+TakesReply old None new = (old ≡ []) × (new ≡ [])
+TakesReply old (Some reply) new =
+    (first : List ℕ) × ((second : List ℕ) × ((old ≡ first ∷ second ∷ new) × IsReply first second reply))
+
+-- the replies of the words decide an answer for the authority, of this life
+abbrev pub IsDecided : List ℕ → List (List ℕ) → Said → ℕ → Type 0
+IsDecided authority words says life =
+    (replies : List RobotsReply) × (AreReplies words replies × AnswerOf authority replies says life)
+
+-- the replies end before they decide
+abbrev pub EndsBefore : List ℕ → List (List ℕ) → Type 0
+EndsBefore authority words =
+    (replies : List RobotsReply) × (AreReplies words replies
+    × ((says : Said) (life : ℕ) → AnswerOf authority replies says life → ⊥))
+
+-- the first of the replies decide, and more words follow
+pub record GoesOnAfter (authority : List ℕ) (words : List (List ℕ)) : Type 0 where
+  pub read : List (List ℕ)
+  pub rest : List (List ℕ)
+  pub says : Said
+  pub life : ℕ
+  pub all : words ≡ read ++ rest
+  pub more : rest ≢ []
+  pub decided : IsDecided authority read says life
+
+-- the answer and its life that the words bring for the authority, or why they bring none
+abbrev pub Brings : List ℕ → List (List ℕ) → Result (Answer × ℕ) LineFault → Type 0
+Brings authority words (Ok brought) = IsDecided authority words (said brought.0) brought.1
+Brings authority words (Err faults.Replies) = EndsBefore authority words ⊎ GoesOnAfter authority words
+Brings authority words (Err faults.Memory) = Unit {0}
+Brings authority words (Err _) = ⊥

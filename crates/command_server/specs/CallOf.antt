@@ -4,6 +4,7 @@ use Rattle.std.specs.Prelude.{ℕ, Bool, List, [], ◌∷◌, Result, Ok, Err, o
 use Rattle.std.specs.Int.{is_in_range}
 use Rattle.std.specs.List.{list_all, list_any}
 use Rattle.path_normal.specs.Capacity.{Capacity}
+use Rattle.gate_core.specs.Calls.{HasSpare}
 use Rattle.gate_core.specs.declared.call.Call.{Call}
 use Rattle.gate_core.specs.declared.call.Call.TheVariants as calls
 use Rattle.command_server.specs.declared.command.Command.{Command}
@@ -13,7 +14,8 @@ use Rattle.command_server.specs.declared.fault.LineFault.TheVariants as faults
 use Rattle.command_server.specs.declared.verbs.Verb.{Verb}
 use Rattle.command_server.specs.declared.verbs.Verb.TheVariants as verbs
 use Rattle.command_server.specs.Arguments.{authority_word, number_word, page_word, read_on, token_word}
-use Rattle.command_server.specs.Arrival.{arrival_of}
+use Rattle.command_server.specs.Arrival.{reply_words_of}
+use Rattle.command_server.specs.declared.arrival.Arrival.{Arrival}
 use Rattle.line_text.specs.Number.{number_of}
 use Rattle.command_server.specs.Verbs.{row_of, verb_of}
 use Rattle.line_text.specs.Words.{is_count_within, is_empty_word, words_of}
@@ -25,11 +27,17 @@ begin_of moment (authority ∷ []) capacity =
 begin_of moment _ capacity = Err faults.Words
 
 -- `ARRIVE <authority> <turn> <reply> ..`
-abbrev pub arrive_of : ℕ → List (List ℕ) → Capacity → Result Call LineFault
+abbrev pub arrive_of : ℕ → List (List ℕ) → Capacity → Result Arrival LineFault
 arrive_of moment (authority ∷ turn ∷ replies) capacity =
     read_on (authority_word authority capacity) (λ a. read_on (number_word turn) (λ t.
-    read_on (arrival_of replies) (λ answer. Ok (calls.Arrive a t answer moment))))
+    read_on (reply_words_of replies) (λ words.
+    Ok (record { authority = a; turn = t; replies = words; moment = moment }))))
 arrive_of moment _ capacity = Err faults.Words
+
+-- `STATE <authority>`
+abbrev pub authority_alone : List (List ℕ) → Capacity → Result (List ℕ) LineFault
+authority_alone (authority ∷ []) capacity = authority_word authority capacity
+authority_alone _ capacity = Err faults.Words
 
 -- `ASK <token> <url>`
 abbrev pub ask_of : ℕ → List (List ℕ) → Capacity → Result Call LineFault
@@ -59,14 +67,23 @@ done_of _ = Err faults.Words
 abbrev pub calling : Result Call LineFault → Result Command LineFault
 calling call = read_on call (λ c. Ok (commands.Call c))
 
+-- the answer that a call brings has a spare; a line brings none but by the walk
+abbrev pub CanBeMade : Command → Type 0
+CanBeMade (commands.Call call) = HasSpare call
+CanBeMade _ = Unit {0}
+
 -- check 8: the words that follow a verb, from left to right; BACK, DONE and QUIT use no moment
 abbrev pub arguments_of : Verb → ℕ → List (List ℕ) → Capacity → Result Command LineFault
 arguments_of verbs.Begin moment words capacity = calling (begin_of moment words capacity)
-arguments_of verbs.Arrive moment words capacity = calling (arrive_of moment words capacity)
+arguments_of verbs.Arrive moment words capacity =
+    read_on (arrive_of moment words capacity) (λ arrival. Ok (commands.Arrive arrival))
 arguments_of verbs.Ask moment words capacity = calling (ask_of moment words capacity)
 arguments_of verbs.Start moment words capacity = calling (start_of moment words capacity)
 arguments_of verbs.Back moment words capacity = calling (back_of words)
 arguments_of verbs.Done moment words capacity = calling (done_of words)
+arguments_of verbs.State moment words capacity =
+    read_on (authority_alone words capacity) (λ authority. Ok (commands.State authority moment))
+arguments_of verbs.Sweep moment words capacity = Ok (commands.Call (calls.Sweep moment))
 arguments_of verbs.Quit moment words capacity = Ok commands.Quit
 
 -- the verb takes so many words

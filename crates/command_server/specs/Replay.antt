@@ -2,30 +2,57 @@
 -- The contract of `replay` cites it.
 use Rattle.std.specs.Prelude.{◌≡◌, ◌⊎◌, ℕ, Bool, true, false, List, Result, Ok, Err}
 use Rattle.path_normal.specs.Capacity.{Enough, Overflows, Refused}
+use Rattle.robots_verdict.specs.declared.answer.Answer.{Answer}
 use Rattle.gate_core.specs.declared.call.Call.{Call}
+use Rattle.gate_core.specs.declared.call.Call.TheVariants as calls
 use Rattle.gate_core.specs.declared.call.Reply.{Reply}
-use Rattle.gate_core.specs.Gate.{Gate, Stays}
+use Rattle.gate_core.specs.declared.state.State.{State}
+use Rattle.gate_core.specs.Gate.{Gate, history, Stays}
 use Rattle.gate_core.specs.Headline.{IsTold}
-use Rattle.gate_core.specs.Replies.{Step}
+use Rattle.gate_core.specs.Calls.{Step}
+use Rattle.gate_core.specs.Replies.{moment_at}
+use Rattle.gate_core.specs.States.{IsState}
 use Rattle.command_server.specs.declared.command.Command.{Command}
 use Rattle.command_server.specs.declared.command.Command.TheVariants as commands
 use Rattle.command_server.specs.declared.fault.LineFault.{LineFault}
+use Rattle.command_server.specs.declared.arrival.Arrival.{Arrival}
+use Rattle.command_server.specs.Arrival.{Brings}
 use Rattle.command_server.specs.CallOf.{command_of}
 use Rattle.command_server.specs.FaultText.{fault_text}
-use Rattle.command_server.specs.ReplyText.{bye_text, reply_text}
+use Rattle.command_server.specs.ReplyText.{bye_text, reply_text, state_text}
 
 -- the text is that of a reply which the call may have, which tells what the headline says, and which
 -- leads to the new gate
 pub record AnswersCall (old : Gate) (call : Call) (text : List ℕ) (new : Gate) : Type 0 where
   pub reply : Reply
   pub step : Step old call reply new
-  pub told : IsTold old.history call reply
+  pub told : IsTold (history old) call reply
   pub text_is : text ≡ reply_text reply
+
+-- the text is that of what is known of the authority, and nothing changes
+abbrev pub AnswersState : Gate → List ℕ → ℕ → List ℕ → Gate → Type 0
+AnswersState old authority m text new =
+    (state : State) × (IsState (history old) authority (moment_at old m) state
+    × ((text ≡ state_text authority state) × Stays old new))
+
+-- the answer that the replies decide is brought to the gate, or the text is that of a fault, and nothing changes
+abbrev pub AnswersBrought : Gate → Arrival → Result (Answer × ℕ) LineFault → List ℕ → Gate → Type 0
+AnswersBrought old arrival (Ok brought) text new =
+    AnswersCall old (calls.Arrive arrival.authority arrival.turn brought.0 brought.1 arrival.moment) text new
+AnswersBrought old arrival (Err fault) text new = (text ≡ fault_text fault) × Stays old new
+
+-- the replies of an arrival bring an answer or a fault, and the text answers that
+abbrev pub AnswersArrival : Gate → Arrival → List ℕ → Gate → Type 0
+AnswersArrival old arrival text new =
+    (brought : Result (Answer × ℕ) LineFault) × (Brings arrival.authority arrival.replies brought
+    × AnswersBrought old arrival brought text new)
 
 -- what a command is answered: a call its reply, QUIT a farewell, which ends the session, a line with a
 -- fault that fault; and but for a call nothing changes
 abbrev pub AnswersCommand : Gate → Result Command LineFault → List ℕ → Bool → Gate → Type 0
 AnswersCommand old (Ok (commands.Call call)) text ended new = AnswersCall old call text new × (ended ≡ false)
+AnswersCommand old (Ok (commands.Arrive arrival)) text ended new = AnswersArrival old arrival text new × (ended ≡ false)
+AnswersCommand old (Ok (commands.State authority m)) text ended new = AnswersState old authority m text new × (ended ≡ false)
 AnswersCommand old (Ok commands.Quit) text ended new = (text ≡ bye_text) × (ended ≡ true) × Stays old new
 AnswersCommand old (Err fault) text ended new = (text ≡ fault_text fault) × (ended ≡ false) × Stays old new
 

@@ -28,12 +28,15 @@ row_of verbs.Ask = row (codes "ASK") 2 2
 row_of verbs.Start = row (codes "START") 3 3
 row_of verbs.Back = row (codes "BACK") 1 1
 row_of verbs.Done = row (codes "DONE") 1 1
+row_of verbs.State = row (codes "STATE") 1 1
+row_of verbs.Sweep = row (codes "SWEEP") 0 0
 row_of verbs.Quit = row (codes "QUIT") 0 0
 
 -- the verbs of a session
 abbrev pub verbs_of_session : List Verb
 verbs_of_session =
-    verbs.Begin ∷ verbs.Arrive ∷ verbs.Ask ∷ verbs.Start ∷ verbs.Back ∷ verbs.Done ∷ verbs.Quit ∷ []
+    verbs.Begin ∷ verbs.Arrive ∷ verbs.Ask ∷ verbs.Start ∷ verbs.Back ∷ verbs.Done
+    ∷ verbs.State ∷ verbs.Sweep ∷ verbs.Quit ∷ []
 
 -- the verb of this name, if there is one
 abbrev pub verb_of : List ℕ → Option Verb

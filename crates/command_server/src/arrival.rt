@@ -1,75 +1,45 @@
-//! The replies of an ARRIVE line, and the answer that they bring (RFC 9309, section 2.3.1).
-//! Used by `calls`.
-ghost use Rattle.std.specs.Prelude.{◌≡◌};
-ghost use Rattle.command_server.specs.Arrival.{answer_of, answer_of_status, arrival_of, one_answer};
-ghost use Rattle.command_server.specs.Arrival.{replies_fault, status_of};
-ghost use Rattle.line_text.specs.Words.{words_left};
+//! What an ARRIVE line brings, and the answer that its replies decide (RFC 9309, section 2.3.1).
+//! The walk over the replies is that of robots fetches.
+ghost use Rattle.std.specs.Prelude.{◌≡◌, IfOk};
+ghost use Rattle.robots_verdict.specs.Answer.{spares_of};
+ghost use Rattle.command_server.specs.Arrival.{Brings};
 
 use crate::fault::LineFault;
-use gate_core::{Answer, Closure, Opening};
-use line_text::{Words, number_of};
+use crate::reply_words::ReplyWords;
+use authority_cache::TurnNo;
+use path_normal::Authority;
+use robots_fetch::{Step, Walk};
+use robots_verdict::Answer;
+use std::alloc::Global;
 
-/// The answer of the replies. All their words are read before the walk over them.
-pub fn read_arrival(words: Words<'_>) -> Result<Answer, LineFault>
-    ensures { result ≡ arrival_of (words_left words.entry) }
-{
-    match replies_fault(words) {
-        Some(fault) => Err(fault),
-        None => one_answer(words),
-    }
+/// The replies of the robots fetch of a turn.
+#[derive(Drop)]
+pub struct Arrival<'a> {
+    pub authority: Authority,
+    pub turn: TurnNo,
+    pub replies: ReplyWords<'a>,
+    /// The moment of the call, in seconds.
+    pub moment: u64,
 }
 
-fn replies_fault(words: Words<'_>) -> Option<LineFault>
-    ensures { result ≡ replies_fault (words_left words.entry) }
+/// The answer that the replies decide for the authority, and its life in seconds.
+pub(crate) fn decide(
+    alloc: Global,
+    authority: &Authority,
+    replies: ReplyWords<'_>,
+) -> Result<(Answer, u64), LineFault>
+    ensures brings { Brings authority.now replies.entry result }
+    ensures spares { IfOk result (λ brought. spares_of brought.0 ≡ 2) }
 {
-    let mut left = words;
-    while let Some(status) = left.next() {
-        if answer_of(status).is_none() {
-            return Some(LineFault::Status);
-        }
-        match left.next() {
-            Some("-") => {}
-            _ => return Some(LineFault::Replies),
-        }
+    let mut replies = replies;
+    let mut walk = Walk::new(authority)?;
+    while let Some(reply) = replies.next(alloc)? {
+        walk = match walk.step(alloc, &reply) {
+            Step::Go(next) => next,
+            Step::Done(answer, life) if replies.is_empty() => return Ok((answer, life)),
+            Step::Done(..) => return Err(LineFault::Replies),
+            Step::NoMemory(_) => return Err(LineFault::Memory),
+        };
     }
-    None
-}
-
-fn one_answer(words: Words<'_>) -> Result<Answer, LineFault>
-    ensures { result ≡ one_answer (words_left words.entry) }
-{
-    let mut left = words;
-    let Some(status) = left.next() else {
-        return Err(LineFault::Replies);
-    };
-    if left.next().is_none() || left.next().is_some() {
-        return Err(LineFault::Replies);
-    }
-    answer_of(status).ok_or(LineFault::Status)
-}
-
-fn answer_of(word: &str) -> Option<Answer>
-    ensures { result ≡ answer_of word.now }
-{
-    answer_of_status(status_of(word)?)
-}
-
-fn status_of(word: &str) -> Option<u64>
-    ensures { result ≡ status_of word.now }
-{
-    if word.len() == 3 {
-        number_of(word)
-    } else {
-        None
-    }
-}
-
-fn answer_of_status(status: u64) -> Option<Answer>
-    ensures { result ≡ answer_of_status status }
-{
-    match status {
-        400..=499 => Some(Answer::Open(Opening::Unavailable)),
-        500..=599 => Some(Answer::Closed(Closure::Server)),
-        _ => None,
-    }
+    Err(LineFault::Replies)
 }

@@ -4,12 +4,14 @@ ghost use Rattle.std.specs.Prelude.{◌≡◌, OnErr, OnOk};
 ghost use Rattle.counted_io.specs.Device.{failures_after};
 ghost use Rattle.command_server.specs.Answers.{CutsReply, GivesReply};
 ghost use Rattle.command_server.specs.Limits.{max_line, max_lines};
-ghost use Rattle.command_server.specs.Replay.{AnswersCall, AnswersLine};
+ghost use Rattle.command_server.specs.Replay.{AnswersArrival, AnswersCall, AnswersLine};
+ghost use Rattle.gate_core.specs.Calls.{HasSpare};
 ghost use Rattle.command_server.specs.Session.{Session, failures_after_reads, failures_after_writes};
 
 use crate::answerer::{Answerer, Flow};
+use crate::arrival::{Arrival, decide};
 use crate::command::{Command, read_command};
-use crate::reply_text::{bye_pieces, fault_pieces, reply_pieces};
+use crate::reply_text::{bye_pieces, fault_pieces, reply_pieces, state_pieces};
 use crate::session::run_session;
 use crate::session_fault::SessionFault;
 use counted_io::{DeviceFault, Output, Sink, Source};
@@ -32,6 +34,15 @@ impl Answerer for Book {
         match read_command(alloc, line) {
             Ok(Command::Call(call)) => {
                 answer_call(self, call, output, sink)?;
+                Ok(Flow::Goes)
+            }
+            Ok(Command::Arrive(arrival)) => {
+                answer_arrival(self, alloc, arrival, output, sink)?;
+                Ok(Flow::Goes)
+            }
+            Ok(Command::State { authority, moment }) => {
+                let state = self.state_of(authority.text(), moment);
+                state_pieces(&authority, state).push(output, sink)?;
                 Ok(Flow::Goes)
             }
             Ok(Command::Quit) => {
@@ -77,6 +88,7 @@ fn answer_call<W: Sink>(
     output: &mut Output,
     sink: &mut W,
 ) -> Result<(), DeviceFault>
+    requires { HasSpare call }
     ensures ok { OnOk result (GivesReply (λ reply. AnswersCall book.old call reply book.new)
         (W.written sink.old) (W.written sink.new) output.old output.new) }
     ensures err { OnErr result (CutsReply (λ reply. AnswersCall book.old call reply book.new)
@@ -85,4 +97,39 @@ fn answer_call<W: Sink>(
 {
     let reply = book.answer(call);
     reply_pieces(&reply).push(output, sink)
+}
+
+// Brings the answer that the replies decide, and pushes the text of the reply.
+fn answer_arrival<W: Sink>(
+    book: &mut Book,
+    alloc: Global,
+    arrival: Arrival<'_>,
+    output: &mut Output,
+    sink: &mut W,
+) -> Result<(), DeviceFault>
+    ensures ok { OnOk result (GivesReply (λ reply. AnswersArrival book.old arrival.entry reply book.new)
+        (W.written sink.old) (W.written sink.new) output.old output.new) }
+    ensures err { OnErr result (CutsReply (λ reply. AnswersArrival book.old arrival.entry reply book.new)
+        (W.written sink.old) (W.written sink.new) output.old) }
+    ensures count { W.failures sink.new ≡ failures_after (W.failures sink.old) result }
+{
+    let Arrival {
+        authority,
+        turn,
+        replies,
+        moment,
+    } = arrival;
+    match decide(alloc, &authority, replies) {
+        Ok((answer, life)) => {
+            let call = Call::Arrive {
+                authority,
+                turn,
+                answer,
+                life,
+                moment,
+            };
+            answer_call(book, call, output, sink)
+        }
+        Err(fault) => fault_pieces(fault).push(output, sink),
+    }
 }

@@ -1,30 +1,43 @@
 //! One command line as a command, or its first fault.
 //! Used by the session; `CallOf` has the order of the checks.
-ghost use Rattle.std.specs.Prelude.{◌≡◌, IsTrue, MatchOption, false, true};
+ghost use Rattle.std.specs.Prelude.{◌≡◌, IfOk, IsTrue, MatchOption, false, true};
 ghost use Rattle.path_normal.specs.Capacity.{IsRead};
-ghost use Rattle.command_server.specs.CallOf.{arguments_of, command_of, counted_of, is_line_octet};
+ghost use Rattle.command_server.specs.CallOf.{arguments_of, CanBeMade, command_of, counted_of};
+ghost use Rattle.command_server.specs.CallOf.{is_line_octet};
 ghost use Rattle.command_server.specs.CallOf.{is_plain, takes, timed_words_of, verb_words_of};
 ghost use Rattle.line_text.specs.Words.{words_left};
 
-use crate::calls::{read_arrive, read_ask, read_back, read_begin, read_done, read_start};
+use crate::arrival::Arrival;
+use crate::calls::{
+    read_arrive, read_ask, read_back, read_begin, read_done, read_start, read_state,
+};
 use crate::fault::LineFault;
 use crate::verbs::Verb;
 use gate_core::Call;
 use line_text::{Words, number_of};
+use path_normal::Authority;
 use std::alloc::Global;
 
 /// What a command line asks of a session.
-#[derive(Debug, Drop)]
-pub enum Command {
+#[derive(Drop)]
+pub enum Command<'a> {
     /// A call of the book.
     Call(Call),
+    /// The call of the book that brings the answer of a robots fetch.
+    Arrive(Arrival<'a>),
+    /// What is known of an authority.
+    State {
+        authority: Authority,
+        moment: u64,
+    },
     /// The end of the session.
     Quit,
 }
 
 /// Reads a command line, without its line end.
-pub fn read_command(alloc: Global, line: &[u8]) -> Result<Command, LineFault>
-    ensures { IsRead result (command_of line.now) }
+pub fn read_command(alloc: Global, line: &[u8]) -> Result<Command<'_>, LineFault>
+    ensures read { IsRead result (command_of line.now) }
+    ensures spare { IfOk result CanBeMade }
 {
     let Some(text) = plain_text(line) else {
         return Err(LineFault::Chars);
@@ -58,8 +71,9 @@ fn is_line_octet(octet: u8) -> bool
     (32..=126).contains(&octet)
 }
 
-fn read_timed(alloc: Global, words: Words<'_>) -> Result<Command, LineFault>
-    ensures { IsRead result (timed_words_of (words_left words.entry)) }
+fn read_timed(alloc: Global, words: Words<'_>) -> Result<Command<'_>, LineFault>
+    ensures read { IsRead result (timed_words_of (words_left words.entry)) }
+    ensures spare { IfOk result CanBeMade }
 {
     let mut words = words;
     let Some(first) = words.next() else {
@@ -71,8 +85,9 @@ fn read_timed(alloc: Global, words: Words<'_>) -> Result<Command, LineFault>
     read_verb(alloc, moment, words)
 }
 
-fn read_verb(alloc: Global, moment: u64, words: Words<'_>) -> Result<Command, LineFault>
-    ensures { IsRead result (verb_words_of moment (words_left words.entry)) }
+fn read_verb(alloc: Global, moment: u64, words: Words<'_>) -> Result<Command<'_>, LineFault>
+    ensures read { IsRead result (verb_words_of moment (words_left words.entry)) }
+    ensures spare { IfOk result CanBeMade }
 {
     let mut words = words;
     let Some(name) = words.next() else {
@@ -89,8 +104,9 @@ fn read_counted(
     verb: Verb,
     moment: u64,
     words: Words<'_>,
-) -> Result<Command, LineFault>
-    ensures { IsRead result (counted_of verb moment (words_left words.entry)) }
+) -> Result<Command<'_>, LineFault>
+    ensures read { IsRead result (counted_of verb moment (words_left words.entry)) }
+    ensures spare { IfOk result CanBeMade }
 {
     let row = verb.row();
     if !words.count_is_within(row.least, row.most) {
@@ -104,17 +120,23 @@ fn read_arguments(
     verb: Verb,
     moment: u64,
     words: Words<'_>,
-) -> Result<Command, LineFault>
+) -> Result<Command<'_>, LineFault>
     requires { IsTrue (takes verb (words_left words)) }
-    ensures { IsRead result (arguments_of verb moment (words_left words.entry)) }
+    ensures read { IsRead result (arguments_of verb moment (words_left words.entry)) }
+    ensures spare { IfOk result CanBeMade }
 {
     Ok(Command::Call(match verb {
         Verb::Begin => read_begin(alloc, moment, words)?,
-        Verb::Arrive => read_arrive(alloc, moment, words)?,
+        Verb::Arrive => return Ok(Command::Arrive(read_arrive(alloc, moment, words)?)),
         Verb::Ask => read_ask(alloc, moment, words)?,
         Verb::Start => read_start(alloc, moment, words)?,
         Verb::Back => read_back(words)?,
         Verb::Done => read_done(words)?,
+        Verb::State => {
+            let authority = read_state(alloc, words)?;
+            return Ok(Command::State { authority, moment });
+        }
+        Verb::Sweep => Call::Sweep { moment },
         Verb::Quit => return Ok(Command::Quit),
     }))
 }

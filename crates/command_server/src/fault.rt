@@ -4,6 +4,7 @@ ghost use Rattle.command_server.specs.FaultText.{fault_text};
 
 use path_normal::{AuthorityFault, UrlFault};
 use robots_text::TokenFault;
+use std::alloc::AllocError;
 
 /// The first fault of a command line. No call is made for it.
 #[derive(Clone, Copy, Debug, PartialEq, Eq)]
@@ -40,6 +41,17 @@ pub enum LineFault {
     Replies,
     /// A growth of memory was refused.
     Memory,
+}
+
+impl From<AllocError> for LineFault {
+    ghost use Rattle.std.specs.Prelude.{◌≡◌};
+    ghost use Rattle.command_server.specs.declared.fault.LineFault.TheVariants.{Memory};
+
+    ghost from_gives = { λ _ told. told ≡ Memory };
+
+    fn from(_: AllocError) -> LineFault {
+        LineFault::Memory
+    }
 }
 
 impl From<TokenFault> for LineFault {

@@ -11,14 +11,17 @@ mod calls;
 mod command;
 mod fault;
 mod reply_text;
+mod reply_words;
 mod session;
 mod session_fault;
 mod verbs;
 
 pub use answerer::{Answerer, Flow};
+pub use arrival::Arrival;
 pub use book_lines::{MAX_LINE, MAX_LINES, replay};
 pub use command::{Command, read_command};
 pub use fault::LineFault;
 pub use reply_text::reply_pieces;
+pub use reply_words::ReplyWords;
 pub use session::run_session;
 pub use session_fault::SessionFault;

@@ -3,17 +3,19 @@
 ghost use Rattle.std.specs.Prelude.{◌≡◌};
 ghost use Rattle.command_server.specs.FaultText.{fault_text};
 ghost use Rattle.line_text.specs.Pieces.{pieces_text};
-ghost use Rattle.command_server.specs.ReplyText.{answer_word, arrive_text, ask_text, back_text};
-ghost use Rattle.command_server.specs.ReplyText.{begin_text, bye_text, cause_word, denial_text};
-ghost use Rattle.command_server.specs.ReplyText.{finish_text, reason_word, reply_text, start_text};
+ghost use Rattle.command_server.specs.ReplyText.{arrive_text, ask_text, back_text, begin_text};
+ghost use Rattle.command_server.specs.ReplyText.{bye_text, denial_text, finish_text, reply_text};
+ghost use Rattle.command_server.specs.ReplyText.{standing_word, start_text, started_text, state_text, sweep_text};
 
 use crate::fault::LineFault;
+use authority_cache::{Stale, TurnNo};
 use gate_core::{
-    Answer, AskRefusal, BeginRefusal, Cause, Denial, NotOut, PermitNo, Reason, Reply, Stale,
-    Started, TurnNo,
+    AskRefusal, BeginRefusal, Denial, Reply, Standing, Started, State, SweepRefusal,
 };
+use gate_history::{Cause, Reason};
 use line_text::{Piece, Pieces};
 use path_normal::Authority;
+use permit_book::{NotOut, PermitNo};
 
 /// The line of a reply.
 pub fn reply_pieces(reply: &Reply) -> Pieces<'_>
@@ -23,13 +25,14 @@ pub fn reply_pieces(reply: &Reply) -> Pieces<'_>
         Reply::Begin { authority, result } => begin_pieces(authority, result),
         Reply::Arrive {
             authority,
-            answer,
+            brought,
             result,
-        } => arrive_pieces(authority, *answer, result),
+        } => arrive_pieces(authority, *brought, result),
         Reply::Ask { result } => ask_pieces(result),
         Reply::Start { result } => start_pieces(result),
         Reply::Back { number, result } => back_pieces(*number, result),
         Reply::Finish { number, result } => finish_pieces(*number, result),
+        Reply::Sweep { result } => sweep_pieces(result),
     }
 }
 
@@ -52,14 +55,14 @@ fn begin_pieces<'a>(authority: &'a Authority, reply: &Result<TurnNo, BeginRefusa
 // The reply to ARRIVE.
 fn arrive_pieces<'a>(
     authority: &'a Authority,
-    answer: Answer,
+    brought: Standing,
     reply: &Result<(), Stale>,
 ) -> Pieces<'a>
-    ensures { pieces_text result ≡ arrive_text authority.now answer reply.now }
+    ensures { pieces_text result ≡ arrive_text authority.now brought reply.now }
 {
     match reply {
         Ok(()) => {
-            let word = Piece::Text(answer_word(answer));
+            let word = Piece::Text(standing_word(brought));
             Pieces::three_words("TAKEN", Piece::Text(authority.text()), word)
         }
         Err(Stale) => Pieces::whole("ERR stale\n"),
@@ -74,6 +77,7 @@ fn ask_pieces(reply: &Result<PermitNo, AskRefusal>) -> Pieces<'_>
         Ok(number) => Pieces::two_words("PERMIT", Piece::Number(number.number())),
         Err(AskRefusal::LogFull) => Pieces::whole("ERR log\n"),
         Err(AskRefusal::Denied(denial)) => denial_pieces(denial),
+        Err(AskRefusal::Busy) => Pieces::whole("ERR busy\n"),
         Err(AskRefusal::PermitsFull) => Pieces::whole("ERR permits\n"),
         Err(AskRefusal::NoMemory) => fault_pieces(LineFault::Memory),
     }
@@ -84,12 +88,24 @@ fn start_pieces(reply: &Result<Started, Denial>) -> Pieces<'_>
     ensures { pieces_text result ≡ start_text reply.now }
 {
     match reply {
-        Ok(started) => {
-            let reason = Piece::Text(reason_word(started.reason));
-            Pieces::three_words("GO", Piece::Number(started.number.number()), reason)
-        }
+        Ok(started) => started_pieces(started),
         Err(denial) => denial_pieces(denial),
     }
+}
+
+fn started_pieces(started: &Started) -> Pieces<'_>
+    ensures { pieces_text result ≡ started_text started.now }
+{
+    let number = Piece::Number(started.number.number());
+    let word = match started.reason {
+        Reason::Open => "open",
+        Reason::NoRule => "norule",
+        Reason::RobotsPath => "robots",
+        Reason::Line(line) => {
+            return Pieces::four_words("GO", number, Piece::Text("line"), Piece::Number(line));
+        }
+    };
+    Pieces::three_words("GO", number, Piece::Text(word))
 }
 
 // The reply to BACK.
@@ -112,6 +128,26 @@ fn finish_pieces(number: PermitNo, reply: &Result<(), NotOut>) -> Pieces<'static
     }
 }
 
+// The reply to SWEEP.
+fn sweep_pieces(reply: &Result<u64, SweepRefusal>) -> Pieces<'static>
+    ensures { pieces_text result ≡ sweep_text reply.now }
+{
+    match reply {
+        Ok(count) => Pieces::two_words("SWEPT", Piece::Number(*count)),
+        Err(SweepRefusal::LogFull) => Pieces::whole("ERR log\n"),
+        Err(SweepRefusal::NoMemory) => fault_pieces(LineFault::Memory),
+    }
+}
+
+/// The reply to STATE.
+pub(crate) fn state_pieces(authority: &Authority, state: State) -> Pieces<'_>
+    ensures { pieces_text result ≡ state_text authority.now state }
+{
+    let standing = Piece::Text(standing_word(state.standing));
+    let fetching = Piece::Text(if state.fetching { "fetching" } else { "idle" });
+    Pieces::four_words("STATE", Piece::Text(authority.text()), standing, fetching)
+}
+
 /// The reply to QUIT.
 pub(crate) fn bye_pieces() -> Pieces<'static>
     ensures { pieces_text result ≡ bye_text }
@@ -129,34 +165,27 @@ pub(crate) fn fault_pieces(fault: LineFault) -> Pieces<'static>
 fn denial_pieces(denial: &Denial) -> Pieces<'_>
     ensures { pieces_text result ≡ denial_text denial.now }
 {
-    let cause = Piece::Text(cause_word(denial.cause));
-    Pieces::three_words("NO", Piece::Text(denial.authority()), cause)
-}
-
-fn answer_word(answer: Answer) -> &'static str
-    ensures { result.now ≡ answer_word answer }
-{
-    match answer {
-        Answer::Open(_) => "open",
-        Answer::Closed(_) => "closed",
-    }
-}
-
-fn cause_word(cause: Cause) -> &'static str
-    ensures { result.now ≡ cause_word cause }
-{
-    match cause {
+    let authority = Piece::Text(denial.authority());
+    let word = match denial.cause {
         Cause::Spent => "spent",
         Cause::Unknown => "unknown",
         Cause::Expired => "expired",
         Cause::Closed => "closed",
-    }
+        Cause::Line(line) => {
+            return Pieces::four_words("NO", authority, Piece::Text("line"), Piece::Number(line));
+        }
+    };
+    Pieces::three_words("NO", authority, Piece::Text(word))
 }
 
-fn reason_word(reason: Reason) -> &'static str
-    ensures { result.now ≡ reason_word reason }
+fn standing_word(standing: Standing) -> &'static str
+    ensures { result.now ≡ standing_word standing }
 {
-    match reason {
-        Reason::Open => "open",
+    match standing {
+        Standing::Unknown => "unknown",
+        Standing::Expired => "expired",
+        Standing::Closed => "closed",
+        Standing::Open => "open",
+        Standing::Rules => "rules",
     }
 }

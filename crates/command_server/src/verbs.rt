@@ -12,17 +12,21 @@ pub enum Verb {
     Start,
     Back,
     Done,
+    State,
+    Sweep,
     Quit,
 }
 
 // The verbs of a session.
-const VERBS: [Verb; 7] = [
+const VERBS: [Verb; 9] = [
     Verb::Begin,
     Verb::Arrive,
     Verb::Ask,
     Verb::Start,
     Verb::Back,
     Verb::Done,
+    Verb::State,
+    Verb::Sweep,
     Verb::Quit,
 ];
 
@@ -58,6 +62,8 @@ impl Verb {
             Verb::Start => row("START", 3, 3),
             Verb::Back => row("BACK", 1, 1),
             Verb::Done => row("DONE", 1, 1),
+            Verb::State => row("STATE", 1, 1),
+            Verb::Sweep => row("SWEEP", 0, 0),
             Verb::Quit => row("QUIT", 0, 0),
         }
     }

@@ -1,5 +1,7 @@
 //! The program: what its words ask for, done over the standard streams.
 //! docs/crawlgate.1.md is its manual page.
+ghost use Rattle.gate_core.specs.Limits.{AreLimits};
+
 #![tactic(auto)]
 
 mod body;
@@ -14,8 +16,9 @@ use clap::error::ErrorKind;
 use command_server::replay;
 use counted_io::Counted;
 use ending::Ending;
-use gate_core::{Book, Config};
+use gate_core::{Book, Config, Limits};
 use options::{Subcommand, options};
+use std::hash::RandomState;
 use std::process::ExitCode;
 use std::{env, io};
 
@@ -56,7 +59,7 @@ fn run(rt: &HostRuntime) -> io::Result<Ending> {
 // Does what the words ask for.
 fn run_words(rt: &HostRuntime, words: &[&str]) -> io::Result<Ending> {
     match options(rt.alloc(), words) {
-        Ok(Subcommand::Replay) => Ok(replay_streams(rt)),
+        Ok(Subcommand::Replay(limits)) => Ok(replay_streams(rt, limits)),
         Ok(Subcommand::Lines) => Ok(lines_streams(rt)),
         Err(error) if error.kind() == ErrorKind::OutOfMemory => Ok(Ending::NoMemory),
         Err(error) => {
@@ -66,9 +69,14 @@ fn run_words(rt: &HostRuntime, words: &[&str]) -> io::Result<Ending> {
     }
 }
 
-// Replays standard input to standard output.
-fn replay_streams(rt: &HostRuntime) -> Ending {
-    let Ok(mut book) = Book::new(rt.alloc(), Config::usual()) else {
+// Replays standard input to standard output. The keys of the book's tables are drawn anew.
+fn replay_streams(rt: &HostRuntime, limits: Limits) -> Ending
+    requires { AreLimits limits }
+{
+    let Ok(keys) = RandomState::new(rt) else {
+        return Ending::Device;
+    };
+    let Ok(mut book) = Book::new(rt.alloc(), Config { limits, keys }) else {
         return Ending::NoMemory;
     };
     let mut reader = Counted::new(rt.stdin());

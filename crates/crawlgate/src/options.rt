@@ -1,35 +1,127 @@
 //! The words of the program's command line, read by `clap`.
 //! Nothing below sees `clap`.
+ghost use Rattle.std.specs.Prelude.{IfOk, IfSome, ◌≤◌};
+ghost use Rattle.gate_core.specs.Limits.{AreLimits};
+ghost use Rattle.crawlgate.specs.Options.{IsInRange};
 
-use clap::{Command, Error};
-use std::alloc::Global;
+use clap::error::ErrorKind;
+use clap::{Arg, ArgAction, ArgMatches, Command, Error};
+use gate_core::{Limits, MAX_AUTHORITIES, MAX_LOG, MAX_PLACES};
+use permit_book::{LAST_GENERATION, MAX_SLOTS};
+use std::alloc::{AllocError, Global};
 
 /// What the program is asked to do.
 #[derive(Clone, Copy, Debug, PartialEq, Eq)]
 pub enum Subcommand {
-    /// Reads replay lines from standard input, and writes their replies to standard output.
-    Replay,
+    /// Reads replay lines from standard input, and writes their replies to standard output, on a
+    /// book of these limits.
+    Replay(Limits),
     /// Reads a robots text from standard input, and writes what each of its lines says.
     Lines,
 }
 
 /// Reads the program's words, of which the first is its own name. The error has what `clap`
 /// answers in their place: its help, or why it refuses them.
-pub fn options<'a>(alloc: Global, words: &'a [&'a str]) -> Result<Subcommand, Error> {
-    let replay = Command::new(alloc, "replay").about(
-        "Answers the lines of standard input, one reply a line",
-    );
-    let lines = Command::new(alloc, "lines").about(
-        "Writes what each line of the robots.txt on standard input says",
-    );
-    let program = Command::new(alloc, "crawlgate")
-        .about("A gate for web crawlers, under every site's robots.txt (RFC 9309)")
-        .subcommand_required(true)
-        .subcommand(replay)?
-        .subcommand(lines)?;
-    match program.try_get_matches_from(words)?.subcommand_name() {
-        Some("replay") => Ok(Subcommand::Replay),
+pub fn options<'a>(alloc: Global, words: &'a [&'a str]) -> Result<Subcommand, Error>
+    ensures { IfOk result IsInRange }
+{
+    let mut program = program(alloc)?;
+    let matches = program.try_get_matches_from_mut(words)?;
+    match matches.subcommand() {
+        Some(("replay", replay)) => match limits_of(replay) {
+            Some(limits) => Ok(Subcommand::Replay(limits)),
+            // `clap` has refused such numbers.
+            None => Err(program.error(ErrorKind::ValueValidation, "a number is out of its range")?),
+        },
         // There is no other subcommand, and one is required.
         _ => Ok(Subcommand::Lines),
     }
+}
+
+fn program<'a>(alloc: Global) -> Result<Command<'a>, AllocError> {
+    let replay = Command::new(alloc, "replay")
+        .about("Answers the lines of standard input, one reply a line")
+        .arg(number(
+            alloc,
+            "slots",
+            "1024",
+            MAX_SLOTS,
+            "Permits that may be out at a time",
+        ))?
+        .arg(number(
+            alloc,
+            "generation",
+            "1",
+            LAST_GENERATION,
+            "Generation of the first permit of each slot",
+        ))?
+        .arg(number(
+            alloc,
+            "log",
+            "1000000",
+            MAX_LOG,
+            "Entries of the history",
+        ))?
+        .arg(number(
+            alloc,
+            "authorities",
+            "65536",
+            MAX_AUTHORITIES,
+            "Authorities that are known at a time",
+        ))?
+        .arg(number(
+            alloc,
+            "places",
+            "65536",
+            MAX_PLACES,
+            "Permits that may be out for an authority at a time",
+        ))?;
+    let lines = Command::new(alloc, "lines").about(
+        "Writes what each line of the robots.txt on standard input says",
+    );
+    Command::new(alloc, "crawlgate")
+        .about("A gate for web crawlers, under every site's robots.txt (RFC 9309)")
+        .subcommand_required(true)
+        .subcommand(replay)?
+        .subcommand(lines)
+}
+
+// An option with a number from 1 to `most`.
+fn number<'a>(
+    alloc: Global,
+    name: &'static str,
+    usual: &'static str,
+    most: u64,
+    about: &'static str,
+) -> Arg<'a> {
+    Arg::new(alloc, name)
+        .long(name)
+        .value_name("N")
+        .action(ArgAction::Set)
+        .default_value(usual)
+        .value_parser(clap::value_parser!(u64).range(1..=most as i64))
+        .help(about)
+}
+
+// The limits that the options set, where each is in its range.
+fn limits_of(matches: &ArgMatches<'_>) -> Option<Limits>
+    ensures { IfSome result AreLimits }
+{
+    Some(Limits {
+        slots: number_of(matches, "slots", MAX_SLOTS)?,
+        first_generation: number_of(matches, "generation", LAST_GENERATION)?,
+        log_limit: number_of(matches, "log", MAX_LOG)?,
+        authority_limit: number_of(matches, "authorities", MAX_AUTHORITIES)?,
+        places: number_of(matches, "places", MAX_PLACES)?,
+    })
+}
+
+// The number of an option, where it is from 1 to `most`.
+fn number_of(matches: &ArgMatches<'_>, name: &str, most: u64) -> Option<u64>
+    ensures least { IfSome result (λ number. 1 ≤ number) }
+    ensures most { IfSome result (λ number. number ≤ most) }
+{
+    matches
+        .get_one::<u64>(name)
+        .filter(|number| 1 <= *number && *number <= most)
 }

@@ -1,12 +1,14 @@
 //! Whole sessions over memory: worked rows of docs/FORMATS.md, and a fault at every place.
 
 ghost use Rattle.std.specs.Prelude.{◌<◌};
-ghost use Rattle.gate_core.specs.Gate.{IsConfig};
+ghost use Rattle.gate_core.specs.Limits.{AreLimits};
 
 use command_server::{SessionFault, replay};
 use counted_io::FailAt;
-use gate_core::{Book, Config};
+use gate_core::{Book, Config, Limits};
+use std::hash::RandomState;
 use std::process::Abort;
+use std::random::RandomSource;
 use std::test::Fail;
 
 mod calls;
@@ -14,20 +16,22 @@ mod faults;
 mod lines;
 mod options;
 mod rows;
+mod rules;
 mod waiting;
 
 // Replays the input with reads of at most so many octets, and checks what was written and the end.
-fn check<R: Abort + AllocGlobal>(
+fn check<R: Abort + AllocGlobal + RandomSource>(
     rt: &R,
-    config: Config,
+    limits: Limits,
     per_read: usize,
     row: (&str, &[u8], &[u8], Result<(), SessionFault>),
 ) -> Result<(), Fail>
-    requires config { IsConfig config }
+    requires limits { AreLimits limits }
     requires reads { 0 < per_read }
 {
     let (name, input, want, end) = row;
-    let mut book = Book::new(rt.alloc(), config)?;
+    let keys = RandomState::new(rt)?;
+    let mut book = Book::new(rt.alloc(), Config { limits, keys })?;
     let mut reader = FailAt::new(input.to_vec(rt.alloc())?, per_read, None);
     let mut writer = FailAt::new(Vec::new(rt.alloc()), 65536, None);
     let result = replay(rt.alloc(), &mut reader, &mut writer, &mut book);

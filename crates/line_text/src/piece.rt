@@ -24,7 +24,7 @@ pub enum Piece<'a> {
 /// The pieces of a line, in order. A place that is not needed has an empty text.
 #[derive(Clone, Copy)]
 pub struct Pieces<'a> {
-    pieces: [Piece<'a>; 6],
+    pieces: [Piece<'a>; 8],
 }
 
 impl<'a> Pieces<'a> {
@@ -34,7 +34,7 @@ impl<'a> Pieces<'a> {
     {
         let none = Piece::Text("");
         Pieces {
-            pieces: [Piece::Text(line), none, none, none, none, none],
+            pieces: [Piece::Text(line), none, none, none, none, none, none, none],
         }
     }
 
@@ -51,6 +51,8 @@ impl<'a> Pieces<'a> {
                 Piece::Text("\n"),
                 none,
                 none,
+                none,
+                none,
             ],
         }
     }
@@ -61,6 +63,7 @@ impl<'a> Pieces<'a> {
             (first.now ∷ piece_text second.entry ∷ piece_text third.entry ∷ []) }
     {
         let space = Piece::Text(" ");
+        let none = Piece::Text("");
         Pieces {
             pieces: [
                 Piece::Text(first),
@@ -68,6 +71,33 @@ impl<'a> Pieces<'a> {
                 second,
                 space,
                 third,
+                Piece::Text("\n"),
+                none,
+                none,
+            ],
+        }
+    }
+
+    /// A line of four words.
+    pub fn four_words(
+        first: &'a str,
+        second: Piece<'a>,
+        third: Piece<'a>,
+        fourth: Piece<'a>,
+    ) -> Pieces<'a>
+        ensures { pieces_text result ≡ line_of
+            (first.now ∷ piece_text second.entry ∷ piece_text third.entry ∷ piece_text fourth.entry ∷ []) }
+    {
+        let space = Piece::Text(" ");
+        Pieces {
+            pieces: [
+                Piece::Text(first),
+                space,
+                second,
+                space,
+                third,
+                space,
+                fourth,
                 Piece::Text("\n"),
             ],
         }
@@ -78,6 +108,7 @@ impl<'a> Pieces<'a> {
         ensures { pieces_text result ≡ decimal number
             ++ (codes " " ++ ((word.now ++ (gap.now ++ piece_text value.entry)) ++ codes "\n")) }
     {
+        let none = Piece::Text("");
         Pieces {
             pieces: [
                 Piece::Number(number),
@@ -86,6 +117,8 @@ impl<'a> Pieces<'a> {
                 Piece::Text(gap),
                 value,
                 Piece::Text("\n"),
+                none,
+                none,
             ],
         }
     }

@@ -1,8 +1,13 @@
 //! A list of calls, with ample memory.
 
-use gate_core::{Answer, Book, Call, Config, Opening, PermitNo, Reason, Reply, TurnNo, run};
+use authority_cache::TurnNo;
+use gate_core::{Book, Call, Config, Limits, Reply, run};
+use gate_history::Reason;
 use path_normal::{Authority, PageUrl};
+use permit_book::PermitNo;
 use robots_text::Token;
+use robots_verdict::{Answer, Opening};
+use std::hash::RandomState;
 use std::test::Fail;
 
 #[test]
@@ -20,6 +25,7 @@ fn a_site_without_a_robots_file(rt: HostRuntime) -> Result<(), Fail> {
             authority,
             turn: TurnNo::new(1),
             answer: Answer::Open(Opening::Unavailable),
+            life: 86400,
             moment: 105,
         },
         Call::Ask {
@@ -34,7 +40,11 @@ fn a_site_without_a_robots_file(rt: HostRuntime) -> Result<(), Fail> {
             moment: 120
         },
     ]?;
-    let mut book = Book::new(alloc, Config::usual())?;
+    let config = Config {
+        limits: Limits::usual(),
+        keys: RandomState::new(&rt)?,
+    };
+    let mut book = Book::new(alloc, config)?;
     let replies = run(alloc, &mut book, calls)?;
     assert_eq!(rt; replies.len(), 4);
     assert!(rt;

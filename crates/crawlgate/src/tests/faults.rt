@@ -2,7 +2,8 @@
 
 use command_server::{SessionFault, replay};
 use counted_io::FailAt;
-use gate_core::{Book, Config};
+use gate_core::{Book, Config, Limits};
+use std::hash::RandomState;
 use std::alloc::Global;
 use std::test::Fail;
 
@@ -32,7 +33,11 @@ fn replies(alloc: Global, lines: usize) -> Result<Vec<u8>, Fail> {
 #[test]
 fn a_read_fails(rt: HostRuntime) -> Result<(), Fail> {
     for octets in 0..INPUT.len() {
-        let mut book = Book::new(rt.alloc(), Config::usual())?;
+        let config = Config {
+            limits: Limits::usual(),
+            keys: RandomState::new(&rt)?,
+        };
+        let mut book = Book::new(rt.alloc(), config)?;
         let fails_at = Some(octets as u64);
         let mut reader = FailAt::new(INPUT.as_bytes().to_vec(rt.alloc())?, 1, fails_at);
         let mut writer = FailAt::new(Vec::new(rt.alloc()), 65536, None);
@@ -53,7 +58,11 @@ fn a_read_fails(rt: HostRuntime) -> Result<(), Fail> {
 fn a_write_fails(rt: HostRuntime) -> Result<(), Fail> {
     let all = replies(rt.alloc(), REPLIES.len())?;
     for call in 0..all.len() as u64 {
-        let mut book = Book::new(rt.alloc(), Config::usual())?;
+        let config = Config {
+            limits: Limits::usual(),
+            keys: RandomState::new(&rt)?,
+        };
+        let mut book = Book::new(rt.alloc(), config)?;
         let mut reader = FailAt::new(INPUT.as_bytes().to_vec(rt.alloc())?, 65536, None);
         let mut writer = FailAt::new(Vec::new(rt.alloc()), 1, Some(call));
         let result = replay(rt.alloc(), &mut reader, &mut writer, &mut book);

@@ -3,11 +3,21 @@
 
 use crate::options::{Subcommand, options};
 use clap::error::ErrorKind;
+use gate_core::Limits;
 use std::test::Fail;
 
+// The limits where no option is given.
+const USUAL: Limits = Limits {
+    slots: 1024,
+    first_generation: 1,
+    log_limit: 1000000,
+    authority_limit: 65536,
+    places: 65536,
+};
+
 // What the words are, the words behind the program's name, and what they come to.
-const ROWS: [(&str, &[&str], Result<Subcommand, ErrorKind>); 7] = [
-    ("replay", &["replay"], Ok(Subcommand::Replay)),
+const ROWS: [(&str, &[&str], Result<Subcommand, ErrorKind>); 14] = [
+    ("replay", &["replay"], Ok(Subcommand::Replay(USUAL))),
     ("lines", &["lines"], Ok(Subcommand::Lines)),
     ("no word", &[], Err(ErrorKind::MissingSubcommand)),
     (
@@ -26,6 +36,36 @@ const ROWS: [(&str, &[&str], Result<Subcommand, ErrorKind>); 7] = [
         &["replay", "--x"],
         Err(ErrorKind::UnknownArgument),
     ),
+    (
+        "every option at its least",
+        &["replay", "--slots", "1", "--generation", "1", "--log", "1", "--authorities", "1", "--places", "1"],
+        Ok(Subcommand::Replay(Limits {
+            slots: 1,
+            first_generation: 1,
+            log_limit: 1,
+            authority_limit: 1,
+            places: 1,
+        })),
+    ),
+    (
+        "every option at its most",
+        &[
+            "replay", "--slots=65536", "--generation=281474976710655", "--log=1000000", "--authorities=65536",
+            "--places=65536",
+        ],
+        Ok(Subcommand::Replay(Limits {
+            slots: 65536,
+            first_generation: 281474976710655,
+            log_limit: 1000000,
+            authority_limit: 65536,
+            places: 65536,
+        })),
+    ),
+    ("no slot", &["replay", "--slots", "0"], Err(ErrorKind::ValueValidation)),
+    ("a generation too many", &["replay", "--generation", "281474976710656"], Err(ErrorKind::ValueValidation)),
+    ("an entry too many", &["replay", "--log", "1000001"], Err(ErrorKind::ValueValidation)),
+    ("a place too many", &["replay", "--places", "65537"], Err(ErrorKind::ValueValidation)),
+    ("no number", &["replay", "--authorities", "x"], Err(ErrorKind::ValueValidation)),
 ];
 
 #[test]

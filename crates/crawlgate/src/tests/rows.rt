@@ -3,7 +3,7 @@
 
 use super::check;
 use command_server::SessionFault;
-use gate_core::Config;
+use gate_core::Limits;
 use std::alloc::Global;
 use std::test::Fail;
 
@@ -216,11 +216,11 @@ BYE
     ),
 ];
 
-// What the session shows, its slots, first generation, entries and authorities, and its run.
-const LIMITED: [(&str, [u64; 4], &str); 4] = [
+// What the session shows, its slots, first generation, entries, authorities and places, and its run.
+const LIMITED: [(&str, [u64; 5], &str); 6] = [
     (
         "one slot",
-        [1, 1, 1000000, 65536],
+        [1, 1, 1000000, 65536, 65536],
         "
 100 BEGIN a.example
 105 ARRIVE a.example 1 404 -
@@ -243,7 +243,7 @@ NO a.example spent
     ),
     (
         "last generation",
-        [1, 281474976710655, 1000000, 65536],
+        [1, 281474976710655, 1000000, 65536, 65536],
         "
 100 BEGIN a.example
 105 ARRIVE a.example 1 404 -
@@ -260,44 +260,104 @@ ERR permits
     ),
     (
         "full log",
-        [1024, 1, 5, 65536],
+        [1024, 1, 5, 65536, 65536],
         "
 100 BEGIN a.example
 105 ARRIVE a.example 1 404 -
 110 ASK foobot http://a.example/x
+111 SWEEP
 112 ASK foobot http://a.example/x
 113 BEGIN b.example
 114 START 65536 foobot http://a.example/x
 115 DONE 65536
+116 SWEEP
 ----
 TURN a.example 1
 TAKEN a.example open
 PERMIT 65536
 ERR log
 ERR log
+ERR log
 GO 65536 open
 DONE 65536
+ERR log
 ",
     ),
     (
         "one authority",
-        [1024, 1, 1000000, 1],
+        [1024, 1, 1000000, 1, 65536],
         "
 100 BEGIN a.example
 105 ARRIVE a.example 1 404 -
 106 BEGIN b.example
 107 BEGIN a.example
+108 ARRIVE a.example 2 404 -
+86507 SWEEP
+86508 SWEEP
+86508 STATE a.example
+86509 BEGIN b.example
+86510 ASK foobot http://a.example/x
 ----
 TURN a.example 1
 TAKEN a.example open
 ERR authorities
 TURN a.example 2
+TAKEN a.example open
+SWEPT 0
+SWEPT 1
+STATE a.example unknown idle
+TURN b.example 3
+NO a.example unknown
+",
+    ),
+    (
+        "one place for an authority",
+        [1024, 1, 1000000, 65536, 1],
+        "
+100 BEGIN a.example
+105 ARRIVE a.example 1 404 -
+110 ASK foobot http://a.example/x
+111 ASK barbot http://a.example/y
+112 BEGIN b.example
+113 ARRIVE b.example 2 404 -
+114 ASK foobot http://b.example/
+115 START 65536 foobot http://a.example/x
+116 ASK foobot http://a.example/x
+117 DONE 65536
+118 ASK foobot http://a.example/x
+----
+TURN a.example 1
+TAKEN a.example open
+PERMIT 65536
+ERR busy
+TURN b.example 2
+TAKEN b.example open
+PERMIT 65537
+GO 65536 open
+ERR busy
+DONE 65536
+PERMIT 131072
+",
+    ),
+    (
+        "one place before one slot",
+        [1, 1, 1000000, 65536, 1],
+        "
+100 BEGIN a.example
+105 ARRIVE a.example 1 404 -
+110 ASK foobot http://a.example/x
+111 ASK barbot http://a.example/y
+----
+TURN a.example 1
+TAKEN a.example open
+PERMIT 65536
+ERR busy
 ",
     ),
 ];
 
-// The command lines of a run, and the replies to them.
-fn split(run: &str) -> (&[u8], &[u8]) {
+/// The command lines of a run, and the replies to them.
+pub fn split(run: &str) -> (&[u8], &[u8]) {
     match run.split_once("----\n") {
         Some((input, replies)) => (
             input.trim_start_matches('\n').as_bytes(),
@@ -312,7 +372,7 @@ fn usual_limits(rt: HostRuntime) -> Result<(), Fail> {
     for (name, run) in ROWS {
         let (input, want) = split(run);
         for per_read in [1, 7, 65536] {
-            check(&rt, Config::usual(), per_read, (name, input, want, Ok(())))?;
+            check(&rt, Limits::usual(), per_read, (name, input, want, Ok(())))?;
         }
     }
     Ok(())
@@ -324,22 +384,23 @@ fn line_ends(rt: HostRuntime) -> Result<(), Fail> {
     let want = b"ERR notout\nERR chars\nERR chars\nERR notout\nERR chars\n";
     for per_read in [1, 7, 65536] {
         let row = ("line ends", input.as_slice(), want.as_slice(), Ok(()));
-        check(&rt, Config::usual(), per_read, row)?;
+        check(&rt, Limits::usual(), per_read, row)?;
     }
     Ok(())
 }
 
 #[test]
 fn other_limits(rt: HostRuntime) -> Result<(), Fail> {
-    for (name, [slots, first_generation, log_limit, authority_limit], run) in LIMITED {
+    for (name, [slots, first_generation, log_limit, authority_limit, places], run) in LIMITED {
         let (input, want) = split(run);
-        let config = Config {
+        let limits = Limits {
             slots,
             first_generation,
             log_limit,
             authority_limit,
+            places,
         };
-        check(&rt, config, 65536, (name, input, want, Ok(())))?;
+        check(&rt, limits, 65536, (name, input, want, Ok(())))?;
     }
     Ok(())
 }
@@ -373,7 +434,7 @@ fn limits_of_lines(rt: HostRuntime) -> Result<(), Fail> {
         let input = long_line(rt.alloc(), octets, end)?;
         check(
             &rt,
-            Config::usual(),
+            Limits::usual(),
             65536,
             (name, input.as_slice(), want.as_bytes(), result),
         )?;
@@ -393,7 +454,7 @@ fn a_url_of_4097_bytes(rt: HostRuntime) -> Result<(), Fail> {
         b"ERR url long\n".as_slice(),
         Ok(()),
     );
-    check(&rt, Config::usual(), 65536, row)
+    check(&rt, Limits::usual(), 65536, row)
 }
 
 #[test]
@@ -404,7 +465,7 @@ fn limit_of_a_session(rt: HostRuntime) -> Result<(), Fail> {
     }
     let input = vec![in rt.alloc(); b'\n'; 1000001]?;
     let most = ("a million lines", &input[1..], want.as_slice(), Ok(()));
-    check(&rt, Config::usual(), 65536, most)?;
+    check(&rt, Limits::usual(), 65536, most)?;
     want.extend_from_slice(b"ERR lines\n")?;
     let more = (
         "one line more",
@@ -412,5 +473,5 @@ fn limit_of_a_session(rt: HostRuntime) -> Result<(), Fail> {
         want.as_slice(),
         Err(SessionFault::Lines),
     );
-    check(&rt, Config::usual(), 65536, more)
+    check(&rt, Limits::usual(), 65536, more)
 }

@@ -4,8 +4,9 @@ ghost use Rattle.std.specs.Prelude.{None};
 
 use command_server::replay;
 use counted_io::{DeviceFault, LINE_BUFFER, Sink, Source};
-use gate_core::{Book, Config};
+use gate_core::{Book, Config, Limits};
 use std::cell::Cell;
+use std::hash::RandomState;
 use std::test::Fail;
 
 const LINE: &str = "1 BACK 7\n";
@@ -76,7 +77,11 @@ fn writes_replies_before_it_waits(rt: HostRuntime) -> Result<(), Fail> {
             failures: 0,
         };
         let mut sink = Tally { written: &written };
-        let mut book = Book::new(rt.alloc(), Config::usual())?;
+        let config = Config {
+            limits: Limits::usual(),
+            keys: RandomState::new(&rt)?,
+        };
+        let mut book = Book::new(rt.alloc(), config)?;
         let result = replay(rt.alloc(), &mut source, &mut sink, &mut book);
         assert_eq!(rt; result, Ok(()), "at {cut}");
         assert_eq!(rt; written.get(), 5 * REPLY.len(), "at {cut}");

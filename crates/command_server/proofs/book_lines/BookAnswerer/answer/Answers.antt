@@ -11,7 +11,7 @@ use Rattle.command_server.proofs.book_lines.BookAnswerer.answer.Goals as goal
 pub returns-in_err-push-in-Ok-Quit-clause-err : goal.returns-in_err-push-in-Ok-Quit-clause-err
 returns-in_err-push-in-Ok-Quit-clause-err g c =
     let text = pieces_text c.bye_pieces.result in
-    let e = c.in-Ok-Quit.ensures ∙ ap (λ (x : Command). Ok x) c.in-Ok-Quit.field-0-is in
+    let e = c.in-Ok-Quit.ensures.read ∙ ap (λ (x : Command). Ok x) c.in-Ok-Quit.field-0-is in
     on_err c.from_residual-in_err-push-in-Ok-Quit.result (record {
       reply = text;
       ended = true;

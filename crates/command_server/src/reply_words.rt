@@ -1,0 +1,191 @@
+//! The words of the replies that an ARRIVE line has: two a reply (docs/FORMATS.md).
+//! Read before any of the replies is walked over.
+ghost use Rattle.std.specs.Prelude.{◌≡◌, ◌↔◌, [], IfOk, IsTrue};
+ghost use Rattle.command_server.specs.Arrival.{has_rules, has_text, HasWords, head_of, is_none_word};
+ghost use Rattle.command_server.specs.Arrival.{lasting_of, may_have, plain_of, replies_fault, reply_words_of, response_of};
+ghost use Rattle.command_server.specs.Arrival.{status_of, TakesReply};
+ghost use Rattle.line_text.specs.Words.{words_left};
+
+use crate::fault::LineFault;
+use line_text::{Words, number_of};
+use percent_encoding::percent_decode;
+use robots_fetch::{RobotsReply, StatusClass, class_of};
+use std::alloc::{AllocError, Global};
+use std::marker::Model;
+
+/// What the first word of a reply says.
+#[derive(Clone, Copy)]
+pub(crate) enum Head {
+    /// A response of this status, with the seconds for which its rules may be kept.
+    Status {
+        code: u16,
+        max_age: Option<u64>,
+    },
+    /// `CODING`: a response in a content coding other than identity.
+    Coding,
+    /// `NET`: the connection or the message failed.
+    Network,
+}
+
+/// The words of replies, none of which has a fault.
+#[derive(Drop)]
+pub struct ReplyWords<'a> {
+    words: Words<'a>,
+}
+
+impl<'a> Model for ReplyWords<'a> {
+    ghost use Rattle.std.specs.Prelude.{◌≡◌, ℕ, List, None};
+    ghost use Rattle.command_server.specs.Arrival.{replies_fault};
+    ghost use Rattle.line_text.specs.Words.{words_left};
+
+    ghost Value = { List (List ℕ) };
+
+    ghost view = { λ replies. words_left replies.words };
+
+    ghost invariant = { λ replies. replies_fault (words_left replies.words) ≡ None };
+}
+
+impl<'a> ReplyWords<'a> {
+    /// The words, or the first fault that they have.
+    pub(crate) fn of(words: Words<'a>) -> Result<ReplyWords<'a>, LineFault>
+        ensures { result ≡ reply_words_of (words_left words.entry) }
+    {
+        match replies_fault(words) {
+            Some(fault) => Err(fault),
+            None => Ok(ReplyWords { words }),
+        }
+    }
+
+    /// Takes the words of the next reply, if there is one.
+    pub(crate) fn next(&mut self, alloc: Global) -> Result<Option<RobotsReply>, AllocError>
+        ensures { IfOk result (λ reply. TakesReply self.old reply self.new) }
+    {
+        let mut words = self.words;
+        let Some(first) = words.next() else {
+            return Ok(None);
+        };
+        let second = words.next().unwrap();
+        let reply = Head::of(first).unwrap().reply(alloc, second)?;
+        self.words = words;
+        Ok(Some(reply))
+    }
+
+    /// Whether no word is left.
+    pub(crate) fn is_empty(&self) -> bool
+        ensures { IsTrue result ↔ (self.now ≡ []) }
+    {
+        let mut words = self.words;
+        words.next().is_none()
+    }
+}
+
+fn replies_fault(words: Words<'_>) -> Option<LineFault>
+    ensures { result ≡ replies_fault (words_left words.entry) }
+{
+    let mut left = words;
+    while let Some(first) = left.next() {
+        let Some(head) = Head::of(first) else {
+            return Some(LineFault::Status);
+        };
+        match left.next() {
+            Some(second) if head.may_have(second) => {}
+            _ => return Some(LineFault::Replies),
+        }
+    }
+    None
+}
+
+impl Head {
+    fn of(word: &str) -> Option<Head>
+        ensures { result ≡ head_of word.now }
+    {
+        match word {
+            "NET" => Some(Head::Network),
+            "CODING" => Some(Head::Coding),
+            _ => response_of(word),
+        }
+    }
+
+    fn may_have(self, word: &str) -> bool
+        ensures { result ≡ may_have self word.now }
+    {
+        match self {
+            Head::Status { code, .. } => match class_of(code) {
+                StatusClass::Successful | StatusClass::Redirect => true,
+                _ => word == "-",
+            },
+            Head::Coding | Head::Network => word == "-",
+        }
+    }
+
+    // The reply with this second word.
+    fn reply(self, alloc: Global, word: &str) -> Result<RobotsReply, AllocError>
+        ensures { IfOk result (HasWords self word.now) }
+    {
+        let (code, max_age) = match self {
+            Head::Status { code, max_age } => (code, max_age),
+            Head::Coding => return Ok(RobotsReply::CodingFault),
+            Head::Network => return Ok(RobotsReply::NetworkFault),
+        };
+        let mut location = None;
+        let mut body = Vec::new(alloc);
+        match class_of(code) {
+            StatusClass::Redirect if word != "-" => location = Some(word.to_string(alloc)?),
+            StatusClass::Successful if word != "-" => {
+                percent_decode(word.as_bytes()).append_to(&mut body)?;
+            }
+            _ => {}
+        }
+        Ok(RobotsReply::Status {
+            code,
+            location,
+            body,
+            max_age,
+        })
+    }
+}
+
+// A response: its status, and behind a `/` its life.
+fn response_of(word: &str) -> Option<Head>
+    ensures { result ≡ response_of word.now }
+{
+    match word.split_once('/') {
+        Some((status, life)) => lasting_of(status, life),
+        None => plain_of(word),
+    }
+}
+
+fn plain_of(word: &str) -> Option<Head>
+    ensures { result ≡ plain_of word.now }
+{
+    Some(Head::Status {
+        code: status_of(word)?,
+        max_age: None,
+    })
+}
+
+// A response whose first word has a life too, as `200/60`.
+fn lasting_of(status: &str, life: &str) -> Option<Head>
+    ensures { result ≡ lasting_of status.now life.now }
+{
+    let code = status_of(status)?;
+    match class_of(code) {
+        StatusClass::Successful => Some(Head::Status {
+            code,
+            max_age: Some(number_of(life)?),
+        }),
+        _ => None,
+    }
+}
+
+fn status_of(word: &str) -> Option<u16>
+    ensures { result ≡ status_of word.now }
+{
+    if word.len() != 3 {
+        return None;
+    }
+    match number_of(word)? {
+        code @ 100..=999 => Some(code as u16),
+        _ => None,
+    }
+}
