@@ -8,9 +8,9 @@ use Rattle.url.specs.Host.{host_text}
 use Rattle.url.specs.Parser.{Parsed, parse_url}
 use Rattle.url.specs.Parts.{Parts, has_credentials, host_or_empty, serialize, IsValid}
 use Rattle.path_normal.specs.Limits.{max_authority, max_url}
-use Rattle.path_normal.specs.declared.fault.UrlFault.{UrlFault}
 use Rattle.path_normal.specs.declared.fault.Unread.{Unread}
 use Rattle.path_normal.specs.declared.fault.Unread.TheVariants as unread
+use Rattle.path_normal.specs.declared.fault.UrlFault.{UrlFault}
 use Rattle.path_normal.specs.declared.fault.UrlFault.TheVariants.{BadUrl, HasUser, NotHttp, TooLong}
 use Rattle.path_normal.specs.PageText.{authority_of, target_of}
 use Rattle.path_normal.specs.Capacity.{Capacity, Enough, Overflows, Refused, fault_of_unread}
