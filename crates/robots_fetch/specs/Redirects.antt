@@ -30,7 +30,7 @@ abbrev pub redirect_target : ℕ → List ℕ → Option (List ℕ) → Result (
 redirect_target followed url location =
     if nat_lt followed most_redirects then location_target url location else Err TooManyRedirects
 
--- the result is the expected one, unless there was no memory
+-- the result is the expected one, unless there was no memory or the crate `url` overflowed
 abbrev pub IsTarget : Result (List ℕ) Nowhere → Result (List ℕ) Stop → Type 0
 IsTarget (Ok url) expected = expected ≡ Ok url
 IsTarget (Err (nowhere.Stop stop)) expected = expected ≡ Err stop

@@ -13,6 +13,10 @@ use Rattle.robots_fetch.specs.declared.walk.Walk.{Walk}
 use Rattle.robots_fetch.specs.Redirects.{location_target, most_redirects, redirect_target}
 use Rattle.robots_fetch.specs.Walk.{Ends, Leads, StopSays, asked_life}
 
+-- the URL that the walk fetches next
+abbrev pub next_url : Walk → List ℕ
+next_url walk = walk.url
+
 -- the walk begins at the robots URL of the authority
 abbrev pub IsBegun : List ℕ → Walk → Type 0
 IsBegun authority walk = (walk.url ≡ robots_url_of authority) × (walk.followed ≡ 0)

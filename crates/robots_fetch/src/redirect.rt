@@ -6,7 +6,7 @@ ghost use Rattle.robots_fetch.specs.Redirects.{IsTarget, redirect_target};
 
 use path_normal::{PageUrl, Unread, UrlFault};
 
-/// The most redirects that are followed, one after another.
+/// The most redirects that are followed, one after another: RFC 9309 asks for five at least.
 pub const MAX_REDIRECTS: u64 = 5;
 
 /// Why a redirect is not followed.
@@ -25,11 +25,14 @@ pub enum Stop {
 pub enum Nowhere {
     /// The redirect is not followed.
     Stop(Stop),
-    /// The allocator had no memory for the URL.
+    /// The allocator had no memory for the URL, or the crate `url` overflowed.
     NoMemory,
 }
 
 /// Where a redirect leads from the URL that it answers, with so many redirects followed before it.
+///
+/// `TooManyRedirects` comes first, whatever the Location, which may be relative (RFC 9110, 10.2.2).
+/// Of several faults the one decides that `PageUrl::read_on` tells.
 pub fn redirect_target(
     followed: u64,
     url: &PageUrl,

@@ -6,7 +6,7 @@ ghost use Rattle.robots_text.specs.Lines.{kept};
 ghost use Rattle.robots_verdict.specs.Answer.{said, spares_of};
 ghost use Rattle.robots_verdict.specs.declared.said.Said.{Said};
 ghost use Rattle.authority_cache.specs.Lives.{greatest_life};
-ghost use Rattle.robots_fetch.specs.Steps.{Follows, GivesRules, IsBegun, Steps};
+ghost use Rattle.robots_fetch.specs.Steps.{Follows, GivesRules, IsBegun, Steps, next_url};
 ghost use Rattle.robots_fetch.specs.declared.walk.Step.{Step as StepValue};
 ghost use Rattle.robots_verdict.specs.declared.answer.Answer.{Answer as AnswerValue};
 
@@ -19,7 +19,7 @@ use robots_text::RobotsText;
 use robots_verdict::{Answer, Closure, Opening};
 use std::alloc::{AllocError, Global};
 
-/// A robots fetch under way: the URL to fetch next, and how many redirects led to it.
+/// A robots fetch under way: the URL to fetch next, and how many redirects led to it, 5 at most.
 #[derive(Debug, Drop)]
 pub struct Walk {
     url: PageUrl,
@@ -31,9 +31,11 @@ pub struct Walk {
 pub enum Step {
     /// It goes on: fetch its URL next.
     Go(Walk),
-    /// It is done: the answer, and the seconds for which that is in force.
+    /// It is done: the answer, and the seconds for which that is in force: 60 to 86,400 for rules,
+    /// 86,400 for the others (RFC 9309, 2.4).
     Done(Answer, u64),
-    /// The allocator had no memory: the walk as it was, for the same reply.
+    /// The allocator had no memory, or the crate `url` overflowed: the walk as it was, to be handed
+    /// the same reply again.
     NoMemory(Walk),
 }
 
@@ -50,12 +52,13 @@ impl Walk {
 
     /// The URL to fetch next.
     pub fn url(&self) -> &PageUrl
-        ensures { result.now ≡ self.now.url }
+        ensures { result.now ≡ next_url self.now }
     {
         &self.url
     }
 
-    /// Takes the reply to a request for the walk's URL.
+    /// Takes the reply to a request for the walk's URL. The answer holds for the authority at which
+    /// the walk began, wherever redirects led (RFC 9309, 2.3.1.2).
     pub fn step(self, alloc: Global, reply: &RobotsReply) -> Step
         ensures { Steps self reply.now result }
     {
