@@ -30,8 +30,8 @@ fault_of_unread (unread.Fault fault) = fault
 fault_of_unread unread.Overflow = TooLong
 fault_of_unread unread.NoMemory = NoMemory
 
--- the result is what is read with the capacity that it tells of: a fault of the text is one that is read
--- with enough
+-- the result is what is read with the capacity that it tells of: a page or a fault of the text is
+-- what is read with enough
 abbrev pub IsReadWith : {A : Type 0} → Result A Unread → (Capacity → Result A UrlFault) → Type 0
 IsReadWith (Ok value) reading = reading Enough ≡ Ok value
 IsReadWith (Err (unread.Fault fault)) reading = reading Enough ≡ Err fault

@@ -67,8 +67,8 @@ impl PageUrl {
         Ok(PageUrl::read(alloc, text)?)
     }
 
-    /// Reads the URL of a page as `parse` does, and tells an overflow of the crate `url`, which is no
-    /// fault of the text, from a text that is too long.
+    /// Reads the URL of a page as `parse` does, and tells an overflow of the crate `url`, which is
+    /// no fault of the text, from a text that is too long.
     pub fn read(alloc: Global, text: &str) -> Result<PageUrl, Unread>
         ensures answer { IsReadWith result (page_url_from None text.now) }
         ensures parts { IfOk result (λ page. (url : Parts) × (parse_url None text.now ≡ Ok url)
@@ -90,8 +90,8 @@ impl PageUrl {
         Ok(self.read_on(text)?)
     }
 
-    /// Reads the URL of the page that a text names on this one as `join` does, and tells an overflow of
-    /// the crate `url`, which is no fault of the text, from a text that is too long.
+    /// Reads the URL of the page that a text names on this one as `join` does, and tells an
+    /// overflow of the crate `url`, which is no fault of the text, from a text that is too long.
     pub fn read_on(&self, text: &str) -> Result<PageUrl, Unread>
         ensures answer { IsReadWith result (page_url_on self.now text.now) }
         ensures parts { IfOk result (IsNamedOn self.now text.now) }

@@ -8,7 +8,7 @@ use Rattle.robots_fetch.specs.declared.status.StatusClass.TheVariants.{Successfu
 abbrev pub is_redirect : ℕ → Bool
 is_redirect code = code == 301 || code == 302 || code == 303 || code == 307 || code == 308
 
--- the status is one of these
+-- the status is neither below the first nor above the last of these
 abbrev pub is_from : ℕ → ℕ → ℕ → Bool
 is_from first last code = nat_le first code && nat_le code last
 

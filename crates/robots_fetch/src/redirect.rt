@@ -51,7 +51,7 @@ pub fn redirect_target(
         Ok(page) => Ok(page),
         Err(Unread::Fault(UrlFault::NotHttp)) => Err(Nowhere::Stop(Stop::Scheme)),
         Err(Unread::Fault(_)) => Err(Nowhere::Stop(Stop::BadRedirect)),
-        // An overflow says nothing of the Location, so that the robots file must not be closed for it.
+        // An overflow says nothing of the Location, so no site may be closed for it.
         Err(Unread::Overflow | Unread::NoMemory) => Err(Nowhere::NoMemory),
     }
 }
