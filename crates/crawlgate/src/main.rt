@@ -1,8 +1,8 @@
 //! The program: what its words ask for, done over the standard streams.
 //! docs/crawlgate.1.md is its manual page.
-ghost use Rattle.gate_core.specs.Limits.{AreLimits};
-
 #![tactic(auto)]
+
+ghost use Rattle.gate_core.specs.Limits.{AreLimits};
 
 mod body;
 mod ending;

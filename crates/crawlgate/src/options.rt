@@ -1,6 +1,7 @@
 //! The words of the program's command line, read by `clap`.
 //! Nothing below sees `clap`.
 ghost use Rattle.std.specs.Prelude.{IfOk, IfSome, ◌≤◌};
+ghost use Rattle.permit_book.specs.Numbers.{last_generation};
 ghost use Rattle.gate_core.specs.Limits.{AreLimits};
 ghost use Rattle.crawlgate.specs.Options.{IsInRange};
 
@@ -93,7 +94,9 @@ fn number<'a>(
     usual: &'static str,
     most: u64,
     about: &'static str,
-) -> Arg<'a> {
+) -> Arg<'a>
+    requires { most ≤ last_generation }
+{
     Arg::new(alloc, name)
         .long(name)
         .value_name("N")

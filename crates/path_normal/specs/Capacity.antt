@@ -1,6 +1,10 @@
 -- What a text is read with: whether memory is refused, or the crate `url` overflows.
--- Cited by the contracts of `page_url`, of `authority` and of command lines.
+-- Cited by the contracts of `page_url`, of `authority`, of redirects and of command lines.
 use Rattle.std.specs.Prelude.{◌≡◌, ◌⊎◌, Result, Ok, Err}
+use Rattle.path_normal.specs.declared.fault.Unread.{Unread}
+use Rattle.path_normal.specs.declared.fault.Unread.TheVariants as unread
+use Rattle.path_normal.specs.declared.fault.UrlFault.{UrlFault}
+use Rattle.path_normal.specs.declared.fault.UrlFault.TheVariants.{NoMemory, TooLong}
 
 -- enough; too little for the crate `url`, which overflows at 4 GB, though its contract lets any text do
 -- so; or too little for the allocator, which refuses memory
@@ -19,3 +23,17 @@ abbrev pub IsRead : {A F : Type 0} → Result A F → (Capacity → Result A F) 
 IsRead (Ok value) reading = reading Enough ≡ Ok value
 IsRead (Err fault) reading =
     (reading Enough ≡ Err fault) ⊎ (reading Overflows ≡ Err fault) ⊎ (reading Refused ≡ Err fault)
+
+-- the fault that is told where a text was not read
+abbrev pub fault_of_unread : Unread → UrlFault
+fault_of_unread (unread.Fault fault) = fault
+fault_of_unread unread.Overflow = TooLong
+fault_of_unread unread.NoMemory = NoMemory
+
+-- the result is what is read with the capacity that it tells of: a page or a fault of the text is
+-- what is read with enough
+abbrev pub IsReadWith : {A : Type 0} → Result A Unread → (Capacity → Result A UrlFault) → Type 0
+IsReadWith (Ok value) reading = reading Enough ≡ Ok value
+IsReadWith (Err (unread.Fault fault)) reading = reading Enough ≡ Err fault
+IsReadWith (Err unread.Overflow) reading = reading Overflows ≡ Err TooLong
+IsReadWith (Err unread.NoMemory) reading = reading Refused ≡ Err NoMemory

@@ -5,6 +5,8 @@ use Rattle.path_normal.specs.declared.fault.AuthorityFault.{AuthorityFault}
 use Rattle.path_normal.specs.declared.fault.AuthorityFault.TheVariants as authorities
 use Rattle.path_normal.specs.declared.fault.UrlFault.{UrlFault}
 use Rattle.path_normal.specs.declared.fault.UrlFault.TheVariants as urls
+use Rattle.path_normal.specs.declared.fault.Unread.{Unread}
+use Rattle.path_normal.specs.declared.fault.Unread.TheVariants as unread
 
 -- why a text is no page's URL
 abbrev pub url_fault_text : UrlFault → List ℕ
@@ -13,6 +15,12 @@ url_fault_text urls.BadUrl = codes "the text is no URL"
 url_fault_text urls.NotHttp = codes "the URL's scheme is not http"
 url_fault_text urls.HasUser = codes "the URL has a user name or a password"
 url_fault_text urls.NoMemory = codes "no memory for the URL"
+
+-- why a text was not read as a page's URL
+abbrev pub unread_text : Unread → List ℕ
+unread_text (unread.Fault fault) = url_fault_text fault
+unread_text unread.Overflow = codes "the URL parser overflowed"
+unread_text unread.NoMemory = codes "no memory for the URL"
 
 -- why a text is no authority
 abbrev pub authority_fault_text : AuthorityFault → List ℕ

@@ -1,6 +1,6 @@
 -- What a text reads as, as the URL of a page, and why it is refused.
 -- URL Standard, sections 4.4 and 4.5.
-use Rattle.std.specs.Prelude.{◌≡◌, ◌<◌, ◌≤◌, ◌++◌, ◌⊎◌, ℕ, All, IsAscii, slice_index, take, Bool, not, ◌||◌, List, [], Option, Some, None, Result, Ok, Err, MatchResult, bytes_eq, codes, decimal, length, nat_lt, if◌then◌else◌}
+use Rattle.std.specs.Prelude.{◌≡◌, ◌<◌, ◌≤◌, ◌++◌, ℕ, All, IsAscii, slice_index, take, Bool, not, ◌||◌, List, [], Option, Some, None, Result, Ok, Err, bytes_eq, codes, decimal, length, nat_lt, if◌then◌else◌}
 use Rattle.std.specs.Result.{result_ok}
 use Rattle.url.specs.declared.error.ParseError.{ParseError}
 use Rattle.url.specs.declared.error.ParseError.TheVariants.{Overflow, OutOfMemory}
@@ -8,10 +8,12 @@ use Rattle.url.specs.Host.{host_text}
 use Rattle.url.specs.Parser.{Parsed, parse_url}
 use Rattle.url.specs.Parts.{Parts, has_credentials, host_or_empty, serialize, IsValid}
 use Rattle.path_normal.specs.Limits.{max_authority, max_url}
+use Rattle.path_normal.specs.declared.fault.Unread.{Unread}
+use Rattle.path_normal.specs.declared.fault.Unread.TheVariants as unread
 use Rattle.path_normal.specs.declared.fault.UrlFault.{UrlFault}
-use Rattle.path_normal.specs.declared.fault.UrlFault.TheVariants.{BadUrl, HasUser, NoMemory, NotHttp, TooLong}
+use Rattle.path_normal.specs.declared.fault.UrlFault.TheVariants.{BadUrl, HasUser, NotHttp, TooLong}
 use Rattle.path_normal.specs.PageText.{authority_of, target_of}
-use Rattle.path_normal.specs.Capacity.{Capacity, Enough, Overflows, Refused}
+use Rattle.path_normal.specs.Capacity.{Capacity, Enough, Overflows, Refused, fault_of_unread}
 use Rattle.url.specs.Ascii.{slash, space}
 
 -- the port behind its `:`, where one is written
@@ -49,11 +51,15 @@ page_url_of_parts url =
     else (if is_too_long url then Err TooLong
     else Ok (page_of_parts url)))
 
+-- why nothing is read where the parser gives an error
+abbrev pub unread_of : ParseError → Unread
+unread_of Overflow = unread.Overflow
+unread_of OutOfMemory = unread.NoMemory
+unread_of error = unread.Fault BadUrl
+
 -- the fault where the parser gives an error
 abbrev pub fault_of : ParseError → UrlFault
-fault_of Overflow = TooLong
-fault_of OutOfMemory = NoMemory
-fault_of error = BadUrl
+fault_of error = fault_of_unread (unread_of error)
 
 -- the page of what the parser gave, or the fault
 abbrev pub page_url_of_parsed : Parsed Parts → Result (List ℕ) UrlFault
@@ -80,10 +86,11 @@ abbrev pub page_url_on : List ℕ → List ℕ → Capacity → Result (List ℕ
 page_url_on page text capacity = page_url_from (result_ok (parse_url None page)) text capacity
 
 -- the result is the expected one, unless there was no memory
-abbrev pub IsAnswer : Result (List ℕ) UrlFault → Result (List ℕ) UrlFault → Type 0
-IsAnswer result expected =
-    MatchResult result (λ page. expected ≡ Ok page)
-    (λ fault. (expected ≡ Err fault) ⊎ (fault ≡ NoMemory))
+abbrev pub IsAnswer : Result (List ℕ) Unread → Result (List ℕ) UrlFault → Type 0
+IsAnswer (Ok page) expected = expected ≡ Ok page
+IsAnswer (Err (unread.Fault fault)) expected = expected ≡ Err fault
+IsAnswer (Err unread.Overflow) expected = ⊥
+IsAnswer (Err unread.NoMemory) expected = Unit {0}
 
 -- the page's authority and target are those of the URL
 pub record HasPartsOf (page : List ℕ) (url : Parts) : Type 0 where

@@ -32,17 +32,17 @@ impl From<AllocError> for UrlFault {
     }
 }
 
-impl From<ParseError> for UrlFault {
+impl From<Unread> for UrlFault {
     ghost use Rattle.std.specs.Prelude.{◌≡◌};
-    ghost use Rattle.path_normal.specs.PageUrl.{fault_of};
+    ghost use Rattle.path_normal.specs.Capacity.{fault_of_unread};
 
-    ghost from_gives = { λ error fault. fault ≡ fault_of error };
+    ghost from_gives = { λ unread fault. fault ≡ fault_of_unread unread };
 
-    fn from(error: ParseError) -> UrlFault {
-        match error {
-            ParseError::Overflow => UrlFault::TooLong,
-            ParseError::OutOfMemory => UrlFault::NoMemory,
-            _ => UrlFault::BadUrl,
+    fn from(unread: Unread) -> UrlFault {
+        match unread {
+            Unread::Fault(fault) => fault,
+            Unread::Overflow => UrlFault::TooLong,
+            Unread::NoMemory => UrlFault::NoMemory,
         }
     }
 }
@@ -65,6 +65,61 @@ impl fmt::Display for UrlFault {
 }
 
 impl Error for UrlFault {}
+
+/// Why a text was not read as the URL of a page: for its own fault, or for want of room, of which
+/// the text may be innocent.
+#[derive(Clone, Copy, Debug, PartialEq, Eq)]
+pub enum Unread {
+    /// The first fault of the text, which it has whenever it is read.
+    Fault(UrlFault),
+    /// The crate `url` overflowed, as it does at 4 GB, though its contract lets any text do so.
+    Overflow,
+    /// The allocator had no memory.
+    NoMemory,
+}
+
+impl From<AllocError> for Unread {
+    ghost use Rattle.std.specs.Prelude.{◌≡◌};
+    ghost use Rattle.path_normal.specs.declared.fault.Unread.{Unread};
+
+    ghost from_gives = { λ _ unread. unread ≡ Unread.NoMemory };
+
+    fn from(_: AllocError) -> Unread {
+        Unread::NoMemory
+    }
+}
+
+impl From<ParseError> for Unread {
+    ghost use Rattle.std.specs.Prelude.{◌≡◌};
+    ghost use Rattle.path_normal.specs.PageUrl.{unread_of};
+
+    ghost from_gives = { λ error unread. unread ≡ unread_of error };
+
+    fn from(error: ParseError) -> Unread {
+        match error {
+            ParseError::Overflow => Unread::Overflow,
+            ParseError::OutOfMemory => Unread::NoMemory,
+            _ => Unread::Fault(UrlFault::BadUrl),
+        }
+    }
+}
+
+impl fmt::Display for Unread {
+    ghost use Rattle.std.specs.Prelude.{Some};
+    ghost use Rattle.path_normal.specs.Messages.{unread_text};
+
+    ghost output = { λ unread. Some (unread_text unread) };
+
+    fn fmt<W: fmt::Write>(&self, f: &mut fmt::Formatter<W>) -> fmt::Result {
+        match self {
+            Unread::Fault(fault) => fmt::Display::fmt(fault, f),
+            Unread::Overflow => f.write_str("the URL parser overflowed"),
+            Unread::NoMemory => f.write_str("no memory for the URL"),
+        }
+    }
+}
+
+impl Error for Unread {}
 
 /// Why a text was not taken as an authority.
 #[derive(Clone, Copy, Debug, PartialEq, Eq)]

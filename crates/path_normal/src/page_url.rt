@@ -9,10 +9,10 @@ ghost use Rattle.path_normal.specs.Limits.{max_url};
 ghost use Rattle.path_normal.specs.Normal.{normal_path};
 ghost use Rattle.path_normal.specs.PageText.{authority_of, robots_url_of, target_of};
 ghost use Rattle.path_normal.specs.PageUrl.{HasPartsOf, IsAnswer, IsFaultless, IsNamedOn, IsPage, authority_of_parts, page_of_parts, page_url_from, page_url_of_parts, page_url_on, target_of_parts};
-ghost use Rattle.path_normal.specs.Capacity.{IsRead};
+ghost use Rattle.path_normal.specs.Capacity.{IsRead, IsReadWith};
 
 use crate::authority::Authority;
-use crate::fault::UrlFault;
+use crate::fault::{Unread, UrlFault};
 use crate::normal::normal_path;
 use std::alloc::{AllocError, Global};
 use std::fmt;
@@ -64,13 +64,21 @@ impl PageUrl {
         ensures parts { IfOk result (λ page. (url : Parts) × (parse_url None text.now ≡ Ok url)
             × HasPartsOf page url) }
     {
+        Ok(PageUrl::read(alloc, text)?)
+    }
+
+    /// Reads the URL of a page as `parse` does, and tells an overflow of the crate `url`, which is
+    /// no fault of the text, from a text that is too long.
+    pub fn read(alloc: Global, text: &str) -> Result<PageUrl, Unread>
+        ensures answer { IsReadWith result (page_url_from None text.now) }
+        ensures parts { IfOk result (λ page. (url : Parts) × (parse_url None text.now ≡ Ok url)
+            × HasPartsOf page url) }
+    {
         if is_long(text) {
-            return Err(UrlFault::TooLong);
+            return Err(Unread::Fault(UrlFault::TooLong));
         }
-        match Url::parse(alloc, text) {
-            Ok(url) => PageUrl::of_parsed(alloc, &url),
-            Err(error) => Err(UrlFault::from(error)),
-        }
+        let url = Url::parse(alloc, text)?;
+        PageUrl::of_parsed(alloc, &url)
     }
 
     /// Reads the URL of the page that a text names on this one, as a link or a redirect does
@@ -79,14 +87,21 @@ impl PageUrl {
         ensures answer { IsRead result (page_url_on self.now text.now) }
         ensures parts { IfOk result (IsNamedOn self.now text.now) }
     {
+        Ok(self.read_on(text)?)
+    }
+
+    /// Reads the URL of the page that a text names on this one as `join` does, and tells an
+    /// overflow of the crate `url`, which is no fault of the text, from a text that is too long.
+    pub fn read_on(&self, text: &str) -> Result<PageUrl, Unread>
+        ensures answer { IsReadWith result (page_url_on self.now text.now) }
+        ensures parts { IfOk result (IsNamedOn self.now text.now) }
+    {
         if is_long(text) {
-            return Err(UrlFault::TooLong);
+            return Err(Unread::Fault(UrlFault::TooLong));
         }
         let base = Url::parse(self.allocator(), self.text())?;
-        match base.join(text) {
-            Ok(url) => PageUrl::of_parsed(self.allocator(), &url),
-            Err(error) => Err(UrlFault::from(error)),
-        }
+        let url = base.join(text)?;
+        PageUrl::of_parsed(self.allocator(), &url)
     }
 
     /// The URL of an authority's robots file (RFC 9309, 2.3). It fails for want of memory alone.
@@ -102,12 +117,12 @@ impl PageUrl {
         })
     }
 
-    fn of_parsed(alloc: Global, url: &Url) -> Result<PageUrl, UrlFault>
+    fn of_parsed(alloc: Global, url: &Url) -> Result<PageUrl, Unread>
         ensures answer { IsAnswer result (page_url_of_parts url.now) }
         ensures parts { IfOk result (λ page. HasPartsOf page url.now) }
     {
         if let Some(fault) = fault_in(url) {
-            return Err(fault);
+            return Err(Unread::Fault(fault));
         }
         let authority = authority_in(url);
         let path = normal_path(alloc, target_in(url).as_bytes())?;

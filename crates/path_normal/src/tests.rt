@@ -251,6 +251,11 @@ fn reads_pages_and_authorities(rt: HostRuntime) -> Result<(), Fail> {
     let alloc = rt.alloc();
     for (name, given, want) in PAGES {
         assert_eq!(rt; page_line(alloc, given)?.as_str(), want, "at {name}");
+        assert_eq!(rt;
+            PageUrl::read(alloc, given),
+            PageUrl::parse(alloc, given).map_err(Unread::Fault),
+            "{name} read exactly"
+        );
     }
     for (name, front, letter, count, end, want) in LENGTHS {
         let given = repeated(alloc, front, letter, count, end)?;
@@ -258,6 +263,11 @@ fn reads_pages_and_authorities(rt: HostRuntime) -> Result<(), Fail> {
             PageUrl::parse(alloc, given.as_str()).err(),
             want,
             "at {name}"
+        );
+        assert_eq!(rt;
+            PageUrl::read(alloc, given.as_str()).err(),
+            want.map(Unread::Fault),
+            "{name} read exactly"
         );
     }
     for (name, given, want) in AUTHORITIES {
@@ -289,7 +299,11 @@ fn joined_line(alloc: Global, page: &str, text: &str) -> Result<String, AllocErr
         Ok(page) => page,
         Err(fault) => return format!(in alloc; "{fault:?} in the page"),
     };
-    match page.join(text) {
+    let joined = page.join(text);
+    if page.read_on(text) != page.join(text).map_err(Unread::Fault) {
+        return format!(in alloc; "two readings of {text}");
+    }
+    match joined {
         Ok(named) => {
             let mut line = format!(in alloc; "{named} ")?;
             for octet in named.path_to_match() {

@@ -1,0 +1,5 @@
+-- Lemmas on lists of replies.
+-- Used by the answers of the laws.
+pub mod Replies
+pub mod Taken
+pub mod Deciding

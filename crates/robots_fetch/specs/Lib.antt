@@ -1,0 +1,7 @@
+-- What the contracts of robots fetches cite.
+-- RFC 9309, section 2.3.1.
+pub mod Statuses
+pub mod Redirects
+pub mod Walk
+pub mod Steps
+pub mod Laws

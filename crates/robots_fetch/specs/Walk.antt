@@ -1,0 +1,71 @@
+-- The answer that a list of replies decides for an authority, and the life of that answer.
+-- RFC 9309, sections 2.3.1.1 to 2.3.1.5 and 2.4.
+use Rattle.std.specs.Prelude.{◌≡◌, ◌≤◌, ◌++◌, ◌∷◌, [], ℕ, List, Result, Ok, Err, length, string_bytes, unwrap_or}
+use Rattle.std.specs.Option.{option_map}
+use Rattle.path_normal.specs.PageText.{robots_url_of}
+use Rattle.robots_text.specs.Lines.{kept}
+use Rattle.robots_verdict.specs.declared.answer.Closure.TheVariants as closures
+use Rattle.robots_verdict.specs.declared.answer.Opening.TheVariants as openings
+use Rattle.robots_verdict.specs.declared.said.Said.{Said}
+use Rattle.robots_verdict.specs.declared.said.Said.TheVariants.{Rules, Open, Closed}
+use Rattle.authority_cache.specs.Lives.{greatest_life, life_of}
+use Rattle.robots_fetch.specs.declared.redirect.Stop.{Stop}
+use Rattle.robots_fetch.specs.declared.redirect.Stop.TheVariants as stops
+use Rattle.robots_fetch.specs.declared.reply.RobotsReply.{RobotsReply}
+use Rattle.robots_fetch.specs.declared.reply.RobotsReply.TheVariants.{Status, CodingFault, NetworkFault}
+use Rattle.robots_fetch.specs.declared.status.StatusClass.{StatusClass}
+use Rattle.robots_fetch.specs.declared.status.StatusClass.TheVariants as classes
+use Rattle.robots_fetch.specs.Redirects.{location_target, most_redirects, redirect_target}
+use Rattle.robots_fetch.specs.Statuses.{class_of}
+
+-- what a redirect says that isn't followed; one that leads on says nothing
+abbrev pub StopSays : Result (List ℕ) Stop → Said → Type 0
+StopSays (Ok url) says = ⊥
+StopSays (Err stops.TooManyRedirects) says = says ≡ Open openings.TooManyRedirects
+StopSays (Err stops.BadRedirect) says = says ≡ Closed closures.BadRedirect
+StopSays (Err stops.Scheme) says = says ≡ Closed closures.Scheme
+
+-- what a response says of each class, with this target of a redirect and this body
+abbrev pub ResponseSays : StatusClass → Result (List ℕ) Stop → List ℕ → Said → Type 0
+ResponseSays classes.Successful target body says = says ≡ Rules (kept body)
+ResponseSays classes.Redirect target body says = StopSays target says
+ResponseSays classes.Unavailable target body says = says ≡ Open openings.Unavailable
+ResponseSays classes.Unreachable target body says = says ≡ Closed closures.Server
+ResponseSays classes.Other target body says = says ≡ Closed closures.Other
+
+-- the reply ends a walk at the URL that it answers, with so many redirects before it, and says so
+abbrev pub Ends : ℕ → List ℕ → RobotsReply → Said → Type 0
+Ends followed url (Status code location body max_age) says =
+    ResponseSays (class_of code) (redirect_target followed url (option_map string_bytes location)) body.items says
+Ends followed url CodingFault says = says ≡ Closed closures.Coding
+Ends followed url NetworkFault says = says ≡ Closed closures.Network
+
+-- the reply is a redirect from the one URL to the other
+abbrev pub Leads : List ℕ → RobotsReply → List ℕ → Type 0
+Leads url (Status code location body max_age) next =
+    (class_of code ≡ classes.Redirect) × (location_target url (option_map string_bytes location) ≡ Ok next)
+Leads url CodingFault next = ⊥
+Leads url NetworkFault next = ⊥
+
+-- the replies are redirects from the one URL to the other, each from where the one before it led
+abbrev pub LeadsOver : List ℕ → List RobotsReply → List ℕ → Type 0
+LeadsOver url [] last = url ≡ last
+LeadsOver url (reply ∷ replies) last = (next : List ℕ) × (Leads url reply next × LeadsOver next replies last)
+
+-- the seconds that a reply asks for
+abbrev pub asked_life : RobotsReply → ℕ
+asked_life (Status code location body max_age) = unwrap_or max_age greatest_life
+asked_life CodingFault = greatest_life
+asked_life NetworkFault = greatest_life
+
+-- the replies decide an answer for the authority, of this life: all but the last are redirects, at most
+-- five, that begin at the URL of its robots file, and the last ends the walk where they led
+pub record AnswerOf (authority : List ℕ) (replies : List RobotsReply) (says : Said) (life : ℕ) : Type 0 where
+  pub way : List RobotsReply
+  pub last : RobotsReply
+  pub url : List ℕ
+  pub are_all : replies ≡ way ++ last ∷ []
+  pub are_few : length way ≤ most_redirects
+  pub leads : LeadsOver (robots_url_of authority) way url
+  pub ends : Ends (length way) url last says
+  pub lives : life ≡ life_of says (asked_life last)

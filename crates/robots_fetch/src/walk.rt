@@ -1,0 +1,130 @@
+//! The walk from an authority's robots URL over redirects to the answer.
+//! RFC 9309, sections 2.3.1.1 to 2.3.1.5.
+ghost use Rattle.std.specs.Prelude.{◌≡◌, IfOk, string_bytes};
+ghost use Rattle.std.specs.Option.{option_map};
+ghost use Rattle.robots_text.specs.Lines.{kept};
+ghost use Rattle.robots_verdict.specs.Answer.{said, spares_of};
+ghost use Rattle.robots_verdict.specs.declared.said.Said.{Said};
+ghost use Rattle.authority_cache.specs.Lives.{greatest_life};
+ghost use Rattle.robots_fetch.specs.Steps.{Follows, GivesRules, IsBegun, Steps, next_url};
+ghost use Rattle.robots_fetch.specs.declared.walk.Step.{Step as StepValue};
+ghost use Rattle.robots_verdict.specs.declared.answer.Answer.{Answer as AnswerValue};
+
+use crate::redirect::{Nowhere, Stop, redirect_target};
+use crate::reply::RobotsReply;
+use crate::status::{StatusClass, class_of};
+use authority_cache::{LIFE, life_of};
+use path_normal::{Authority, PageUrl};
+use robots_text::RobotsText;
+use robots_verdict::{Answer, Closure, Opening};
+use std::alloc::{AllocError, Global};
+
+/// A robots fetch under way: the URL to fetch next, and how many redirects led to it, 5 at most.
+#[derive(Debug, Drop)]
+pub struct Walk {
+    url: PageUrl,
+    followed: u64,
+}
+
+/// What a reply makes of a walk.
+#[derive(Debug, Drop)]
+pub enum Step {
+    /// It goes on: fetch its URL next.
+    Go(Walk),
+    /// It is done: the answer, and the seconds for which that is in force: 60 to 86,400 for rules,
+    /// 86,400 for the others (RFC 9309, 2.4).
+    Done(Answer, u64),
+    /// The allocator had no memory, or the crate `url` overflowed: the walk as it was, to be handed
+    /// the same reply again.
+    NoMemory(Walk),
+}
+
+impl Walk {
+    /// The walk that begins at the robots URL of an authority.
+    pub fn new(authority: &Authority) -> Result<Walk, AllocError>
+        ensures { IfOk result (IsBegun authority.now) }
+    {
+        Ok(Walk {
+            url: PageUrl::of_robots(authority)?,
+            followed: 0,
+        })
+    }
+
+    /// The URL to fetch next.
+    pub fn url(&self) -> &PageUrl
+        ensures { result.now ≡ next_url self.now }
+    {
+        &self.url
+    }
+
+    /// Takes the reply to a request for the walk's URL. The answer holds for the authority at which
+    /// the walk began, wherever redirects led (RFC 9309, 2.3.1.2).
+    pub fn step(self, alloc: Global, reply: &RobotsReply) -> Step
+        ensures { Steps self reply.now result }
+    {
+        match reply {
+            RobotsReply::CodingFault => closed(Closure::Coding),
+            RobotsReply::NetworkFault => closed(Closure::Network),
+            RobotsReply::Status {
+                code,
+                location,
+                body,
+                max_age,
+            } => match class_of(*code) {
+                StatusClass::Successful => self.rules(alloc, body.as_slice(), *max_age),
+                StatusClass::Redirect => self.follow(location),
+                StatusClass::Unavailable => open(Opening::Unavailable),
+                StatusClass::Unreachable => closed(Closure::Server),
+                StatusClass::Other => closed(Closure::Other),
+            },
+        }
+    }
+
+    // Ends with the rules of a body.
+    fn rules(self, alloc: Global, body: &[u8], max_age: Option<u64>) -> Step
+        ensures { GivesRules self body.now max_age result }
+    {
+        match rules_of(alloc, body) {
+            Ok(answer) => {
+                let life = life_of(&answer, max_age.unwrap_or(LIFE));
+                Step::Done(answer, life)
+            }
+            Err(_) => Step::NoMemory(self),
+        }
+    }
+
+    // Goes on where a redirect leads, or ends with the answer where it leads nowhere.
+    fn follow(self, location: &Option<String>) -> Step
+        ensures { Follows self (option_map string_bytes location.now) result }
+    {
+        match redirect_target(self.followed, &self.url, location) {
+            Ok(url) => Step::Go(Walk {
+                url,
+                followed: self.followed + 1,
+            }),
+            Err(Nowhere::NoMemory) => Step::NoMemory(self),
+            Err(Nowhere::Stop(Stop::TooManyRedirects)) => open(Opening::TooManyRedirects),
+            Err(Nowhere::Stop(Stop::BadRedirect)) => closed(Closure::BadRedirect),
+            Err(Nowhere::Stop(Stop::Scheme)) => closed(Closure::Scheme),
+        }
+    }
+}
+
+fn rules_of(alloc: Global, body: &[u8]) -> Result<Answer, AllocError>
+    ensures says { IfOk result (λ answer. said answer ≡ Said.Rules (kept body.now)) }
+    ensures spares { IfOk result (λ answer. spares_of answer ≡ 2) }
+{
+    Answer::rules(alloc, RobotsText::read(alloc, body)?)
+}
+
+fn open(opening: Opening) -> Step
+    ensures { result ≡ StepValue.Done (AnswerValue.Open opening) greatest_life }
+{
+    Step::Done(Answer::Open(opening), LIFE)
+}
+
+fn closed(closure: Closure) -> Step
+    ensures { result ≡ StepValue.Done (AnswerValue.Closed closure) greatest_life }
+{
+    Step::Done(Answer::Closed(closure), LIFE)
+}
