@@ -1,6 +1,6 @@
 //! The order of texts, their first octets eight at a time.
 //! Used by `Plain`: patterns of a text often begin alike, and eight are compared as fast as one.
-ghost use Rattle.std.specs.Prelude.{◌≡◌, slice_index_or};
+ghost use Rattle.std.specs.Prelude.{◌≡◌, ◌<◌, length, slice_index_or};
 ghost use Rattle.std.specs.Ordering.{nat_cmp};
 ghost use Rattle.std.specs.Cmp.Lexicographic.{slice_cmp};
 ghost use Rattle.robots_verdict.specs.Keys.{spell};
@@ -33,15 +33,30 @@ pub(crate) fn compare_texts(one: &[u8], other: &[u8]) -> Ordering
 pub(crate) fn front(text: &[u8]) -> u64
     ensures { result ≡ spell 8 0 text.now }
 {
+    if text.len() < 8 {
+        return short_front(text);
+    }
     u64::from_be_bytes([
-        octet(text, 0),
+        text[0], text[1], text[2], text[3], text[4], text[5], text[6], text[7],
+    ])
+}
+
+fn short_front(text: &[u8]) -> u64
+    requires { length text.now < 8 }
+    ensures { result ≡ spell 8 0 text.now }
+{
+    if text.is_empty() {
+        return 0;
+    }
+    u64::from_be_bytes([
+        text[0],
         octet(text, 1),
         octet(text, 2),
         octet(text, 3),
         octet(text, 4),
         octet(text, 5),
         octet(text, 6),
-        octet(text, 7),
+        0,
     ])
 }
 
