@@ -1,20 +1,21 @@
 -- A text in normal form is its own normal form.
 -- Used by `normal_path` and `normal_pattern`.
-use Rattle.std.proofs.Common.{◌≡◌, ℕ, ◌+◌, ◌-◌, ◌*◌, ◌/◌, ◌%◌, ◌<◌, Bool, true, false, not, ◌&&◌, ◌||◌, ◌==◌, List, [], ◌∷◌, ◌++◌, length, get_or, take, map, All, refl, sym, ap, ◌∙◌, ◌≤◌, append-nil, arith, length-append, eqb-true}
-use Rattle.std.specs.Prelude.{codes, if◌then◌else◌}
-use Rattle.std.specs.List.{flat_map}
+use Rattle.std.proofs.Common.{◌≡◌, ℕ, ◌+◌, ◌-◌, ◌*◌, ◌/◌, ◌%◌, ◌<◌, Bool, true, false, not, ◌&&◌, ◌||◌, ◌==◌, List, [], ◌∷◌, ◌++◌, length, get_or, take, drop, map, All, zero, suc, refl, sym, ap, ◌∙◌, ◌≤◌, append-nil, arith, length-append, eqb-true, None, Some}
+use Rattle.std.specs.Prelude.{codes, if◌then◌else◌, nat_lt}
+use Rattle.std.specs.List.{flat_map, position, position_or_len}
 use Rattle.std.specs.Char.{digit_value, is_digit}
 use Rattle.std.specs.Fmt.{digit_glyph}
-use Rattle.std.proofs.lemmas.Bool.{cond-true, cond-false, and_parts, agree_below_at}
+use Rattle.std.proofs.lemmas.Bool.{cond-true, cond-false, and_parts, agree_below_at, true≢false}
 use Rattle.std.proofs.lemmas.Bool.Decides.{nat_tests}
 use Rattle.std.proofs.lemmas.List.Elements.{All-nil, All-cons, All-head, All-tail, All-append, All-get_or, All-take}
 use Rattle.std.proofs.lemmas.List.{length-take}
+use Rattle.std.proofs.lemmas.List.Sums.{fails_before_first, prefix_len-le-length}
 use Rattle.std.proofs.Math.Seq.{take-append_seam}
 use Rattle.percent_encoding.specs.Percent.{percent_encode_byte}
 use Rattle.path_normal.specs.declared.normal.Octet.{Octet}
 use Rattle.path_normal.specs.declared.normal.Role.{Role}
 use Rattle.path_normal.specs.declared.normal.Role.TheVariants.{Pattern}
-use Rattle.path_normal.specs.Normal.{escaped, is_anchored, is_escape, is_kept, is_reserved, is_sign, is_unreserved, normal, normal_pattern, plain, spelled, unanchored, units}
+use Rattle.path_normal.specs.Normal.{escaped, is_anchored, is_changed, is_escape, is_kept, is_reserved, is_sign, is_unreserved, normal, normal_pattern, plain, spelled, unanchored, units}
 use Rattle.path_normal.specs.Octets.{dollar_sign}
 use Rattle.url.specs.Ascii.{percent_sign}
 
@@ -120,6 +121,44 @@ all_spelled_again role (unit ∷ all) = λ i. spelled_again role unit i ++ all_s
 pub normal_again : (role : Role) (text : List ℕ) → All IsOctet text → normal role (normal role text) ≡ normal role text
 normal_again role text fits =
     ap (flat_map (spelled role)) (units_again role (units text) (units_fit text fits)) ∙ all_spelled_again role (units text)
+
+-- ---- octets that stay as they are
+
+is_kept_plain : (role : Role) (octet : ℕ) → is_changed role octet ≡ false → is_kept role (plain octet) ≡ true
+is_kept_plain role octet same = by (is_kept role (plain octet)) refl
+  where
+    by : (kept : Bool) → is_kept role (plain octet) ≡ kept → kept ≡ true
+    by true is = refl
+    by false is = absurd (true≢false (ap not (sym is) ∙ same))
+
+kept_first : (role : Role) (octet : ℕ) (rest : List ℕ) → is_changed role octet ≡ false → normal role (octet ∷ rest) ≡ octet ∷ normal role rest
+kept_first role octet rest same =
+    let kept = is_kept_plain role octet same in
+    ap (flat_map (spelled role)) (units_plain octet rest (other_than (octet == percent_sign) role (plain octet) refl kept))
+    ∙ ap (λ front. front ++ normal role rest) (cond-true (is_kept role (plain octet)) (octet ∷ []) (percent_encode_byte octet) kept)
+
+-- the first octets, so many, stay where none of them is changed
+pub kept_front : (role : Role) (n : ℕ) (text : List ℕ) → ((k : ℕ) → k < n → is_changed role (get_or text k 0) ≡ false) → n ≤ length text →
+    normal role text ≡ take n text ++ normal role (drop n text)
+kept_front role zero text same fits = refl
+kept_front role (suc n) [] same fits = absurd (omega (arith, fits))
+kept_front role (suc n) (octet ∷ text) same fits =
+    kept_first role octet text (same 0 (omega arith))
+    ∙ ap (λ rest. octet ∷ rest) (kept_front role n text (λ k less. same (suc k) (omega (arith, less))) (omega (arith, fits)))
+
+none_below : (below : Bool) (n : ℕ) → (if below then Some n else None) ≡ None → below ≡ false
+none_below true n is = grind arith
+none_below false n is = refl
+
+all_before : (m n : ℕ) → nat_lt m n ≡ false → m ≤ n → m ≡ n
+all_before m n is fits = grind (arith, nat_tests)
+
+-- where none is changed, none is before the end
+pub none_changed : (role : Role) (text : List ℕ) → position (is_changed role) text ≡ None → (k : ℕ) → k < length text → is_changed role (get_or text k 0) ≡ false
+none_changed role text none k less =
+    let count = position_or_len (is_changed role) text in
+    let all : count ≡ length text = all_before count (length text) (none_below (nat_lt count (length text)) count none) (prefix_len-le-length _ text) in
+    fails_before_first (is_changed role) text k 0 (omega (arith, less, all))
 
 -- ---- `$` in a pattern
 

@@ -59,6 +59,10 @@ is_kept role unit =
     is_unreserved unit.value
     || (not unit.escaped && is_reserved unit.value && not (is_sign role unit.value))
 
+-- the octet, standing plain, is not written as it stands, or begins an escape
+abbrev pub is_changed : Role → ℕ → Bool
+is_changed role octet = not (is_kept role (plain octet))
+
 -- how the unit is written: as its octet, or as `%` and two digits in upper case
 abbrev pub spelled : Role → Octet → List ℕ
 spelled role unit =

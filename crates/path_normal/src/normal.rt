@@ -1,8 +1,9 @@
 //! Normal forms of paths and patterns: equal octets are written in one way.
 //! RFC 9309, section 2.2.2; RFC 3986, section 2.
-ghost use Rattle.std.specs.Prelude.{◌≡◌, ◌++◌, ◌∷◌, ◌<◌, ◌≤◌, vec_len, [], true, length, IfOk, IsTrue, MatchOption};
+ghost use Rattle.std.specs.Prelude.{◌≡◌, ◌++◌, ◌∷◌, ◌<◌, ◌≤◌, vec_len, [], drop, take, true, length, IfOk, IfSome, IsTrue, MatchOption};
+ghost use Rattle.std.specs.List.{position, position_or_len};
 ghost use Rattle.std.specs.Char.{digit_value, is_digit};
-ghost use Rattle.path_normal.specs.Normal.{is_anchored, is_gen_delim, is_kept, is_reserved, is_sign, is_sub_delim, is_unreserved, normal, normal_path, normal_pattern, spelled, unanchored, units};
+ghost use Rattle.path_normal.specs.Normal.{is_anchored, is_changed, is_gen_delim, is_kept, is_reserved, is_sign, is_sub_delim, is_unreserved, normal, normal_path, normal_pattern, spelled, unanchored, units};
 
 use percent_encoding::percent_encode_byte;
 use std::alloc::{AllocError, Global};
@@ -71,12 +72,55 @@ fn push_normal(form: &mut Vec<u8>, role: Role, text: &[u8]) -> Result<(), AllocE
     ensures value { IfOk result (λ _. form.new.items ≡ form.old.items ++ normal role text.now) }
     ensures grows { vec_len form.old ≤ vec_len form.new }
 {
-    let mut rest = text;
+    let mut rest = push_kept(form, role, text)?;
     while let Some((unit, after)) = next_unit(rest) {
         push_spelled(form, role, unit)?;
-        rest = after;
+        rest = push_kept(form, role, after)?;
     }
     Ok(())
+}
+
+// Appends at once the first octets that stay as they are, and gives what follows them.
+fn push_kept<'a>(form: &mut Vec<u8>, role: Role, text: &'a [u8]) -> Result<&'a [u8], AllocError>
+    ensures value { IfOk result (λ rest.
+        form.new.items ++ normal role rest.now ≡ form.old.items ++ normal role text.now) }
+    ensures left { IfOk result (λ rest. length rest.now ≤ length text.now) }
+    ensures grows { vec_len form.old ≤ vec_len form.new }
+{
+    let (kept, rest) = text.split_at(kept_len(role, text));
+    form.extend_from_slice(kept)?;
+    Ok(rest)
+}
+
+fn kept_len(role: Role, text: &[u8]) -> usize
+    ensures normal { normal role text.now
+        ≡ take result text.now ++ normal role (drop result text.now) }
+    ensures within { result ≤ length text.now }
+{
+    match changed_place(role, text) {
+        Some(place) => place,
+        None => text.len(),
+    }
+}
+
+fn changed_place(role: Role, text: &[u8]) -> Option<usize>
+    ensures place { result ≡ position (is_changed role) text.now }
+    ensures within { IfSome result (λ place. place < length text.now) }
+{
+    text.iter().position(|octet| is_changed(role, *octet))
+}
+
+// Whether the octet begins an escape, or is written as one.
+fn is_changed(role: Role, octet: u8) -> bool
+    ensures { result ≡ is_changed role octet }
+{
+    !is_kept(
+        role,
+        Octet {
+            escaped: false,
+            value: octet,
+        },
+    )
 }
 
 // The first unit of the text, and what follows it.

@@ -10,6 +10,7 @@ pub mod Readings
 pub mod Begins
 pub mod Spelling
 pub mod Chains
+pub mod Keyed
 pub mod Placing
 pub mod PlainHits
 pub mod OtherHits

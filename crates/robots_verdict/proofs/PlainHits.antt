@@ -13,6 +13,7 @@ use Rattle.std.proofs.lemmas.List.{get_or_default}
 use Rattle.std.proofs.lemmas.List.Elements.{All-cons}
 use Rattle.std.proofs.lemmas.List.Sorted.{ranks_by, sorted_far}
 use Rattle.path_normal.specs.Normal.{is_anchored, unanchored}
+use Rattle.path_normal.specs.Octets.{star}
 use Rattle.path_pattern.specs.Matches.{Matches, Spells}
 use Rattle.path_pattern.specs.Runs.{HasNoStar}
 use Rattle.path_pattern.proofs.SpellsLemmas.{off_last, on_last}
@@ -42,11 +43,11 @@ front_begun (octet ∷ front) (first ∷ text) is =
     let later = front_begun front text parts.1 in
     (later.0, λ i. sym (eqb-true octet first parts.0) i ∷ later.1 i)
 
-no_star : (form : List ℕ) → list_all (λ octet. not (octet == 42)) form ≡ true → HasNoStar form
+no_star : (form : List ℕ) → list_all (λ octet. not (octet == star)) form ≡ true → HasNoStar form
 no_star [] is = λ k d low. absurd (omega (arith, low))
 no_star (octet ∷ form) is =
-    let parts = and_parts (not (octet == 42)) (list_all (λ octet. not (octet == 42)) form) is in
-    All-cons (λ octet. (octet == 42) ≡ false) octet form (true_not (octet == 42) parts.0) (no_star form parts.1)
+    let parts = and_parts (not (octet == star)) (list_all (λ octet. not (octet == star)) form) is in
+    All-cons (λ octet. (octet == star) ≡ false) octet form (true_not (octet == star) parts.0) (no_star form parts.1)
 
 -- what a plain pattern is
 record Plainness (form : List ℕ) : Type 0 where
@@ -60,7 +61,7 @@ some_octet (octet ∷ form) is same = omega (arith, ap length same)
 
 plainness : (form : List ℕ) → is_plain form ≡ true → Plainness form
 plainness form is =
-    let starless = list_all (λ octet. not (octet == 42)) form in
+    let starless = list_all (λ octet. not (octet == star)) form in
     let front = nat_lt 0 (length form) && not (is_anchored form) in
     let parts = and_parts front starless is in
     let both = and_parts (nat_lt 0 (length form)) (not (is_anchored form)) parts.0 in

@@ -4,6 +4,7 @@ pub mod Answer
 pub mod Heads
 pub mod Index
 pub mod Kept
+pub mod Keys
 pub mod Placed
 pub mod Rows
 pub mod Search

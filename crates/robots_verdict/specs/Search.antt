@@ -1,12 +1,13 @@
 -- How rows are found by their texts: two lists of places, and for each plain row the one that begins it.
 -- Cited by the contracts of `Places`.
-use Rattle.std.specs.Prelude.{◌≡◌, ℕ, zero, suc, ◌+◌, ◌*◌, ◌<◌, ◌≤◌, Bool, true, false, not, ◌&&◌, ◌==◌, nat_lt, ◌↔◌, Contains, List, [], ◌∷◌, length, map, Option, Some, None, slice_index, slice_index_or, if◌then◌else◌}
+use Rattle.std.specs.Prelude.{◌≡◌, ℕ, ◌+◌, ◌<◌, ◌≤◌, Bool, true, false, not, ◌&&◌, ◌==◌, nat_lt, ◌↔◌, Contains, List, [], ◌∷◌, length, map, Option, Some, None, slice_index, slice_index_or, if◌then◌else◌}
 use Rattle.std.specs.List.{list_all}
 use Rattle.std.specs.List.Sorted.{IsSortedBy}
 use Rattle.std.specs.declared.cmp.Ordering.{Ordering}
 use Rattle.std.specs.Ordering.{is_gt, is_lt, nat_cmp, ordering_then}
 use Rattle.std.specs.Cmp.Lexicographic.{slice_cmp}
 use Rattle.path_normal.specs.Normal.{is_anchored}
+use Rattle.path_normal.specs.Octets.{star}
 use Rattle.path_pattern.specs.Matches.{Matches}
 use Rattle.robots_text.specs.Lines.{text_limit}
 use Rattle.robots_verdict.specs.declared.search.Places.{Places}
@@ -25,15 +26,9 @@ common [] other = 0
 common (octet ∷ one) [] = 0
 common (octet ∷ one) (first ∷ other) = if octet == first then common one other + 1 else 0
 
--- the number that the next octets of a text, so many, spell behind those that spell this one
-abbrev pub spell : ℕ → ℕ → List ℕ → ℕ
-spell zero so_far text = so_far
-spell (suc count) so_far [] = so_far
-spell (suc count) so_far (octet ∷ text) = spell count (so_far * 256 + octet) text
-
 -- the pattern matches just what it begins: it has no sign, and is not empty
 abbrev pub is_plain : List ℕ → Bool
-is_plain form = nat_lt 0 (length form) && not (is_anchored form) && list_all (λ octet. not (octet == 42)) form
+is_plain form = nat_lt 0 (length form) && not (is_anchored form) && list_all (λ octet. not (octet == star)) form
 
 -- the key of a place: the group, and behind it the pattern
 abbrev pub key : List Placed → ℕ → List ℕ

@@ -5,6 +5,7 @@
 mod answer;
 mod decision;
 mod heads;
+mod keys;
 pub mod laws;
 mod others;
 mod places;

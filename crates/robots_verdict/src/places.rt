@@ -3,6 +3,7 @@
 ghost use Rattle.std.specs.Prelude.{◌≡◌, ◌<◌, ◌≤◌, ◌==◌, Bool, false, true, not, IfOk, length};
 ghost use Rattle.std.specs.List.{list_all};
 ghost use Rattle.path_normal.specs.Normal.{is_anchored};
+ghost use Rattle.path_normal.specs.Octets.{star};
 ghost use Rattle.robots_text.specs.Lines.{text_limit};
 ghost use Rattle.robots_verdict.specs.Search.{ArePlaces, groups_at, is_plain};
 
@@ -55,7 +56,7 @@ fn is_anchored(form: &[u8]) -> bool
 }
 
 fn has_no_star(form: &[u8]) -> bool
-    ensures { result ≡ list_all (λ octet. not (octet == 42)) form.now }
+    ensures { result ≡ list_all (λ octet. not (octet == star)) form.now }
 {
     form.iter().all(|octet| *octet != b'*')
 }

@@ -10,8 +10,9 @@ ghost use Rattle.path_normal.specs.Normal.{is_anchored};
 ghost use Rattle.robots_text.specs.Lines.{text_limit};
 ghost use Rattle.robots_verdict.specs.Index.{FindsLeast};
 ghost use Rattle.robots_verdict.specs.Rows.{is_row_above, row_at};
-ghost use Rattle.robots_verdict.specs.Search.{AreParents, ArePlaces, common, compare_plain, groups_at, IsCut, IsLast, IsPlainHit, IsPlainIndex, IsPlainOrder, key_at};
+ghost use Rattle.robots_verdict.specs.Search.{AreParents, ArePlaces, common, groups_at, IsCut, IsLast, IsPlainHit, IsPlainIndex, IsPlainOrder, key_at};
 
+use crate::keys::in_order;
 use crate::places::groups_at;
 use crate::rows::Rows;
 use crate::texts::compare_texts;
@@ -30,13 +31,13 @@ pub(crate) struct Plain {
 
 impl Plain {
     /// The index of the rows' plain places.
-    pub(crate) fn of(alloc: Global, rows: &Rows, mut places: Vec<u32>) -> Result<Plain, AllocError>
+    pub(crate) fn of(alloc: Global, rows: &Rows, places: Vec<u32>) -> Result<Plain, AllocError>
         requires few { length rows.now.rows ≤ text_limit }
         requires plain { ArePlaces rows.now.rows true places.items (length rows.now.rows) }
         ensures { IfOk result (λ plain.
             IsPlainIndex rows.now.rows plain.places.items plain.groups.items plain.parents.items) }
     {
-        places.sort_unstable_by(|one, other| compare_plain(rows, *one, *other));
+        let places = in_order(alloc, rows, places)?;
         let groups = groups_at(alloc, rows, places.as_slice())?;
         let parents = parents_of(alloc, rows, places.as_slice())?;
         Ok(Plain {
@@ -160,19 +161,6 @@ fn common(one: &[u8], other: &[u8]) -> usize
         right = rest;
     }
     count
-}
-
-fn compare_plain(rows: &Rows, one: u32, other: u32) -> Ordering
-    ensures { result ≡ compare_plain rows.now.rows one other }
-{
-    compare_key(
-        rows,
-        rows.group(one as usize),
-        one,
-        rows.group(other as usize),
-        rows.form(other as usize),
-    )
-    .then(other.cmp(&one))
 }
 
 // Whether the pattern of a place, of this group, is behind a group and a path.

@@ -1,9 +1,9 @@
 //! The order of texts, their first octets eight at a time.
 //! Used by `Plain`: patterns of a text often begin alike, and eight are compared as fast as one.
-ghost use Rattle.std.specs.Prelude.{◌≡◌, ◌≤◌, length};
+ghost use Rattle.std.specs.Prelude.{◌≡◌, ◌<◌, length, slice_index_or};
 ghost use Rattle.std.specs.Ordering.{nat_cmp};
 ghost use Rattle.std.specs.Cmp.Lexicographic.{slice_cmp};
-ghost use Rattle.robots_verdict.specs.Search.{spell};
+ghost use Rattle.robots_verdict.specs.Keys.{spell};
 
 use std::cmp::Ordering;
 
@@ -28,12 +28,41 @@ pub(crate) fn compare_texts(one: &[u8], other: &[u8]) -> Ordering
     left.cmp(right)
 }
 
-// The number that the first eight octets spell, the first one the greatest.
-fn front(text: &[u8]) -> u64
-    requires { 8 ≤ length text.now }
+/// The number that the first eight octets spell, the first one the greatest. Zeros stand behind the
+/// end of the text.
+pub(crate) fn front(text: &[u8]) -> u64
     ensures { result ≡ spell 8 0 text.now }
 {
+    if text.len() < 8 {
+        return short_front(text);
+    }
     u64::from_be_bytes([
         text[0], text[1], text[2], text[3], text[4], text[5], text[6], text[7],
     ])
+}
+
+fn short_front(text: &[u8]) -> u64
+    requires { length text.now < 8 }
+    ensures { result ≡ spell 8 0 text.now }
+{
+    if text.is_empty() {
+        return 0;
+    }
+    u64::from_be_bytes([
+        text[0],
+        octet(text, 1),
+        octet(text, 2),
+        octet(text, 3),
+        octet(text, 4),
+        octet(text, 5),
+        octet(text, 6),
+        0,
+    ])
+}
+
+// The octet at an index, and zero past the end.
+fn octet(text: &[u8], index: usize) -> u8
+    ensures { result ≡ slice_index_or text.now index 0 }
+{
+    if index < text.len() { text[index] } else { 0 }
 }

@@ -4,8 +4,8 @@ use Rattle.std.proofs.Common.{◌≡◌, drop, sym, ap, ◌∙◌, subst}
 use Rattle.std.specs.declared.cmp.Ordering.{Ordering}
 use Rattle.std.specs.Ordering.{nat_cmp, ordering_then}
 use Rattle.std.specs.Cmp.Lexicographic.{slice_cmp}
-use Rattle.robots_verdict.specs.Search.{spell}
-use Rattle.robots_verdict.proofs.Spelling.{AreOctets, by_numbers, equal_first, rest_octets, rest_of, unequal_first}
+use Rattle.robots_verdict.specs.Keys.{AreOctets, spell}
+use Rattle.robots_verdict.proofs.Spelling.{by_numbers, equal_first, rest_octets, rest_of, unequal_first}
 use Rattle.robots_verdict.proofs.texts.compare_texts.Goals as goal
 
 pub returns-then-is_ne : goal.returns-then-is_ne

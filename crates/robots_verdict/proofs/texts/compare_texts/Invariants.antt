@@ -3,7 +3,7 @@
 use Rattle.std.proofs.Common.{◌≡◌}
 use Rattle.std.specs.Ordering.{nat_cmp}
 use Rattle.std.specs.Cmp.Lexicographic.{slice_cmp}
-use Rattle.robots_verdict.proofs.Spelling.{AreOctets}
+use Rattle.robots_verdict.specs.Keys.{AreOctets}
 use Rattle.robots_verdict.proofs.texts.compare_texts.Given as goal
 
 abbrev pub invariant-loop : goal.invariant-loop

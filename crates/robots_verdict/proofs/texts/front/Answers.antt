@@ -5,4 +5,4 @@ use Rattle.robots_verdict.proofs.Spelling.{first_eight}
 use Rattle.robots_verdict.proofs.texts.front.Goals as goal
 
 pub returns : goal.returns
-returns c = omega (arith, c.from_be_bytes.ensures, first_eight c.args.text.now c.requires)
+returns c = omega (arith, c.from_be_bytes.ensures, first_eight 0 c.args.text.now)

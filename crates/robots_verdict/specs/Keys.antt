@@ -1,0 +1,40 @@
+-- The keys by which plain places are sorted: each has the first octets of its pattern beside it, as a number.
+-- Cited by the contracts of `Key`, and by the order of texts.
+use Rattle.std.specs.Prelude.{◌≡◌, ℕ, zero, suc, ◌+◌, ◌*◌, ◌^◌, ◌<◌, List, [], ◌∷◌, slice_index_or}
+use Rattle.std.specs.declared.cmp.Ordering.{Ordering}
+use Rattle.std.specs.Ordering.{nat_cmp, ordering_then}
+use Rattle.std.specs.Cmp.Lexicographic.{slice_cmp}
+use Rattle.robots_verdict.specs.declared.keys.Key.{Key}
+use Rattle.robots_verdict.specs.Placed.{Placed}
+use Rattle.robots_verdict.specs.Rows.{row_at}
+
+-- the number that the next octets of a text, so many, spell behind those that spell this one; zeros stand
+-- behind the end of the text
+abbrev pub spell : ℕ → ℕ → List ℕ → ℕ
+spell zero so_far text = so_far
+spell (suc count) so_far [] = spell count (so_far * 256) []
+spell (suc count) so_far (octet ∷ text) = spell count (so_far * 256 + octet) text
+
+-- each number is that of an octet
+abbrev pub AreOctets : List ℕ → Type 0
+AreOctets text = (i : ℕ) → slice_index_or text i 0 < 256
+
+-- the number that both halves make
+abbrev pub number : Key → ℕ
+number key = key.front * 2 ^ 64 + key.next
+
+-- the key is that of its place: its group, and the number that the first sixteen octets of its pattern spell
+pub record IsKeyOf (rows : List Placed) (key : Key) : Type 0 where
+  pub group : key.group ≡ (row_at rows key.place).group
+  pub spelled : number key ≡ spell 16 0 (row_at rows key.place).form
+  pub octets : AreOctets (row_at rows key.place).form
+
+-- the order of keys of one group: by their numbers, then as plain places are
+abbrev pub compare_patterns : List Placed → Key → Key → Ordering
+compare_patterns rows one other =
+    ordering_then (nat_cmp (number one) (number other))
+    (ordering_then (slice_cmp nat_cmp (row_at rows one.place).form (row_at rows other.place).form) (nat_cmp other.place one.place))
+
+-- the order of keys: by groups, then by patterns
+abbrev pub compare_keys : List Placed → Key → Key → Ordering
+compare_keys rows one other = ordering_then (nat_cmp one.group other.group) (compare_patterns rows one other)

@@ -1,0 +1,113 @@
+//! The plain places in order, sorted by keys that have the first octets of their patterns beside them.
+//! Used by `Plain`: most comparisons of two keys look at no pattern.
+ghost use Rattle.std.specs.Prelude.{◌≡◌, All, drop, IfOk, map};
+ghost use Rattle.std.specs.List.Sorted.{IsPermutation};
+ghost use Rattle.robots_verdict.specs.Keys.{AreOctets, compare_keys, compare_patterns, IsKeyOf, number, spell};
+ghost use Rattle.robots_verdict.specs.Search.{IsPlainOrder};
+
+use crate::rows::Rows;
+use crate::texts::{compare_texts, front};
+use std::alloc::{AllocError, Global};
+use std::cmp::Ordering;
+
+/// A place and its group, and the numbers that the first eight octets of its pattern spell and those
+/// behind them.
+#[derive(Clone, Copy, Debug)]
+pub(crate) struct Key {
+    front: u64,
+    next: u64,
+    group: u32,
+    place: u32,
+}
+
+/// The places in the order of plain places.
+pub(crate) fn in_order(alloc: Global, rows: &Rows, places: Vec<u32>) -> Result<Vec<u32>, AllocError>
+    ensures permutation { IfOk result (λ ordered. IsPermutation places.items ordered.items) }
+    ensures rise { IfOk result (λ ordered. IsPlainOrder rows.now.rows ordered.items) }
+{
+    let mut keys = keys_of(alloc, rows, places.as_slice())?;
+    drop(places);
+    keys.sort_unstable_by(|one, other| compare_keys(rows, one, other));
+    let ordered = places_of(alloc, keys.as_slice())?;
+    Ok(ordered)
+}
+
+fn keys_of(alloc: Global, rows: &Rows, places: &[u32]) -> Result<Vec<Key>, AllocError>
+    ensures places { IfOk result (λ keys. map (λ key. key.place) keys.items ≡ places.now) }
+    ensures known { IfOk result (λ keys. All (IsKeyOf rows.now.rows) keys.items) }
+{
+    let mut keys = Vec::with_capacity(alloc, places.len())?;
+    for place in places {
+        keys.push(key_at(rows, *place))?;
+    }
+    Ok(keys)
+}
+
+fn places_of(alloc: Global, keys: &[Key]) -> Result<Vec<u32>, AllocError>
+    ensures { IfOk result (λ places. places.items ≡ map (λ key. key.place) keys.now) }
+{
+    let mut places = Vec::with_capacity(alloc, keys.len())?;
+    for key in keys {
+        places.push(key.place)?;
+    }
+    Ok(places)
+}
+
+fn key_at(rows: &Rows, place: u32) -> Key
+    ensures place { result.place ≡ place }
+    ensures key { IsKeyOf rows.now.rows result }
+{
+    let index = place as usize;
+    key_of(rows.group(index), place, rows.form(index))
+}
+
+fn key_of(group: u32, place: u32, form: &[u8]) -> Key
+    ensures place { (result.group ≡ group) × (result.place ≡ place) }
+    ensures spelled { number result ≡ spell 16 0 form.now }
+    ensures octets { AreOctets form.now }
+{
+    Key {
+        front: front(form),
+        next: front(behind_eight(form)),
+        group,
+        place,
+    }
+}
+
+fn behind_eight(text: &[u8]) -> &[u8]
+    ensures { result.now ≡ drop 8 text.now }
+{
+    if text.len() < 8 { &[] } else { &text[8..] }
+}
+
+fn compare_keys(rows: &Rows, one: &Key, other: &Key) -> Ordering
+    ensures { result ≡ compare_keys rows.now.rows one.now other.now }
+{
+    match one.group.cmp(&other.group) {
+        Ordering::Equal => compare_patterns(rows, one, other),
+        unequal => unequal,
+    }
+}
+
+fn compare_patterns(rows: &Rows, one: &Key, other: &Key) -> Ordering
+    ensures { result ≡ compare_patterns rows.now.rows one.now other.now }
+{
+    match number(one).cmp(&number(other)) {
+        Ordering::Equal => compare_texts(
+            rows.form(one.place as usize),
+            rows.form(other.place as usize),
+        )
+        .then(other.place.cmp(&one.place)),
+        unequal => unequal,
+    }
+}
+
+// The number of both halves.
+fn number(key: &Key) -> u128
+    ensures { result ≡ number key.now }
+{
+    u128::from(key.front) * HALF + u128::from(key.next)
+}
+
+// The numbers that eight octets spell are below it.
+const HALF: u128 = 1 << 64;
