@@ -13,7 +13,8 @@ mod HeadFacts
 mod HeadLaws
 mod HeadReads
 mod LineEnds
-mod Numbers
+mod MaxAges
+mod Numerals
 mod Pieces
 mod RequestPieces
 mod ResponseLaws

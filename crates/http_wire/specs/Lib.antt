@@ -5,6 +5,7 @@ pub mod Chunks
 pub mod Decoding
 pub mod Fields
 pub mod Finding
+pub mod Freshness
 pub mod Heads
 pub mod Left
 pub mod Limits

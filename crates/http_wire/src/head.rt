@@ -12,6 +12,7 @@ ghost use Rattle.http_wire.specs.Response.{Cause};
 use crate::fault::WireFault;
 use crate::fields::{EMPTY_FIELD, Field, cover};
 use crate::framing::{Framing, Unframed, framing_of, is_coded, location_of};
+use crate::freshness::max_age_of;
 use crate::head_scan::HeadScan;
 use crate::limits::{MAX_HEAD, MAX_HEADER_LINES, MAX_INTERIM_HEADS};
 use crate::line_ends::count_line_ends;
@@ -25,6 +26,7 @@ pub(crate) struct FinalHead {
     pub status: u16,
     pub framing: Framing,
     pub location: Option<String>,
+    pub max_age: Option<u64>,
     /// Where the body begins, counted from the first octet of the input.
     pub end: usize,
 }
@@ -273,6 +275,7 @@ fn plan_of(
         status,
         framing,
         location,
+        max_age: max_age_of(fields),
         end,
     })
 }

@@ -21,6 +21,8 @@ pub struct HttpReply {
     pub status: u16,
     /// The value of the first Location field, where that is UTF-8.
     pub location: Option<String>,
+    /// The seconds of the first `max-age` among the members of Cache-Control, where there is one.
+    pub max_age: Option<u64>,
     /// The octets of the body, no more than the limit.
     pub body: Vec<u8>,
     /// Whether the body has more octets than the limit.
@@ -62,6 +64,7 @@ fn read_reply<S: Source>(
     Ok(HttpReply {
         status: head.status,
         location: head.location,
+        max_age: head.max_age,
         body: body.octets,
         cut: body.cut,
     })
