@@ -10,6 +10,7 @@ pub mod Heads
 pub mod Left
 pub mod Limits
 pub mod Messages
+pub mod Parts
 pub mod Reading
 pub mod Request
 pub mod Response

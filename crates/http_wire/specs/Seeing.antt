@@ -1,6 +1,6 @@
 -- What looks at the octets of a body see.
 -- The contracts of `BodyDecoder` cite it.
-use Rattle.std.specs.Prelude.{◌≡◌, ℕ, ◌<◌, ◌≤◌, ◌⊎◌, Bool, true, IsTrue, List, ◌++◌, length, drop, Option, Some, None, ⊤}
+use Rattle.std.specs.Prelude.{◌≡◌, ℕ, ◌<◌, ◌≤◌, ◌⊎◌, Bool, true, IsTrue, List, ◌++◌, length, ⊤}
 use Rattle.http_wire.specs.Bodies.{Gives, GivesFirst, IsBadBody}
 use Rattle.http_wire.specs.Chunks.{EndsInChunked, EndsTooLong}
 use Rattle.http_wire.specs.Decoding.{Stands}
@@ -93,11 +93,6 @@ abbrev pub Leaves : List ℕ → List ℕ → BodySeen → Type 0
 Leaves old new (Given body) = ⊤
 Leaves old new Full = new ≡ old
 Leaves old new More = new ≡ old
-
--- what a look at the bytes finds: the body, or a decoder that stands for them
-abbrev pub FindsBody : List ℕ → BodyDecoder → Option Body → Type 0
-FindsBody bytes decoder (Some body) = GivesBody (framing_in decoder) decoder.limit (drop decoder.start bytes) body
-FindsBody bytes decoder None = BodyStands decoder bytes
 
 -- why a look gives nothing: the text can't be read, whatever follows, or there was no memory
 abbrev pub Refuses : Framing → ℕ → List ℕ → WireFault → Type 0

@@ -16,6 +16,7 @@ mod limits;
 mod line_ends;
 mod look;
 mod numbers;
+mod part;
 mod request;
 mod response;
 mod trailers;
