@@ -13,7 +13,7 @@ max_seconds = 2 ^ 64 - 1
 abbrev pub seconds_of : List ℕ → Option ℕ
 seconds_of digits = if is_numeral digits then Some (min (digits_value 10 digits) max_seconds) else None
 
--- an octet 34
+-- DQUOTE
 abbrev pub quotation_mark : ℕ
 quotation_mark = 34
 

@@ -17,20 +17,21 @@ pub(crate) trait Part {
     /// What it gives.
     type Found;
 
-    // What no look changes.
+    // What no look changes: its type, and that of a part.
     ghost Kept: { Type 0 };
 
     ghost kept: { Self → Self.Kept };
 
-    // What is known of the octets before a look, and after one that found nothing.
+    // What is known of the octets before a look.
     ghost stands: { Self → List ℕ → Type 0 };
 
+    // What is known of them after a look that found nothing.
     ghost waits: { Self → List ℕ → Type 0 };
 
-    // What was found in the octets that came first, where those that come second are left in the
-    // buffer; and why they give nothing, whatever follows them.
+    // What was found in the octets that are named first, where the second are left in the buffer.
     ghost gives: { Self.Kept → List ℕ → List ℕ → Self.Found → Type 0 };
 
+    // Why the octets give nothing, whatever follows them.
     ghost refuses: { Self.Kept → List ℕ → WireFault → Type 0 };
 
     /// Looks at what has come, and gives what stands there whatever follows.
