@@ -8,7 +8,7 @@ use Rattle.http_wire.specs.declared.fault.WireFault.TheVariants.{Device, NoMemor
 use Rattle.http_wire.specs.declared.framing.Framing.{Framing}
 use Rattle.http_wire.specs.Parts.{Breaks, EndsWaiting, GoesOnWaiting, IsFoundIn}
 use Rattle.http_wire.specs.Reading.{Grows, IsWhole, HasNoBody, TellsBody, ReadsBody}
-use Rattle.http_wire.specs.Seeing.{BodyStands, GivesBody, Refuses, framing_in}
+use Rattle.http_wire.specs.Seeing.{GivesBody, Refuses, framing_in}
 use Rattle.http_wire.proofs.BodyLooks.{given_past, refused_past}
 use Rattle.http_wire.proofs.SourceReads.{ahead, whole_now, whole_before, whole_ended, whole_past}
 
@@ -51,18 +51,18 @@ found_read framing limit start left left' old new decoder body is found =
     (given_past (framing_in decoder) decoder.limit decoder.start found.seen (ahead left') body found.given.0 found.few found.given.1)
 
 -- The input ended before the body did.
-pub ended_read : (framing : Framing) (limit start : ℕ) (left left' : Option (List ℕ)) (old new : List ℕ) (decoder : BodyDecoder) (result : Result Body WireFault)
-    → IsFor framing limit start decoder → EndsWaiting (BodyStands decoder) left left' old new
+pub ended_read : (framing : Framing) (limit start : ℕ) (left left' : Option (List ℕ)) (old new : List ℕ) (waits : List ℕ → Type 0) (decoder : BodyDecoder) (result : Result Body WireFault)
+    → IsFor framing limit start decoder → EndsWaiting waits left left' old new
     → TellsBody (framing_in decoder) decoder.limit decoder.start new result → ReadsBody framing limit start left old result
-ended_read framing limit start left left' old new decoder result is ends tells =
+ended_read framing limit start left left' old new waits decoder result is ends tells =
     reads_for framing limit start left ends.before old new new decoder result is ends.came (whole_ended ends.before new ends.ended) tells
 
 -- The input goes on behind the last octet that a response may have.
-pub past_read : (framing : Framing) (limit start : ℕ) (left : Option (List ℕ)) (old new : List ℕ) (decoder : BodyDecoder) (result : Result Body WireFault)
-    → IsFor framing limit start decoder → GoesOnWaiting (BodyStands decoder) left old new
+pub past_read : (framing : Framing) (limit start : ℕ) (left : Option (List ℕ)) (old new : List ℕ) (waits : List ℕ → Type 0) (decoder : BodyDecoder) (result : Result Body WireFault)
+    → IsFor framing limit start decoder → GoesOnWaiting waits left old new
     → ((more : List ℕ) → 0 < length more → TellsBody (framing_in decoder) decoder.limit decoder.start (new ++ more) result)
     → ReadsBody framing limit start left old result
-past_read framing limit start left old new decoder result is on tells =
+past_read framing limit start left old new waits decoder result is on tells =
     let (more, some, whole) = whole_past on.before new on.more in
     reads_for framing limit start left on.before old new (new ++ more) decoder result is on.came whole (tells more some)
 

@@ -3,6 +3,7 @@ mod Answered
 mod BodyLaws
 mod BodyLooks
 mod BodyReads
+mod BodyShort
 mod ChunkLaws
 mod ChunkLists
 mod ChunkMoves

@@ -64,6 +64,12 @@ IsOpen (Counted size) limit text = (length text < size) × (length text ≤ limi
 IsOpen Chunked limit text = EndsInChunked limit text
 IsOpen ToEnd limit text = length text ≤ limit
 
+-- the text gives no body yet; of chunks no look but the last tells
+abbrev pub IsShort : Framing → ℕ → List ℕ → Type 0
+IsShort (Counted size) limit text = (length text < size) × (length text ≤ limit)
+IsShort Chunked limit text = ⊤
+IsShort ToEnd limit text = length text ≤ limit
+
 -- what a look sees in the text: of an open one the last look alone tells
 abbrev pub SeesBody : Framing → ℕ → List ℕ → Bool → BodySeen → Type 0
 SeesBody framing limit text last (Given body) = GivesBody framing limit text body

@@ -4,7 +4,7 @@ ghost use Rattle.std.specs.Prelude.{◌≡◌, ◌≤◌, ◌<◌, ◌+◌, ◌+
 ghost use Rattle.http_wire.specs.Reading.{TellsBody};
 ghost use Rattle.http_wire.specs.Response.{failures_after_reading};
 ghost use Rattle.http_wire.specs.Decoding.{Stands};
-ghost use Rattle.http_wire.specs.Seeing.{BodyStands, IsGiven, IsOpen, Leaves, Refuses, SeesBody, SeesPrefix, framing_in};
+ghost use Rattle.http_wire.specs.Seeing.{BodyStands, IsGiven, IsOpen, IsShort, Leaves, Refuses, SeesBody, SeesPrefix, framing_in};
 
 use crate::body::Body;
 use crate::buffer::Buffer;
@@ -102,6 +102,8 @@ impl BodyDecoder {
         ensures sees { IfOk result
             (SeesBody (framing_in self.old) self.old.limit (drop self.old.start buffer.old) last) }
         ensures stands { result ≡ Ok BodySeen.More → BodyStands self.new buffer.old }
+        ensures short { result ≡ Ok BodySeen.More
+            → IsShort (framing_in self.old) self.old.limit (drop self.old.start buffer.old) }
         ensures left { IfOk result (Leaves buffer.old buffer.new) }
         ensures err { IfErr result
             (Refuses (framing_in self.old) self.old.limit (drop self.old.start buffer.old)) }
@@ -138,7 +140,7 @@ impl BodyDecoder {
 
 impl Part for BodyDecoder {
     ghost use Rattle.std.specs.Prelude.{◌≤◌, ℕ, drop, length};
-    ghost use Rattle.http_wire.specs.Seeing.{BodyStands, GivesBody, Refuses, framing_in};
+    ghost use Rattle.http_wire.specs.Seeing.{BodyStands, GivesBody, IsShort, Refuses, framing_in};
     ghost use Rattle.http_wire.specs.declared.framing.Framing.{Framing};
 
     type Found = Body;
@@ -150,7 +152,8 @@ impl Part for BodyDecoder {
 
     ghost stands = { BodyStands };
 
-    ghost waits = { BodyStands };
+    ghost waits = { λ decoder bytes. BodyStands decoder bytes
+        × IsShort (framing_in decoder) decoder.limit (drop decoder.start bytes) };
 
     ghost gives = { λ kept seen _ body. (kept.1 ≤ length seen)
         × GivesBody kept.0 kept.2 (drop kept.1 seen) body };

@@ -29,7 +29,7 @@ returns-in-Ended-clause-reads g c =
       limit_is = ap (λ k. k.2) kept ∙ new.limit;
       start_is = ap (λ k. k.1) kept ∙ new.start;
     } in
-    ended_read _ _ _ _ _ _ _ _ _ is (rw c.in-Ended.is at c.in_ok-body.ensures.ok) c.end.ensures.tells
+    ended_read _ _ _ _ _ _ _ _ _ _ is (rw c.in-Ended.is at c.in_ok-body.ensures.ok) c.end.ensures.tells
 
 pub returns-clause-reads : goal.returns-clause-reads
 returns-clause-reads g c =
@@ -40,4 +40,4 @@ returns-clause-reads g c =
       limit_is = ap (λ k. k.2) kept ∙ new.limit;
       start_is = ap (λ k. k.1) kept ∙ new.start;
     } in
-    past_read _ _ _ _ _ _ _ _ is (rw c.in-Past.is at c.in_ok-body.ensures.ok) c.past.ensures.tells
+    past_read _ _ _ _ _ _ _ _ _ is (rw c.in-Past.is at c.in_ok-body.ensures.ok) c.past.ensures.tells
