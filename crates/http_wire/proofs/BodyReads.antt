@@ -1,14 +1,12 @@
--- What the loop over the reads of a body tells at each of its ends.
+-- What the reading of a body tells at each of its ends.
 -- The answers of `read_body` cite it.
 use Rattle.std.proofs.Common.{◌⊎◌, inl, inr, ◌≡◌, ℕ, ◌<◌, ◌≤◌, List, ◌++◌, length, drop, sym, subst, Option, Result, Ok, Err}
-use Rattle.std.specs.Prelude.{IfSome}
-use Rattle.std.specs.Io.KnownBytes.{IsAtEnd}
 use Rattle.http_wire.specs.declared.body.Body.{Body}
 use Rattle.http_wire.specs.declared.body_decoder.BodyDecoder.{BodyDecoder}
 use Rattle.http_wire.specs.declared.fault.WireFault.{WireFault}
 use Rattle.http_wire.specs.declared.fault.WireFault.TheVariants.{Device, NoMemory}
 use Rattle.http_wire.specs.declared.framing.Framing.{Framing}
-use Rattle.http_wire.specs.Limits.{max_raw}
+use Rattle.http_wire.specs.Parts.{Breaks, EndsWaiting, GoesOnWaiting, IsFoundIn}
 use Rattle.http_wire.specs.Reading.{Grows, IsWhole, HasNoBody, TellsBody, ReadsBody}
 use Rattle.http_wire.specs.Seeing.{GivesBody, Refuses, framing_in}
 use Rattle.http_wire.proofs.BodyLooks.{given_past, refused_past}
@@ -19,6 +17,13 @@ pub record IsFor (framing : Framing) (limit start : ℕ) (decoder : BodyDecoder)
   pub framing_is : framing_in decoder ≡ framing
   pub limit_is : decoder.limit ≡ limit
   pub start_is : decoder.start ≡ start
+
+-- the octets give the body behind the decoder's start, or are refused there
+abbrev pub GivesThere : BodyDecoder → List ℕ → Body → Type 0
+GivesThere decoder seen body = (decoder.start ≤ length seen) × GivesBody (framing_in decoder) decoder.limit (drop decoder.start seen) body
+
+abbrev pub RefusesThere : BodyDecoder → List ℕ → WireFault → Type 0
+RefusesThere decoder seen fault = (decoder.start ≤ length seen) × Refuses (framing_in decoder) decoder.limit (drop decoder.start seen) fault
 
 tells_for : (framing : Framing) (limit start : ℕ) (decoder : BodyDecoder) (input : List ℕ) (result : Result Body WireFault) → IsFor framing limit start decoder
     → TellsBody (framing_in decoder) decoder.limit decoder.start input result → TellsBody framing limit start input result
@@ -38,32 +43,28 @@ reads_for framing limit start left left' old seen input decoder result is grows 
 }
 
 -- A look gave the body.
-pub some_read : (framing : Framing) (limit start : ℕ) (left left' : Option (List ℕ)) (old seen bytes : List ℕ) (decoder : BodyDecoder) (body : Body)
-    → IsFor framing limit start decoder → Grows left left' old seen → bytes ≡ seen → decoder.start ≤ length seen → length seen ≤ max_raw
-    → GivesBody (framing_in decoder) decoder.limit (drop decoder.start bytes) body → ReadsBody framing limit start left old (Ok body)
-some_read framing limit start left left' old seen bytes decoder body is grows same within few given =
-    let here = subst (λ t. GivesBody (framing_in decoder) decoder.limit (drop decoder.start t) body) same given in
-    reads_for framing limit start left left' old seen (seen ++ ahead left') decoder (Ok body) is grows (whole_now left' seen)
-    (given_past (framing_in decoder) decoder.limit decoder.start seen (ahead left') body within few here)
+pub found_read : (framing : Framing) (limit start : ℕ) (left left' : Option (List ℕ)) (old new : List ℕ) (decoder : BodyDecoder) (body : Body)
+    → IsFor framing limit start decoder → IsFoundIn (λ seen _ body. GivesThere decoder seen body) left left' old new body
+    → ReadsBody framing limit start left old (Ok body)
+found_read framing limit start left left' old new decoder body is found =
+    reads_for framing limit start left left' old found.seen (found.seen ++ ahead left') decoder (Ok body) is found.grows (whole_now left' found.seen)
+    (given_past (framing_in decoder) decoder.limit decoder.start found.seen (ahead left') body found.given.0 found.few found.given.1)
 
--- A look refused the body.
-pub refused_read : (framing : Framing) (limit start : ℕ) (left left' : Option (List ℕ)) (old seen bytes : List ℕ) (decoder : BodyDecoder) (fault : WireFault)
-    → IsFor framing limit start decoder → Grows left left' old seen → bytes ≡ seen → decoder.start ≤ length seen
-    → Refuses (framing_in decoder) decoder.limit (drop decoder.start bytes) fault → ReadsBody framing limit start left old (Err fault)
-refused_read framing limit start left left' old seen bytes decoder fault is grows same within refuses =
-    let here = subst (λ t. Refuses (framing_in decoder) decoder.limit (drop decoder.start t) fault) same refuses in
-    reads_for framing limit start left left' old seen (seen ++ ahead left') decoder (Err fault) is grows (whole_now left' seen)
-    (refused_past (framing_in decoder) decoder.limit decoder.start seen (ahead left') fault within here)
+-- The input ended before the body did.
+pub ended_read : (framing : Framing) (limit start : ℕ) (left left' : Option (List ℕ)) (old new : List ℕ) (waits : List ℕ → Type 0) (decoder : BodyDecoder) (result : Result Body WireFault)
+    → IsFor framing limit start decoder → EndsWaiting waits left left' old new
+    → TellsBody (framing_in decoder) decoder.limit decoder.start new result → ReadsBody framing limit start left old result
+ended_read framing limit start left left' old new waits decoder result is ends tells =
+    reads_for framing limit start left ends.before old new new decoder result is ends.came (whole_ended ends.before new ends.ended) tells
 
 -- The input goes on behind the last octet that a response may have.
-pub past_read : (framing : Framing) (limit start : ℕ) (left left' : Option (List ℕ)) (old seen bytes : List ℕ) (decoder : BodyDecoder) (result : Result Body WireFault)
-    → IsFor framing limit start decoder → Grows left left' old seen → bytes ≡ seen → IfSome left' (λ octets. 0 < length octets)
-    → ((more : List ℕ) → 0 < length more → TellsBody (framing_in decoder) decoder.limit decoder.start (bytes ++ more) result)
+pub past_read : (framing : Framing) (limit start : ℕ) (left : Option (List ℕ)) (old new : List ℕ) (waits : List ℕ → Type 0) (decoder : BodyDecoder) (result : Result Body WireFault)
+    → IsFor framing limit start decoder → GoesOnWaiting waits left old new
+    → ((more : List ℕ) → 0 < length more → TellsBody (framing_in decoder) decoder.limit decoder.start (new ++ more) result)
     → ReadsBody framing limit start left old result
-past_read framing limit start left left' old seen bytes decoder result is grows same some tells =
-    let (more, some_more, whole) = whole_past left' seen some in
-    let told = subst (λ t. TellsBody (framing_in decoder) decoder.limit decoder.start (t ++ more) result) same (tells more some_more) in
-    reads_for framing limit start left left' old seen (seen ++ more) decoder result is grows whole told
+past_read framing limit start left old new waits decoder result is on tells =
+    let (more, some, whole) = whole_past on.before new on.more in
+    reads_for framing limit start left on.before old new (new ++ more) decoder result is on.came whole (tells more some)
 
 no_cause : (framing : Framing) (limit start : ℕ) (input : List ℕ) (fault : WireFault) → (fault ≡ Device) ⊎ (fault ≡ NoMemory) → HasNoBody fault framing limit start input
 no_cause framing limit start input fault stops =
@@ -72,18 +73,18 @@ no_cause framing limit start input fault stops =
       | inr none ↦ subst (λ f. HasNoBody f framing limit start input) (sym none) tt
     ]
 
--- A read failed, or there was no memory for it.
-pub ended_read : (framing : Framing) (limit start : ℕ) (left left' : Option (List ℕ)) (old seen bytes : List ℕ) (decoder : BodyDecoder) (result : Result Body WireFault)
-    → IsFor framing limit start decoder → Grows left left' old seen → bytes ≡ seen → IsAtEnd left'
-    → TellsBody (framing_in decoder) decoder.limit decoder.start bytes result → ReadsBody framing limit start left old result
-ended_read framing limit start left left' old seen bytes decoder result is grows same ended tells =
-    reads_for framing limit start left left' old seen seen decoder result is grows (whole_ended left' seen ended)
-    (subst (λ t. TellsBody (framing_in decoder) decoder.limit decoder.start t result) same tells)
-
-pub stopped_read : (framing : Framing) (limit start : ℕ) (left left' : Option (List ℕ)) (old seen : List ℕ) (fault : WireFault)
-    → Grows left left' old seen → (fault ≡ Device) ⊎ (fault ≡ NoMemory) → ReadsBody framing limit start left old (Err fault)
-stopped_read framing limit start left left' old seen fault grows stops = record {
-  input = seen ++ ahead left';
-  whole = whole_before left left' old seen (seen ++ ahead left') grows (whole_now left' seen);
-  tells = no_cause framing limit start (seen ++ ahead left') fault stops;
-}
+-- A look refused the body, a read failed, or there was no memory for it.
+pub broken_read : (framing : Framing) (limit start : ℕ) (left : Option (List ℕ)) (old : List ℕ) (decoder : BodyDecoder) (fault : WireFault)
+    → IsFor framing limit start decoder → Breaks (RefusesThere decoder) left old fault → ReadsBody framing limit start left old (Err fault)
+broken_read framing limit start left old decoder fault is breaks =
+    elim breaks.cause [
+      | inl refused ↦
+          reads_for framing limit start left breaks.before old breaks.seen (breaks.seen ++ ahead breaks.before) decoder (Err fault) is breaks.came
+          (whole_now breaks.before breaks.seen)
+          (refused_past (framing_in decoder) decoder.limit decoder.start breaks.seen (ahead breaks.before) fault refused.0 refused.1)
+      | inr stops ↦ record {
+        input = breaks.seen ++ ahead breaks.before;
+        whole = whole_before left breaks.before old breaks.seen (breaks.seen ++ ahead breaks.before) breaks.came (whole_now breaks.before breaks.seen);
+        tells = no_cause framing limit start (breaks.seen ++ ahead breaks.before) fault stops;
+      }
+    ]

@@ -231,6 +231,7 @@ planned finder bytes headers spans head plan passes found final is =
       uncoded = own.uncoded;
       status = own.status;
       location = own.location;
+      max_age = own.max_age;
     }
 
 -- why nothing was read off it

@@ -3,6 +3,7 @@ mod Answered
 mod BodyLaws
 mod BodyLooks
 mod BodyReads
+mod BodyShort
 mod ChunkLaws
 mod ChunkLists
 mod ChunkMoves
@@ -13,7 +14,8 @@ mod HeadFacts
 mod HeadLaws
 mod HeadReads
 mod LineEnds
-mod Numbers
+mod MaxAges
+mod Numerals
 mod Pieces
 mod RequestPieces
 mod ResponseLaws

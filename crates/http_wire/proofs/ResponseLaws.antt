@@ -6,6 +6,7 @@ use Rattle.std.proofs.Math.Seq.{take-append_seam}
 use Rattle.httparse.specs.Grammar.{ResponseHead, status_code}
 use Rattle.http_wire.specs.Bodies.{Gives, InBody, IsBodyPrefix}
 use Rattle.http_wire.specs.Fields.{framing_of, IsFirstText, IsLocation}
+use Rattle.http_wire.specs.Freshness.{HasMaxAge}
 use Rattle.http_wire.specs.Heads.{HasFinal, fields_of}
 use Rattle.http_wire.specs.Response.{Answers, AtFinal, Cause, Finds, GivesOrStops, GivesReply, HasBadLength, IsInCoding, IsTooMuch, Reply, Response, Tells, reply_of}
 use Rattle.http_wire.specs.declared.fault.WireFault.{WireFault}
@@ -17,6 +18,7 @@ use Rattle.http_wire.specs.declared.response.HttpReply.{HttpReply}
 use Rattle.http_wire.proofs.BodyLaws.{body_unique, body_ends, body_bad, body_prefix}
 use Rattle.http_wire.proofs.HeadFacts.{final_append}
 use Rattle.http_wire.proofs.HeadLaws.{final_unique, ends_in_head_excludes, long_head_excludes, bad_head_excludes, many_interim_excludes}
+use Rattle.http_wire.proofs.MaxAges.{tells_unique}
 
 -- ---- one reply
 
@@ -48,7 +50,10 @@ reply_unique input limit a b x y =
     let location : a.location ≡ b.location =
     first_text_unique _ a.location b.location
     (subst (λ head. IsLocation (fields_of head) a.location) heads.0 p.location) q.location in
-    λ i. record { status = status i; location = location i; body = bodies.0 i; cut = bodies.1 i }
+    let max_age : a.max_age ≡ b.max_age =
+    tells_unique _ a.max_age b.max_age
+    (subst (λ head. HasMaxAge (fields_of head) a.max_age) heads.0 p.max_age) q.max_age in
+    λ i. record { status = status i; location = location i; max_age = max_age i; body = bodies.0 i; cut = bodies.1 i }
 
 -- ---- no fault beside a reply
 

@@ -7,6 +7,7 @@ use Rattle.httparse.specs.Spans.{IsResponseAt, IsResponseWithin, ResponseOverflo
 use Rattle.httparse.specs.declared.spans.HeaderSpan.{HeaderSpan}
 use Rattle.httparse.specs.declared.spans.ResponseSpans.{ResponseSpans}
 use Rattle.http_wire.specs.Fields.{Pair, framing_of, is_coded, IsLocation}
+use Rattle.http_wire.specs.Freshness.{HasMaxAge}
 use Rattle.http_wire.specs.Heads.{HasFinal, HasInterims, IsHead, fields_of, is_interim, is_final}
 use Rattle.http_wire.specs.Reading.{IsWhole}
 use Rattle.http_wire.specs.Response.{Cause}
@@ -66,6 +67,7 @@ pub record IsFound (bytes : List ℕ) (found : FinalHead) : Type 0 where
   pub uncoded : is_coded (status_code head) (fields_of head) ≡ false
   pub status : found.status ≡ status_code head
   pub location : IsLocation (fields_of head) (option_map string_bytes found.location)
+  pub max_age : HasMaxAge (fields_of head) found.max_age
 
 -- the fault's cause stands, whatever follows the bytes and whatever the limit
 abbrev pub Faults : List ℕ → WireFault → Type 0
@@ -98,6 +100,7 @@ pub record IsPlan (code : ℕ) (fields : List Pair) (end : ℕ) (found : FinalHe
   pub uncoded : is_coded code fields ≡ false
   pub status : found.status ≡ code
   pub location : IsLocation fields (option_map string_bytes found.location)
+  pub max_age : HasMaxAge fields found.max_age
   pub end_is : found.end ≡ end
 
 -- why nothing is read off it

@@ -5,10 +5,12 @@ pub mod Chunks
 pub mod Decoding
 pub mod Fields
 pub mod Finding
+pub mod Freshness
 pub mod Heads
 pub mod Left
 pub mod Limits
 pub mod Messages
+pub mod Parts
 pub mod Reading
 pub mod Request
 pub mod Response

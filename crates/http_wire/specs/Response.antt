@@ -5,6 +5,7 @@ use Rattle.httparse.specs.Grammar.{ResponseHead, status_code}
 use Rattle.std.specs.String.{string_bytes}
 use Rattle.counted_io.specs.Device.{one_more}
 use Rattle.http_wire.specs.Fields.{framing_of, is_coded, IsLocation}
+use Rattle.http_wire.specs.Freshness.{HasMaxAge}
 use Rattle.http_wire.specs.Heads.{AfterInterims, HasFinal, IsBadHead, IsLongHead, EndsInHead, HasTooManyInterim, fields_of}
 use Rattle.http_wire.specs.Bodies.{Gives, EndsInBody, IsBodyPrefix, IsBadBody, InBody}
 use Rattle.http_wire.specs.declared.fault.WireFault.{WireFault}
@@ -18,6 +19,7 @@ use Rattle.http_wire.specs.declared.response.HttpReply.{HttpReply}
 pub record Reply : Type 0 where
   pub status : ℕ
   pub location : Option (List ℕ)
+  pub max_age : Option ℕ
   pub body : List ℕ
   pub cut : Bool
 
@@ -32,6 +34,7 @@ pub record GivesReply (input : List ℕ) (limit : ℕ) (reply : Reply) (rest : L
   pub gives : Gives framing limit text reply.body reply.cut rest
   pub status : reply.status ≡ status_code head
   pub location : IsLocation (fields_of head) reply.location
+  pub max_age : HasMaxAge (fields_of head) reply.max_age
 
 -- the reply stands within as many octets as a response may have
 pub record Response (input : List ℕ) (limit : ℕ) (reply : Reply) : Type 0 where
@@ -82,7 +85,7 @@ Cause TooMuch input limit = IsTooMuch input limit
 
 -- the reply that the code's value writes
 abbrev pub reply_of : HttpReply → Reply
-reply_of reply = record { status = reply.status; location = option_map string_bytes reply.location; body = reply.body.items; cut = reply.cut }
+reply_of reply = record { status = reply.status; location = option_map string_bytes reply.location; max_age = reply.max_age; body = reply.body.items; cut = reply.cut }
 
 -- what a call answers of this input: its reply, or a fault whose cause stands
 abbrev pub Answers : List ℕ → ℕ → Result HttpReply WireFault → Type 0

@@ -1,6 +1,6 @@
 -- What looks at the octets of a body see.
 -- The contracts of `BodyDecoder` cite it.
-use Rattle.std.specs.Prelude.{◌≡◌, ℕ, ◌<◌, ◌≤◌, ◌⊎◌, Bool, true, IsTrue, List, ◌++◌, length, drop, Option, Some, None, ⊤}
+use Rattle.std.specs.Prelude.{◌≡◌, ℕ, ◌<◌, ◌≤◌, ◌⊎◌, Bool, true, IsTrue, List, ◌++◌, length, ⊤}
 use Rattle.http_wire.specs.Bodies.{Gives, GivesFirst, IsBadBody}
 use Rattle.http_wire.specs.Chunks.{EndsInChunked, EndsTooLong}
 use Rattle.http_wire.specs.Decoding.{Stands}
@@ -64,6 +64,12 @@ IsOpen (Counted size) limit text = (length text < size) × (length text ≤ limi
 IsOpen Chunked limit text = EndsInChunked limit text
 IsOpen ToEnd limit text = length text ≤ limit
 
+-- the text gives no body yet; of chunks no look but the last tells
+abbrev pub IsShort : Framing → ℕ → List ℕ → Type 0
+IsShort (Counted size) limit text = (length text < size) × (length text ≤ limit)
+IsShort Chunked limit text = ⊤
+IsShort ToEnd limit text = length text ≤ limit
+
 -- what a look sees in the text: of an open one the last look alone tells
 abbrev pub SeesBody : Framing → ℕ → List ℕ → Bool → BodySeen → Type 0
 SeesBody framing limit text last (Given body) = GivesBody framing limit text body
@@ -93,11 +99,6 @@ abbrev pub Leaves : List ℕ → List ℕ → BodySeen → Type 0
 Leaves old new (Given body) = ⊤
 Leaves old new Full = new ≡ old
 Leaves old new More = new ≡ old
-
--- what a look at the bytes finds: the body, or a decoder that stands for them
-abbrev pub FindsBody : List ℕ → BodyDecoder → Option Body → Type 0
-FindsBody bytes decoder (Some body) = GivesBody (framing_in decoder) decoder.limit (drop decoder.start bytes) body
-FindsBody bytes decoder None = BodyStands decoder bytes
 
 -- why a look gives nothing: the text can't be read, whatever follows, or there was no memory
 abbrev pub Refuses : Framing → ℕ → List ℕ → WireFault → Type 0

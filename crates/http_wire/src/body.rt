@@ -5,10 +5,11 @@ ghost use Rattle.http_wire.specs.Reading.{ReadsBody};
 ghost use Rattle.http_wire.specs.Response.{failures_after_reading};
 
 use crate::body_decoder::BodyDecoder;
-use crate::buffer::{Buffer, Fill};
+use crate::buffer::Buffer;
 use crate::fault::WireFault;
 use crate::framing::Framing;
 use crate::limits::MAX_RAW;
+use crate::part::{Stop, fill_until};
 use counted_io::Source;
 use std::alloc::Global;
 
@@ -36,15 +37,9 @@ pub(crate) fn read_body<S: Source>(
     ensures count { S.failures source.new ≡ failures_after_reading (S.failures source.old) result }
 {
     let mut decoder = BodyDecoder::new(alloc, framing, start, limit);
-    loop {
-        match decoder.look(alloc, buffer)? {
-            Some(body) => return Ok(body),
-            None => {}
-        }
-        match buffer.fill(source)? {
-            Fill::More => {}
-            Fill::Ended => return decoder.end(alloc, buffer),
-            Fill::Past => return decoder.past(alloc, buffer),
-        }
+    match fill_until(alloc, source, buffer, &mut decoder)? {
+        Stop::Found(body) => Ok(body),
+        Stop::Ended => decoder.end(alloc, buffer),
+        Stop::Past => decoder.past(alloc, buffer),
     }
 }

@@ -4,7 +4,7 @@ ghost use Rattle.std.specs.Prelude.{◌≡◌, ◌≤◌, ◌<◌, ◌+◌, ◌+
 ghost use Rattle.http_wire.specs.Reading.{TellsBody};
 ghost use Rattle.http_wire.specs.Response.{failures_after_reading};
 ghost use Rattle.http_wire.specs.Decoding.{Stands};
-ghost use Rattle.http_wire.specs.Seeing.{BodyStands, FindsBody, IsGiven, IsOpen, Leaves, Refuses, SeesBody, SeesPrefix, framing_in};
+ghost use Rattle.http_wire.specs.Seeing.{BodyStands, IsGiven, IsOpen, IsShort, Leaves, Refuses, SeesBody, SeesPrefix, framing_in};
 
 use crate::body::Body;
 use crate::buffer::Buffer;
@@ -13,6 +13,7 @@ use crate::fault::WireFault;
 use crate::framing::Framing;
 use crate::limits::MAX_RAW;
 use crate::look::Look;
+use crate::part::Part;
 use std::alloc::Global;
 
 /// A body by its framing, as far as it was decoded.
@@ -61,27 +62,6 @@ impl BodyDecoder {
         BodyDecoder { start, limit, form }
     }
 
-    /// Looks at what has come, and gives the body that stands there whatever follows.
-    pub(crate) fn look(
-        &mut self,
-        alloc: Global,
-        buffer: &mut Buffer,
-    ) -> Result<Option<Body>, WireFault>
-        requires { BodyStands self.old buffer.old }
-        ensures framing { framing_in self.new ≡ framing_in self.old }
-        ensures start { self.new.start ≡ self.old.start }
-        ensures limit { self.new.limit ≡ self.old.limit }
-        ensures ok { IfOk result (FindsBody buffer.old self.new) }
-        ensures left { result ≡ Ok None → buffer.new ≡ buffer.old }
-        ensures err { IfErr result
-            (Refuses (framing_in self.old) self.old.limit (drop self.old.start buffer.old)) }
-    {
-        match self.see(alloc, buffer, false)? {
-            BodySeen::Given(body) => Ok(Some(body)),
-            BodySeen::Full | BodySeen::More => Ok(None),
-        }
-    }
-
     /// The last look, where nothing follows what has come.
     pub(crate) fn end(&mut self, alloc: Global, buffer: &mut Buffer) -> Result<Body, WireFault>
         requires stands { BodyStands self.old buffer.old }
@@ -122,6 +102,8 @@ impl BodyDecoder {
         ensures sees { IfOk result
             (SeesBody (framing_in self.old) self.old.limit (drop self.old.start buffer.old) last) }
         ensures stands { result ≡ Ok BodySeen.More → BodyStands self.new buffer.old }
+        ensures short { result ≡ Ok BodySeen.More
+            → IsShort (framing_in self.old) self.old.limit (drop self.old.start buffer.old) }
         ensures left { IfOk result (Leaves buffer.old buffer.new) }
         ensures err { IfErr result
             (Refuses (framing_in self.old) self.old.limit (drop self.old.start buffer.old)) }
@@ -152,6 +134,37 @@ impl BodyDecoder {
                 })
             }
             _ => Err(WireFault::EarlyEnd),
+        }
+    }
+}
+
+impl Part for BodyDecoder {
+    ghost use Rattle.std.specs.Prelude.{◌≤◌, ℕ, drop, length};
+    ghost use Rattle.http_wire.specs.Seeing.{BodyStands, GivesBody, IsShort, Refuses, framing_in};
+    ghost use Rattle.http_wire.specs.declared.framing.Framing.{Framing};
+
+    type Found = Body;
+
+    // The framing, where the body begins, and the limit.
+    ghost Kept = { Framing × ℕ × ℕ };
+
+    ghost kept = { λ decoder. (framing_in decoder, decoder.start, decoder.limit) };
+
+    ghost stands = { BodyStands };
+
+    ghost waits = { λ decoder bytes. BodyStands decoder bytes
+        × IsShort (framing_in decoder) decoder.limit (drop decoder.start bytes) };
+
+    ghost gives = { λ kept seen _ body. (kept.1 ≤ length seen)
+        × GivesBody kept.0 kept.2 (drop kept.1 seen) body };
+
+    ghost refuses = { λ kept seen fault. (kept.1 ≤ length seen)
+        × Refuses kept.0 kept.2 (drop kept.1 seen) fault };
+
+    fn look(&mut self, alloc: Global, buffer: &mut Buffer) -> Result<Option<Body>, WireFault> {
+        match self.see(alloc, buffer, false)? {
+            BodySeen::Given(body) => Ok(Some(body)),
+            BodySeen::Full | BodySeen::More => Ok(None),
         }
     }
 }

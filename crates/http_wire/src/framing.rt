@@ -4,10 +4,9 @@ ghost use Rattle.std.specs.Prelude.{◌≡◌};
 ghost use Rattle.std.specs.List.{list_all};
 ghost use Rattle.http_wire.specs.Fields.{chunked, counted, framing_of, has_coding, is_coded, is_number_of, is_plain, IsLocation};
 ghost use Rattle.http_wire.specs.Left.{members_left, pairs, text_of};
-ghost use Rattle.line_text.specs.Number.{number_of};
 
 use crate::fields::{Field, Members, Values, is_same_word};
-use line_text::number_of;
+use crate::numbers::number_in;
 
 /// What tells where a body ends.
 #[derive(Clone, Copy, Debug, PartialEq, Eq)]
@@ -78,16 +77,6 @@ fn is_number_of(number: u64, member: &[u8]) -> bool
     ensures { result ≡ is_number_of number member.now }
 {
     number_in(member) == Some(number)
-}
-
-// Content-Length = 1*DIGIT: the number that a member writes.
-fn number_in(member: &[u8]) -> Option<u64>
-    ensures { result ≡ number_of member.now }
-{
-    match str::from_utf8(member) {
-        Ok(text) => number_of(text),
-        Err(_) => None,
-    }
 }
 
 /// Whether the body would be used and is in a content coding.

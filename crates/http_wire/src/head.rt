@@ -9,12 +9,15 @@ ghost use Rattle.http_wire.specs.Finding.{Faults, FindsHead, HasNoPlan, IsClass,
 ghost use Rattle.http_wire.specs.Left.{pairs};
 ghost use Rattle.http_wire.specs.Response.{Cause};
 
+use crate::buffer::Buffer;
 use crate::fault::WireFault;
 use crate::fields::{EMPTY_FIELD, Field, cover};
 use crate::framing::{Framing, Unframed, framing_of, is_coded, location_of};
+use crate::freshness::max_age_of;
 use crate::head_scan::HeadScan;
 use crate::limits::{MAX_HEAD, MAX_HEADER_LINES, MAX_INTERIM_HEADS};
 use crate::line_ends::count_line_ends;
+use crate::part::Part;
 use httparse::spans::{EMPTY_HEADER_SPAN, HeaderSpan, ResponseSpans, parse_response};
 use httparse::{Error, Status};
 use std::alloc::{AllocError, Global};
@@ -25,6 +28,7 @@ pub(crate) struct FinalHead {
     pub status: u16,
     pub framing: Framing,
     pub location: Option<String>,
+    pub max_age: Option<u64>,
     /// Where the body begins, counted from the first octet of the input.
     pub end: usize,
 }
@@ -111,8 +115,24 @@ impl HeadFinder {
         }
     }
 
-    /// Looks for the final head. `last`: no look follows, so what has come is parsed in any case.
-    pub(crate) fn look(
+    /// Looks for the final head where nothing more will come.
+    pub(crate) fn end(mut self, alloc: Global, bytes: &[u8]) -> Result<FinalHead, WireFault>
+        requires { Passes self bytes.now }
+        ensures found { IfOk result (IsFound bytes.now) }
+        ensures faults { IfErr result (λ fault. (limit : ℕ) → Cause fault bytes.now limit) }
+        ensures no_device { result ≢ Err WireFault.Device }
+    {
+        match self.find(alloc, bytes, true)? {
+            Some(head) => Ok(head),
+            None if count_line_ends(&bytes[self.at..]) > MAX_HEADER_LINES => {
+                Err(WireFault::HeadTooLong)
+            }
+            None => Err(WireFault::EarlyEnd),
+        }
+    }
+
+    // Looks for the final head. `last`: no look follows, so what has come is parsed in any case.
+    fn find(
         &mut self,
         alloc: Global,
         bytes: &[u8],
@@ -129,22 +149,6 @@ impl HeadFinder {
                 Seen::More => return Ok(None),
                 Seen::Interim => {}
             }
-        }
-    }
-
-    /// Looks for the final head where nothing more will come.
-    pub(crate) fn end(mut self, alloc: Global, bytes: &[u8]) -> Result<FinalHead, WireFault>
-        requires { Passes self bytes.now }
-        ensures found { IfOk result (IsFound bytes.now) }
-        ensures faults { IfErr result (λ fault. (limit : ℕ) → Cause fault bytes.now limit) }
-        ensures no_device { result ≢ Err WireFault.Device }
-    {
-        match self.look(alloc, bytes, true)? {
-            Some(head) => Ok(head),
-            None if count_line_ends(&bytes[self.at..]) > MAX_HEADER_LINES => {
-                Err(WireFault::HeadTooLong)
-            }
-            None => Err(WireFault::EarlyEnd),
         }
     }
 
@@ -217,6 +221,30 @@ impl HeadFinder {
     }
 }
 
+impl Part for HeadFinder {
+    ghost use Rattle.std.specs.Prelude.{◌≡◌, ◌+◌, ◌<◌, length};
+    ghost use Rattle.http_wire.specs.Finding.{Faults, IsFound, Passes};
+    ghost use Rattle.http_wire.specs.Limits.{max_head};
+
+    type Found = FinalHead;
+
+    ghost Kept = { Unit {0} };
+
+    ghost kept = { λ _. tt };
+
+    ghost stands = { Passes };
+
+    ghost waits = { λ finder bytes. Passes finder bytes × (length bytes < finder.at + max_head) };
+
+    ghost gives = { λ _ seen left found. IsFound seen found × (left ≡ seen) };
+
+    ghost refuses = { λ _ seen. Faults seen };
+
+    fn look(&mut self, alloc: Global, buffer: &mut Buffer) -> Result<Option<FinalHead>, WireFault> {
+        self.find(alloc, buffer.octets(), false)
+    }
+}
+
 // The octets from a place on that a head may have.
 fn prefix_of(bytes: &[u8], at: usize) -> &[u8]
     requires { at ≤ length bytes.now }
@@ -273,6 +301,7 @@ fn plan_of(
         status,
         framing,
         location,
+        max_age: max_age_of(fields),
         end,
     })
 }

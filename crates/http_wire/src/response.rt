@@ -7,10 +7,11 @@ ghost use Rattle.http_wire.specs.Reading.{Grows};
 ghost use Rattle.http_wire.specs.Response.{Finds, Tells, failures_after_reading};
 
 use crate::body::read_body;
-use crate::buffer::{Buffer, Fill};
+use crate::buffer::Buffer;
 use crate::fault::WireFault;
 use crate::head::{FinalHead, HeadFinder};
 use crate::limits::MAX_RAW;
+use crate::part::{Stop, fill_until};
 use counted_io::Source;
 use std::alloc::Global;
 
@@ -21,6 +22,8 @@ pub struct HttpReply {
     pub status: u16,
     /// The value of the first Location field, where that is UTF-8.
     pub location: Option<String>,
+    /// The seconds of the first `max-age` among the members of Cache-Control, where there is one.
+    pub max_age: Option<u64>,
     /// The octets of the body, no more than the limit.
     pub body: Vec<u8>,
     /// Whether the body has more octets than the limit.
@@ -62,6 +65,7 @@ fn read_reply<S: Source>(
     Ok(HttpReply {
         status: head.status,
         location: head.location,
+        max_age: head.max_age,
         body: body.octets,
         cut: body.cut,
     })
@@ -76,20 +80,15 @@ fn read_final<S: Source>(
     requires { buffer.old ≡ [] }
     ensures found { IfOk result (IsFound buffer.new) }
     ensures grows { IfOk result (λ _. Grows (S.left source.old) (S.left source.new) [] buffer.new) }
-    ensures few { length buffer.new ≤ MAX_RAW }
+    ensures few { IfOk result (λ _. length buffer.new ≤ MAX_RAW) }
     ensures fails { IfErr result (Fails (S.left source.old) []) }
     ensures count { S.failures source.new ≡ failures_after_reading (S.failures source.old) result }
 {
     let mut finder = HeadFinder::new();
-    loop {
-        if let Some(head) = finder.look(alloc, buffer.octets(), false)? {
-            return Ok(head);
-        }
-        match buffer.fill(source)? {
-            Fill::More => {}
-            Fill::Ended => return finder.end(alloc, buffer.octets()),
-            // More octets than eight interim heads and a final one may have are in the buffer.
-            Fill::Past => return Err(WireFault::TooMuch),
-        }
+    match fill_until(alloc, source, buffer, &mut finder)? {
+        Stop::Found(head) => Ok(head),
+        Stop::Ended => finder.end(alloc, buffer.octets()),
+        // More octets than eight interim heads and a final one may have are in the buffer.
+        Stop::Past => Err(WireFault::TooMuch),
     }
 }

@@ -10,8 +10,8 @@ use Rattle.http_wire.proofs.head.HeadFinder.end.Goals as goal
 pub returns-in-None-clause-faults : goal.returns-in-None-clause-faults
 returns-in-None-clause-faults c limit =
     let finds = rw c.in-None.is at c.in_ok-head.ensures.finds in
-    let lines = c.count_line_ends.ensures ∙ ap line_ends (take_rest c.args.bytes.now c.look.new.self.at) in
-    ends_long c.look.new.self c.args.bytes.now finds.0 (finds.2 refl) (omega (arith, c.if-count_line_ends-gt-MAX_HEADER_LINES.true, lines))
+    let lines = c.count_line_ends.ensures ∙ ap line_ends (take_rest c.args.bytes.now c.find.new.self.at) in
+    ends_long c.find.new.self c.args.bytes.now finds.0 (finds.2 refl) (omega (arith, c.if-count_line_ends-gt-MAX_HEADER_LINES.true, lines))
 
 pub returns-in_err-head-clause-faults : goal.returns-in_err-head-clause-faults
 returns-in_err-head-clause-faults c =

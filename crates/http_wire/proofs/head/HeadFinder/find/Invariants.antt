@@ -2,7 +2,7 @@
 use Rattle.std.proofs.Common.{◌-◌}
 use Rattle.http_wire.specs.Finding.{Passes}
 use Rattle.http_wire.specs.Limits.{max_interim_heads}
-use Rattle.http_wire.proofs.head.HeadFinder.look.Given as goal
+use Rattle.http_wire.proofs.head.HeadFinder.find.Given as goal
 
 abbrev pub invariant-loop-head : goal.invariant-loop-head
 invariant-loop-head l = Passes l.self l.bytes

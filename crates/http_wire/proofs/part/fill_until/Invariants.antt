@@ -1,0 +1,17 @@
+-- All that was read is in the buffer, and what the part knows stands in it.
+use Rattle.std.proofs.Common.{◌≡◌, ◌≤◌, ◌+◌, ◌-◌, length}
+use Rattle.http_wire.specs.Limits.{max_raw}
+use Rattle.http_wire.specs.Reading.{Grows}
+use Rattle.http_wire.proofs.part.fill_until.Given as goal
+
+abbrev pub invariant-loop-found : goal.invariant-loop-found
+invariant-loop-found g l = record {
+  grows : Grows (g.S.Source.left l.fn.source) (g.S.Source.left l.source) l.fn.buffer l.buffer;
+  few : length l.buffer ≤ max_raw;
+  kept : g.P.Part.kept l.part ≡ g.P.Part.kept l.fn.part;
+  stands : g.P.Part.stands l.part l.buffer;
+  failures : g.S.Source.failures l.source ≡ g.S.Source.failures l.fn.source;
+}
+
+abbrev pub decreases-loop-found : goal.decreases-loop-found
+decreases-loop-found g l = max_raw + 1 - length l.buffer

@@ -1,0 +1,49 @@
+-- Where the reading of a part of a response stops: heads, or a body.
+-- The contract of `fill_until` cites it, and leaves to the part what it waits for, gives and refuses.
+use Rattle.std.specs.Prelude.{◌≡◌, ℕ, ◌<◌, ◌≤◌, ◌⊎◌, List, length, Option, IfSome}
+use Rattle.std.specs.Io.KnownBytes.{IsAtEnd}
+use Rattle.http_wire.specs.Limits.{max_raw}
+use Rattle.http_wire.specs.Reading.{Grows}
+use Rattle.http_wire.specs.declared.fault.WireFault.{WireFault}
+use Rattle.http_wire.specs.declared.fault.WireFault.TheVariants.{Device, NoMemory}
+use Rattle.http_wire.specs.declared.part.Stop.{Stop}
+use Rattle.http_wire.specs.declared.part.Stop.TheVariants.{Found, Ended, Past}
+
+-- the octets that came give this, with the others left in the buffer
+pub record IsFoundIn {T : Type 0}
+    (gives : List ℕ → List ℕ → T → Type 0) (left left' : Option (List ℕ)) (old new : List ℕ) (found : T) : Type 0 where
+  pub seen : List ℕ
+  pub grows : Grows left left' old seen
+  pub few : length seen ≤ max_raw
+  pub given : gives seen new found
+
+-- the input ended where the part still waits
+pub record EndsWaiting (waits : List ℕ → Type 0) (left left' : Option (List ℕ)) (old new : List ℕ) : Type 0 where
+  pub before : Option (List ℕ)
+  pub came : Grows left before old new
+  pub ended : IsAtEnd before
+  pub grows : Grows left left' old new
+  pub few : length new ≤ max_raw
+  pub waiting : waits new
+
+-- the buffer is full and the input goes on where the part still waits
+pub record GoesOnWaiting (waits : List ℕ → Type 0) (left : Option (List ℕ)) (old new : List ℕ) : Type 0 where
+  pub before : Option (List ℕ)
+  pub came : Grows left before old new
+  pub more : IfSome before (λ octets. 0 < length octets)
+  pub full : length new ≡ max_raw
+  pub waiting : waits new
+
+-- what stands where the reading of a part stops
+abbrev pub Stops : {T : Type 0} → (List ℕ → Type 0) → (List ℕ → List ℕ → T → Type 0) → Option (List ℕ) → Option (List ℕ)
+    → List ℕ → List ℕ → Stop T → Type 0
+Stops waits gives left left' old new (Found found) = IsFoundIn gives left left' old new found
+Stops waits gives left left' old new Ended = EndsWaiting waits left left' old new
+Stops waits gives left left' old new Past = GoesOnWaiting waits left old new
+
+-- why it breaks off: the part refuses the octets that came, a read failed, or there was no memory
+pub record Breaks (refuses : List ℕ → WireFault → Type 0) (left : Option (List ℕ)) (old : List ℕ) (fault : WireFault) : Type 0 where
+  pub before : Option (List ℕ)
+  pub seen : List ℕ
+  pub came : Grows left before old seen
+  pub cause : refuses seen fault ⊎ (fault ≡ Device) ⊎ (fault ≡ NoMemory)

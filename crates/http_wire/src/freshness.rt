@@ -1,0 +1,66 @@
+//! How long a response may be used.
+//! RFC 9111, sections 1.2.2, 5.2 and 5.2.2.1.
+ghost use Rattle.std.specs.Prelude.{◌≡◌, ℕ, List, MatchOption};
+ghost use Rattle.http_wire.specs.Freshness.{HasMaxAge, IsMaxAge, IsNoMaxAge, IsQuoted, WritesSeconds, seconds_of};
+ghost use Rattle.http_wire.specs.Left.{pairs};
+
+use crate::fields::{Field, Members, is_same_word};
+use crate::numbers::{is_numeral, number_in};
+
+/// The directive that is read, with what stands before its argument.
+const MAX_AGE: &[u8] = b"max-age=";
+
+/// The seconds of the first member of Cache-Control that is a max-age.
+pub(crate) fn max_age_of(fields: &[Field<'_>]) -> Option<u64>
+    ensures { HasMaxAge (pairs fields.now) result }
+{
+    let mut members = Members::of(fields, b"cache-control");
+    while let Some(member) = members.next() {
+        if let Some(seconds) = max_age(member) {
+            return Some(seconds);
+        }
+    }
+    None
+}
+
+// cache-directive = token [ "=" ( token / quoted-string ) ]: the seconds of a max-age.
+fn max_age(member: &[u8]) -> Option<u64>
+    ensures { MatchOption result (IsNoMaxAge member.now) (IsMaxAge member.now) }
+{
+    match member.split_at_checked(MAX_AGE.len()) {
+        Some((name, argument)) if is_same_word(name, MAX_AGE) => seconds_in(argument),
+        _ => None,
+    }
+}
+
+// The seconds of an argument, bare or quoted.
+fn seconds_in(argument: &[u8]) -> Option<u64>
+    ensures { MatchOption result ((seconds : ℕ) → ¬ (WritesSeconds argument.now seconds))
+        (WritesSeconds argument.now) }
+{
+    match unquoted(argument) {
+        Some(digits) => seconds_of(digits),
+        None => seconds_of(argument),
+    }
+}
+
+// quoted-string = DQUOTE *( qdtext / quoted-pair ) DQUOTE: what stands between the two.
+fn unquoted(argument: &[u8]) -> Option<&[u8]>
+    ensures { MatchOption result ((text : List ℕ) → ¬ (IsQuoted argument.now text))
+        (λ text. IsQuoted argument.now text.now) }
+{
+    let Some(opened) = argument.strip_prefix(b"\"") else {
+        return None;
+    };
+    opened.strip_suffix(b"\"")
+}
+
+// delta-seconds = 1*DIGIT: too great a number counts as the greatest.
+fn seconds_of(digits: &[u8]) -> Option<u64>
+    ensures { result ≡ seconds_of digits.now }
+{
+    match number_in(digits) {
+        None if is_numeral(digits) => Some(u64::MAX),
+        number => number,
+    }
+}

@@ -1,0 +1,87 @@
+//! The parts of a response, each found by looks at the octets that have come.
+//! RFC 9112, section 2.2. Between two looks lies one read.
+ghost use Rattle.std.specs.Prelude.{◌≡◌, ◌≢◌, ◌≤◌, ◌++◌, ℕ, List, Err, length, IfErr, IfOk, MatchOption};
+ghost use Rattle.http_wire.specs.Parts.{Breaks, Stops};
+ghost use Rattle.http_wire.specs.Response.{failures_after_reading};
+
+use crate::buffer::{Buffer, Fill};
+use crate::fault::WireFault;
+use crate::limits::MAX_RAW;
+use counted_io::Source;
+use std::alloc::Global;
+
+/// A part of a response, which is looked for in the octets that have come.
+pub(crate) trait Part {
+    ghost use Rattle.http_wire.specs.declared.fault.WireFault.{WireFault};
+
+    /// What it gives.
+    type Found;
+
+    // What no look changes: its type, and that of a part.
+    ghost Kept: { Type 0 };
+
+    ghost kept: { Self → Self.Kept };
+
+    // What is known of the octets before a look.
+    ghost stands: { Self → List ℕ → Type 0 };
+
+    // What is known of them after a look that found nothing.
+    ghost waits: { Self → List ℕ → Type 0 };
+
+    // What was found in the octets that are named first, where the second are left in the buffer.
+    ghost gives: { Self.Kept → List ℕ → List ℕ → Self.Found → Type 0 };
+
+    // Why the octets give nothing, whatever follows them.
+    ghost refuses: { Self.Kept → List ℕ → WireFault → Type 0 };
+
+    /// Looks at what has come, and gives what stands there whatever follows.
+    fn look(&mut self, alloc: Global, buffer: &mut Buffer) -> Result<Option<Self::Found>, WireFault>
+        requires stands { Self.stands self.old buffer.old }
+        requires few { length buffer.old ≤ MAX_RAW }
+        ensures kept { Self.kept self.new ≡ Self.kept self.old }
+        ensures ok { IfOk result (λ found. MatchOption found
+            ((buffer.new ≡ buffer.old) × Self.waits self.new buffer.old
+            × ((more : List ℕ) → Self.stands self.new (buffer.old ++ more)))
+            (Self.gives (Self.kept self.old) buffer.old buffer.new)) }
+        ensures err { IfErr result (Self.refuses (Self.kept self.old) buffer.old) }
+        ensures no_device { result ≢ Err WireFault.Device };
+}
+
+/// Where the reading of a part stops.
+#[derive(Debug, Drop)]
+pub(crate) enum Stop<T> {
+    /// The part was found.
+    Found(T),
+    /// The input ends, and nothing was found.
+    Ended,
+    /// As many octets stand there as a response may have, and more follow; nothing was found.
+    Past,
+}
+
+/// Looks for a part, and reads more for as long as it is not found.
+pub(crate) fn fill_until<S: Source, P: Part>(
+    alloc: Global,
+    source: &mut S,
+    buffer: &mut Buffer,
+    part: &mut P,
+) -> Result<Stop<P::Found>, WireFault>
+    requires stands { P.stands part.old buffer.old }
+    requires few { length buffer.old ≤ MAX_RAW }
+    ensures kept { P.kept part.new ≡ P.kept part.old }
+    ensures ok { IfOk result (Stops (P.waits part.new) (P.gives (P.kept part.old))
+        (S.left source.old) (S.left source.new) buffer.old buffer.new) }
+    ensures err { IfErr result (Breaks (P.refuses (P.kept part.old)) (S.left source.old) buffer.old) }
+    ensures count { S.failures source.new ≡ failures_after_reading (S.failures source.old) result }
+{
+    loop {
+        match part.look(alloc, buffer)? {
+            Some(found) => return Ok(Stop::Found(found)),
+            None => {}
+        }
+        match buffer.fill(source)? {
+            Fill::More => {}
+            Fill::Ended => return Ok(Stop::Ended),
+            Fill::Past => return Ok(Stop::Past),
+        }
+    }
+}
