@@ -81,9 +81,11 @@ decided_so_far : (authority : List ℕ) (words left new : List (List ℕ)) (walk
     IsDecided authority (way.read ++ takes.0 ∷ takes.1.0 ∷ []) (said answer) life
 decided_so_far authority words left new walk reply answer life way takes steps = (
   way.front ++ reply ∷ [],
-  (replies_more way.read way.front takes.0 takes.1.0 reply way.are takes.1.1.1,
-  done authority way.first (way.front ++ reply ∷ []) answer life way.begun
-  (one_more way.first walk way.front reply (Done answer life) way.gone steps)),
+  (
+    replies_more way.read way.front takes.0 takes.1.0 reply way.are takes.1.1.1,
+    done authority way.first (way.front ++ reply ∷ []) answer life way.begun
+        (one_more way.first walk way.front reply (Done answer life) way.gone steps),
+  ),
 )
 
 -- the replies decide, and no word is left
@@ -131,6 +133,8 @@ ends_late authority words left new walk way none =
     let all = way.all ∙ ap (λ (ws : List (List ℕ)). way.read ++ ws) none.0 ∙ append-nil way.read in
     inl (
       way.front,
-      (subst (λ (ws : List (List ℕ)). AreReplies ws way.front) (sym all) way.are,
-      λ says life answer. undecided authority way.first walk way.front says life way.begun way.gone answer),
+      (
+        subst (λ (ws : List (List ℕ)). AreReplies ws way.front) (sym all) way.are,
+        λ says life answer. undecided authority way.first walk way.front says life way.begun way.gone answer,
+      ),
     )

@@ -45,7 +45,7 @@ has_text _ = false
 abbrev pub lasting_of : List ℕ → List ℕ → Option Head
 lasting_of status life =
     option_and_then (λ code. if has_rules (class_of code)
-        then option_map (λ seconds. heads.Status code (Some seconds)) (number_of life) else None) (status_of status)
+    then option_map (λ seconds. heads.Status code (Some seconds)) (number_of life) else None) (status_of status)
 
 -- the octet is the one between a status and a life
 abbrev pub is_slash : ℕ → Bool

@@ -43,11 +43,7 @@ pub fn read_state(alloc: Global, words: Words<'_>) -> Result<Authority, LineFaul
 }
 
 /// Reads `ARRIVE <authority> <turn> <reply> ..`.
-pub fn read_arrive(
-    alloc: Global,
-    moment: u64,
-    words: Words<'_>,
-) -> Result<Arrival<'_>, LineFault>
+pub fn read_arrive(alloc: Global, moment: u64, words: Words<'_>) -> Result<Arrival<'_>, LineFault>
     requires { IsTrue (takes Verb.Arrive (words_left words)) }
     ensures { IsRead result (arrive_of moment (words_left words.entry)) }
 {

@@ -26,10 +26,7 @@ pub enum Command<'a> {
     /// The call of the book that brings the answer of a robots fetch.
     Arrive(Arrival<'a>),
     /// What is known of an authority.
-    State {
-        authority: Authority,
-        moment: u64,
-    },
+    State { authority: Authority, moment: u64 },
     /// The end of the session.
     Quit,
 }

@@ -9,9 +9,7 @@ ghost use Rattle.command_server.specs.ReplyText.{standing_word, start_text, star
 
 use crate::fault::LineFault;
 use authority_cache::{Stale, TurnNo};
-use gate_core::{
-    AskRefusal, BeginRefusal, Denial, Reply, Standing, Started, State, SweepRefusal,
-};
+use gate_core::{AskRefusal, BeginRefusal, Denial, Reply, Standing, Started, State, SweepRefusal};
 use gate_history::{Cause, Reason};
 use line_text::{Piece, Pieces};
 use path_normal::Authority;

@@ -17,10 +17,7 @@ use std::marker::Model;
 #[derive(Clone, Copy)]
 pub(crate) enum Head {
     /// A response of this status, with the seconds for which its rules may be kept.
-    Status {
-        code: u16,
-        max_age: Option<u64>,
-    },
+    Status { code: u16, max_age: Option<u64> },
     /// `CODING`: a response in a content coding other than identity.
     Coding,
     /// `NET`: the connection or the message failed.

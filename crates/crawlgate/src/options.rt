@@ -56,13 +56,7 @@ fn program<'a>(alloc: Global) -> Result<Command<'a>, AllocError> {
             LAST_GENERATION,
             "Generation of the first permit of each slot",
         ))?
-        .arg(number(
-            alloc,
-            "log",
-            "1000000",
-            MAX_LOG,
-            "Entries of the history",
-        ))?
+        .arg(number(alloc, "log", "1000000", MAX_LOG, "Entries of the history"))?
         .arg(number(
             alloc,
             "authorities",

@@ -96,6 +96,7 @@ judged_err (Some s) token url m cause judged = step (is_past_answer m s) refl ju
     fresh_denies causes.Expired fresh by = absurd by
     fresh_denies causes.Closed fresh by = (s, (refl, (fresh, by)))
     fresh_denies (causes.Line line) fresh by = (s, (refl, (fresh, by)))
+
     step : (b : Bool) → is_past_answer m s ≡ b → MatchBool b (denying cause ≡ Err causes.Expired) (Says s.says token url (Err cause)) → Denies (Some s) token url m cause
     step true past expired =
         let same : cause ≡ causes.Expired = cc in subst (λ (c : Cause). Denies (Some s) token url m c) (sym same) (s, (refl, ltb-true _ _ past))

@@ -135,7 +135,11 @@ fn states_and_hints(rt: HostRuntime) -> Result<(), Fail> {
             fetching: false,
         };
         assert_eq!(rt; book.state_of("a.example", moment), state, "at {moment}");
-        assert_eq!(rt; book.hint("a.example", moment).is_some(), at_hand, "at {moment}");
+        assert_eq!(rt;
+            book.hint("a.example", moment).is_some(),
+            at_hand,
+            "at {moment}"
+        );
     }
     Ok(())
 }

@@ -3,8 +3,8 @@
 use command_server::{SessionFault, replay};
 use counted_io::FailAt;
 use gate_core::{Book, Config, Limits};
-use std::hash::RandomState;
 use std::alloc::Global;
+use std::hash::RandomState;
 use std::test::Fail;
 
 const INPUT: &str = "\

@@ -38,7 +38,19 @@ const ROWS: [(&str, &[&str], Result<Subcommand, ErrorKind>); 14] = [
     ),
     (
         "every option at its least",
-        &["replay", "--slots", "1", "--generation", "1", "--log", "1", "--authorities", "1", "--places", "1"],
+        &[
+            "replay",
+            "--slots",
+            "1",
+            "--generation",
+            "1",
+            "--log",
+            "1",
+            "--authorities",
+            "1",
+            "--places",
+            "1",
+        ],
         Ok(Subcommand::Replay(Limits {
             slots: 1,
             first_generation: 1,
@@ -50,7 +62,11 @@ const ROWS: [(&str, &[&str], Result<Subcommand, ErrorKind>); 14] = [
     (
         "every option at its most",
         &[
-            "replay", "--slots=65536", "--generation=281474976710655", "--log=1000000", "--authorities=65536",
+            "replay",
+            "--slots=65536",
+            "--generation=281474976710655",
+            "--log=1000000",
+            "--authorities=65536",
             "--places=65536",
         ],
         Ok(Subcommand::Replay(Limits {
@@ -61,11 +77,31 @@ const ROWS: [(&str, &[&str], Result<Subcommand, ErrorKind>); 14] = [
             places: 65536,
         })),
     ),
-    ("no slot", &["replay", "--slots", "0"], Err(ErrorKind::ValueValidation)),
-    ("a generation too many", &["replay", "--generation", "281474976710656"], Err(ErrorKind::ValueValidation)),
-    ("an entry too many", &["replay", "--log", "1000001"], Err(ErrorKind::ValueValidation)),
-    ("a place too many", &["replay", "--places", "65537"], Err(ErrorKind::ValueValidation)),
-    ("no number", &["replay", "--authorities", "x"], Err(ErrorKind::ValueValidation)),
+    (
+        "no slot",
+        &["replay", "--slots", "0"],
+        Err(ErrorKind::ValueValidation),
+    ),
+    (
+        "a generation too many",
+        &["replay", "--generation", "281474976710656"],
+        Err(ErrorKind::ValueValidation),
+    ),
+    (
+        "an entry too many",
+        &["replay", "--log", "1000001"],
+        Err(ErrorKind::ValueValidation),
+    ),
+    (
+        "a place too many",
+        &["replay", "--places", "65537"],
+        Err(ErrorKind::ValueValidation),
+    ),
+    (
+        "no number",
+        &["replay", "--authorities", "x"],
+        Err(ErrorKind::ValueValidation),
+    ),
 ];
 
 #[test]

@@ -16,29 +16,37 @@ returns-then-not-stands c =
 pub enter_start-requires-clause-spends : goal.enter_start-requires-clause-spends
 enter_start-requires-clause-spends c = (
   c.args.token.now,
-  (c.args.url,
-  (sym (stands_as c.self.inside c.self.invariant c.args.self.now c.self.view_is c.args.number c.args.token.now c.args.url)
-  ∙ sym c.stands.ensures ∙ c.if-not-stands.false,
-  subst (Decides (history c.args.self.now) c.args.token.now c.args.url c.moment_of_call-moment.result) c.in-Ok.is c.decide.ensures)),
+  (
+    c.args.url,
+    (
+      sym (stands_as c.self.inside c.self.invariant c.args.self.now c.self.view_is c.args.number c.args.token.now c.args.url)
+          ∙ sym c.stands.ensures ∙ c.if-not-stands.false,
+      subst (Decides (history c.args.self.now) c.args.token.now c.args.url c.moment_of_call-moment.result) c.in-Ok.is c.decide.ensures,
+    ),
+  ),
 )
 
 pub enter_denial-requires-clause-spends : goal.enter_denial-requires-clause-spends
 enter_denial-requires-clause-spends c = (
   c.args.token.now,
-  (c.args.url,
-  (sym (stands_as c.self.inside c.self.invariant c.args.self.now c.self.view_is c.args.number c.args.token.now c.args.url)
-  ∙ sym c.stands.ensures ∙ c.if-not-stands.false,
-  subst (Decides (history c.args.self.now) c.args.token.now c.args.url c.moment_of_call-moment.result) c.in-Err.is c.decide.ensures)),
+  (
+    c.args.url,
+    (
+      sym (stands_as c.self.inside c.self.invariant c.args.self.now c.self.view_is c.args.number c.args.token.now c.args.url)
+          ∙ sym c.stands.ensures ∙ c.if-not-stands.false,
+      subst (Decides (history c.args.self.now) c.args.token.now c.args.url c.moment_of_call-moment.result) c.in-Err.is c.decide.ensures,
+    ),
+  ),
 )
 
 pub returns-in-Ok : goal.returns-in-Ok
 returns-in-Ok c = (
   sym (stands_as c.self.inside c.self.invariant c.args.self.now c.self.view_is c.args.number c.args.token.now c.args.url)
-  ∙ sym c.stands.ensures ∙ c.if-not-stands.false,
+      ∙ sym c.stands.ensures ∙ c.if-not-stands.false,
   refl,
   refl,
   subst (λ (t : ℕ). Decides (history c.args.self.now) c.args.token.now c.args.url t (Ok c.in-Ok.reason)) c.moment_of_call-moment.ensures
-  (subst (Decides (history c.args.self.now) c.args.token.now c.args.url c.moment_of_call-moment.result) c.in-Ok.is c.decide.ensures),
+      (subst (Decides (history c.args.self.now) c.args.token.now c.args.url c.moment_of_call-moment.result) c.in-Ok.is c.decide.ensures),
   subst (λ (t : ℕ). Adds c.args.self.now (Started t c.args.number c.in-Ok.reason) c.enter_start.new.self) c.moment_of_call-moment.ensures c.enter_start.ensures,
 )
 
