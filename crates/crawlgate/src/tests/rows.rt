@@ -163,9 +163,9 @@ ERR replies
 ERR status
 ERR replies
 ERR status
-ERR status
-ERR status
-ERR status
+ERR stale
+ERR stale
+ERR stale
 ERR stale
 ",
     ),
