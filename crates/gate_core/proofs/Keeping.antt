@@ -22,12 +22,14 @@ use Rattle.authority_cache.specs.Calls.{Changes, Sweeps}
 use Rattle.authority_cache.proofs.Reading as reading
 use Rattle.authority_cache.proofs.Telling as telling
 use Rattle.permit_book.specs.declared.out.Fetch.{Fetch}
-use Rattle.permit_book.specs.declared.out.Out.TheVariants.{Nothing, Unspent}
+use Rattle.permit_book.specs.declared.out.Out.{Out}
+use Rattle.permit_book.specs.declared.out.Out.TheVariants.{Nothing, Running, Unspent}
 use Rattle.permit_book.specs.declared.permit.Permit.{Permit}
 use Rattle.permit_book.specs.Next.{IsNext, NoneFree}
 use Rattle.permit_book.specs.Outstanding.{fetch_of, is_listed, is_listed_for, is_numbered, IsNextBy, NoneFreeBy, TellsPermits}
 use Rattle.permit_book.specs.Laws.{ReadsAlike}
-use Rattle.permit_book.specs.Table.{Table, is_fetch_of, decided, held_count, is_running, is_unspent, out_under, running_count, unspent_count, unused, with_out}
+use Rattle.permit_book.specs.Table.{Table, is_fetch_of, decided, held_count, is_nothing, is_running, is_running_out, is_unspent, is_unspent_out, out_under, running_count, unspent_count, unused, with_out}
+use Rattle.permit_book.proofs.HeldLaws as holds
 use Rattle.permit_book.proofs.Telling as tables
 use Rattle.permit_book.proofs.TellingFree as frees
 use Rattle.gate_history.specs.declared.entry.Entry.{Entry}
@@ -46,10 +48,12 @@ use Rattle.gate_history.specs.Base.{Base, empty_base, IsBase}
 use Rattle.gate_core.specs.declared.book.Book.TheInside.{Inside}
 use Rattle.gate_core.specs.declared.config.Limits.{Limits}
 use Rattle.gate_core.specs.declared.names.Names.{Names}
+use Rattle.gate_core.specs.declared.places.Places.{Places}
 use Rattle.gate_core.specs.Gate.{Adds, Gate, held, history, promised, Stays}
 use Rattle.gate_core.specs.Kept.{gate_of, IsKept}
 use Rattle.gate_core.specs.Limits.{AreLimits}
 use Rattle.gate_core.specs.Names.{HasNames, Keeps, names_by, NamesBy}
+use Rattle.gate_core.specs.Places.{AddsOne, held_by, HeldBy, Leaves, one_at}
 
 pub followed_push : (h : History) (es : List Entry) (e : Entry) → followed_by h (es ++ e ∷ []) ≡ followed_by h es ▸ e
 followed_push h [] e = refl
@@ -65,9 +69,9 @@ pub kept_after : (b b' : Inside) (e : Entry) → IsKept b → MayFollow (told b)
     TellsCache b'.cache (standing (told b ▸ e)) (in_flight (told b ▸ e)) → b'.cache.limit ≡ b.cache.limit →
     TellsPermits b'.permits (unspent (told b ▸ e)) (running (told b ▸ e)) (greatest_in (told b ▸ e)) →
     length b'.permits.slots ≡ length b.permits.slots → b'.permits.first_generation ≡ b.permits.first_generation →
-    HasNames (names_by b'.names) (in_flight (told b ▸ e)) →
+    HasNames (names_by b'.names) (in_flight (told b ▸ e)) → ((authority : List ℕ) → held_by b'.places authority ≡ held_count b'.permits authority) →
     length b.entries.items + 1 + promised (told b ▸ e) ≤ b.limits.log_limit → length b.entries.items + 1 + promised (told b ▸ e) ≤ vec_capacity b'.entries → IsKept b'
-kept_after b b' e kept fit same_limits same_base more clock count few cache limit permits slots first names logged room =
+kept_after b b' e kept fit same_limits same_base more clock count few cache limit permits slots first names places logged room =
     let is : told b' ≡ told b ▸ e = (λ i. followed_by (from (same_base i)) (more i)) ∙ followed_push (from b.base) b.entries.items e in
     let many : length b'.entries.items ≡ length b.entries.items + 1 = ap length more ∙ pushed b.entries.items e in
     let same_promise = ap promised is in
@@ -83,6 +87,7 @@ kept_after b b' e kept fit same_limits same_base more clock count few cache limi
       slots = slots ∙ kept.slots ∙ ap (λ l. l.slots) (sym same_limits);
       first = first ∙ kept.first ∙ ap (λ l. l.first_generation) (sym same_limits);
       names = subst (λ h. HasNames (names_by b'.names) (in_flight h)) (sym is) names;
+      places = places;
       logged = omega (arith, logged, many, same_promise, ap (λ l. l.log_limit) same_limits);
       entry_room = omega (arith, room, many, same_promise);
     }
@@ -94,8 +99,8 @@ kept_after b b' e kept fit same_limits same_base more clock count few cache limi
 -- ---- what one entry more leaves
 
 -- the book after an entry of the permits
-abbrev pub after : Inside → Vec Entry Global → ℕ → Table → Inside
-after b entries clock permits = record {
+abbrev pub after : Inside → Vec Entry Global → ℕ → Table → Places → Inside
+after b entries clock permits places = record {
   limits = b.limits;
   base = b.base;
   entries = entries;
@@ -104,6 +109,7 @@ after b entries clock permits = record {
   cache = b.cache;
   permits = permits;
   names = b.names;
+  places = places;
 }
 
 late_is : (moment clock : ℕ) → clock ≤ moment → moment ≡ max moment clock
@@ -112,24 +118,47 @@ late_is moment clock late = omega arith
 early_is : (clock : ℕ) → clock ≡ max 0 clock
 early_is clock = omega arith
 
+-- where an unspent permit is out, something is
+unspent_some : (out : Out) → is_unspent_out out ≡ true → is_nothing out ≡ false
+unspent_some (Unspent fetch) is = refl
+unspent_some (Running fetch) is = refl
+unspent_some Nothing is = absurd (true≢false (sym is))
+
+-- where a running fetch is out, something is
+running_some : (out : Out) → is_running_out out ≡ true → is_nothing out ≡ false
+running_some (Running fetch) is = refl
+running_some (Unspent fetch) is = refl
+running_some Nothing is = absurd (true≢false (sym is))
+
 module _ (b : Inside) (kept : IsKept b) (entries : Vec Entry Global) where
   pub reads : ReadsAlike b.permits (unspent (told b)) (running (told b))
   reads = frees.reads_alike b.permits (unspent (told b)) (running (told b)) (greatest_in (told b)) kept.permits
 
+  -- what has ended is held no more
+  ends_held : (number : ℕ) (permits : Table) (places : Places) → is_nothing (out_under b.permits number) ≡ false → permits ≡ with_out b.permits number Nothing →
+      Leaves (held_by b.places) (out_under b.permits number) (held_by places) → (authority : List ℕ) → held_by places authority ≡ held_count permits authority
+  ends_held number permits places some is left authority =
+      let ended = holds.ended b.permits number authority some in
+      let was = kept.places authority in
+      let less = left authority in
+      let same = ap (λ (t : Table). held_count t authority) is in
+      omega (arith, ended, was, less, same)
+
   -- an allowed start
   pub started_kept : (moment number : ℕ) (reason : Reason) (permits : Table) → MayFollow (told b) (Started moment number reason) → is_unspent b.permits number ≡ true →
       entries.items ≡ b.entries.items ++ Started moment number reason ∷ [] → vec_capacity entries ≡ vec_capacity b.entries →
-      permits ≡ with_out b.permits number (decided true (out_under b.permits number)) → IsKept (after b entries moment permits)
+      permits ≡ with_out b.permits number (decided true (out_under b.permits number)) → IsKept (after b entries moment permits b.places)
   started_kept moment number reason permits fit out more room is =
       let e : Entry = Started moment number reason in
       let counts = each_entry_counts (told b) e kept.legal fit in
       let logged = kept.logged in
       let entry_room = kept.entry_room in
-      kept_after b (after b entries moment permits) e kept fit refl refl more (late_is moment (now (told b)) fit.0) kept.begins (let few = kept.few_begins in omega arith)
+      kept_after b (after b entries moment permits b.places) e kept fit refl refl more (late_is moment (now (told b)) fit.0) kept.begins (let few = kept.few_begins in omega arith)
       kept.cache refl
       (subst (λ (t : Table). TellsPermits t (unspent (told b ▸ e)) (running (told b ▸ e)) (greatest_in (told b ▸ e))) (sym is)
       (tables.started b.permits (unspent (told b)) (running (told b)) (greatest_in (told b)) number kept.permits out))
       (ap (λ (t : Table). length t.slots) is ∙ length-set b.permits.slots _ _) (ap (λ (t : Table). t.first_generation) is) kept.names
+      (λ authority. kept.places authority ∙ (sym (holds.started b.permits number authority out) ∙ ap (λ (t : Table). held_count t authority) (sym is)))
       (omega (arith, logged, counts.unspent_are, counts.running_are, counts.flights_are)) (omega (arith, entry_room, room, counts.unspent_are, counts.running_are, counts.flights_are))
 
   -- a permit that stands is unspent in the table
@@ -142,77 +171,85 @@ module _ (b : Inside) (kept : IsKept b) (entries : Vec Entry Global) where
           passes_any (is_numbered number) permits one.one one.stands (and_parts (is_numbered number one.one) (is_fetch_of spends.0 spends.1.0 (fetch_of one.one)) one.passes).0
 
   -- a denied start
-  pub denied_kept : (moment number : ℕ) (cause : Cause) (permits : Table) → MayFollow (told b) (StartDenied moment number cause) → is_unspent b.permits number ≡ true →
+  pub denied_kept : (moment number : ℕ) (cause : Cause) (permits : Table) (places : Places) → MayFollow (told b) (StartDenied moment number cause) → is_unspent b.permits number ≡ true →
       entries.items ≡ b.entries.items ++ StartDenied moment number cause ∷ [] → vec_capacity entries ≡ vec_capacity b.entries →
-      permits ≡ with_out b.permits number (decided false (out_under b.permits number)) → IsKept (after b entries moment permits)
-  denied_kept moment number cause permits fit out more room is =
+      permits ≡ with_out b.permits number (decided false (out_under b.permits number)) →
+      Leaves (held_by b.places) (out_under b.permits number) (held_by places) → IsKept (after b entries moment permits places)
+  denied_kept moment number cause permits places fit out more room is left =
       let e : Entry = StartDenied moment number cause in
       let counts = each_entry_counts (told b) e kept.legal fit in
       let logged = kept.logged in
       let entry_room = kept.entry_room in
-      kept_after b (after b entries moment permits) e kept fit refl refl more (late_is moment (now (told b)) fit.0) kept.begins (let few = kept.few_begins in omega arith)
+      kept_after b (after b entries moment permits places) e kept fit refl refl more (late_is moment (now (told b)) fit.0) kept.begins (let few = kept.few_begins in omega arith)
       kept.cache refl
       (subst (λ (t : Table). TellsPermits t (unspent (told b ▸ e)) (running (told b ▸ e)) (greatest_in (told b ▸ e))) (sym is)
       (tables.returned b.permits (unspent (told b)) (running (told b)) (greatest_in (told b)) number kept.permits out))
       (ap (λ (t : Table). length t.slots) is ∙ length-set b.permits.slots _ _) (ap (λ (t : Table). t.first_generation) is) kept.names
+      (ends_held number permits places (unspent_some (out_under b.permits number) out) is left)
       (omega (arith, logged, counts.unspent_are, counts.running_are, counts.flights_are)) (omega (arith, entry_room, room, counts.unspent_are, counts.running_are, counts.flights_are))
 
   -- a return, which brings no moment
-  pub returned_kept : (number : ℕ) (permits : Table) → is_unspent b.permits number ≡ true →
+  pub returned_kept : (number : ℕ) (permits : Table) (places : Places) → is_unspent b.permits number ≡ true →
       entries.items ≡ b.entries.items ++ Returned number ∷ [] → vec_capacity entries ≡ vec_capacity b.entries →
-      permits ≡ with_out b.permits number Nothing → IsKept (after b entries b.clock permits)
-  returned_kept number permits out more room is =
+      permits ≡ with_out b.permits number Nothing →
+      Leaves (held_by b.places) (out_under b.permits number) (held_by places) → IsKept (after b entries b.clock permits places)
+  returned_kept number permits places out more room is left =
       let e : Entry = Returned number in
       let fit = sym (reads.unspent_numbers number) ∙ out in
       let counts = each_entry_counts (told b) e kept.legal fit in
       let logged = kept.logged in
       let entry_room = kept.entry_room in
-      kept_after b (after b entries b.clock permits) e kept fit refl refl more (kept.clock ∙ early_is (now (told b))) kept.begins (let few = kept.few_begins in omega arith)
+      kept_after b (after b entries b.clock permits places) e kept fit refl refl more (kept.clock ∙ early_is (now (told b))) kept.begins (let few = kept.few_begins in omega arith)
       kept.cache refl
       (subst (λ (t : Table). TellsPermits t (unspent (told b ▸ e)) (running (told b ▸ e)) (greatest_in (told b ▸ e))) (sym is)
       (tables.returned b.permits (unspent (told b)) (running (told b)) (greatest_in (told b)) number kept.permits out))
       (ap (λ (t : Table). length t.slots) is ∙ length-set b.permits.slots _ _) (ap (λ (t : Table). t.first_generation) is) kept.names
+      (ends_held number permits places (unspent_some (out_under b.permits number) out) is left)
       (omega (arith, logged, counts.unspent_are, counts.running_are, counts.flights_are)) (omega (arith, entry_room, room, counts.unspent_are, counts.running_are, counts.flights_are))
 
   -- a finish, which brings none either
-  pub finished_kept : (number : ℕ) (permits : Table) → is_running b.permits number ≡ true →
+  pub finished_kept : (number : ℕ) (permits : Table) (places : Places) → is_running b.permits number ≡ true →
       entries.items ≡ b.entries.items ++ Finished number ∷ [] → vec_capacity entries ≡ vec_capacity b.entries →
-      permits ≡ with_out b.permits number Nothing → IsKept (after b entries b.clock permits)
-  finished_kept number permits out more room is =
+      permits ≡ with_out b.permits number Nothing →
+      Leaves (held_by b.places) (out_under b.permits number) (held_by places) → IsKept (after b entries b.clock permits places)
+  finished_kept number permits places out more room is left =
       let e : Entry = Finished number in
       let fit = sym (reads.running_numbers number) ∙ out in
       let counts = each_entry_counts (told b) e kept.legal fit in
       let logged = kept.logged in
       let entry_room = kept.entry_room in
-      kept_after b (after b entries b.clock permits) e kept fit refl refl more (kept.clock ∙ early_is (now (told b))) kept.begins (let few = kept.few_begins in omega arith)
+      kept_after b (after b entries b.clock permits places) e kept fit refl refl more (kept.clock ∙ early_is (now (told b))) kept.begins (let few = kept.few_begins in omega arith)
       kept.cache refl
       (subst (λ (t : Table). TellsPermits t (unspent (told b ▸ e)) (running (told b ▸ e)) (greatest_in (told b ▸ e))) (sym is)
       (tables.finished b.permits (unspent (told b)) (running (told b)) (greatest_in (told b)) number kept.permits out))
       (ap (λ (t : Table). length t.slots) is ∙ length-set b.permits.slots _ _) (ap (λ (t : Table). t.first_generation) is) kept.names
+      (ends_held number permits places (running_some (out_under b.permits number) out) is left)
       (omega (arith, logged, counts.unspent_are, counts.running_are, counts.flights_are)) (omega (arith, entry_room, room, counts.unspent_are, counts.running_are, counts.flights_are))
 
   -- a denied ask
   pub ask_denied_kept : (moment : ℕ) (fetch : Fetch) (cause : Cause) → MayFollow (told b) (AskDenied moment fetch cause) →
       entries.items ≡ b.entries.items ++ AskDenied moment fetch cause ∷ [] → length b.entries.items + 1 + promised (told b) ≤ vec_capacity entries →
-      length b.entries.items + promised (told b) + 3 ≤ b.limits.log_limit → IsKept (after b entries moment b.permits)
+      length b.entries.items + promised (told b) + 3 ≤ b.limits.log_limit → IsKept (after b entries moment b.permits b.places)
   ask_denied_kept moment fetch cause fit more room free =
       let e : Entry = AskDenied moment fetch cause in
-      kept_after b (after b entries moment b.permits) e kept fit refl refl more (late_is moment (now (told b)) fit.0) kept.begins (let few = kept.few_begins in omega arith)
-      kept.cache refl kept.permits refl refl kept.names (omega (arith, free)) room
+      kept_after b (after b entries moment b.permits b.places) e kept fit refl refl more (late_is moment (now (told b)) fit.0) kept.begins (let few = kept.few_begins in omega arith)
+      kept.cache refl kept.permits refl refl kept.names kept.places (omega (arith, free)) room
 
   -- a grant of the next number
-  pub granted_kept : (moment number : ℕ) (fetch : Fetch) (permits : Table) → MayFollow (told b) (Granted moment number fetch) → IsNext b.permits number →
+  pub granted_kept : (moment number : ℕ) (fetch : Fetch) (permits : Table) (places : Places) → MayFollow (told b) (Granted moment number fetch) → IsNext b.permits number →
       entries.items ≡ b.entries.items ++ Granted moment number fetch ∷ [] → length b.entries.items + 3 + promised (told b) ≤ vec_capacity entries →
       length b.entries.items + promised (told b) + 3 ≤ b.limits.log_limit →
-      permits ≡ with_out b.permits number (Unspent fetch) → IsKept (after b entries moment permits)
-  granted_kept moment number fetch permits fit is_next more room free is =
+      permits ≡ with_out b.permits number (Unspent fetch) → AddsOne (held_by b.places) (authority_of fetch.url) (held_by places) → IsKept (after b entries moment permits places)
+  granted_kept moment number fetch permits places fit is_next more room free is adds =
       let e : Entry = Granted moment number fetch in
       let counts = each_entry_counts (told b) e kept.legal fit in
-      kept_after b (after b entries moment permits) e kept fit refl refl more (late_is moment (now (told b)) fit.0) kept.begins (let few = kept.few_begins in omega arith)
+      kept_after b (after b entries moment permits places) e kept fit refl refl more (late_is moment (now (told b)) fit.0) kept.begins (let few = kept.few_begins in omega arith)
       kept.cache refl
       (subst (λ (t : Table). TellsPermits t (unspent (told b ▸ e)) (running (told b ▸ e)) (greatest_in (told b ▸ e))) (sym is)
       (tables.granted b.permits (unspent (told b)) (running (told b)) (greatest_in (told b)) number fetch kept.permits is_next))
       (ap (λ (t : Table). length t.slots) is ∙ length-set b.permits.slots _ _) (ap (λ (t : Table). t.first_generation) is) kept.names
+      (λ authority. adds authority ∙ (ap (λ count. count + one_at (authority_of fetch.url) authority) (kept.places authority)
+      ∙ (sym (holds.granted b.permits number fetch authority is_next) ∙ ap (λ (t : Table). held_count t authority) (sym is))))
       (omega (arith, free, counts.unspent_are, counts.running_are, counts.flights_are)) (omega (arith, room, counts.unspent_are, counts.running_are, counts.flights_are))
 
   -- the next number of the table is that of the history
@@ -256,10 +293,11 @@ module _ (b : Inside) (kept : IsKept b) where
 
 -- ---- a book that is new
 
-pub kept_new : (limits : Limits) (base : Base) (entries : Vec Entry Global) (cache : Known) (permits : Table) (names : Names) → AreLimits limits → base ≡ empty_base → IsBase base →
+pub kept_new : (limits : Limits) (base : Base) (entries : Vec Entry Global) (cache : Known) (permits : Table) (names : Names) (places : Places) → AreLimits limits → base ≡ empty_base → IsBase base →
     entries.items ≡ [] → cache.limit ≡ limits.authority_limit → cache.sites ≡ [] → permits.slots ≡ replicate limits.slots unused → permits.first_generation ≡ limits.first_generation →
-    IsKept (record { limits = limits; base = base; entries = entries; clock = 0; begins = 0; cache = cache; permits = permits; names = names })
-kept_new limits base entries cache permits names are base_is is_base none limit sites slots first =
+    ((authority : List ℕ) → held_by places authority ≡ 0) →
+    IsKept (record { limits = limits; base = base; entries = entries; clock = 0; begins = 0; cache = cache; permits = permits; names = names; places = places })
+kept_new limits base entries cache permits names places are base_is is_base none limit sites slots first none_held =
     let h : followed_by (from base) entries.items ≡ from empty_base = λ i. followed_by (from (base_is i)) (none i) in
     let empty : length entries.items ≡ 0 = ap length none in
     let table : permits ≡ record { first_generation = limits.first_generation; slots = replicate limits.slots unused } = λ i. record { first_generation = first i; slots = slots i } in
@@ -280,6 +318,7 @@ kept_new limits base entries cache permits names are base_is is_base none limit 
       slots = many;
       first = first;
       names = subst (λ (g : History). HasNames (names_by names) (in_flight g)) (sym h) (λ k d low. absurd (omega (arith, low)));
+      places = λ authority. none_held authority ∙ (sym (holds.new limits.first_generation limits.slots authority) ∙ ap (λ (t : Table). held_count t authority) (sym table));
       logged = let some = are.some_entry in omega (arith, empty, nothing);
       entry_room = omega (arith, empty, nothing);
     }
@@ -297,6 +336,7 @@ after_turn b entries clock begins cache names = record {
   cache = cache;
   permits = b.permits;
   names = names;
+  places = b.places;
 }
 
 -- no turn of the number is among these
@@ -383,6 +423,7 @@ module _ (b : Inside) (kept : IsKept b) (entries : Vec Entry Global) (cache : Kn
       (earlier (b.begins + 1) b.begins (in_flight (told b)) (omega arith)
       (λ n some. let bound = once.turns.turns_begun n (omega (arith, some)) in let count = kept.begins in omega arith)) kept.names)
       (keeps (b.begins + 1) ∙ ap (λ (t : Bool). cond t (Some authority) (names_by b.names (b.begins + 1))) (itself (b.begins + 1))))
+      kept.places
       (omega (arith, free, counts.unspent_are, counts.running_are, counts.flights_are)) (omega (arith, room, counts.unspent_are, counts.running_are, counts.flights_are))
 
   -- an answer has arrived, with a life of its kind
@@ -403,6 +444,7 @@ module _ (b : Inside) (kept : IsKept b) (entries : Vec Entry Global) (cache : Kn
       kept.permits refl refl
       (kept_others (names_by b.names) (names_by names) turn None (filter (λ t. not (has_number turn t)) (in_flight (told b))) keeps (others_left turn (in_flight (told b)))
       (names_left (names_by b.names) (λ t. not (has_number turn t)) (in_flight (told b)) kept.names))
+      kept.places
       (omega (arith, logged, counts.unspent_are, counts.running_are, counts.flights_are)) (omega (arith, entry_room, room, counts.unspent_are, counts.running_are, counts.flights_are))
 
   -- answers were swept
@@ -413,7 +455,7 @@ module _ (b : Inside) (kept : IsKept b) (entries : Vec Entry Global) (cache : Kn
       let e : Entry = Swept moment count in
       kept_after b (after_turn b entries moment b.begins cache b.names) e kept (late, is) refl refl more (late_is moment (now (told b)) late) kept.begins (let few = kept.few_begins in omega arith)
       (telling.swept_away b.cache cache (standing (told b)) (in_flight (told b)) moment count kept.cache sweeps) sweeps.limit
-      kept.permits refl refl kept.names (omega (arith, free)) room
+      kept.permits refl refl kept.names kept.places (omega (arith, free)) room
 
 -- the moment of a call is no earlier than the history's
 pub late_moment : (b : Inside) (g : Gate) → gate_of b ≡ g → (handed_in moment : ℕ) → moment ≡ at_moment (history g) handed_in → now (told b) ≤ moment
@@ -444,9 +486,32 @@ kept_unchanged b kept entries cache names same room still named =
       slots = kept.slots;
       first = kept.first;
       names = subst (λ (g : History). HasNames (names_by names) (in_flight g)) (sym h) named;
+      places = kept.places;
       logged = omega (arith, logged, many, ap promised h);
       entry_room = omega (arith, entry_room, room, many, ap promised h);
     }
+
+-- nothing but room for entries and for a count: the book is kept as it was
+pub kept_refused : (b : Inside) → IsKept b → (entries : Vec Entry Global) (permits : Table) (places : Places) → entries.items ≡ b.entries.items → vec_capacity b.entries ≤ vec_capacity entries →
+    permits ≡ b.permits → held_by places ≡ held_by b.places → IsKept (after b entries b.clock permits places)
+kept_refused b kept entries permits places same room still counted =
+    let u = kept_unchanged b kept entries b.cache b.names same room refl kept.names in
+    subst (λ (t : Table). IsKept (after b entries b.clock t places)) (sym still) (record {
+      limits = u.limits;
+      legal = u.legal;
+      clock = u.clock;
+      begins = u.begins;
+      few_begins = u.few_begins;
+      cache = u.cache;
+      authorities = u.authorities;
+      permits = u.permits;
+      slots = u.slots;
+      first = u.first;
+      names = u.names;
+      places = λ authority. ap (λ (count : HeldBy). count authority) counted ∙ kept.places authority;
+      logged = u.logged;
+      entry_room = u.entry_room;
+    })
 
 -- the turns in flight keep their names where the next turn's is kept too
 pub still_named : (b : Inside) → IsKept b → (names : Names) (name : Option (List ℕ)) → Keeps (names_by b.names) (b.begins + 1) name (names_by names) →
@@ -456,23 +521,9 @@ still_named b kept names name keeps =
     (earlier (b.begins + 1) b.begins (in_flight (told b)) (omega arith)
     (λ n some. let bound = (stands_once (told b) kept.legal).turns.turns_begun n (omega (arith, some)) in let count = kept.begins in omega arith)) kept.names
 
--- as many are held for an authority as the history says, and no more than are out
-pub held_many : (b : Inside) → IsKept b → (authority : List ℕ) → held_count b.permits authority ≡ held (told b) authority
-held_many b kept authority = (reads b kept b.entries).held authority
-
-fewer : {X : Type 0} (test : X → Bool) (xs : List X) → length (filter test xs) ≤ length xs
-fewer test [] = omega arith
-fewer test (x ∷ xs) = by (test x) (fewer test xs)
-  where
-    by : (b : Bool) → length (filter test xs) ≤ length xs → length (cond b (x ∷ filter test xs) (filter test xs)) ≤ suc (length xs)
-    by true few = omega arith
-    by false few = omega arith
-
-pub few_held : (b : Inside) (url : List ℕ) → held (told b) (authority_of url) ≤ length (unspent (told b)) + length (running (told b))
-few_held b url =
-    let one = fewer (λ (p : Permit). bytes_eq (authority_of p.url) (authority_of url)) (unspent (told b)) in
-    let other = fewer (λ (p : Permit). bytes_eq (authority_of p.url) (authority_of url)) (running (told b)) in
-    omega arith
+-- as many are counted for an authority as the history says
+pub held_many : (b : Inside) → IsKept b → (authority : List ℕ) → held_by b.places authority ≡ held (told b) authority
+held_many b kept authority = kept.places authority ∙ (reads b kept b.entries).held authority
 
 -- a turn in flight has its authority's name, and an entry is promised to it
 pub turn_named : (b : Inside) → IsKept b → (authority : List ℕ) (turn : ℕ) → has_turn turn (site_of b.cache authority) ≡ true → names_by b.names turn ≡ Some authority

@@ -6,3 +6,4 @@ pub mod Looking
 pub mod Refusing
 pub mod Calling
 pub mod Headlines
+pub mod Counting

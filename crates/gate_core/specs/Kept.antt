@@ -3,6 +3,7 @@
 use Rattle.std.specs.Prelude.{◌≡◌, ℕ, ◌+◌, ◌≤◌, List, Option, length, vec_capacity}
 use Rattle.authority_cache.specs.Lists.{TellsCache}
 use Rattle.permit_book.specs.Outstanding.{TellsPermits}
+use Rattle.permit_book.specs.Table.{held_count}
 use Rattle.gate_history.specs.History.{begins, now}
 use Rattle.gate_history.specs.Legal.{IsLegal}
 use Rattle.gate_history.specs.Outstanding.{greatest_in, running, unspent}
@@ -11,6 +12,7 @@ use Rattle.gate_core.specs.declared.book.Book.TheInside.{Inside}
 use Rattle.gate_core.specs.Gate.{Gate, history, promised}
 use Rattle.gate_core.specs.Limits.{AreLimits}
 use Rattle.gate_core.specs.Names.{HasNames, names_by}
+use Rattle.gate_core.specs.Places.{held_by}
 
 -- the book as its callers see it
 abbrev pub gate_of : Inside → Gate
@@ -29,5 +31,6 @@ pub record IsKept (b : Inside) : Type 0 where
   pub slots : length b.permits.slots ≡ b.limits.slots
   pub first : b.permits.first_generation ≡ b.limits.first_generation
   pub names : HasNames (names_by b.names) (in_flight (history (gate_of b)))
+  pub places : (authority : List ℕ) → held_by b.places authority ≡ held_count b.permits authority
   pub logged : length b.entries.items + promised (history (gate_of b)) ≤ b.limits.log_limit
   pub entry_room : length b.entries.items + promised (history (gate_of b)) ≤ vec_capacity b.entries

@@ -3,6 +3,7 @@
 pub mod Limits
 pub mod Gate
 pub mod Names
+pub mod Places
 pub mod Refused
 pub mod Kept
 pub mod Judged

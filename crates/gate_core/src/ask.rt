@@ -1,6 +1,7 @@
 //! `Book::ask` and `Book::ask_judged`: a permit for one fetch of a URL under a token.
 //! RFC 9309, sections 2.2 and 2.3.1.
-ghost use Rattle.std.specs.Prelude.{◌≡◌, ◌+◌, ◌≤◌, ◌↔◌, Err, IfErr, IfOk, IsTrue, length, OnErr, OnOk, Ok, vec_capacity};
+ghost use Rattle.std.specs.Prelude.{◌≡◌, ◌+◌, ◌^◌, ◌<◌, ◌≤◌, ◌↔◌, Err, IfErr, IfOk, IsTrue, length, OnErr, OnOk, Ok, vec_capacity};
+ghost use Rattle.path_normal.specs.PageText.{authority_of};
 ghost use Rattle.permit_book.specs.declared.out.Out.TheVariants.{Unspent};
 ghost use Rattle.permit_book.specs.Next.{IsNext};
 ghost use Rattle.permit_book.specs.Table.{with_out};
@@ -10,10 +11,12 @@ ghost use Rattle.gate_history.specs.Cause.{Decides};
 ghost use Rattle.gate_history.specs.History.{now};
 ghost use Rattle.gate_core.specs.Gate.{Adds, HasRoom, history, Stays};
 ghost use Rattle.gate_core.specs.Opened.{Grants, RefusesGrant};
+ghost use Rattle.gate_core.specs.Places.{AddsOne, held_by};
 ghost use Rattle.gate_core.specs.Replies.{Asks, HasPlace, IsBusy};
 
 use crate::book::Book;
 use crate::judged::Judged;
+use crate::places::Places;
 use crate::refusal::{AskRefusal, Denial};
 use gate_history::{Cause, Entry, FetchText};
 use path_normal::PageUrl;
@@ -53,14 +56,11 @@ impl Book {
         }
     }
 
-    // Whether as many permits as the places are out for the URL's authority. They are counted only
-    // where so many are out at all.
+    // Whether as many permits as the places are out for the URL's authority.
     fn is_busy(&self, url: &PageUrl) -> bool
         ensures { IsTrue result ↔ IsBusy self.now url.now }
     {
-        let places = self.limits.places;
-        self.permits.unspent_count() + self.permits.running_count() >= places
-            && self.permits.held(url.authority()) >= places
+        self.places.held(url.authority()) >= self.limits.places
     }
 
     // Enters a denied ask.
@@ -99,7 +99,14 @@ impl Book {
         ensures { Grants self.old token url moment result self.new }
     {
         let room = self.promised() as usize + 3;
-        let (number, fetch) = take_permit(&mut self.permits, &mut self.entries, room, token, url)?;
+        let (number, fetch) = take_permit(
+            &mut self.permits,
+            &mut self.places,
+            &mut self.entries,
+            room,
+            token,
+            url,
+        )?;
         self.entries.push_reserved(Entry::Granted {
             moment,
             number,
@@ -110,21 +117,25 @@ impl Book {
     }
 }
 
-// Grants the next permit of the table, where a slot is free and memory suffices for its entries. The
-// draft leaves the table as it is where memory is refused.
+// Grants the next permit of the table and counts it, where a slot is free and memory suffices for
+// that and for its entries. The draft leaves the table as it is where memory is refused.
 fn take_permit(
     permits: &mut Permits,
+    places: &mut Places,
     entries: &mut Vec<Entry>,
     room: usize,
     token: Token,
     url: PageUrl,
 ) -> Result<(PermitNo, FetchText), AskRefusal>
+    requires { held_by places.old (authority_of url) < 2 ^ 32 }
     ensures next { IfOk result (λ taken. IsNext permits.old taken.0) }
     ensures granted { IfOk result (λ taken. permits.new
         ≡ with_out permits.old taken.0 (Unspent (record { token = token; url = url }))) }
     ensures fetch { IfOk result (λ taken. taken.1 ≡ record { token = token; url = url }) }
     ensures refused { IfErr result (RefusesGrant permits.old) }
     ensures same { OnErr result (permits.new ≡ permits.old) }
+    ensures counted { OnOk result (AddsOne (held_by places.old) (authority_of url) (held_by places.new)) }
+    ensures uncounted { OnErr result (held_by places.new ≡ held_by places.old) }
     ensures items { entries.new.items ≡ entries.old.items }
     ensures room { OnOk result (length entries.old.items + room ≤ vec_capacity entries.new) }
     ensures capacity { vec_capacity entries.old ≤ vec_capacity entries.new }
@@ -135,5 +146,6 @@ fn take_permit(
     };
     let fetch = FetchText::of(alloc, &token, &url)?;
     entries.reserve(room)?;
+    places.add(url.authority())?;
     Ok((draft.commit(token, url), fetch))
 }

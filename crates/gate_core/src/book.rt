@@ -1,4 +1,4 @@
-//! The book: the gate's history, and what stands in it in two tables.
+//! The book: the gate's history, and what stands in it in tables.
 //! RFC 9309, sections 2.3.1 and 2.4.
 ghost use Rattle.std.specs.Prelude.{◌≡◌, ◌+◌, ◌≤◌, [], ◌↔◌, IfOk, IsTrue};
 ghost use Rattle.gate_history.specs.Base.{empty_base};
@@ -8,6 +8,7 @@ ghost use Rattle.gate_core.specs.Limits.{AreLimits, most_entries};
 
 use crate::config::{Config, Limits};
 use crate::names::Names;
+use crate::places::Places;
 use crate::refusal::NoMemory;
 use authority_cache::Cache;
 use gate_history::{Base, Entry};
@@ -27,7 +28,9 @@ pub struct Book {
     // The answers that stand with the turns in flight, and the permits that are out.
     pub(crate) cache: Cache,
     pub(crate) permits: Permits,
+    // The names of the turns' authorities once more, and how many permits are out for each authority.
     pub(crate) names: Names,
+    pub(crate) places: Places,
 }
 
 impl Model for Book {
@@ -61,6 +64,7 @@ impl Book {
             cache: Cache::new(alloc, limits.authority_limit, keys),
             permits,
             names: Names::new(alloc, keys),
+            places: Places::new(alloc, keys),
         })
     }
 

@@ -11,6 +11,10 @@ impl Book {
     pub fn back(&mut self, number: PermitNo) -> Result<(), NotOut>
         ensures { Returns self.old number result self.new }
     {
+        if !self.permits.is_unspent(number) {
+            return Err(NotOut);
+        }
+        self.places.leave(&self.permits, number);
         self.permits.give_back(number)?;
         self.entries.push_reserved(Entry::Returned { number });
         Ok(())
@@ -20,6 +24,10 @@ impl Book {
     pub fn finish(&mut self, number: PermitNo) -> Result<(), NotOut>
         ensures { Finishes self.old number result self.new }
     {
+        if !self.permits.is_running(number) {
+            return Err(NotOut);
+        }
+        self.places.leave(&self.permits, number);
         self.permits.finish(number)?;
         self.entries.push_reserved(Entry::Finished { number });
         Ok(())

@@ -13,6 +13,7 @@ mod decide;
 mod end;
 mod judged;
 mod names;
+mod places;
 mod readers;
 mod refusal;
 pub mod rows;

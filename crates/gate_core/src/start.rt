@@ -71,6 +71,7 @@ impl Book {
         requires spends { SpendsAs (history self.old) number moment (Err cause) }
         ensures { Adds self.old (StartDenied moment number cause) self.new }
     {
+        self.places.leave(&self.permits, number);
         self.permits.decide(number, false);
         self.entries.push_reserved(Entry::StartDenied {
             moment,

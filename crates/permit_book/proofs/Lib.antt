@@ -3,3 +3,4 @@ pub mod TableLaws
 pub mod Filters
 pub mod Telling
 pub mod TellingFree
+pub mod HeldLaws

@@ -1,10 +1,10 @@
 -- What each change of a table is to the lists of a history, and what is read of both alike.
 -- The contracts of `laws.rt`.
-use Rattle.std.specs.Prelude.{◌≡◌, ◌↔◌, ℕ, ◌+◌, true, max, List, [], ◌∷◌, ◌++◌, length, filter, replicate}
+use Rattle.std.specs.Prelude.{◌≡◌, ◌↔◌, ℕ, ◌+◌, true, false, max, List, [], ◌∷◌, ◌++◌, length, filter, replicate}
 use Rattle.permit_book.specs.declared.out.Fetch.{Fetch}
 use Rattle.permit_book.specs.declared.out.Out.TheVariants.{Nothing, Unspent}
 use Rattle.permit_book.specs.declared.permit.Permit.{Permit}
-use Rattle.permit_book.specs.Table.{Table, decided, held_count, is_running, is_unspent, out_under, running_count, stands, unspent_count, unused, with_out}
+use Rattle.permit_book.specs.Table.{Table, decided, held_count, is_nothing, is_running, is_unspent, one_for, out_under, running_count, stands, unspent_count, unused, with_out}
 use Rattle.permit_book.specs.Next.{IsNext, NoneFree}
 use Rattle.permit_book.specs.Kept.{IsWithin}
 use Rattle.permit_book.specs.Outstanding.{IsNextBy, NoneFreeBy, TellsPermits, granted_in, is_listed, is_listed_for, is_numbered, listed_for, permit_for, without}
@@ -71,3 +71,23 @@ abbrev pub GreatestAlike : Type 0
 GreatestAlike = (t : Table) (unspent running : List Permit) (greatest others : ℕ → ℕ)
     → TellsPermits t unspent running greatest → ((slot : ℕ) → others slot ≡ greatest slot)
     → TellsPermits t unspent running others
+
+-- a grant is one permit more for its URL's authority
+abbrev pub GrantHolds : Type 0
+GrantHolds = (t : Table) (number : ℕ) (fetch : Fetch) (authority : List ℕ) → IsNext t number
+    → held_count (with_out t number (Unspent fetch)) authority ≡ held_count t authority + one_for authority (Unspent fetch)
+
+-- an allowed start leaves as many out for each authority
+abbrev pub StartHolds : Type 0
+StartHolds = (t : Table) (number : ℕ) (authority : List ℕ) → is_unspent t number ≡ true
+    → held_count (with_out t number (decided true (out_under t number))) authority ≡ held_count t authority
+
+-- the end of a permit is one less for its URL's authority
+abbrev pub EndHolds : Type 0
+EndHolds = (t : Table) (number : ℕ) (authority : List ℕ) → is_nothing (out_under t number) ≡ false
+    → held_count (with_out t number Nothing) authority + one_for authority (out_under t number) ≡ held_count t authority
+
+-- no permit of a new table is out
+abbrev pub NewHolds : Type 0
+NewHolds = (first slots : ℕ) (authority : List ℕ)
+    → held_count (record { first_generation = first; slots = replicate slots unused }) authority ≡ 0

@@ -1,6 +1,6 @@
 -- What contracts see of the permits: a table of slots, and what is out under a number.
 -- RFC 9309 has no permits: they make each fetch look at the answer in force (2.4).
-use Rattle.std.specs.Prelude.{ℕ, ◌==◌, Bool, true, false, ◌&&◌, nat_lt, List, if◌then◌else◌, length, slice_index_or, slice_set, filter}
+use Rattle.std.specs.Prelude.{ℕ, ◌==◌, Bool, true, false, ◌&&◌, nat_lt, List, Option, Some, None, if◌then◌else◌, length, slice_index_or, slice_set, filter}
 use Rattle.std.specs.Str.{bytes_eq}
 use Rattle.path_normal.specs.PageText.{authority_of}
 use Rattle.permit_book.specs.declared.out.Fetch.{Fetch}
@@ -103,3 +103,13 @@ is_out_for authority Nothing = false
 -- how many permits are out for the authority, unspent or running
 abbrev pub held_count : Table → List ℕ → ℕ
 held_count t authority = length (filter (λ slot. is_out_for authority slot.out) t.slots)
+
+-- the URL of what is out
+abbrev pub url_out : Out → Option (List ℕ)
+url_out (Unspent fetch) = Some fetch.url
+url_out (Running fetch) = Some fetch.url
+url_out Nothing = None
+
+-- 1 where what is out is for a page of this authority
+abbrev pub one_for : List ℕ → Out → ℕ
+one_for authority out = if is_out_for authority out then 1 else 0

@@ -2,7 +2,7 @@
 //! a change of the others, and both say the same. RFC 9309, 2.4, is why there are permits.
 ghost use Rattle.std.specs.Prelude.{◌≡◌};
 ghost use Rattle.permit_book.specs.Numbers.{last_generation, most_slots, numbers_of_generation};
-ghost use Rattle.permit_book.specs.Laws.{FinishTells, GrantTells, GreatestAlike, NewTells, NextAlike, NoneFreeAlike, ReturnTells, StartTells, TellingReadsAlike};
+ghost use Rattle.permit_book.specs.Laws.{EndHolds, FinishTells, GrantHolds, GrantTells, GreatestAlike, NewHolds, NewTells, NextAlike, NoneFreeAlike, ReturnTells, StartHolds, StartTells, TellingReadsAlike};
 
 use crate::number::{LAST_GENERATION, MAX_SLOTS, SLOTS_PER_GENERATION};
 
@@ -33,4 +33,13 @@ pub fn next_is_alike()
 pub fn readers_are_alike()
     ensures reads { TellingReadsAlike }
     ensures greatest { GreatestAlike }
+{}
+
+/// How many permits are out for an authority changes by those of its pages that are granted and
+/// that end, one by one.
+pub fn holds_follow()
+    ensures new { NewHolds }
+    ensures granted { GrantHolds }
+    ensures started { StartHolds }
+    ensures ended { EndHolds }
 {}

@@ -1,7 +1,8 @@
 //! A slot of the table, and what is out in it.
 //! A permit is for one fetch of a URL under a token (RFC 9309, 2.2.1).
 ghost use Rattle.std.specs.Prelude.{◌≡◌, true};
-ghost use Rattle.permit_book.specs.Table.{decided, is_fetch_of, is_free, is_nothing, is_out_for, is_permit_for, is_running_out, is_unspent_out};
+ghost use Rattle.std.specs.Option.{option_copied};
+ghost use Rattle.permit_book.specs.Table.{decided, is_fetch_of, is_free, is_nothing, is_out_for, is_permit_for, is_running_out, is_unspent_out, url_out};
 
 use crate::number::LAST_GENERATION;
 use path_normal::PageUrl;
@@ -85,6 +86,16 @@ impl Out {
         match self {
             Out::Unspent(fetch) | Out::Running(fetch) => fetch.url.authority() == authority,
             Out::Nothing => false,
+        }
+    }
+
+    /// The URL of the fetch that is out.
+    pub fn url(&self) -> Option<&PageUrl>
+        ensures { option_copied result ≡ url_out self.now }
+    {
+        match self {
+            Out::Unspent(fetch) | Out::Running(fetch) => Some(&fetch.url),
+            Out::Nothing => None,
         }
     }
 

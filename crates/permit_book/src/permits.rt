@@ -4,7 +4,8 @@ ghost use Rattle.std.specs.Prelude.{◌≡◌, ◌*◌, ◌≤◌, length, repli
 ghost use Rattle.permit_book.specs.declared.out.Out.TheVariants.{Nothing};
 ghost use Rattle.permit_book.specs.Numbers.{last_generation, most_slots};
 ghost use Rattle.permit_book.specs.Bits.{AreFirst};
-ghost use Rattle.permit_book.specs.Table.{held_count, is_running, is_unspent, out_under, running_count, stands, unspent_count, unused};
+ghost use Rattle.std.specs.Option.{option_copied};
+ghost use Rattle.permit_book.specs.Table.{held_count, is_running, is_unspent, out_under, running_count, stands, unspent_count, unused, url_out};
 ghost use Rattle.permit_book.specs.Kept.{IsWithin};
 
 use crate::free_slots::FreeSlots;
@@ -97,6 +98,13 @@ impl Permits {
             Some(slot) => slot.out.is_permit_for(token, url),
             None => false,
         }
+    }
+
+    /// The URL of the permit that is out under the number, unspent or running.
+    pub fn url_of(&self, number: PermitNo) -> Option<&PageUrl>
+        ensures { option_copied result ≡ url_out (out_under self.now number) }
+    {
+        self.granted(number)?.out.url()
     }
 
     /// How many unspent permits are out.

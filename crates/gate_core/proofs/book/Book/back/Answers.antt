@@ -8,15 +8,14 @@ use Rattle.gate_core.proofs.Ending.{not_unspent}
 use Rattle.gate_core.proofs.Keeping.{adds_of, reads, returned_kept}
 use Rattle.gate_core.proofs.book.Book.back.Goals as goal
 
-pub returns-in_err-give_back : goal.returns-in_err-give_back
-returns-in_err-give_back c =
-    not_unspent c.self.inside c.self.invariant c.args.self.now c.self.view_is c.args.number c.give_back.result c.in_err-give_back.field-0.0 c.in_err-give_back.was
-    c.give_back.ensures.out c.from_residual.result c.from_residual.ensures.0
+pub returns-then-not-is_unspent : goal.returns-then-not-is_unspent
+returns-then-not-is_unspent c =
+    (not_unspent c.self.inside c.self.invariant c.args.self.now c.self.view_is c.args.number (sym c.is_unspent.ensures ∙ c.if-not-is_unspent.true), refl)
 
 pub invariant_of-self-2 : goal.invariant_of-self-2
 invariant_of-self-2 c =
-    returned_kept c.self.inside c.self.invariant c.push_reserved.new.self c.args.number c.give_back.new.self (c.in_ok-give_back.ensures.out.0 refl)
-    c.push_reserved.ensures.items c.push_reserved.ensures.capacity c.in_ok-give_back.ensures.ok
+    returned_kept c.self.inside c.self.invariant c.push_reserved.new.self c.args.number c.give_back.new.self c.leave.new.self (c.in_ok-give_back.ensures.out.0 refl)
+    c.push_reserved.ensures.items c.push_reserved.ensures.capacity c.in_ok-give_back.ensures.ok c.leave.ensures
 
 pub returns : goal.returns
 returns c =

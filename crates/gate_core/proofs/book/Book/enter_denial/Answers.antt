@@ -15,6 +15,6 @@ decide-requires c =
 pub invariant_of-self : goal.invariant_of-self
 invariant_of-self c =
     let fit = subst (λ (g : Gate). MayFollow (history g) (StartDenied c.args.moment c.args.number c.args.cause)) (sym c.self.view_is) (c.requires.late, c.requires.spends) in
-    denied_kept c.self.inside c.self.invariant c.push_reserved.new.self c.args.moment c.args.number c.args.cause c.decide.new.self fit
+    denied_kept c.self.inside c.self.invariant c.push_reserved.new.self c.args.moment c.args.number c.args.cause c.decide.new.self c.leave.new.self fit
     (spends_out c.self.inside c.self.invariant c.self.inside.entries c.args.number c.args.moment (Err c.args.cause) fit.1)
-    c.push_reserved.ensures.items c.push_reserved.ensures.capacity c.decide.ensures
+    c.push_reserved.ensures.items c.push_reserved.ensures.capacity c.decide.ensures c.leave.ensures

@@ -8,15 +8,14 @@ use Rattle.gate_core.proofs.Ending.{not_running}
 use Rattle.gate_core.proofs.Keeping.{adds_of, reads, finished_kept}
 use Rattle.gate_core.proofs.book.Book.finish.Goals as goal
 
-pub returns-in_err-finish : goal.returns-in_err-finish
-returns-in_err-finish c =
-    not_running c.self.inside c.self.invariant c.args.self.now c.self.view_is c.args.number c.finish.result c.in_err-finish.field-0.0 c.in_err-finish.was
-    c.finish.ensures.out c.from_residual.result c.from_residual.ensures.0
+pub returns-then-not-is_running : goal.returns-then-not-is_running
+returns-then-not-is_running c =
+    (not_running c.self.inside c.self.invariant c.args.self.now c.self.view_is c.args.number (sym c.is_running.ensures ∙ c.if-not-is_running.true), refl)
 
 pub invariant_of-self-2 : goal.invariant_of-self-2
 invariant_of-self-2 c =
-    finished_kept c.self.inside c.self.invariant c.push_reserved.new.self c.args.number c.finish.new.self (c.in_ok-finish.ensures.out.0 refl)
-    c.push_reserved.ensures.items c.push_reserved.ensures.capacity c.in_ok-finish.ensures.ok
+    finished_kept c.self.inside c.self.invariant c.push_reserved.new.self c.args.number c.finish.new.self c.leave.new.self (c.in_ok-finish.ensures.out.0 refl)
+    c.push_reserved.ensures.items c.push_reserved.ensures.capacity c.in_ok-finish.ensures.ok c.leave.ensures
 
 pub returns : goal.returns
 returns c =

@@ -1,15 +1,30 @@
 -- The next number is granted.
 -- The lemmas of `Keeping` and `Refusing` say what that keeps, and what is refused.
-use Rattle.std.proofs.Common.{◌≡◌, ◌+◌, ◌≤◌, ◌∷◌, ◌++◌, [], ℕ, length, sym, ap, ◌∙◌, subst, arith, Err}
+use Rattle.std.proofs.Common.{◌≡◌, ◌+◌, ◌<◌, ◌≤◌, ◌∷◌, ◌++◌, [], ℕ, length, sym, ap, ◌∙◌, subst, arith, Err}
+use Rattle.path_normal.specs.PageText.{authority_of}
 use Rattle.permit_book.specs.declared.out.Fetch.{Fetch}
 use Rattle.gate_history.specs.declared.entry.Entry.TheVariants.{Granted}
-use Rattle.gate_core.specs.Gate.{Gate, HasRoom, history, promised}
+use Rattle.gate_core.specs.Gate.{Gate, HasRoom, held, history, promised}
 use Rattle.gate_core.specs.Kept.{gate_of}
 use Rattle.gate_core.specs.Opened.{Grants}
 use Rattle.gate_core.specs.Replies.{IsNext}
-use Rattle.gate_core.proofs.Keeping.{adds_of, granted_kept, next_is}
+use Rattle.gate_core.proofs.Keeping.{adds_of, granted_kept, held_many, kept_refused, next_is}
 use Rattle.gate_core.proofs.Refusing.{grant_fits, refuses_grant, same_err}
 use Rattle.gate_core.proofs.book.Book.grant.Goals as goal
+
+pub take_permit-requires : goal.take_permit-requires
+take_permit-requires c =
+    let b = c.self.inside in
+    let authority = authority_of c.args.url in
+    let place = c.requires.place in
+    let many = held_many b c.self.invariant authority ∙ ap (λ (g : Gate). held (history g) authority) c.self.view_is in
+    let few = c.self.invariant.limits.places in
+    omega (arith, place, many, few, ap (λ (g : Gate). g.limits.places) c.self.view_is)
+
+pub invariant_of-self : goal.invariant_of-self
+invariant_of-self c =
+    kept_refused c.self.inside c.self.invariant c.take_permit.new.entries c.take_permit.new.permits c.take_permit.new.places
+    c.take_permit.ensures.items c.take_permit.ensures.capacity c.in_err-number.ensures.same c.in_err-number.ensures.uncounted
 
 pub returns-in_err-number : goal.returns-in_err-number
 returns-in_err-number c =
@@ -28,9 +43,9 @@ invariant_of-self-2 c =
     let fetch : Fetch = record { token = c.args.token; url = c.args.url } in
     let fit = grant_fits b c.self.invariant c.args.self.now c.self.view_is c.args.moment number fetch c.requires.late c.requires.decided c.in_ok-number.ensures.next in
     let free = subst (λ (g : Gate). HasRoom g 3) (sym c.self.view_is) c.requires.room in
-    granted_kept b c.self.invariant c.push_reserved.new.self c.args.moment number fetch c.take_permit.new.permits fit c.in_ok-number.ensures.next
+    granted_kept b c.self.invariant c.push_reserved.new.self c.args.moment number fetch c.take_permit.new.permits c.take_permit.new.places fit c.in_ok-number.ensures.next
     (c.push_reserved.ensures.items ∙ (λ i. c.take_permit.ensures.items i ++ Granted c.args.moment number (c.in_ok-number.ensures.fetch i) ∷ []))
-    (omega (arith, c.push_reserved.ensures.capacity, c.in_ok-number.ensures.room, c.promised.ensures.value, ap (λ (g : Gate). promised (history g)) c.self.view_is)) free c.in_ok-number.ensures.granted
+    (omega (arith, c.push_reserved.ensures.capacity, c.in_ok-number.ensures.room, c.promised.ensures.value, ap (λ (g : Gate). promised (history g)) c.self.view_is)) free c.in_ok-number.ensures.granted c.in_ok-number.ensures.counted
 
 pub returns : goal.returns
 returns c =

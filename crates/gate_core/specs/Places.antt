@@ -1,0 +1,32 @@
+-- How many permits are out for each authority, as the book counts them beside its table of permits.
+-- Cited by the contracts of `Places`.
+use Rattle.std.specs.Prelude.{◌≡◌, ℕ, ◌+◌, ◌-◌, List, if◌then◌else◌, unwrap_or}
+use Rattle.std.specs.HashMap.{get_by_text}
+use Rattle.std.specs.Str.{bytes_eq}
+use Rattle.permit_book.specs.declared.out.Out.{Out}
+use Rattle.permit_book.specs.Table.{one_for}
+use Rattle.gate_core.specs.declared.places.Places.{Places}
+
+-- the counts by authority: how many permits are out for each
+abbrev pub HeldBy : Type 0
+HeldBy = List ℕ → ℕ
+
+-- how many are counted for an authority
+abbrev pub held_by : Places → HeldBy
+held_by places authority = unwrap_or (get_by_text places.by_authority authority) 0
+
+-- 1 where the other authority is this one
+abbrev pub one_at : List ℕ → List ℕ → ℕ
+one_at authority other = if bytes_eq authority other then 1 else 0
+
+-- one more is counted for the authority, and as many for the others
+abbrev pub AddsOne : HeldBy → List ℕ → HeldBy → Type 0
+AddsOne old authority new = (other : List ℕ) → new other ≡ old other + one_at authority other
+
+-- one less is counted for the authority, and as many for the others
+abbrev pub TakesOne : HeldBy → List ℕ → HeldBy → Type 0
+TakesOne old authority new = (other : List ℕ) → new other ≡ old other - one_at authority other
+
+-- what is out is counted no more
+abbrev pub Leaves : HeldBy → Out → HeldBy → Type 0
+Leaves old out new = (authority : List ℕ) → new authority ≡ old authority - one_for authority out
