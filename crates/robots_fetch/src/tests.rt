@@ -6,6 +6,8 @@ use robots_verdict::{Answer, Rules};
 use std::alloc::{AllocError, Global};
 use std::test::Fail;
 
+mod memory;
+
 // The body of each reply, of which a mark, a second group and octets beyond ASCII are kept.
 const BODY: &[u8] = b"\xEF\xBB\xBFUser-agent: *\r\nDisallow: /x\nUser-agent: foobot\nAllow: /\xFF";
 
