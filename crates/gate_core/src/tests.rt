@@ -30,6 +30,7 @@ User-Agent: quxbot
 ";
 
 const PAGE: &str = "http://a.example/example/page.html";
+
 const OTHER_PAGE: &str = "http://b.example/";
 
 // What stood when the ask was judged, what stands when it is made, the moment of the ask, and what
