@@ -1,11 +1,11 @@
 -- The words of replies without a fault stand in twos.
 -- Used by the proof of `ReplyWords::next`.
-use Rattle.std.proofs.Common.{◌≡◌, ◌≢◌, ℕ, List, [], ◌∷◌, Option, Some, None, Bor, cond, Bool, true, false, refl, sym, ap, subst, ◌∙◌}
+use Rattle.std.proofs.Common.{◌≡◌, ◌≢◌, ℕ, List, [], ◌∷◌, Option, Some, None, Bor, cond, Bool, true, false, refl, sym, ap, ◌∙◌}
 use Rattle.std.specs.Prelude.{is_none}
 use Rattle.std.specs.Option.{IsSome}
 use Rattle.std.proofs.lemmas.Option.{none-some}
 use Rattle.line_text.specs.Words.{GivesWord}
-use Rattle.command_server.specs.Arrival.{head_of, may_have, or_later, replies_fault, reply_fault}
+use Rattle.command_server.specs.Arrival.{head_of, or_later, replies_fault, reply_fault}
 use Rattle.command_server.specs.declared.fault.LineFault.{LineFault}
 use Rattle.command_server.specs.declared.fault.LineFault.TheVariants as faults
 use Rattle.command_server.specs.declared.reply_words.Head.{Head}

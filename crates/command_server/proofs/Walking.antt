@@ -1,6 +1,6 @@
 -- The walk over the replies of an arrival, from its begin to its end.
 -- Used by the proof of `decide`.
-use Rattle.std.proofs.Common.{◌≡◌, ◌≢◌, ◌⊎◌, ◌++◌, ◌∷◌, [], ℕ, List, Option, Some, None, Result, Ok, Err, refl, sym, ap, subst, ◌∙◌, inl, inr, append-nil, append_assoc, length, length-append, ◌+◌, arith}
+use Rattle.std.proofs.Common.{◌≡◌, ◌≢◌, ◌++◌, ◌∷◌, [], ℕ, List, Some, None, Ok, Err, refl, sym, ap, subst, ◌∙◌, inl, inr, append-nil, append_assoc, length, length-append, ◌+◌, arith}
 use Rattle.robots_verdict.specs.Answer.{said}
 use Rattle.robots_verdict.specs.declared.answer.Answer.{Answer}
 use Rattle.robots_verdict.specs.declared.said.Said.{Said}
@@ -11,7 +11,7 @@ use Rattle.robots_fetch.specs.declared.walk.Walk.{Walk}
 use Rattle.robots_fetch.specs.Steps.{IsBegun, Steps, StepsOver}
 use Rattle.robots_fetch.specs.Walk.{AnswerOf}
 use Rattle.robots_fetch.proofs.Deciding.{as_decided, done}
-use Rattle.command_server.specs.Arrival.{AreReplies, Brings, EndsBefore, GoesOnAfter, IsDecided, IsReply, TakesReply}
+use Rattle.command_server.specs.Arrival.{AreReplies, Brings, IsDecided, IsReply, TakesReply}
 use Rattle.command_server.specs.declared.fault.LineFault.TheVariants as faults
 
 -- the walk has gone over these replies

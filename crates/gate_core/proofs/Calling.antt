@@ -1,15 +1,13 @@
 -- From the steps of a call to what the call replies.
 -- Used by `Book::begin`, `Book::start` and `Book::ask_judged`.
-use Rattle.std.proofs.Common.{◌≡◌, ◌+◌, ◌<◌, ◌≤◌, ℕ, Bool, true, false, inl, inr, List, refl, sym, ap, ◌∙◌, subst, arith}
-use Rattle.std.specs.Prelude.{MatchBool, IsErr, IfErr, IfOk, OnErr, Result, Ok, Err}
+use Rattle.std.proofs.Common.{◌≡◌, ◌<◌, ◌≤◌, ℕ, Bool, true, false, inl, inr, List, refl, sym, ap, ◌∙◌, subst}
+use Rattle.std.specs.Prelude.{MatchBool, Result, Ok, Err}
 use Rattle.std.proofs.lemmas.Bool.{cases_lt, true≢false}
-use Rattle.path_normal.specs.PageText.{authority_of}
 use Rattle.authority_cache.specs.Sites.{is_flying, site_of}
 use Rattle.permit_book.specs.Table.{stands}
-use Rattle.gate_history.specs.declared.entry.Entry.TheVariants.{AskDenied, Begun, Granted, Started, StartDenied}
+use Rattle.gate_history.specs.declared.entry.Entry.TheVariants.{Begun, Granted, StartDenied}
 use Rattle.gate_history.specs.declared.outcome.Cause.{Cause}
 use Rattle.gate_history.specs.declared.outcome.Cause.TheVariants.{Spent}
-use Rattle.gate_history.specs.declared.outcome.Reason.{Reason}
 use Rattle.gate_history.specs.Cause.{Decides}
 use Rattle.gate_history.specs.Outstanding as outstanding
 use Rattle.gate_history.specs.Standing.{is_fetching}
@@ -18,7 +16,6 @@ use Rattle.gate_core.specs.declared.refusal.AskRefusal.{AskRefusal}
 use Rattle.gate_core.specs.declared.refusal.AskRefusal.TheVariants as ask
 use Rattle.gate_core.specs.declared.refusal.BeginRefusal.{BeginRefusal}
 use Rattle.gate_core.specs.declared.refusal.BeginRefusal.TheVariants as begin
-use Rattle.gate_core.specs.declared.refusal.Denial.{Denial}
 use Rattle.gate_core.specs.Gate.{Adds, Gate, HasRoom, history, Stays}
 use Rattle.gate_core.specs.Kept.{gate_of, IsKept}
 use Rattle.gate_core.specs.Opened.{Grants, OpensTurn}

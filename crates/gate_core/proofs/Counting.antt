@@ -1,7 +1,7 @@
 -- Counts by authority, after one of them was set.
 -- Used by the methods of `Places`.
-use Rattle.std.proofs.Common.{◌≡◌, ℕ, ◌+◌, ◌-◌, Bool, true, false, cond, List, refl, sym, ap, ◌∙◌, arith}
-use Rattle.std.specs.Prelude.{IsSome, Option, Some, string_bytes, unwrap_or}
+use Rattle.std.proofs.Common.{◌≡◌, ℕ, ◌+◌, ◌-◌, Bool, true, false, cond, List, refl, ap, ◌∙◌, arith}
+use Rattle.std.specs.Prelude.{Option, string_bytes, unwrap_or}
 use Rattle.std.specs.declared.string.String.{String}
 use Rattle.std.specs.HashMap.{HashMap, UpdatesBy, get_by_text}
 use Rattle.std.specs.Str.{bytes_eq}

@@ -1,6 +1,6 @@
 -- That each reply which a call may have tells what the headline says.
 -- Used by `Book::answer` and `run`.
-use Rattle.std.proofs.Common.{◌≡◌, ℕ, ◌+◌, ◌<◌, ◌≤◌, Bool, true, false, List, [], ◌∷◌, ◌++◌, refl, sym, arith, subst, ◌∙◌}
+use Rattle.std.proofs.Common.{◌≡◌, ℕ, ◌+◌, ◌<◌, ◌≤◌, Bool, true, false, List, [], ◌∷◌, ◌++◌, refl, sym, arith, subst}
 use Rattle.std.specs.Prelude.{Option, Some, None, Result, Ok, Err, MatchBool}
 use Rattle.std.proofs.lemmas.Bool.{ltb-true, ltb-false}
 use Rattle.path_normal.specs.PageText.{authority_of}
@@ -19,7 +19,7 @@ use Rattle.gate_history.specs.declared.outcome.Reason.{Reason}
 use Rattle.gate_history.specs.declared.outcome.Cause.{Cause}
 use Rattle.gate_history.specs.declared.outcome.Cause.TheVariants as causes
 use Rattle.gate_history.specs.Cause.{Decides, IsVerdictOn, Judges, outcome_of, Says}
-use Rattle.gate_history.specs.History.{History, ◌▸◌, at_moment, followed_by, from}
+use Rattle.gate_history.specs.History.{History, at_moment, from}
 use Rattle.gate_history.specs.Legal.{IsLegal}
 use Rattle.gate_history.specs.Outstanding.{stands}
 use Rattle.gate_history.specs.Standing.{standing_of}
@@ -40,7 +40,7 @@ use Rattle.gate_core.specs.declared.refusal.SweepRefusal.TheVariants as sweep
 use Rattle.authority_cache.specs.declared.refusal.Stale.{Stale}
 use Rattle.permit_book.specs.declared.refusal.NotOut.{NotOut}
 use Rattle.gate_core.specs.Calls.{Replies, Step}
-use Rattle.gate_core.specs.Gate.{Adds, Gate, history, Stays, with_entry}
+use Rattle.gate_core.specs.Gate.{Adds, Gate, history, Stays}
 use Rattle.gate_core.specs.Replies.{Arrives, Asks, Begins, Finishes, Returns, Starts, Sweeps}
 use Rattle.gate_core.specs.Headline.{Allows, Denies, IsAskTold, IsCauseOfStart, IsStartTold, IsTold, RunTells}
 use Rattle.gate_core.proofs.Keeping.{followed_push}

@@ -1,14 +1,13 @@
 -- What each kind of entry does to what a book keeps beside its history.
 -- Used by the calls that make entries.
-use Rattle.std.proofs.Common.{◌≡◌, ℕ, suc, ◌+◌, ◌*◌, ◌<◌, ◌≤◌, ◌==◌, Bool, true, false, All, Vec, Global, max, min, not, List, [], ◌∷◌, ◌++◌, length, filter, replicate, refl, sym, ap, ◌∙◌, subst, arith, eqb-true}
-use Rattle.std.specs.Prelude.{◌&&◌, Option, Result, Some, None, Ok, Err, cond, if◌then◌else◌, vec_capacity}
+use Rattle.std.proofs.Common.{◌≡◌, ℕ, ◌+◌, ◌<◌, ◌≤◌, ◌==◌, Bool, true, false, All, Vec, Global, max, not, List, [], ◌∷◌, ◌++◌, length, filter, replicate, refl, sym, ap, ◌∙◌, subst, arith, eqb-true}
+use Rattle.std.specs.Prelude.{◌&&◌, Option, Result, Some, None, cond, vec_capacity}
 use Rattle.std.specs.List.{list_any}
 use Rattle.std.proofs.lemmas.Bool.{and_parts, eq-eqb, true≢false}
 use Rattle.std.proofs.lemmas.Bool.Decides.{nat_tests}
 use Rattle.robots_text.proofs.Plains.{any_passes, passes_any}
 use Rattle.std.proofs.lemmas.List.{length-replicate, length-set}
 use Rattle.std.proofs.lemmas.List.Elements.{All-cons, All-contains, All-head, All-push, All-tail}
-use Rattle.std.specs.Str.{bytes_eq}
 use Rattle.std.proofs.lemmas.Slice.Eq.{bytes_eq-Decides}
 use Rattle.path_normal.specs.PageText.{authority_of}
 use Rattle.robots_verdict.specs.declared.said.Said.{Said}
@@ -49,7 +48,7 @@ use Rattle.gate_core.specs.declared.book.Book.TheInside.{Inside}
 use Rattle.gate_core.specs.declared.config.Limits.{Limits}
 use Rattle.gate_core.specs.declared.names.Names.{Names}
 use Rattle.gate_core.specs.declared.places.Places.{Places}
-use Rattle.gate_core.specs.Gate.{Adds, Gate, held, history, promised, Stays}
+use Rattle.gate_core.specs.Gate.{Adds, Gate, held, history, promised}
 use Rattle.gate_core.specs.Kept.{gate_of, IsKept}
 use Rattle.gate_core.specs.Limits.{AreLimits}
 use Rattle.gate_core.specs.Names.{HasNames, Keeps, names_by, NamesBy}

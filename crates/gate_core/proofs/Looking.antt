@@ -1,10 +1,9 @@
 -- What a look at the cache says by the history.
 -- Used by `Book::decide`, `Book::state_of` and `Book::hint`.
 use Rattle.std.proofs.Common.{◌≡◌, ℕ, Bool, true, false, List, refl, sym, ap, ◌∙◌, subst}
-use Rattle.std.specs.Prelude.{MatchBool, Option, Some, None, Result, Ok, Err, is_some, unwrap_or}
+use Rattle.std.specs.Prelude.{MatchBool, Option, Some, None, Result, Err, is_some, unwrap_or}
 use Rattle.std.specs.Option.{option_map, option_map_or}
 use Rattle.std.proofs.lemmas.Bool.{true≢false}
-use Rattle.path_normal.specs.PageText.{authority_of}
 use Rattle.robots_verdict.specs.declared.said.Said.{Said}
 use Rattle.robots_verdict.specs.declared.said.Said.TheVariants as says
 use Rattle.authority_cache.specs.declared.standing_answer.StandingAnswer.{StandingAnswer}

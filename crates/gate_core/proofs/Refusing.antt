@@ -1,6 +1,6 @@
 -- What the tables refuse, as the gate tells it.
 -- Used by `Book::grant` and `Book::open_turn`.
-use Rattle.std.proofs.Common.{◌≡◌, ◌≤◌, ℕ, Bool, true, false, List, refl, sym, ap, ◌∙◌, subst}
+use Rattle.std.proofs.Common.{◌≡◌, ◌≤◌, ℕ, false, List, sym, ap, ◌∙◌, subst}
 use Rattle.std.specs.Prelude.{◌&&◌, nat_le, not, IsErr, IsErrAnd, Result, Ok, Err}
 use Rattle.std.proofs.lemmas.Bool.{true≢false}
 use Rattle.authority_cache.specs.declared.refusal.BeginRefusal.{BeginRefusal as CacheRefusal}

@@ -1,6 +1,6 @@
 -- What a book keeps beside its history, and what ties each part to it.
 -- The invariant of `book.rt`.
-use Rattle.std.specs.Prelude.{◌≡◌, ℕ, ◌+◌, ◌≤◌, List, Option, length, vec_capacity}
+use Rattle.std.specs.Prelude.{◌≡◌, ℕ, ◌+◌, ◌≤◌, List, length, vec_capacity}
 use Rattle.authority_cache.specs.Lists.{TellsCache}
 use Rattle.permit_book.specs.Outstanding.{TellsPermits}
 use Rattle.permit_book.specs.Table.{held_count}

@@ -1,6 +1,6 @@
 -- The authorities of the turns in flight as the book keeps them once more, for the entries of their arrivals.
 -- Cited by the contracts of `Names`.
-use Rattle.std.specs.Prelude.{◌≡◌, ℕ, ◌==◌, All, List, Option, Some, None, if◌then◌else◌}
+use Rattle.std.specs.Prelude.{◌≡◌, ℕ, ◌==◌, All, List, Option, Some, if◌then◌else◌}
 use Rattle.std.specs.HashMap.{get}
 use Rattle.authority_cache.specs.declared.turn.Turn.{Turn}
 use Rattle.gate_core.specs.declared.names.Names.{Names}

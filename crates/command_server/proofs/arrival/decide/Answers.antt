@@ -1,6 +1,6 @@
 -- The walk goes on, decides at the last reply, or decides too early or not at all.
 -- The lemmas of `Walking` say so.
-use Rattle.std.proofs.Common.{◌≡◌, List, ℕ, Option, sym, ◌∙◌, subst, true≢false}
+use Rattle.std.proofs.Common.{Option, sym, ◌∙◌, subst, true≢false}
 use Rattle.robots_fetch.specs.declared.reply.RobotsReply.{RobotsReply}
 use Rattle.command_server.specs.Arrival.{TakesReply}
 use Rattle.command_server.proofs.Walking.{begin_walk, ends_early, ends_late, ends_well, go_on}

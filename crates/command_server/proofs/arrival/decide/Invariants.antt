@@ -1,5 +1,4 @@
 -- The walk over the replies so far goes on.
-use Rattle.robots_fetch.specs.declared.walk.Walk.{Walk}
 use Rattle.command_server.proofs.Walking.{IsUnderWay}
 use Rattle.command_server.proofs.arrival.decide.Given as goal
 use Rattle.std.proofs.Common.{length}

@@ -1,17 +1,16 @@
 -- The answer stands.
 -- The lemmas of `Keeping` say what that keeps.
-use Rattle.std.proofs.Common.{◌≡◌, ◌+◌, ◌<◌, ◌≤◌, ◌∷◌, ◌++◌, [], ℕ, List, true, false, Some, Ok, Err, length, sym, ap, ◌∙◌, subst, arith}
+use Rattle.std.proofs.Common.{◌≡◌, ◌∷◌, ◌++◌, [], ℕ, List, true, sym, ap, ◌∙◌, subst, arith}
 use Rattle.std.specs.Prelude.{Option, unwrap_or}
 use Rattle.robots_verdict.specs.Answer.{said}
 use Rattle.robots_verdict.specs.declared.said.Said.{Said}
-use Rattle.authority_cache.specs.Calls.{Arrives as CacheArrives, Changes}
+use Rattle.authority_cache.specs.Calls.{Changes}
 use Rattle.authority_cache.specs.Lives.{life_of}
 use Rattle.authority_cache.specs.Sites.{arrived, site_of}
 use Rattle.gate_history.specs.declared.entry.Entry.TheVariants.{Arrived}
 use Rattle.gate_history.specs.Standing.{has_turn}
 use Rattle.gate_core.specs.Gate.{Adds, Gate, history}
-use Rattle.gate_core.specs.Replies.{Arrives, moment_at}
-use Rattle.gate_core.proofs.Keeping.{adds_of, arrived_kept, late_moment, life_again, told, turn_named, turn_promised, turn_stands}
+use Rattle.gate_core.proofs.Keeping.{adds_of, arrived_kept, late_moment, life_again, turn_named, turn_promised, turn_stands}
 use Rattle.gate_core.proofs.Refusing.{arrives_refused}
 use Rattle.gate_core.proofs.book.Book.arrive.Goals as goal
 

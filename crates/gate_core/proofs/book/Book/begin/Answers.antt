@@ -1,6 +1,6 @@
 -- A begin is what its last step says.
 -- The lemmas of `Calling` say so.
-use Rattle.std.proofs.Common.{◌≡◌, ◌+◌, ◌<◌, ◌≤◌, ◌∙◌, ℕ, List, true, false, refl, sym, ap, subst, arith}
+use Rattle.std.proofs.Common.{◌∙◌, refl, sym}
 use Rattle.std.proofs.lemmas.Bool.{true≢false}
 use Rattle.gate_core.proofs.Calling.{begins_by, fetching_as, full}
 use Rattle.gate_core.proofs.book.Book.begin.Goals as goal

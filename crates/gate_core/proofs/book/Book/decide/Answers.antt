@@ -1,9 +1,9 @@
 -- What is found of the authority decides.
 -- The lemmas of `Looking` say so.
-use Rattle.std.proofs.Common.{◌≡◌, ◌∙◌, List, ℕ, Err, sym, ap, subst}
+use Rattle.std.proofs.Common.{◌∙◌, List, ℕ, sym, ap, subst}
 use Rattle.path_normal.specs.PageText.{authority_of}
 use Rattle.robots_verdict.specs.Answer.{said}
-use Rattle.gate_history.specs.Cause.{Decides, Judges}
+use Rattle.gate_history.specs.Cause.{Judges}
 use Rattle.gate_history.specs.Standing.{standing_of}
 use Rattle.gate_core.specs.Gate.{Gate, history}
 use Rattle.gate_core.proofs.Keeping.{told}

@@ -1,11 +1,11 @@
 -- A denied ask is an entry, and else nothing changes.
 -- The lemmas of `Keeping` say what that keeps.
-use Rattle.std.proofs.Common.{◌≡◌, ◌+◌, ◌≤◌, ◌∷◌, ◌++◌, [], ℕ, length, sym, ap, ◌∙◌, subst, arith}
+use Rattle.std.proofs.Common.{◌∷◌, ◌++◌, [], sym, ap, ◌∙◌, subst, arith}
 use Rattle.permit_book.specs.declared.out.Fetch.{Fetch}
 use Rattle.gate_history.specs.declared.entry.Entry.TheVariants.{AskDenied}
 use Rattle.gate_history.specs.Legal.{MayFollow}
 use Rattle.gate_core.specs.Gate.{Gate, HasRoom, history, promised}
-use Rattle.gate_core.proofs.Keeping.{ask_denied_kept, told}
+use Rattle.gate_core.proofs.Keeping.{ask_denied_kept}
 use Rattle.gate_core.proofs.book.Book.deny.Goals as goal
 
 pub invariant_of-self-2 : goal.invariant_of-self-2

@@ -1,6 +1,6 @@
 -- The permit is out no more.
 -- The lemmas of `Keeping` and `Ending` say what that keeps, and what is refused.
-use Rattle.std.proofs.Common.{◌≡◌, true, refl, sym, ap, ◌∙◌, subst}
+use Rattle.std.proofs.Common.{◌≡◌, true, refl, sym, ◌∙◌, subst}
 use Rattle.gate_history.specs.declared.entry.Entry.TheVariants.{Finished}
 use Rattle.gate_history.specs.Outstanding.{is_running}
 use Rattle.gate_core.specs.Gate.{Gate, history}

@@ -1,6 +1,6 @@
 -- The cache counts the turns in flight.
 -- The lemmas of `Keeping` say so.
-use Rattle.std.proofs.Common.{◌≡◌, ◌∙◌, length, ap}
+use Rattle.std.proofs.Common.{◌∙◌, length, ap}
 use Rattle.gate_history.specs.Standing.{in_flight}
 use Rattle.gate_core.specs.Gate.{Gate, history}
 use Rattle.gate_core.proofs.Keeping.{flights_many}

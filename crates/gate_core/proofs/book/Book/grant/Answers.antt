@@ -1,11 +1,10 @@
 -- The next number is granted.
 -- The lemmas of `Keeping` and `Refusing` say what that keeps, and what is refused.
-use Rattle.std.proofs.Common.{◌≡◌, ◌+◌, ◌<◌, ◌≤◌, ◌∷◌, ◌++◌, [], ℕ, length, sym, ap, ◌∙◌, subst, arith, Err}
+use Rattle.std.proofs.Common.{◌∷◌, ◌++◌, [], sym, ap, ◌∙◌, subst, arith, Err}
 use Rattle.path_normal.specs.PageText.{authority_of}
 use Rattle.permit_book.specs.declared.out.Fetch.{Fetch}
 use Rattle.gate_history.specs.declared.entry.Entry.TheVariants.{Granted}
 use Rattle.gate_core.specs.Gate.{Gate, HasRoom, held, history, promised}
-use Rattle.gate_core.specs.Kept.{gate_of}
 use Rattle.gate_core.specs.Opened.{Grants}
 use Rattle.gate_core.specs.Replies.{IsNext}
 use Rattle.gate_core.proofs.Keeping.{adds_of, granted_kept, held_many, kept_refused, next_is}

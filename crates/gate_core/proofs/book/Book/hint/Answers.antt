@@ -1,11 +1,10 @@
 -- The rules that were found are in force.
 -- The lemmas of `Looking` say so.
-use Rattle.std.proofs.Common.{◌≡◌, ◌∙◌, ℕ, List, Ok, Err, sym, ap, subst}
-use Rattle.std.specs.Prelude.{IfOk, IfSome, Option, Result}
+use Rattle.std.proofs.Common.{◌≡◌, ℕ, List, Ok, Err, sym, ap, subst}
+use Rattle.std.specs.Prelude.{IfOk, IfSome, Result}
 use Rattle.std.specs.Arc.{arc_value}
 use Rattle.std.specs.Result.{result_ok}
 use Rattle.robots_verdict.specs.Answer.{said}
-use Rattle.robots_verdict.specs.declared.said.Said.TheVariants as says
 use Rattle.gate_history.specs.Standing.{standing_of}
 use Rattle.gate_core.specs.Gate.{Gate, history}
 use Rattle.gate_core.specs.Replies.{moment_at}

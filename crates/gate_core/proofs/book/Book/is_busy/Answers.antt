@@ -1,6 +1,6 @@
 -- As many are counted for the authority as the history holds.
 -- The lemma `held_many` of `Keeping` says so.
-use Rattle.std.proofs.Common.{◌≡◌, ◌≤◌, ℕ, sym, ap, ◌∙◌, subst, arith}
+use Rattle.std.proofs.Common.{sym, ap, ◌∙◌, subst, arith}
 use Rattle.std.proofs.lemmas.Bool.{le-leb, leb-true}
 use Rattle.gate_core.specs.Gate.{Gate, held}
 use Rattle.gate_core.specs.Replies.{IsBusy}

@@ -1,6 +1,6 @@
 -- The cache says what the history says.
 -- The lemmas of `Looking` say so.
-use Rattle.std.proofs.Common.{◌≡◌, ◌∙◌, ap}
+use Rattle.std.proofs.Common.{◌∙◌, ap}
 use Rattle.gate_history.specs.Standing.{is_fetching}
 use Rattle.gate_core.specs.Gate.{Gate, history}
 use Rattle.gate_core.proofs.Looking.{fetching_is}

@@ -1,6 +1,6 @@
 -- The table says what the history says.
 -- The lemmas of `Keeping` say so.
-use Rattle.std.proofs.Common.{◌≡◌, ◌∙◌, ap}
+use Rattle.std.proofs.Common.{◌∙◌, ap}
 use Rattle.gate_history.specs.Outstanding.{is_running}
 use Rattle.gate_core.specs.Gate.{Gate, history}
 use Rattle.gate_core.proofs.Keeping.{reads}

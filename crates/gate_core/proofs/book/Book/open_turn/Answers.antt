@@ -1,17 +1,16 @@
 -- The turn begins.
 -- The lemmas of `Keeping` and `Refusing` say what that keeps, and what is refused.
-use Rattle.std.proofs.Common.{◌≡◌, ◌+◌, ◌≤◌, ◌∷◌, ◌++◌, [], ℕ, List, false, Some, Err, length, sym, ap, ◌∙◌, subst, arith, refl}
+use Rattle.std.proofs.Common.{◌≡◌, ◌+◌, ◌≤◌, ◌∷◌, ◌++◌, [], ℕ, List, false, Some, Err, sym, ap, ◌∙◌, subst, arith, refl}
 use Rattle.std.specs.Prelude.{Ok}
 use Rattle.authority_cache.specs.Calls.{Begins as CacheBegins}
 use Rattle.gate_history.specs.History.{begins, now}
 use Rattle.authority_cache.specs.declared.site.Flight.{Flight}
 use Rattle.gate_history.specs.declared.entry.Entry.TheVariants.{Begun}
 use Rattle.gate_history.specs.Standing.{in_flight, is_fetching}
-use Rattle.gate_core.specs.Gate.{Adds, Gate, HasRoom, history, promised}
+use Rattle.gate_core.specs.Gate.{Gate, HasRoom, history, promised}
 use Rattle.gate_core.specs.Names.{HasNames, Keeps, names_by}
 use Rattle.gate_core.specs.Opened.{OpensTurn}
 use Rattle.gate_core.specs.Refused.{begin_refusal}
-use Rattle.gate_core.specs.Replies.{cannot_know}
 use Rattle.gate_core.proofs.Keeping.{adds_of, begun_kept, kept_unchanged, still_named, told}
 use Rattle.gate_core.proofs.Refusing.{cache_same, may_open, opens_refused, same_err}
 use Rattle.gate_core.proofs.book.Book.open_turn.Goals as goal

@@ -1,7 +1,7 @@
 -- Both tables count what the history left open.
 -- The lemmas of `Keeping` say so.
-use Rattle.std.proofs.Common.{◌≡◌, ◌+◌, ◌*◌, ◌≤◌, ℕ, length, ap, arith}
-use Rattle.gate_core.specs.Gate.{Gate, history, promised, room}
+use Rattle.std.proofs.Common.{ap, arith}
+use Rattle.gate_core.specs.Gate.{Gate, history, promised}
 use Rattle.gate_core.proofs.Keeping.{few_promised, flights_many, running_many, unspent_many}
 use Rattle.gate_core.proofs.book.Book.promised.Goals as goal
 

@@ -1,6 +1,6 @@
 -- The table counts what the history left open.
 -- The lemmas of `Keeping` say so.
-use Rattle.std.proofs.Common.{◌≡◌, ◌∙◌, length, ap}
+use Rattle.std.proofs.Common.{◌∙◌, length, ap}
 use Rattle.gate_history.specs.Outstanding.{running}
 use Rattle.gate_core.specs.Gate.{Gate, history}
 use Rattle.gate_core.proofs.Keeping.{running_many}

@@ -1,6 +1,6 @@
 -- The table says what the history says.
 -- The lemmas of `Calling` say so.
-use Rattle.std.proofs.Common.{◌≡◌, ◌∙◌}
+use Rattle.std.proofs.Common.{◌∙◌}
 use Rattle.gate_core.proofs.Calling.{stands_as}
 use Rattle.gate_core.proofs.book.Book.stands.Goals as goal
 

@@ -1,6 +1,6 @@
 -- A start is what the permit and the answer say.
 -- The lemmas of `Calling` say so.
-use Rattle.std.proofs.Common.{◌≡◌, ◌∙◌, ℕ, Err, Ok, refl, sym, subst}
+use Rattle.std.proofs.Common.{◌∙◌, ℕ, Err, Ok, refl, sym, subst}
 use Rattle.gate_history.specs.declared.entry.Entry.TheVariants.{StartDenied, Started}
 use Rattle.gate_history.specs.Cause.{Decides}
 use Rattle.gate_core.specs.Gate.{Adds, history}

@@ -1,10 +1,9 @@
 -- What was found stands.
 -- The lemmas of `Looking` say so.
-use Rattle.std.proofs.Common.{◌≡◌, ℕ, List, sym, ap, ◌∙◌, subst}
+use Rattle.std.proofs.Common.{ℕ, sym, ◌∙◌, subst}
 use Rattle.robots_verdict.specs.Answer.{said}
-use Rattle.gate_history.specs.Standing.{is_fetching, standing_of}
+use Rattle.gate_history.specs.Standing.{standing_of}
 use Rattle.gate_core.specs.Gate.{Gate, history}
-use Rattle.gate_core.specs.Replies.{moment_at}
 use Rattle.gate_core.specs.States.{IsState, StandsAs}
 use Rattle.gate_core.proofs.Keeping.{told}
 use Rattle.gate_core.proofs.Looking.{fetching_is, none_stands, stands_as_expired, stands_as_said, stands_as_unknown, stands_in_force, stands_past}

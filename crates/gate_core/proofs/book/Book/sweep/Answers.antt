@@ -1,11 +1,10 @@
 -- The answers that the history says are gone are gone.
 -- The lemmas of `Keeping` say what that keeps.
-use Rattle.std.proofs.Common.{◌≡◌, ◌+◌, ◌≤◌, ◌∷◌, ◌++◌, [], ℕ, length, sym, ap, ◌∙◌, subst, arith}
+use Rattle.std.proofs.Common.{◌∷◌, ◌++◌, [], ℕ, sym, ap, ◌∙◌, subst, arith}
 use Rattle.gate_history.specs.declared.entry.Entry.TheVariants.{Swept}
 use Rattle.gate_history.specs.Standing.{past_count}
 use Rattle.gate_core.specs.Gate.{Adds, Gate, HasRoom, history, promised}
-use Rattle.gate_core.specs.Replies.{moment_at}
-use Rattle.gate_core.proofs.Keeping.{adds_of, late_moment, swept_kept, swept_many, told}
+use Rattle.gate_core.proofs.Keeping.{adds_of, late_moment, swept_kept, swept_many}
 use Rattle.gate_core.proofs.book.Book.sweep.Goals as goal
 
 pub invariant_of-self-2 : goal.invariant_of-self-2

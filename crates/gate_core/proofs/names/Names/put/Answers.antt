@@ -1,7 +1,6 @@
 -- The name is found under its turn, and the others where they were.
 -- Used by `Names::put`.
-use Rattle.std.proofs.Common.{◌≡◌, ◌==◌, ℕ, Option, Some, subst}
-use Rattle.std.specs.Prelude.{if◌then◌else◌}
+use Rattle.std.proofs.Common.{ℕ, Some, subst}
 use Rattle.gate_core.specs.Names.{Keeps, names_by}
 use Rattle.gate_core.proofs.names.Names.put.Goals as goal
 

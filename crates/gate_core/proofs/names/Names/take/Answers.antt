@@ -1,7 +1,6 @@
 -- The name is gone, and the others are where they were.
 -- Used by `Names::take`.
-use Rattle.std.proofs.Common.{◌≡◌, ◌==◌, ℕ, Option, None, subst}
-use Rattle.std.specs.Prelude.{if◌then◌else◌}
+use Rattle.std.proofs.Common.{ℕ, None, subst}
 use Rattle.gate_core.specs.Names.{Keeps, names_by}
 use Rattle.gate_core.proofs.names.Names.take.Goals as goal
 

@@ -1,6 +1,6 @@
 -- One more is counted for the authority, and the others stay.
 -- The lemma `adds_one` of `Counting` says so.
-use Rattle.std.proofs.Common.{◌≡◌, ◌+◌, Some, refl, sym, ap}
+use Rattle.std.proofs.Common.{◌+◌, Some, refl, sym, ap}
 use Rattle.std.specs.Prelude.{unwrap_or}
 use Rattle.gate_core.proofs.Counting.{adds_one}
 use Rattle.gate_core.proofs.places.Places.add.Goals as goal

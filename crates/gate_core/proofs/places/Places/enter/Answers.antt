@@ -1,6 +1,6 @@
 -- The first permit of an authority is counted, and the others stay.
 -- The lemma `adds_one` of `Counting` says so.
-use Rattle.std.proofs.Common.{◌≡◌, ◌+◌, List, ℕ, None, Some, OnOk, sym, ap, subst}
+use Rattle.std.proofs.Common.{◌≡◌, ◌+◌, List, ℕ, Some, OnOk, sym, ap, subst}
 use Rattle.std.specs.Prelude.{unwrap_or}
 use Rattle.gate_core.specs.Places.{AddsOne, held_by}
 use Rattle.gate_core.proofs.Counting.{adds_one}

@@ -1,6 +1,6 @@
 -- One less is counted for the authority, and the others stay.
 -- The lemma `takes_one` of `Counting` says so.
-use Rattle.std.proofs.Common.{◌≡◌, ◌-◌, ◌≤◌, None, Some, refl, sym, ap, arith}
+use Rattle.std.proofs.Common.{◌-◌, None, Some, refl, sym, ap, arith}
 use Rattle.std.specs.Prelude.{unwrap_or}
 use Rattle.gate_core.proofs.Counting.{takes_one}
 use Rattle.gate_core.proofs.places.Places.take.Goals as goal
