@@ -1,0 +1,4 @@
+-- Lemmas that several proofs share.
+pub mod Exporting
+pub mod Pushing
+pub mod Stripping

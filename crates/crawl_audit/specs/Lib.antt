@@ -1,0 +1,8 @@
+-- What the contracts of exports and audits cite.
+-- docs/FORMATS.md has the text.
+pub mod Body
+pub mod Spell
+pub mod Entries
+pub mod Exports
+pub mod Pieces
+pub mod Strips
