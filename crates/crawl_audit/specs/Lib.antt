@@ -4,5 +4,7 @@ pub mod Body
 pub mod Spell
 pub mod Entries
 pub mod Exports
+pub mod Laws
 pub mod Pieces
+pub mod Reading
 pub mod Strips

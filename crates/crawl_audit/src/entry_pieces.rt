@@ -4,16 +4,19 @@ ghost use Rattle.std.specs.Prelude.{◌≡◌, ◌<◌, ◌++◌, [], All, codes
 ghost use Rattle.robots_verdict.specs.declared.said.Said.{Said};
 ghost use Rattle.gate_history.specs.declared.entry.Entry.TheVariants.{AskDenied, Arrived, Begun, Finished, Granted, Returned, StartDenied, Started, Swept};
 ghost use Rattle.crawl_audit.specs.Pieces.{piece_text, pieces_text, told_said};
+ghost use Rattle.robots_verdict.specs.Answer.{said};
+ghost use Rattle.crawl_audit.specs.Reading.{entry_of};
 ghost use Rattle.crawl_audit.specs.Spell.{answer_fields, cause_fields, closure_word, entry_line, opening_word, reason_fields, spaced_fields};
 ghost use Rattle.crawl_audit.specs.Entries.{HasFields, IsCause, IsNumber, IsReason, IsSaid};
 
 use crate::body::body_word;
 use crate::pieces::{Piece, Pieces};
+use crate::record::Record;
 use crate::version::Version;
 use authority_cache::TurnNo;
 use gate_history::{Cause, Entry, Reason};
 use permit_book::PermitNo;
-use robots_verdict::{Closure, Opening, Said};
+use robots_verdict::{Answer, Closure, Opening, Said};
 
 const NONE: Piece<'static> = Piece::Text("");
 
@@ -75,6 +78,83 @@ pub(crate) fn entry_pieces(version: Version, entry: &Entry) -> Pieces<'_>
         Entry::Returned { number } => returned(version, *number),
         Entry::Finished { number } => finished(version, *number),
         Entry::Swept { moment, count } => swept(version, *moment, *count),
+    }
+}
+
+/// The line of an entry that was read.
+pub(crate) fn record_pieces(version: Version, found: &Record) -> Pieces<'_>
+    ensures text { pieces_text result ≡ entry_line version (entry_of found.now) }
+    ensures fields { HasFields (entry_of found.now) }
+{
+    match found {
+        Record::Begun {
+            moment,
+            authority,
+            turn,
+        } => begun(version, *moment, authority.text(), *turn),
+        Record::Arrived {
+            moment,
+            authority,
+            turn,
+            answer,
+            life,
+        } => arrived(
+            version,
+            *moment,
+            authority.text(),
+            *turn,
+            told_by(answer),
+            *life,
+        ),
+        Record::Granted {
+            moment,
+            number,
+            token,
+            url,
+        } => granted(
+            version,
+            *moment,
+            *number,
+            token.text().as_bytes(),
+            url.text().as_bytes(),
+        ),
+        Record::AskDenied {
+            moment,
+            token,
+            url,
+            cause,
+        } => ask_denied(
+            version,
+            *moment,
+            token.text().as_bytes(),
+            url.text().as_bytes(),
+            *cause,
+        ),
+        Record::Started {
+            moment,
+            number,
+            reason,
+        } => started(version, *moment, *number, *reason),
+        Record::StartDenied {
+            moment,
+            number,
+            cause,
+        } => start_denied(version, *moment, *number, *cause),
+        Record::Returned { number } => returned(version, *number),
+        Record::Finished { number } => finished(version, *number),
+        Record::Swept { moment, count } => swept(version, *moment, *count),
+    }
+}
+
+/// What an answer says.
+fn told_by(answer: &Answer) -> Told<'_>
+    ensures said { told_said result ≡ said answer.now }
+    ensures body { IsSaid (said answer.now) }
+{
+    match answer {
+        Answer::Rules(rules) => Told::Rules(octets(rules.policy().text().bytes())),
+        Answer::Open(opening) => Told::Open(*opening),
+        Answer::Closed(closure) => Told::Closed(*closure),
     }
 }
 

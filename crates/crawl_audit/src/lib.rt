@@ -5,7 +5,12 @@
 mod body;
 mod entry_pieces;
 mod export_text;
+mod fields;
+pub mod laws;
 mod pieces;
+mod read;
+mod record;
+mod unread;
 mod version;
 
 pub use export_text::export;
