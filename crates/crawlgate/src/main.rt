@@ -14,7 +14,8 @@ mod tests;
 
 use clap::error::ErrorKind;
 use command_server::replay;
-use counted_io::Counted;
+use counted_io::{Counted, Output};
+use crawl_audit::export;
 use ending::Ending;
 use gate_core::{Book, Config, Limits};
 use options::{Subcommand, options};
@@ -60,6 +61,7 @@ fn run(rt: &HostRuntime) -> io::Result<Ending> {
 fn run_words(rt: &HostRuntime, words: &[&str]) -> io::Result<Ending> {
     match options(rt.alloc(), words) {
         Ok(Subcommand::Replay(limits)) => Ok(replay_streams(rt, limits)),
+        Ok(Subcommand::Export(limits)) => Ok(export_streams(rt, limits)),
         Ok(Subcommand::Lines) => Ok(lines_streams(rt)),
         Err(error) if error.kind() == ErrorKind::OutOfMemory => Ok(Ending::NoMemory),
         Err(error) => {
@@ -82,6 +84,33 @@ fn replay_streams(rt: &HostRuntime, limits: Limits) -> Ending
     let mut reader = Counted::new(rt.stdin());
     let mut writer = Counted::new(rt.stdout());
     Ending::of(replay(rt.alloc(), &mut reader, &mut writer, &mut book))
+}
+
+// Replays standard input, and writes the history at the end to standard output, where no device
+// failed and memory sufficed.
+fn export_streams(rt: &HostRuntime, limits: Limits) -> Ending
+    requires { AreLimits limits }
+{
+    let Ok(keys) = RandomState::new(rt) else {
+        return Ending::Device;
+    };
+    let Ok(mut book) = Book::new(rt.alloc(), Config { limits, keys }) else {
+        return Ending::NoMemory;
+    };
+    // The room of the export's output is taken before a line is.
+    let Ok(mut output) = Output::new(rt.alloc()) else {
+        return Ending::NoMemory;
+    };
+    let mut reader = Counted::new(rt.stdin());
+    let mut replies = Counted::new(io::sink());
+    let ending = Ending::of(replay(rt.alloc(), &mut reader, &mut replies, &mut book));
+    match ending {
+        Ending::NoMemory | Ending::Device => ending,
+        _ => match export(&book, &mut output, &mut Counted::new(rt.stdout())) {
+            Ok(()) => ending,
+            Err(_) => Ending::Device,
+        },
+    }
 }
 
 // Writes the records of standard input to standard output.

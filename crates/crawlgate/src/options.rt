@@ -14,9 +14,11 @@ use std::alloc::{AllocError, Global};
 /// What the program is asked to do.
 #[derive(Clone, Copy, Debug, PartialEq, Eq)]
 pub enum Subcommand {
-    /// Reads replay lines from standard input, and writes their replies to standard output, on a
-    /// book of these limits.
+    /// Reads replay lines from standard input, on a book of these limits, and writes their replies
+    /// to standard output.
     Replay(Limits),
+    /// The same, but what is written is the text of the book's history at the end.
+    Export(Limits),
     /// Reads a robots text from standard input, and writes what each of its lines says.
     Lines,
 }
@@ -30,6 +32,7 @@ pub fn options<'a>(alloc: Global, words: &'a [&'a str]) -> Result<Subcommand, Er
     let matches = program.try_get_matches_from_mut(words)?;
     match matches.subcommand() {
         Some(("replay", replay)) => match limits_of(replay) {
+            Some(limits) if replay.get_flag("export") => Ok(Subcommand::Export(limits)),
             Some(limits) => Ok(Subcommand::Replay(limits)),
             // `clap` has refused such numbers.
             None => Err(program.error(ErrorKind::ValueValidation, "a number is out of its range")?),
@@ -70,7 +73,13 @@ fn program<'a>(alloc: Global) -> Result<Command<'a>, AllocError> {
             "65536",
             MAX_PLACES,
             "Permits that may be out for an authority at a time",
-        ))?;
+        ))?
+        .arg(
+            Arg::new(alloc, "export")
+                .long("export")
+                .action(ArgAction::SetTrue)
+                .help("Writes the history at the end, and no replies"),
+        )?;
     let lines = Command::new(alloc, "lines").about(
         "Writes what each line of the robots.txt on standard input says",
     );

@@ -16,8 +16,13 @@ const USUAL: Limits = Limits {
 };
 
 // What the words are, the words behind the program's name, and what they come to.
-const ROWS: [(&str, &[&str], Result<Subcommand, ErrorKind>); 14] = [
+const ROWS: [(&str, &[&str], Result<Subcommand, ErrorKind>); 15] = [
     ("replay", &["replay"], Ok(Subcommand::Replay(USUAL))),
+    (
+        "replay with its export",
+        &["replay", "--export"],
+        Ok(Subcommand::Export(USUAL)),
+    ),
     ("lines", &["lines"], Ok(Subcommand::Lines)),
     ("no word", &[], Err(ErrorKind::MissingSubcommand)),
     (

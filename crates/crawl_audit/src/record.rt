@@ -1,0 +1,58 @@
+//! An entry as a line brings it, with its token, its URL and its answer at hand.
+//! The history keeps their texts alone.
+
+use authority_cache::TurnNo;
+use gate_history::{Cause, Reason};
+use path_normal::{Authority, PageUrl};
+use permit_book::PermitNo;
+use robots_text::Token;
+use robots_verdict::Answer;
+
+/// An entry that was read.
+#[derive(Drop)]
+pub(crate) enum Record {
+    Begun {
+        moment: u64,
+        authority: Authority,
+        turn: TurnNo,
+    },
+    Arrived {
+        moment: u64,
+        authority: Authority,
+        turn: TurnNo,
+        answer: Answer,
+        life: u64,
+    },
+    Granted {
+        moment: u64,
+        number: PermitNo,
+        token: Token,
+        url: PageUrl,
+    },
+    AskDenied {
+        moment: u64,
+        token: Token,
+        url: PageUrl,
+        cause: Cause,
+    },
+    Started {
+        moment: u64,
+        number: PermitNo,
+        reason: Reason,
+    },
+    StartDenied {
+        moment: u64,
+        number: PermitNo,
+        cause: Cause,
+    },
+    Returned {
+        number: PermitNo,
+    },
+    Finished {
+        number: PermitNo,
+    },
+    Swept {
+        moment: u64,
+        count: u64,
+    },
+}
