@@ -1,13 +1,13 @@
 -- What contracts see of a desk and of the values that must be spent at it, and what an entry does to a desk.
 -- RFC 9309 has none of it: permits make each fetch look at the answer in force (2.4).
-use Rattle.std.specs.Prelude.{◌≡◌, ℕ, ◌+◌, List, [], ◌∷◌, ◌++◌}
+use Rattle.std.specs.Prelude.{◌≡◌, ℕ, ◌+◌, ◌*◌, ◌≤◌, List, [], ◌∷◌, ◌++◌, length}
 use Rattle.gate_history.specs.declared.entry.Entry.{Entry}
 use Rattle.gate_history.specs.declared.entry.Entry.TheVariants.{Begun, Arrived, Granted, AskDenied, Started, StartDenied, Returned, Finished, Swept}
 use Rattle.gate_history.specs.declared.outcome.Reason.{Reason}
 use Rattle.gate_history.specs.History.{entry_count}
-use Rattle.gate_core.specs.Gate.{Gate, history}
+use Rattle.gate_core.specs.Gate.{Gate, HasLegalHistory, history}
 use Rattle.gate_lock.specs.declared.mark.Mark.{Mark}
-use Rattle.gate_lock.specs.Marks.{mark_at}
+use Rattle.gate_lock.specs.Marks.{mark_at, starts_in}
 
 -- a permit, or a started fetch that was made: its number, its token and URL, and the desk that must spend it
 pub record Pass : Type 0 where
@@ -81,3 +81,17 @@ pub record Looks (d : DeskView) (g : Gate) (d2 : DeskView) : Type 0 where
 -- how many values a desk must still spend
 abbrev pub out_of : DeskView → ℕ
 out_of d = d.permits + d.runs + d.turns
+
+-- what is true of every desk: its shares count its marks; it made no more entries than it has seen; and there
+-- is room for the marks of what it must still spend, two for each permit and one for each run and turn
+pub record IsDesk (view : DeskView) (shares : Shares) (room : ℕ) : Type 0 where
+  pub entries_are : shares.entries ≡ length view.marks
+  pub starts_are : shares.starts ≡ starts_in view.marks
+  pub few : length view.marks ≤ view.seen
+  pub fits : length view.marks + (2 * view.permits + view.runs + view.turns) ≤ room
+
+-- a new desk, which has looked at the history of some gate
+abbrev pub IsNew : DeskView → Type 0
+IsNew d =
+    (g : Gate) × (HasLegalHistory g
+    × (d ≡ record { no = d.no; seen = entry_count (history g); permits = 0; runs = 0; turns = 0; marks = [] }))

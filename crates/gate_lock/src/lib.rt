@@ -2,12 +2,25 @@
 //! (RFC 9309, sections 2.2 to 2.4, in the profile of docs/POLICY.md).
 #![tactic(auto)]
 
+mod ask;
+mod desk;
+mod later;
 mod ledgers;
+mod lock;
 mod mark;
+mod receipts;
 mod round;
+mod spend;
+mod turns;
+mod look;
 mod shares;
 mod tally;
+mod tokens;
 
+pub use desk::Desk;
 pub use ledgers::{Five, Gate};
+pub use lock::{GateLock, Held};
 pub use mark::{Deed, Mark};
+pub use receipts::Receipts;
 pub use tally::{DesksFull, MAX_DESKS};
+pub use tokens::{Fetched, Permit, RobotsTurn, Running};

@@ -1,26 +1,36 @@
 //! What lies under the lock: the book, and the ledgers that count what is out.
 //! Each change is one call of the book with the shares that it moves; RFC 9309, sections 2.3.1 and 2.4.
-ghost use Rattle.std.specs.Prelude.{◌≡◌, ◌+◌, ◌<◌, [], Err, IfOk, Ok, OnErr, true};
+ghost use Rattle.std.specs.Prelude.{◌≡◌, ◌+◌, ◌<◌, ◌≤◌, ◌↔◌, [], Err, IfOk, IsTrue, Ok, OnErr, true, false};
 ghost use Rattle.robots_verdict.specs.Answer.{said, spares_of};
 ghost use Rattle.gate_history.specs.Base.{empty_base};
+ghost use Rattle.gate_history.specs.History.{entry_count, moment_of};
 ghost use Rattle.gate_history.specs.Outstanding.{is_running, is_unspent, stands};
 ghost use Rattle.gate_history.specs.Standing.{has_turn};
-ghost use Rattle.gate_core.specs.Gate.{HasLegalHistory, history};
+ghost use Rattle.gate_core.specs.Gate.{HasLegalHistory, HasRoom, history};
 ghost use Rattle.gate_core.specs.Replies.{Arrives, Asks, Begins, Finishes, Returns, Starts, Sweeps};
 ghost use Rattle.gate_lock.specs.Balance.{most_desks, nothing};
-ghost use Rattle.gate_lock.specs.Results.{entries_of_ask, entries_of_ok, reply_in};
+ghost use Rattle.gate_lock.specs.Results.{IsLast, entries_of_ask, entries_of_ok, is_denial, reply_in};
 
+use crate::later::entry_count;
 use crate::ledgers::Gate;
 use crate::shares::{Mine, One};
 use crate::tally::{DesksFull, Tally};
 use authority_cache::TurnNo;
 use gate_core::{AskRefusal, BeginRefusal, Book, Denial, Judged, Started, SweepRefusal};
+use gate_history::Entry;
 use gate_history::laws::{each_entry_counts, no_later_entry_closes};
 use path_normal::{Authority, PageUrl};
 use permit_book::PermitNo;
 use robots_text::Token;
 use robots_verdict::Answer;
 use std::marker::Model;
+
+// Where and when the last entry was made.
+#[derive(Clone, Copy)]
+pub(crate) struct Last {
+    pub place: u64,
+    pub moment: u64,
+}
 
 // The book, and the ledgers by which its numbers are the sums of what desks and values have.
 #[derive(Drop)]
@@ -224,5 +234,89 @@ impl<G: Gate> Round<G> {
             }
             Err(refusal) => Err(refusal),
         }
+    }
+
+    // How many entries the history has, from the first one ever.
+    pub fn entry_count(&self) -> u64
+        ensures { result ≡ entry_count (history self.now) }
+    {
+        entry_count(&self.book)
+    }
+
+    // The place and the moment of the last entry.
+    pub fn last(&self) -> Last
+        ensures { IsLast self.now result }
+    {
+        no_later_entry_closes();
+        let moment = match self.book.history().last() {
+            Some(entry) => moment_of(entry),
+            None => 0,
+        };
+        Last {
+            place: entry_count(&self.book).saturating_sub(1),
+            moment,
+        }
+    }
+
+    // Whether so many more entries fit under the limit of the log.
+    fn has_room(&self, more: u64) -> bool
+        requires { more ≤ 3 }
+        ensures { IsTrue result ↔ HasRoom self.now more }
+    {
+        let book = &self.book;
+        let limits = book.limits();
+        let entries = book.history().len() as u64;
+        let promised = book.flight_count() + 2 * book.unspent_count() + book.running_count();
+        entries + promised + more <= limits.log_limit
+    }
+
+    // What an ask is answered for which memory was refused before it was made.
+    pub fn refuse_ask(&self, judged: &Judged, moment: u64) -> AskRefusal
+        ensures reply { Asks self.now judged.now.token judged.now.url moment (Err result) self.now }
+        ensures no_entry { is_denial result ≡ false }
+    {
+        if self.has_room(3) {
+            return AskRefusal::NoMemory;
+        }
+        AskRefusal::LogFull
+    }
+
+    // What a begin is answered for which memory was refused before it was made.
+    pub fn refuse_begin(&self, authority: &Authority, moment: u64) -> BeginRefusal
+        ensures { Begins self.now authority.now moment (Err result) self.now }
+    {
+        if self.book.is_fetching(authority.text()) {
+            return BeginRefusal::InFlight;
+        }
+        if self.has_room(2) {
+            return BeginRefusal::NoMemory;
+        }
+        BeginRefusal::LogFull
+    }
+
+    // What a sweep is answered for which memory was refused before it was made.
+    pub fn refuse_sweep(&self, moment: u64) -> SweepRefusal
+        ensures { Sweeps self.now moment (Err result) self.now }
+    {
+        if self.has_room(1) {
+            return SweepRefusal::NoMemory;
+        }
+        SweepRefusal::LogFull
+    }
+}
+
+// The moment that an entry brings, 0 where it brings none.
+fn moment_of(entry: &Entry) -> u64
+    ensures { result ≡ moment_of entry.now }
+{
+    match entry {
+        Entry::Begun { moment, .. }
+        | Entry::Arrived { moment, .. }
+        | Entry::Granted { moment, .. }
+        | Entry::AskDenied { moment, .. }
+        | Entry::Started { moment, .. }
+        | Entry::StartDenied { moment, .. }
+        | Entry::Swept { moment, .. } => *moment,
+        Entry::Returned { .. } | Entry::Finished { .. } => 0,
     }
 }
