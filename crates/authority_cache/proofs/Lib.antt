@@ -1,5 +1,6 @@
 pub mod EntryLaws
 pub mod SiteLaws
+pub mod FoundLaws
 pub mod SweepLaws
 pub mod Telling
 pub mod Reading

@@ -1,10 +1,12 @@
 -- What each call on the cache may answer, and what it leaves: a relation by cases on the answer.
 -- RFC 9309, sections 2.3.1 and 2.4.
-use Rattle.std.specs.Prelude.{◌≡◌, ℕ, ◌+◌, Bool, true, false, not, ◌&&◌, nat_le, List, Some, None, Result, Ok, Err, if◌then◌else◌}
+use Rattle.std.specs.Prelude.{◌≡◌, ℕ, ◌+◌, Bool, true, false, not, ◌&&◌, nat_le, List, Some, None, Result, Ok, Err, IfSome, IfNone, if◌then◌else◌, option_and_then, slice_get, unwrap_or}
+use Rattle.std.specs.Map.{lookup}
 use Rattle.std.specs.Option.{option_map}
 use Rattle.std.specs.Str.{bytes_eq}
 use Rattle.robots_verdict.specs.Answer.{said}
 use Rattle.robots_verdict.specs.declared.said.Said.{Said}
+use Rattle.authority_cache.specs.declared.find.Found.{Found}
 use Rattle.authority_cache.specs.declared.look.Look.{Look}
 use Rattle.authority_cache.specs.declared.look.Look.TheVariants.{Unknown, Expired, InForce}
 use Rattle.authority_cache.specs.declared.refusal.BeginRefusal.{BeginRefusal}
@@ -24,6 +26,17 @@ pub record Changes (old : Known) (authority : List ℕ) (state : State) (new : K
   pub sites : (other : List ℕ) → site_of new other ≡ (if bytes_eq authority other then state else site_of old other)
   pub counts : (test : State → Bool) → test nothing ≡ false →
       count_of test new + one_if (test (site_of old authority)) ≡ count_of test old + one_if (test state)
+
+-- what is known of an authority that was found
+abbrev pub state_at : Known → Found → State
+state_at k found = unwrap_or (option_map (λ e. e.1) (option_and_then (slice_get k.sites) found.index)) nothing
+
+-- find: where the authority stands with what is known of it, or that it stands nowhere, and whether a
+-- turn of it is in flight
+pub record IsFound (k : Known) (authority : List ℕ) (found : Found) : Type 0 where
+  pub some : IfSome found.index (λ i. slice_get k.sites i ≡ Some (authority, site_of k authority))
+  pub none : IfNone found.index (lookup (bytes_eq authority) k.sites ≡ None)
+  pub fetching : found.is_fetching ≡ is_flying (site_of k authority)
 
 -- the authority is not known, and as many are as may be
 abbrev pub cannot_know : Known → List ℕ → Bool

@@ -3,10 +3,11 @@
 ghost use Rattle.std.specs.Prelude.{◌≡◌, ◌^◌, ◌<◌, ◌∷◌, ◌++◌, [], None, IfErr, OnErr, OnOk, length};
 ghost use Rattle.std.specs.HashMap.{get_by_text};
 ghost use Rattle.authority_cache.specs.Sites.{IsApart, nothing, with_flight};
-ghost use Rattle.authority_cache.specs.Calls.{Begins};
+ghost use Rattle.authority_cache.specs.Calls.{Begins, IsFound};
 ghost use Rattle.authority_cache.specs.Kept.{AllKnown, known_in, said_entries};
 
 use crate::cache::{Cache, Sites};
+use crate::find::Found;
 use crate::refusal::BeginRefusal;
 use crate::site::{Flight, Site};
 use crate::turn::TurnNo;
@@ -24,19 +25,42 @@ impl Cache {
             self.new }
         ensures apart { IsApart self.old }
     {
+        self.begin_at(self.find(authority.text()), authority, turn, moment)
+    }
+
+    /// The same, of an authority that was found.
+    pub fn begin_at(
+        &mut self,
+        found: Found,
+        authority: &Authority,
+        turn: TurnNo,
+        moment: u64,
+    ) -> Result<(), BeginRefusal>
+        requires { IsFound self.old authority.now found }
+        ensures reply { Begins self.old authority.now (record { turn = turn; begun = moment }) result
+            self.new }
+        ensures apart { IsApart self.old }
+    {
         let flight = Flight {
             turn,
             begun: moment,
         };
-        open(&mut self.sites, self.limit, authority.text(), flight)?;
+        open(&mut self.sites, self.limit, found, authority.text(), flight)?;
         self.flights += 1;
         Ok(())
     }
 }
 
 // Begins a turn, where a site that is new is not one too many.
-fn open(sites: &mut Sites, limit: u64, authority: &str, flight: Flight) -> Result<(), BeginRefusal>
-    requires { AllKnown sites.old.entries }
+fn open(
+    sites: &mut Sites,
+    limit: u64,
+    found: Found,
+    authority: &str,
+    flight: Flight,
+) -> Result<(), BeginRefusal>
+    requires all { AllKnown sites.old.entries }
+    requires found { IsFound (known_in limit sites.old.entries) authority.now found }
     ensures reply { Begins (known_in limit sites.old.entries) authority.now flight result
         (known_in limit sites.new.entries) }
     ensures known { AllKnown sites.new.entries }
@@ -44,14 +68,15 @@ fn open(sites: &mut Sites, limit: u64, authority: &str, flight: Flight) -> Resul
     ensures apart { IsApart (known_in limit sites.old.entries) }
 {
     let is_full = sites.len() as u64 >= limit;
-    match sites.get_mut(authority) {
-        Some(site) => site.begin(flight),
-        None => {
-            if is_full {
-                return Err(BeginRefusal::AuthoritiesFull);
-            }
-            add(sites, authority, flight)
+    let Some(index) = found.index else {
+        if is_full {
+            return Err(BeginRefusal::AuthoritiesFull);
         }
+        return add(sites, authority, flight);
+    };
+    match sites.get_index_mut(index) {
+        Some(site) => site.begin(flight),
+        None => unreachable!(),
     }
 }
 

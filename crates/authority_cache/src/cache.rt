@@ -1,9 +1,10 @@
 //! The cache: what is known of each authority, found by its text.
 //! RFC 9309, sections 2.3.1 and 2.4.
 ghost use Rattle.std.specs.Prelude.{◌≡◌, []};
-ghost use Rattle.authority_cache.specs.Sites.{IsApart, flight_count, is_flying, known_count, site_of};
+ghost use Rattle.authority_cache.specs.Sites.{IsApart, flight_count, has_turn, is_flying, known_count, site_of};
 
 use crate::site::Site;
+use crate::turn::TurnNo;
 use indexmap::IndexMap;
 use std::alloc::Global;
 use std::hash::RandomState;
@@ -50,8 +51,15 @@ impl Cache {
     pub fn in_flight(&self, authority: &str) -> bool
         ensures { result ≡ is_flying (site_of self.now authority.now) }
     {
+        self.find(authority).is_fetching
+    }
+
+    /// Whether the turn of this number is the authority's that is in flight.
+    pub fn has_turn(&self, authority: &str, turn: TurnNo) -> bool
+        ensures { result ≡ has_turn turn (site_of self.now authority.now) }
+    {
         match self.sites.get(authority) {
-            Some(site) => site.in_flight.is_some(),
+            Some(site) => site.has_turn(turn),
             None => false,
         }
     }

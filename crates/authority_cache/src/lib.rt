@@ -5,6 +5,7 @@
 mod arrive;
 mod begin;
 mod cache;
+mod find;
 pub mod laws;
 mod life;
 mod look;
@@ -15,6 +16,7 @@ mod sweep;
 mod turn;
 
 pub use cache::Cache;
+pub use find::Found;
 pub use life::{LEAST_LIFE, LIFE, life_of};
 pub use look::Look;
 pub use refusal::{BeginRefusal, Stale};

@@ -1,9 +1,10 @@
 //! A look at the answer that is in force for an authority.
 //! RFC 9309, section 2.4.
 ghost use Rattle.authority_cache.specs.Sites.{said_site};
-ghost use Rattle.authority_cache.specs.Calls.{Looks, LooksAt};
+ghost use Rattle.authority_cache.specs.Calls.{Looks, LooksAt, state_at};
 
 use crate::cache::Cache;
+use crate::find::Found;
 use crate::site::Site;
 use robots_verdict::Answer;
 
@@ -23,8 +24,18 @@ impl Cache {
     pub fn look(&self, authority: &str, moment: u64) -> Look<'_>
         ensures { Looks self.now authority.now moment result }
     {
-        match self.sites.get(authority) {
-            Some(site) => site.look(moment),
+        self.look_at(self.find(authority), moment)
+    }
+
+    /// The same, of an authority that was found.
+    pub fn look_at(&self, found: Found, moment: u64) -> Look<'_>
+        ensures { LooksAt (state_at self.now found) moment result }
+    {
+        let Some(index) = found.index else {
+            return Look::Unknown;
+        };
+        match self.sites.get_index(index) {
+            Some((_authority, site)) => site.look(moment),
             None => Look::Unknown,
         }
     }

@@ -57,6 +57,16 @@ impl Site {
         self.standing.is_some() || self.in_flight.is_some()
     }
 
+    /// Whether the turn of this number is in flight.
+    pub fn has_turn(&self, turn: TurnNo) -> bool
+        ensures { result ≡ has_turn turn (said_site self.now) }
+    {
+        match &self.in_flight {
+            Some(flight) => flight.turn == turn,
+            None => false,
+        }
+    }
+
     /// Whether the answer that stands is older than its life.
     pub fn has_past(&self, moment: u64) -> bool
         ensures { result ≡ has_past moment (said_site self.now) }

@@ -61,15 +61,15 @@ start_denied g new number token url m cause out decided adds = (refl, by _ (outs
     by Q false is = absurd (true≢false (sym is))
 
 -- an ask is what its last step says
-pub asks_by : (g : Gate) (token url : List ℕ) (m moment : ℕ) → moment ≡ moment_at g m → HasRoom g 3 → IsAllowed g token url m → HasPlace g url → (r : Result ℕ AskRefusal) (new : Gate) →
+pub asks_by : (g : Gate) (token url : List ℕ) (m moment : ℕ) → moment ≡ moment_at g m → HasRoom g 3 → IsAllowed g token url m → (r : Result ℕ AskRefusal) (new : Gate) →
     Grants g token url moment r new → Asks g token url m r new
-asks_by g token url m moment is room allowed place (Ok number) new grants =
-    (room, allowed, place, grants.0, subst (λ (t : ℕ). Adds g (Granted t number (record { token = token; url = url })) new) is grants.1)
-asks_by g token url m moment is room allowed place (Err ask.PermitsFull) new grants = (room, allowed, place, grants.0, grants.1)
-asks_by g token url m moment is room allowed place (Err ask.NoMemory) new grants = (room, grants)
-asks_by g token url m moment is room allowed place (Err ask.LogFull) new grants = absurd grants
-asks_by g token url m moment is room allowed place (Err ask.Busy) new grants = absurd grants
-asks_by g token url m moment is room allowed place (Err (ask.Denied d)) new grants = absurd grants
+asks_by g token url m moment is room allowed (Ok number) new grants =
+    (room, allowed, grants.0, grants.1, subst (λ (t : ℕ). Adds g (Granted t number (record { token = token; url = url })) new) is grants.2)
+asks_by g token url m moment is room allowed (Err ask.PermitsFull) new grants = (room, allowed, grants.0, grants.1, grants.2)
+asks_by g token url m moment is room allowed (Err ask.NoMemory) new grants = (room, grants)
+asks_by g token url m moment is room allowed (Err ask.Busy) new grants = (room, allowed, grants.0, grants.1)
+asks_by g token url m moment is room allowed (Err ask.LogFull) new grants = absurd grants
+asks_by g token url m moment is room allowed (Err (ask.Denied d)) new grants = absurd grants
 
 pub full : {a b : ℕ} → (a ≤ b → ⊥) → b < a
 full {a} {b} not = elim (cases_lt b a) [ inl less ↦ less | inr fits ↦ absurd (not fits) ]

@@ -35,14 +35,14 @@ use Rattle.gate_history.specs.declared.entry.Entry.{Entry}
 use Rattle.gate_history.specs.declared.entry.Entry.TheVariants.{Begun, Arrived, Granted, AskDenied, Started, StartDenied, Returned, Finished, Swept}
 use Rattle.gate_history.specs.declared.outcome.Cause.{Cause}
 use Rattle.gate_history.specs.declared.outcome.Reason.{Reason}
-use Rattle.gate_history.specs.History.{History, ◌▸◌, at_moment, begins, followed_by, from, now}
+use Rattle.gate_history.specs.History.{History, ◌▸◌, at_moment, begins, entry_count, followed_by, from, now, started_count}
 use Rattle.gate_history.specs.Legal.{IsLegal, MayFollow, SpendsAs}
 use Rattle.gate_history.specs.Outstanding.{greatest_in, running, unspent, was_granted}
 use Rattle.gate_history.specs.Laws.{StandsOnce}
 use Rattle.gate_history.specs.Standing.{has_turn as standing_turn, in_flight, is_fetching, past_count, standing}
 use Rattle.gate_history.proofs.EntryCounts.{each_entry_counts}
 use Rattle.gate_history.proofs.SealLaws as seals
-use Rattle.gate_history.proofs.Soundness.{stands_once}
+use Rattle.gate_history.proofs.Soundness.{leads_to_base, stands_once}
 use Rattle.gate_history.specs.Base.{Base, empty_base, IsBase}
 use Rattle.gate_core.specs.declared.book.Book.TheInside.{Inside}
 use Rattle.gate_core.specs.declared.config.Limits.{Limits}
@@ -58,19 +58,23 @@ pub followed_push : (h : History) (es : List Entry) (e : Entry) → followed_by 
 followed_push h [] e = refl
 followed_push h (first ∷ es) e = followed_push (h ▸ first) es e
 
+followed_count : (h : History) (es : List Entry) → entry_count (followed_by h es) ≡ entry_count h + length es
+followed_count h [] = omega arith
+followed_count h (first ∷ es) = omega (arith, followed_count (h ▸ first) es)
+
 -- the history of a book
 abbrev pub told : Inside → History
 told b = history (gate_of b)
 
 -- a book with one entry more is kept where its parts say what the longer history says
 pub kept_after : (b b' : Inside) (e : Entry) → IsKept b → MayFollow (told b) e → b'.limits ≡ b.limits → b'.base ≡ b.base → b'.entries.items ≡ b.entries.items ++ e ∷ [] →
-    b'.clock ≡ now (told b ▸ e) → b'.begins ≡ begins (told b ▸ e) → b'.begins ≤ length b.entries.items + 1 →
+    b'.clock ≡ now (told b ▸ e) → b'.begins ≡ begins (told b ▸ e) → b'.begins ≤ length b.entries.items + 1 → b'.starts ≡ started_count (told b ▸ e) →
     TellsCache b'.cache (standing (told b ▸ e)) (in_flight (told b ▸ e)) → b'.cache.limit ≡ b.cache.limit →
     TellsPermits b'.permits (unspent (told b ▸ e)) (running (told b ▸ e)) (greatest_in (told b ▸ e)) →
     length b'.permits.slots ≡ length b.permits.slots → b'.permits.first_generation ≡ b.permits.first_generation →
     HasNames (names_by b'.names) (in_flight (told b ▸ e)) → ((authority : List ℕ) → held_by b'.places authority ≡ held_count b'.permits authority) →
     length b.entries.items + 1 + promised (told b ▸ e) ≤ b.limits.log_limit → length b.entries.items + 1 + promised (told b ▸ e) ≤ vec_capacity b'.entries → IsKept b'
-kept_after b b' e kept fit same_limits same_base more clock count few cache limit permits slots first names places logged room =
+kept_after b b' e kept fit same_limits same_base more clock count few starts cache limit permits slots first names places logged room =
     let is : told b' ≡ told b ▸ e = (λ i. followed_by (from (same_base i)) (more i)) ∙ followed_push (from b.base) b.entries.items e in
     let many : length b'.entries.items ≡ length b.entries.items + 1 = ap length more ∙ pushed b.entries.items e in
     let same_promise = ap promised is in
@@ -80,6 +84,8 @@ kept_after b b' e kept fit same_limits same_base more clock count few cache limi
       clock = clock ∙ ap now (sym is);
       begins = count ∙ ap begins (sym is);
       few_begins = omega (arith, few, many);
+      starts = starts ∙ ap started_count (sym is);
+      sealed = let low = kept.sealed in omega (arith, low, ap (λ (base : Base). base.entries) same_base, ap (λ l. l.log_limit) same_limits);
       cache = subst (λ h. TellsCache b'.cache (standing h) (in_flight h)) (sym is) cache;
       authorities = limit ∙ kept.authorities ∙ ap (λ l. l.authority_limit) (sym same_limits);
       permits = subst (λ h. TellsPermits b'.permits (unspent h) (running h) (greatest_in h)) (sym is) permits;
@@ -98,13 +104,14 @@ kept_after b b' e kept fit same_limits same_base more clock count few cache limi
 -- ---- what one entry more leaves
 
 -- the book after an entry of the permits
-abbrev pub after : Inside → Vec Entry Global → ℕ → Table → Places → Inside
-after b entries clock permits places = record {
+abbrev pub after : Inside → Vec Entry Global → ℕ → ℕ → Table → Places → Inside
+after b entries clock starts permits places = record {
   limits = b.limits;
   base = b.base;
   entries = entries;
   clock = clock;
   begins = b.begins;
+  starts = starts;
   cache = b.cache;
   permits = permits;
   names = b.names;
@@ -146,13 +153,13 @@ module _ (b : Inside) (kept : IsKept b) (entries : Vec Entry Global) where
   -- an allowed start
   pub started_kept : (moment number : ℕ) (reason : Reason) (permits : Table) → MayFollow (told b) (Started moment number reason) → is_unspent b.permits number ≡ true →
       entries.items ≡ b.entries.items ++ Started moment number reason ∷ [] → vec_capacity entries ≡ vec_capacity b.entries →
-      permits ≡ with_out b.permits number (decided true (out_under b.permits number)) → IsKept (after b entries moment permits b.places)
+      permits ≡ with_out b.permits number (decided true (out_under b.permits number)) → IsKept (after b entries moment (b.starts + 1) permits b.places)
   started_kept moment number reason permits fit out more room is =
       let e : Entry = Started moment number reason in
       let counts = each_entry_counts (told b) e kept.legal fit in
       let logged = kept.logged in
       let entry_room = kept.entry_room in
-      kept_after b (after b entries moment permits b.places) e kept fit refl refl more (late_is moment (now (told b)) fit.0) kept.begins (let few = kept.few_begins in omega arith)
+      kept_after b (after b entries moment (b.starts + 1) permits b.places) e kept fit refl refl more (late_is moment (now (told b)) fit.0) kept.begins (let few = kept.few_begins in omega arith) (ap (λ n. n + 1) kept.starts)
       kept.cache refl
       (subst (λ (t : Table). TellsPermits t (unspent (told b ▸ e)) (running (told b ▸ e)) (greatest_in (told b ▸ e))) (sym is)
       (tables.started b.permits (unspent (told b)) (running (told b)) (greatest_in (told b)) number kept.permits out))
@@ -173,13 +180,13 @@ module _ (b : Inside) (kept : IsKept b) (entries : Vec Entry Global) where
   pub denied_kept : (moment number : ℕ) (cause : Cause) (permits : Table) (places : Places) → MayFollow (told b) (StartDenied moment number cause) → is_unspent b.permits number ≡ true →
       entries.items ≡ b.entries.items ++ StartDenied moment number cause ∷ [] → vec_capacity entries ≡ vec_capacity b.entries →
       permits ≡ with_out b.permits number (decided false (out_under b.permits number)) →
-      Leaves (held_by b.places) (out_under b.permits number) (held_by places) → IsKept (after b entries moment permits places)
+      Leaves (held_by b.places) (out_under b.permits number) (held_by places) → IsKept (after b entries moment b.starts permits places)
   denied_kept moment number cause permits places fit out more room is left =
       let e : Entry = StartDenied moment number cause in
       let counts = each_entry_counts (told b) e kept.legal fit in
       let logged = kept.logged in
       let entry_room = kept.entry_room in
-      kept_after b (after b entries moment permits places) e kept fit refl refl more (late_is moment (now (told b)) fit.0) kept.begins (let few = kept.few_begins in omega arith)
+      kept_after b (after b entries moment b.starts permits places) e kept fit refl refl more (late_is moment (now (told b)) fit.0) kept.begins (let few = kept.few_begins in omega arith) kept.starts
       kept.cache refl
       (subst (λ (t : Table). TellsPermits t (unspent (told b ▸ e)) (running (told b ▸ e)) (greatest_in (told b ▸ e))) (sym is)
       (tables.returned b.permits (unspent (told b)) (running (told b)) (greatest_in (told b)) number kept.permits out))
@@ -191,14 +198,14 @@ module _ (b : Inside) (kept : IsKept b) (entries : Vec Entry Global) where
   pub returned_kept : (number : ℕ) (permits : Table) (places : Places) → is_unspent b.permits number ≡ true →
       entries.items ≡ b.entries.items ++ Returned number ∷ [] → vec_capacity entries ≡ vec_capacity b.entries →
       permits ≡ with_out b.permits number Nothing →
-      Leaves (held_by b.places) (out_under b.permits number) (held_by places) → IsKept (after b entries b.clock permits places)
+      Leaves (held_by b.places) (out_under b.permits number) (held_by places) → IsKept (after b entries b.clock b.starts permits places)
   returned_kept number permits places out more room is left =
       let e : Entry = Returned number in
       let fit = sym (reads.unspent_numbers number) ∙ out in
       let counts = each_entry_counts (told b) e kept.legal fit in
       let logged = kept.logged in
       let entry_room = kept.entry_room in
-      kept_after b (after b entries b.clock permits places) e kept fit refl refl more (kept.clock ∙ early_is (now (told b))) kept.begins (let few = kept.few_begins in omega arith)
+      kept_after b (after b entries b.clock b.starts permits places) e kept fit refl refl more (kept.clock ∙ early_is (now (told b))) kept.begins (let few = kept.few_begins in omega arith) kept.starts
       kept.cache refl
       (subst (λ (t : Table). TellsPermits t (unspent (told b ▸ e)) (running (told b ▸ e)) (greatest_in (told b ▸ e))) (sym is)
       (tables.returned b.permits (unspent (told b)) (running (told b)) (greatest_in (told b)) number kept.permits out))
@@ -210,14 +217,14 @@ module _ (b : Inside) (kept : IsKept b) (entries : Vec Entry Global) where
   pub finished_kept : (number : ℕ) (permits : Table) (places : Places) → is_running b.permits number ≡ true →
       entries.items ≡ b.entries.items ++ Finished number ∷ [] → vec_capacity entries ≡ vec_capacity b.entries →
       permits ≡ with_out b.permits number Nothing →
-      Leaves (held_by b.places) (out_under b.permits number) (held_by places) → IsKept (after b entries b.clock permits places)
+      Leaves (held_by b.places) (out_under b.permits number) (held_by places) → IsKept (after b entries b.clock b.starts permits places)
   finished_kept number permits places out more room is left =
       let e : Entry = Finished number in
       let fit = sym (reads.running_numbers number) ∙ out in
       let counts = each_entry_counts (told b) e kept.legal fit in
       let logged = kept.logged in
       let entry_room = kept.entry_room in
-      kept_after b (after b entries b.clock permits places) e kept fit refl refl more (kept.clock ∙ early_is (now (told b))) kept.begins (let few = kept.few_begins in omega arith)
+      kept_after b (after b entries b.clock b.starts permits places) e kept fit refl refl more (kept.clock ∙ early_is (now (told b))) kept.begins (let few = kept.few_begins in omega arith) kept.starts
       kept.cache refl
       (subst (λ (t : Table). TellsPermits t (unspent (told b ▸ e)) (running (told b ▸ e)) (greatest_in (told b ▸ e))) (sym is)
       (tables.finished b.permits (unspent (told b)) (running (told b)) (greatest_in (told b)) number kept.permits out))
@@ -228,21 +235,21 @@ module _ (b : Inside) (kept : IsKept b) (entries : Vec Entry Global) where
   -- a denied ask
   pub ask_denied_kept : (moment : ℕ) (fetch : Fetch) (cause : Cause) → MayFollow (told b) (AskDenied moment fetch cause) →
       entries.items ≡ b.entries.items ++ AskDenied moment fetch cause ∷ [] → length b.entries.items + 1 + promised (told b) ≤ vec_capacity entries →
-      length b.entries.items + promised (told b) + 3 ≤ b.limits.log_limit → IsKept (after b entries moment b.permits b.places)
+      length b.entries.items + promised (told b) + 3 ≤ b.limits.log_limit → IsKept (after b entries moment b.starts b.permits b.places)
   ask_denied_kept moment fetch cause fit more room free =
       let e : Entry = AskDenied moment fetch cause in
-      kept_after b (after b entries moment b.permits b.places) e kept fit refl refl more (late_is moment (now (told b)) fit.0) kept.begins (let few = kept.few_begins in omega arith)
+      kept_after b (after b entries moment b.starts b.permits b.places) e kept fit refl refl more (late_is moment (now (told b)) fit.0) kept.begins (let few = kept.few_begins in omega arith) kept.starts
       kept.cache refl kept.permits refl refl kept.names kept.places (omega (arith, free)) room
 
   -- a grant of the next number
   pub granted_kept : (moment number : ℕ) (fetch : Fetch) (permits : Table) (places : Places) → MayFollow (told b) (Granted moment number fetch) → IsNext b.permits number →
       entries.items ≡ b.entries.items ++ Granted moment number fetch ∷ [] → length b.entries.items + 3 + promised (told b) ≤ vec_capacity entries →
       length b.entries.items + promised (told b) + 3 ≤ b.limits.log_limit →
-      permits ≡ with_out b.permits number (Unspent fetch) → AddsOne (held_by b.places) (authority_of fetch.url) (held_by places) → IsKept (after b entries moment permits places)
+      permits ≡ with_out b.permits number (Unspent fetch) → AddsOne (held_by b.places) (authority_of fetch.url) (held_by places) → IsKept (after b entries moment b.starts permits places)
   granted_kept moment number fetch permits places fit is_next more room free is adds =
       let e : Entry = Granted moment number fetch in
       let counts = each_entry_counts (told b) e kept.legal fit in
-      kept_after b (after b entries moment permits places) e kept fit refl refl more (late_is moment (now (told b)) fit.0) kept.begins (let few = kept.few_begins in omega arith)
+      kept_after b (after b entries moment b.starts permits places) e kept fit refl refl more (late_is moment (now (told b)) fit.0) kept.begins (let few = kept.few_begins in omega arith) kept.starts
       kept.cache refl
       (subst (λ (t : Table). TellsPermits t (unspent (told b ▸ e)) (running (told b ▸ e)) (greatest_in (told b ▸ e))) (sym is)
       (tables.granted b.permits (unspent (told b)) (running (told b)) (greatest_in (told b)) number fetch kept.permits is_next))
@@ -290,12 +297,19 @@ module _ (b : Inside) (kept : IsKept b) where
   pub few_promised : length b.entries.items + promised (told b) ≤ 1000000
   few_promised = let logged = kept.logged in let few = kept.limits.entries in omega arith
 
+  -- no more entries were ever made than a number holds, and no more starts than entries
+  pub entries_many : entry_count (told b) ≡ b.base.entries + length b.entries.items
+  entries_many = followed_count (from b.base) b.entries.items
+
+  pub few_starts : b.starts ≤ entry_count (told b)
+  few_starts = let counts = (leads_to_base (told b) kept.legal).counts in let starts = kept.starts in omega arith
+
 -- ---- a book that is new
 
 pub kept_new : (limits : Limits) (base : Base) (entries : Vec Entry Global) (cache : Known) (permits : Table) (names : Names) (places : Places) → AreLimits limits → base ≡ empty_base → IsBase base →
     entries.items ≡ [] → cache.limit ≡ limits.authority_limit → cache.sites ≡ [] → permits.slots ≡ replicate limits.slots unused → permits.first_generation ≡ limits.first_generation →
     ((authority : List ℕ) → held_by places authority ≡ 0) →
-    IsKept (record { limits = limits; base = base; entries = entries; clock = 0; begins = 0; cache = cache; permits = permits; names = names; places = places })
+    IsKept (record { limits = limits; base = base; entries = entries; clock = 0; begins = 0; starts = 0; cache = cache; permits = permits; names = names; places = places })
 kept_new limits base entries cache permits names places are base_is is_base none limit sites slots first none_held =
     let h : followed_by (from base) entries.items ≡ from empty_base = λ i. followed_by (from (base_is i)) (none i) in
     let empty : length entries.items ≡ 0 = ap length none in
@@ -309,6 +323,8 @@ kept_new limits base entries cache permits names places are base_is is_base none
       clock = sym (ap now h);
       begins = sym (ap begins h);
       few_begins = omega arith;
+      starts = sym (ap started_count h);
+      sealed = let few = are.entries in omega (arith, few, ap (λ (b : Base). b.entries) base_is);
       cache = subst (λ (g : History). TellsCache cache (standing g) (in_flight g)) (sym h) (subst (λ (k : Known). TellsCache k [] []) (sym known) (telling.new limits.authority_limit));
       authorities = limit;
       permits = subst (λ (g : History). TellsPermits permits (unspent g) (running g) (greatest_in g)) (sym h)
@@ -332,6 +348,7 @@ after_turn b entries clock begins cache names = record {
   entries = entries;
   clock = clock;
   begins = begins;
+  starts = b.starts;
   cache = cache;
   permits = b.permits;
   names = names;
@@ -414,7 +431,7 @@ module _ (b : Inside) (kept : IsKept b) (entries : Vec Entry Global) (cache : Kn
       let fit : MayFollow (told b) e = (late, idle, ap (λ n. n + 1) kept.begins) in
       let counts = each_entry_counts (told b) e kept.legal fit in
       kept_after b (after_turn b entries moment (b.begins + 1) cache names) e kept fit refl refl more (late_is moment (now (told b)) late) (ap (λ n. n + 1) kept.begins)
-      (let few = kept.few_begins in omega arith)
+      (let few = kept.few_begins in omega arith) kept.starts
       (telling.begun b.cache cache (standing (told b)) (in_flight (told b)) authority flight kept.cache flying changes) changes.limit
       kept.permits refl refl
       (All-push (λ t. names_by names t.turn ≡ Some t.authority) (in_flight (told b)) (turn_for authority flight)
@@ -438,7 +455,7 @@ module _ (b : Inside) (kept : IsKept b) (entries : Vec Entry Global) (cache : Kn
       let counts = each_entry_counts (told b) e kept.legal fit in
       let logged = kept.logged in
       let entry_room = kept.entry_room in
-      kept_after b (after_turn b entries moment b.begins cache names) e kept fit refl refl more (late_is moment (now (told b)) late) kept.begins (let few = kept.few_begins in omega arith)
+      kept_after b (after_turn b entries moment b.begins cache names) e kept fit refl refl more (late_is moment (now (told b)) late) kept.begins (let few = kept.few_begins in omega arith) kept.starts
       (telling.arrives b.cache cache (standing (told b)) (in_flight (told b)) authority turn life says kept.cache flying (once.own_turn authority turn stands) changes) changes.limit
       kept.permits refl refl
       (kept_others (names_by b.names) (names_by names) turn None (filter (λ t. not (has_number turn t)) (in_flight (told b))) keeps (others_left turn (in_flight (told b)))
@@ -452,7 +469,7 @@ module _ (b : Inside) (kept : IsKept b) (entries : Vec Entry Global) (cache : Kn
       length b.entries.items + promised (told b) + 1 ≤ b.limits.log_limit → IsKept (after_turn b entries moment b.begins cache b.names)
   swept_kept moment count late is sweeps more room free =
       let e : Entry = Swept moment count in
-      kept_after b (after_turn b entries moment b.begins cache b.names) e kept (late, is) refl refl more (late_is moment (now (told b)) late) kept.begins (let few = kept.few_begins in omega arith)
+      kept_after b (after_turn b entries moment b.begins cache b.names) e kept (late, is) refl refl more (late_is moment (now (told b)) late) kept.begins (let few = kept.few_begins in omega arith) kept.starts
       (telling.swept_away b.cache cache (standing (told b)) (in_flight (told b)) moment count kept.cache sweeps) sweeps.limit
       kept.permits refl refl kept.names kept.places (omega (arith, free)) room
 
@@ -479,6 +496,8 @@ kept_unchanged b kept entries cache names same room still named =
       clock = kept.clock ∙ ap now (sym h);
       begins = kept.begins ∙ ap begins (sym h);
       few_begins = omega (arith, few, many);
+      starts = kept.starts ∙ ap started_count (sym h);
+      sealed = kept.sealed;
       cache = subst (λ (g : History). TellsCache cache (standing g) (in_flight g)) (sym h) (subst (λ (k : Known). TellsCache k (standing (told b)) (in_flight (told b))) (sym still) kept.cache);
       authorities = ap (λ (k : Known). k.limit) still ∙ kept.authorities;
       permits = subst (λ (g : History). TellsPermits b.permits (unspent g) (running g) (greatest_in g)) (sym h) kept.permits;
@@ -492,15 +511,17 @@ kept_unchanged b kept entries cache names same room still named =
 
 -- nothing but room for entries and for a count: the book is kept as it was
 pub kept_refused : (b : Inside) → IsKept b → (entries : Vec Entry Global) (permits : Table) (places : Places) → entries.items ≡ b.entries.items → vec_capacity b.entries ≤ vec_capacity entries →
-    permits ≡ b.permits → held_by places ≡ held_by b.places → IsKept (after b entries b.clock permits places)
+    permits ≡ b.permits → held_by places ≡ held_by b.places → IsKept (after b entries b.clock b.starts permits places)
 kept_refused b kept entries permits places same room still counted =
     let u = kept_unchanged b kept entries b.cache b.names same room refl kept.names in
-    subst (λ (t : Table). IsKept (after b entries b.clock t places)) (sym still) (record {
+    subst (λ (t : Table). IsKept (after b entries b.clock b.starts t places)) (sym still) (record {
       limits = u.limits;
       legal = u.legal;
       clock = u.clock;
       begins = u.begins;
       few_begins = u.few_begins;
+      starts = u.starts;
+      sealed = u.sealed;
       cache = u.cache;
       authorities = u.authorities;
       permits = u.permits;

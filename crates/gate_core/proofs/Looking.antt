@@ -8,14 +8,14 @@ use Rattle.robots_verdict.specs.declared.said.Said.{Said}
 use Rattle.robots_verdict.specs.declared.said.Said.TheVariants as says
 use Rattle.authority_cache.specs.declared.standing_answer.StandingAnswer.{StandingAnswer}
 use Rattle.authority_cache.specs.Lists.{answer_for, is_past_answer}
-use Rattle.authority_cache.specs.Sites.{Answered, has_past, is_flying, is_past, site_of, State}
+use Rattle.authority_cache.specs.Sites.{Answered, has_past, has_turn, is_flying, is_past, site_of, State}
 use Rattle.authority_cache.proofs.Reading as reading
 use Rattle.gate_history.specs.declared.outcome.Cause.{Cause}
 use Rattle.gate_history.specs.declared.outcome.Cause.TheVariants as causes
 use Rattle.gate_history.specs.declared.outcome.Reason.{Reason}
 use Rattle.gate_history.specs.Cause.{Judges, Says}
 use Rattle.gate_history.specs.History.{History}
-use Rattle.gate_history.specs.Standing.{in_flight, is_fetching, standing, standing_of}
+use Rattle.gate_history.specs.Standing.{has_turn as standing_turn, in_flight, is_fetching, standing, standing_of}
 use Rattle.gate_core.specs.declared.book.Book.TheInside.{Inside}
 use Rattle.gate_core.specs.declared.state.Standing.TheVariants as standings
 use Rattle.gate_core.specs.Kept.{IsKept}
@@ -104,3 +104,6 @@ fetching_is b kept authority = (reading.reads_alike b.cache (standing (told b)) 
 
 pub rules_in_force : (h : History) (authority : List ℕ) (moment : ℕ) (text : List ℕ) → IsInForce (standing_of h authority) moment (says.Rules text) → HasRulesInForce h authority moment text
 rules_in_force h authority moment text force = record { answer = force.answer; stands = force.stands; in_force = force.in_force; rules = force.said }
+
+pub turn_is : (b : Inside) → IsKept b → (authority : List ℕ) (turn : ℕ) → has_turn turn (site_of b.cache authority) ≡ standing_turn (told b) authority turn
+turn_is b kept authority turn = (reading.reads_alike b.cache (standing (told b)) (in_flight (told b)) kept.cache).turns authority turn

@@ -1,6 +1,6 @@
 -- What the tables refuse, as the gate tells it.
 -- Used by `Book::grant` and `Book::open_turn`.
-use Rattle.std.proofs.Common.{◌≡◌, ◌≤◌, ℕ, false, List, sym, ap, ◌∙◌, subst}
+use Rattle.std.proofs.Common.{◌≡◌, ◌<◌, ◌≤◌, ℕ, false, List, sym, ap, ◌∙◌, subst, arith}
 use Rattle.std.specs.Prelude.{◌&&◌, nat_le, not, IsErr, IsErrAnd, Result, Ok, Err}
 use Rattle.std.proofs.lemmas.Bool.{true≢false}
 use Rattle.authority_cache.specs.declared.refusal.BeginRefusal.{BeginRefusal as CacheRefusal}
@@ -18,6 +18,7 @@ use Rattle.gate_history.specs.History.{now}
 use Rattle.gate_history.specs.declared.entry.Entry.TheVariants.{Granted}
 use Rattle.gate_history.specs.declared.outcome.Reason.{Reason}
 use Rattle.gate_history.specs.Legal.{MayFollow}
+use Rattle.path_normal.specs.PageText.{authority_of}
 use Rattle.permit_book.specs.declared.out.Fetch.{Fetch}
 use Rattle.permit_book.specs.Next.{IsNext}
 use Rattle.gate_core.specs.declared.book.Book.TheInside.{Inside}
@@ -27,18 +28,25 @@ use Rattle.gate_core.specs.Gate.{Gate, history}
 use Rattle.gate_core.specs.Kept.{gate_of, IsKept}
 use Rattle.gate_core.specs.Opened.{Grants, OpensTurn, RefusesGrant}
 use Rattle.gate_core.specs.Refused.{begin_refusal}
-use Rattle.gate_core.specs.Replies.{Arrives, cannot_know, NoneFree}
-use Rattle.gate_core.proofs.Keeping.{next_new, none_free_is, told}
+use Rattle.gate_core.specs.Places.{held_by}
+use Rattle.gate_core.specs.Replies.{Arrives, cannot_know, HasPlace, IsBusy, NoneFree}
+use Rattle.gate_core.proofs.Keeping.{held_many, next_new, none_free_is, told}
 
 pub same_err : {A E : Type 0} (r : Result A E) (x : E) → IsErr r → IsErrAnd r (λ y. y ≡ x) → r ≡ Err x
 same_err (Ok n) x is and = absurd (true≢false (sym is))
 same_err (Err y) x is and = ap Err and
 
-pub refuses_grant : (b : Inside) → IsKept b → (g : Gate) → gate_of b ≡ g → (token url : List ℕ) (moment : ℕ) (x : AskRefusal) → RefusesGrant b.permits x → Grants g token url moment (Err x) (gate_of b)
-refuses_grant b kept g is token url moment ask.PermitsFull none = (subst NoneFree is (none_free_is b kept b.entries none), is)
+-- an authority has a place where the book counts fewer than the most
+pub has_place : (b : Inside) → IsKept b → (g : Gate) → gate_of b ≡ g → (url : List ℕ) → held_by b.places (authority_of url) < b.limits.places → HasPlace g url
+has_place b kept g is url few = let many = held_many b kept (authority_of url) in subst (λ (g : Gate). HasPlace g url) is (omega (arith, few, many))
+
+pub refuses_grant : (b : Inside) → IsKept b → (g : Gate) → gate_of b ≡ g → (token url : List ℕ) (moment : ℕ) (x : AskRefusal) →
+    RefusesGrant b.permits (held_by b.places (authority_of url)) b.limits.places x → Grants g token url moment (Err x) (gate_of b)
+refuses_grant b kept g is token url moment ask.PermitsFull none = (has_place b kept g is url none.0, subst NoneFree is (none_free_is b kept b.entries none.1), is)
 refuses_grant b kept g is token url moment ask.NoMemory none = is
 refuses_grant b kept g is token url moment ask.LogFull none = absurd none
-refuses_grant b kept g is token url moment ask.Busy none = absurd none
+refuses_grant b kept g is token url moment ask.Busy none =
+    let many = held_many b kept (authority_of url) in (subst (λ (g : Gate). IsBusy g url) is (omega (arith, none, many)), is)
 refuses_grant b kept g is token url moment (ask.Denied d) none = absurd none
 
 -- a grant of the next number is legal

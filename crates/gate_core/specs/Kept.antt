@@ -1,16 +1,16 @@
 -- What a book keeps beside its history, and what ties each part to it.
 -- The invariant of `book.rt`.
-use Rattle.std.specs.Prelude.{◌≡◌, ℕ, ◌+◌, ◌≤◌, List, length, vec_capacity}
+use Rattle.std.specs.Prelude.{◌≡◌, ℕ, ◌+◌, ◌<◌, ◌≤◌, List, length, vec_capacity}
 use Rattle.authority_cache.specs.Lists.{TellsCache}
 use Rattle.permit_book.specs.Outstanding.{TellsPermits}
 use Rattle.permit_book.specs.Table.{held_count}
-use Rattle.gate_history.specs.History.{begins, now}
+use Rattle.gate_history.specs.History.{begins, now, started_count}
 use Rattle.gate_history.specs.Legal.{IsLegal}
 use Rattle.gate_history.specs.Outstanding.{greatest_in, running, unspent}
 use Rattle.gate_history.specs.Standing.{in_flight, standing}
 use Rattle.gate_core.specs.declared.book.Book.TheInside.{Inside}
 use Rattle.gate_core.specs.Gate.{Gate, history, promised}
-use Rattle.gate_core.specs.Limits.{AreLimits}
+use Rattle.gate_core.specs.Limits.{AreLimits, greatest_number}
 use Rattle.gate_core.specs.Names.{HasNames, names_by}
 use Rattle.gate_core.specs.Places.{held_by}
 
@@ -25,6 +25,8 @@ pub record IsKept (b : Inside) : Type 0 where
   pub clock : b.clock ≡ now (history (gate_of b))
   pub begins : b.begins ≡ begins (history (gate_of b))
   pub few_begins : b.begins ≤ length b.entries.items
+  pub starts : b.starts ≡ started_count (history (gate_of b))
+  pub sealed : b.base.entries + b.limits.log_limit < greatest_number
   pub cache : TellsCache b.cache (standing (history (gate_of b))) (in_flight (history (gate_of b)))
   pub authorities : b.cache.limit ≡ b.limits.authority_limit
   pub permits : TellsPermits b.permits (unspent (history (gate_of b))) (running (history (gate_of b))) (greatest_in (history (gate_of b)))

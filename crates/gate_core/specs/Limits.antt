@@ -16,6 +16,10 @@ most_authorities = 65536
 abbrev pub most_places : ℕ
 most_places = 65536
 
+-- the greatest number that counts entries: that of 64 bits
+abbrev pub greatest_number : ℕ
+greatest_number = 18446744073709551615
+
 -- the limits that stand where nobody chose others
 abbrev pub usual_limits : Limits
 usual_limits = record { slots = 1024; first_generation = 1; log_limit = 1000000; authority_limit = 65536; places = 65536 }

@@ -1,6 +1,6 @@
 -- The last steps of a begin and of an ask, once all that comes before them was found.
 -- Cited by `open_turn` and `grant`.
-use Rattle.std.specs.Prelude.{◌≡◌, ℕ, ◌+◌, true, false, List, Result, Ok, Err}
+use Rattle.std.specs.Prelude.{◌≡◌, ℕ, ◌+◌, ◌<◌, ◌≤◌, true, false, List, Result, Ok, Err}
 use Rattle.permit_book.specs.Next.{NoneFree as NoneFreeIn}
 use Rattle.permit_book.specs.Table.{Table}
 use Rattle.gate_history.specs.declared.entry.Entry.TheVariants.{Begun, Granted}
@@ -10,7 +10,7 @@ use Rattle.gate_core.specs.declared.refusal.AskRefusal.TheVariants as ask
 use Rattle.gate_core.specs.declared.refusal.BeginRefusal.{BeginRefusal}
 use Rattle.gate_core.specs.declared.refusal.BeginRefusal.TheVariants as begin
 use Rattle.gate_core.specs.Gate.{Adds, Gate, history, Stays}
-use Rattle.gate_core.specs.Replies.{cannot_know, IsNext, NoneFree}
+use Rattle.gate_core.specs.Replies.{cannot_know, HasPlace, IsBusy, IsNext, NoneFree}
 
 -- the turn begins at this moment of the gate, or the authority may not be known, or memory was refused
 abbrev pub OpensTurn : Gate → List ℕ → ℕ → Result ℕ BeginRefusal → Gate → Type 0
@@ -20,16 +20,20 @@ OpensTurn old authority moment (Err begin.AuthoritiesFull) new = (cannot_know ol
 OpensTurn old authority moment (Err begin.NoMemory) new = Stays old new
 OpensTurn old authority moment (Err _) new = ⊥
 
--- the permit is granted at this moment of the gate, or no slot is free, or memory was refused
+-- the permit is granted at this moment of the gate, where the authority has a place; or it has none, or no
+-- slot is free, or memory was refused
 abbrev pub Grants : Gate → List ℕ → List ℕ → ℕ → Result ℕ AskRefusal → Gate → Type 0
 Grants old token url moment (Ok number) new =
-    IsNext old number × Adds old (Granted moment number (record { token = token; url = url })) new
-Grants old token url moment (Err ask.PermitsFull) new = NoneFree old × Stays old new
+    HasPlace old url × IsNext old number × Adds old (Granted moment number (record { token = token; url = url })) new
+Grants old token url moment (Err ask.PermitsFull) new = HasPlace old url × NoneFree old × Stays old new
+Grants old token url moment (Err ask.Busy) new = IsBusy old url × Stays old new
 Grants old token url moment (Err ask.NoMemory) new = Stays old new
 Grants old token url moment (Err _) new = ⊥
 
--- why the table gives no permit: no slot is free, or memory was refused
-abbrev pub RefusesGrant : Table → AskRefusal → Type 0
-RefusesGrant t ask.PermitsFull = NoneFreeIn t
-RefusesGrant t ask.NoMemory = Unit {0}
-RefusesGrant t _ = ⊥
+-- why no permit is taken where so many are out for the authority: as many are as may be, or no slot of
+-- the table is free, or memory was refused
+abbrev pub RefusesGrant : Table → ℕ → ℕ → AskRefusal → Type 0
+RefusesGrant t held most ask.Busy = most ≤ held
+RefusesGrant t held most ask.PermitsFull = (held < most) × NoneFreeIn t
+RefusesGrant t held most ask.NoMemory = Unit {0}
+RefusesGrant t held most _ = ⊥

@@ -1,10 +1,13 @@
 -- How many permits are out for each authority, as the book counts them beside its table of permits.
 -- Cited by the contracts of `Places`.
-use Rattle.std.specs.Prelude.{◌≡◌, ℕ, ◌+◌, ◌-◌, List, if◌then◌else◌, unwrap_or}
+use Rattle.std.specs.Prelude.{◌≡◌, ℕ, ◌+◌, ◌-◌, IfNone, IfSome, List, None, Some, if◌then◌else◌, slice_get, string_bytes, unwrap_or}
 use Rattle.std.specs.HashMap.{get_by_text}
 use Rattle.std.specs.Str.{bytes_eq}
+use Rattle.std.specs.declared.string.String.{String}
+use Rattle.std.specs.declared.alloc.Global.{Global}
 use Rattle.permit_book.specs.declared.out.Out.{Out}
 use Rattle.permit_book.specs.Table.{one_for}
+use Rattle.gate_core.specs.declared.places.Held.{Held}
 use Rattle.gate_core.specs.declared.places.Places.{Places}
 
 -- the counts by authority: how many permits are out for each
@@ -14,6 +17,12 @@ HeldBy = List ℕ → ℕ
 -- how many are counted for an authority
 abbrev pub held_by : Places → HeldBy
 held_by places authority = unwrap_or (get_by_text places.by_authority authority) 0
+
+-- where an authority stands among the counts and how many are counted for it, or that it stands nowhere
+pub record IsHeld (places : Places) (authority : List ℕ) (held : Held) : Type 0 where
+  pub some : IfSome held.index (λ i. (name : String Global) × (slice_get places.by_authority.entries i ≡ Some (name, held.count)) × (string_bytes name ≡ authority))
+  pub none : IfNone held.index (get_by_text places.by_authority authority ≡ None)
+  pub count : held.count ≡ held_by places authority
 
 -- 1 where the other authority is this one
 abbrev pub one_at : List ℕ → List ℕ → ℕ

@@ -1,6 +1,6 @@
 //! `Book::ask` and `Book::ask_judged`: a permit for one fetch of a URL under a token.
 //! RFC 9309, sections 2.2 and 2.3.1.
-ghost use Rattle.std.specs.Prelude.{◌≡◌, ◌+◌, ◌^◌, ◌<◌, ◌≤◌, ◌↔◌, Err, IfErr, IfOk, IsTrue, length, OnErr, OnOk, Ok, vec_capacity};
+ghost use Rattle.std.specs.Prelude.{◌≡◌, ◌+◌, ◌<◌, ◌≤◌, Err, IfErr, IfOk, length, OnErr, OnOk, Ok, vec_capacity};
 ghost use Rattle.path_normal.specs.PageText.{authority_of};
 ghost use Rattle.permit_book.specs.declared.out.Out.TheVariants.{Unspent};
 ghost use Rattle.permit_book.specs.Next.{IsNext};
@@ -10,9 +10,10 @@ ghost use Rattle.gate_history.specs.declared.outcome.Reason.{Reason as Why};
 ghost use Rattle.gate_history.specs.Cause.{Decides};
 ghost use Rattle.gate_history.specs.History.{now};
 ghost use Rattle.gate_core.specs.Gate.{Adds, HasRoom, history, Stays};
+ghost use Rattle.gate_core.specs.Limits.{most_places};
 ghost use Rattle.gate_core.specs.Opened.{Grants, RefusesGrant};
 ghost use Rattle.gate_core.specs.Places.{AddsOne, held_by};
-ghost use Rattle.gate_core.specs.Replies.{Asks, HasPlace, IsBusy};
+ghost use Rattle.gate_core.specs.Replies.{Asks};
 
 use crate::book::Book;
 use crate::judged::Judged;
@@ -43,24 +44,12 @@ impl Book {
         let moment = self.moment_of_call(moment);
         let Judged { token, url, ruling } = judged;
         match self.decide(&token, &url, ruling.as_ref(), moment) {
-            Ok(_) => {
-                if self.is_busy(&url) {
-                    return Err(AskRefusal::Busy);
-                }
-                self.grant(token, url, moment)
-            }
+            Ok(_) => self.grant(token, url, moment),
             Err(cause) => {
                 let denial = self.deny(token, url, cause, moment)?;
                 Err(AskRefusal::Denied(denial))
             }
         }
-    }
-
-    // Whether as many permits as the places are out for the URL's authority.
-    fn is_busy(&self, url: &PageUrl) -> bool
-        ensures { IsTrue result ↔ IsBusy self.now url.now }
-    {
-        self.places.held(url.authority()) >= self.limits.places
     }
 
     // Enters a denied ask.
@@ -90,12 +79,11 @@ impl Book {
         Ok(Denial { url, cause })
     }
 
-    // Makes room for the permit, its start and its end, and enters the grant.
+    // Makes room for the permit, its start and its end, and enters the grant, where the authority has a place.
     fn grant(&mut self, token: Token, url: PageUrl, moment: u64) -> Result<PermitNo, AskRefusal>
         requires room { HasRoom self.old 3 }
         requires late { now (history self.old) ≤ moment }
         requires decided { (reason : Why) × Decides (history self.old) token url moment (Ok reason) }
-        requires place { HasPlace self.old url }
         ensures { Grants self.old token url moment result self.new }
     {
         let room = self.promised() as usize + 3;
@@ -103,6 +91,7 @@ impl Book {
             &mut self.permits,
             &mut self.places,
             &mut self.entries,
+            self.limits.places,
             room,
             token,
             url,
@@ -117,22 +106,25 @@ impl Book {
     }
 }
 
-// Grants the next permit of the table and counts it, where a slot is free and memory suffices for
-// that and for its entries. The draft leaves the table as it is where memory is refused.
+// Grants the next permit of the table and counts it, where fewer than the most are out for the authority,
+// a slot is free and memory suffices for that and for its entries. The draft leaves the table as it is
+// where memory is refused.
 fn take_permit(
     permits: &mut Permits,
     places: &mut Places,
     entries: &mut Vec<Entry>,
+    most: u64,
     room: usize,
     token: Token,
     url: PageUrl,
 ) -> Result<(PermitNo, FetchText), AskRefusal>
-    requires { held_by places.old (authority_of url) < 2 ^ 32 }
+    requires { most ≤ most_places }
+    ensures place { OnOk result (held_by places.old (authority_of url) < most) }
     ensures next { IfOk result (λ taken. IsNext permits.old taken.0) }
     ensures granted { IfOk result (λ taken. permits.new
         ≡ with_out permits.old taken.0 (Unspent (record { token = token; url = url }))) }
     ensures fetch { IfOk result (λ taken. taken.1 ≡ record { token = token; url = url }) }
-    ensures refused { IfErr result (RefusesGrant permits.old) }
+    ensures refused { IfErr result (RefusesGrant permits.old (held_by places.old (authority_of url)) most) }
     ensures same { OnErr result (permits.new ≡ permits.old) }
     ensures counted { OnOk result (AddsOne (held_by places.old) (authority_of url) (held_by places.new)) }
     ensures uncounted { OnErr result (held_by places.new ≡ held_by places.old) }
@@ -140,12 +132,16 @@ fn take_permit(
     ensures room { OnOk result (length entries.old.items + room ≤ vec_capacity entries.new) }
     ensures capacity { vec_capacity entries.old ≤ vec_capacity entries.new }
 {
+    let held = places.find(url.authority());
+    if held.count >= most {
+        return Err(AskRefusal::Busy);
+    }
     let alloc = *entries.allocator();
     let Ok(draft) = permits.draft() else {
         return Err(AskRefusal::PermitsFull);
     };
     let fetch = FetchText::of(alloc, &token, &url)?;
     entries.reserve(room)?;
-    places.add(url.authority())?;
+    places.add(held, url.authority())?;
     Ok((draft.commit(token, url), fetch))
 }

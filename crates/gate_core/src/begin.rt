@@ -1,17 +1,16 @@
 //! `Book::begin`: a turn to fetch an authority's robots file.
 //! RFC 9309, section 2.3.
-ghost use Rattle.std.specs.Prelude.{◌≡◌, ◌≤◌, false};
-ghost use Rattle.gate_history.specs.History.{now};
-ghost use Rattle.gate_history.specs.Standing.{is_fetching};
-ghost use Rattle.gate_core.specs.Gate.{HasRoom, history};
-ghost use Rattle.gate_core.specs.Opened.{OpensTurn};
+ghost use Rattle.std.specs.Prelude.{◌≡◌, ◌+◌, ◌≤◌, IfOk, OnErr, OnOk, Some, length, vec_capacity};
+ghost use Rattle.gate_core.specs.Names.{Keeps, names_by};
 ghost use Rattle.gate_core.specs.Replies.{Begins};
 
 use crate::book::Book;
+use crate::names::Names;
 use crate::refusal::BeginRefusal;
 use authority_cache::TurnNo;
 use gate_history::Entry;
 use path_normal::Authority;
+use std::alloc::AllocError;
 
 impl Book {
     /// Begins a fetch of the authority's robots file, and gives the number of its turn. Room is
@@ -19,30 +18,18 @@ impl Book {
     pub fn begin(&mut self, authority: &Authority, moment: u64) -> Result<TurnNo, BeginRefusal>
         ensures { Begins self.old authority.now moment result self.new }
     {
-        if self.cache.in_flight(authority.text()) {
+        let found = self.cache.find(authority.text());
+        if found.is_fetching() {
             return Err(BeginRefusal::InFlight);
         }
         if !self.has_room(2) {
             return Err(BeginRefusal::LogFull);
         }
         let moment = self.moment_of_call(moment);
-        self.open_turn(authority, moment)
-    }
-
-    // Begins the turn, where the authority may be known and memory suffices.
-    fn open_turn(&mut self, authority: &Authority, moment: u64) -> Result<TurnNo, BeginRefusal>
-        requires room { HasRoom self.old 2 }
-        requires idle { is_fetching (history self.old) authority.now ≡ false }
-        requires late { now (history self.old) ≤ moment }
-        ensures { OpensTurn self.old authority.now moment result self.new }
-    {
         let turn = TurnNo::new(self.begins + 1);
-        let name = authority.copy()?;
-        let kept = authority.copy()?;
-        let promised = self.promised();
-        self.entries.reserve(promised as usize + 2)?;
-        self.names.put(turn, kept)?;
-        self.cache.begin(authority, turn, moment)?;
+        let room = self.promised() as usize + 2;
+        let name = name_turn(&mut self.names, &mut self.entries, room, turn, authority)?;
+        self.cache.begin_at(found, authority, turn, moment)?;
         self.entries.push_reserved(Entry::Begun {
             moment,
             authority: name,
@@ -52,4 +39,27 @@ impl Book {
         self.begins += 1;
         Ok(turn)
     }
+}
+
+// Keeps the authority's name for the turn's arrival, makes room for the two entries of the turn, and
+// hands out the name once more for the first of them.
+fn name_turn(
+    names: &mut Names,
+    entries: &mut Vec<Entry>,
+    room: usize,
+    turn: TurnNo,
+    authority: &Authority,
+) -> Result<Authority, AllocError>
+    ensures name { IfOk result (λ name. name ≡ authority.now) }
+    ensures kept { OnOk result (Keeps (names_by names.old) turn (Some authority.now) (names_by names.new)) }
+    ensures same { OnErr result (names_by names.new ≡ names_by names.old) }
+    ensures items { entries.new.items ≡ entries.old.items }
+    ensures room { OnOk result (length entries.old.items + room ≤ vec_capacity entries.new) }
+    ensures capacity { vec_capacity entries.old ≤ vec_capacity entries.new }
+{
+    let name = authority.copy()?;
+    let kept = authority.copy()?;
+    entries.reserve(room)?;
+    names.put(turn, kept)?;
+    Ok(name)
 }

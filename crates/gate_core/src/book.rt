@@ -22,9 +22,10 @@ pub struct Book {
     pub(crate) limits: Limits,
     pub(crate) base: Base,
     pub(crate) entries: Vec<Entry>,
-    // The gate's moment, and how many begins the history has.
+    // The gate's moment, and how many begins and started fetches the history has.
     pub(crate) clock: u64,
     pub(crate) begins: u64,
+    pub(crate) starts: u64,
     // The answers that stand with the turns in flight, and the permits that are out.
     pub(crate) cache: Cache,
     pub(crate) permits: Permits,
@@ -61,6 +62,7 @@ impl Book {
             entries: Vec::new(alloc),
             clock: 0,
             begins: 0,
+            starts: 0,
             cache: Cache::new(alloc, limits.authority_limit, keys),
             permits,
             names: Names::new(alloc, keys),

@@ -53,4 +53,18 @@ impl Judged {
         };
         Judged { token, url, ruling }
     }
+
+    /// The token that is asked for.
+    pub fn token(&self) -> &Token
+        ensures { result.now ≡ self.now.token }
+    {
+        &self.token
+    }
+
+    /// The URL that is asked for.
+    pub fn url(&self) -> &PageUrl
+        ensures { result.now ≡ self.now.url }
+    {
+        &self.url
+    }
 }

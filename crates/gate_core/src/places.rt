@@ -3,7 +3,7 @@
 ghost use Rattle.std.specs.Prelude.{◌≡◌, ◌^◌, ◌<◌, ℕ, List, None, OnErr, OnOk};
 ghost use Rattle.std.specs.HashMap.{get_by_text};
 ghost use Rattle.permit_book.specs.Table.{out_under};
-ghost use Rattle.gate_core.specs.Places.{AddsOne, held_by, Leaves, TakesOne};
+ghost use Rattle.gate_core.specs.Places.{AddsOne, held_by, IsHeld, Leaves, TakesOne};
 
 use indexmap::IndexMap;
 use permit_book::{PermitNo, Permits};
@@ -16,6 +16,13 @@ pub(crate) struct Places {
     by_authority: IndexMap<String, u64, RandomState>,
 }
 
+/// Where an authority stands in the counts, until they change, and how many permits are out for it.
+#[derive(Clone, Copy, Debug)]
+pub(crate) struct Held {
+    pub index: Option<usize>,
+    pub count: u64,
+}
+
 impl Places {
     pub(crate) fn new(alloc: Global, keys: RandomState) -> Places
         ensures { (authority : List ℕ) → held_by result authority ≡ 0 }
@@ -25,29 +32,37 @@ impl Places {
         }
     }
 
-    /// How many permits are out for the authority.
-    pub(crate) fn held(&self, authority: &str) -> u64
-        ensures { result ≡ held_by self.now authority.now }
+    /// Finds an authority among the counts.
+    pub(crate) fn find(&self, authority: &str) -> Held
+        ensures { IsHeld self.now authority.now result }
     {
-        match self.by_authority.get(authority) {
-            Some(count) => *count,
-            None => 0,
+        match self.by_authority.get_full(authority) {
+            Some((index, _authority, count)) => Held {
+                index: Some(index),
+                count: *count,
+            },
+            None => Held {
+                index: None,
+                count: 0,
+            },
         }
     }
 
-    /// Counts a permit for the authority.
-    pub(crate) fn add(&mut self, authority: &str) -> Result<(), AllocError>
-        requires { held_by self.old authority.now < 2 ^ 32 }
+    /// Counts a permit for the authority that was found.
+    pub(crate) fn add(&mut self, held: Held, authority: &str) -> Result<(), AllocError>
+        requires few { held.count < 2 ^ 32 }
+        requires held { IsHeld self.old authority.now held }
         ensures ok { OnOk result (AddsOne (held_by self.old) authority.now (held_by self.new)) }
         ensures err { OnErr result (held_by self.new ≡ held_by self.old) }
     {
-        match self.by_authority.get_mut(authority) {
-            Some(count) => {
-                *count += 1;
-                Ok(())
-            }
-            None => self.enter(authority),
+        let Some(index) = held.index else {
+            return self.enter(authority);
+        };
+        match self.by_authority.get_index_mut(index) {
+            Some(count) => *count = held.count + 1,
+            None => unreachable!(),
         }
+        Ok(())
     }
 
     /// Counts the permit no more that is out under the number, which ends. It takes no memory.
@@ -76,10 +91,17 @@ impl Places {
     fn take(&mut self, authority: &str)
         ensures { TakesOne (held_by self.old) authority.now (held_by self.new) }
     {
-        if self.held(authority) <= 1 {
-            self.by_authority.swap_remove(authority);
-        } else if let Some(count) = self.by_authority.get_mut(authority) {
-            *count -= 1;
+        let held = self.find(authority);
+        let Some(index) = held.index else {
+            return;
+        };
+        if held.count <= 1 {
+            self.by_authority.swap_remove_index(index);
+            return;
+        }
+        match self.by_authority.get_index_mut(index) {
+            Some(count) => *count = held.count - 1,
+            None => unreachable!(),
         }
     }
 }

@@ -42,6 +42,27 @@ impl Book {
         self.cache.in_flight(authority)
     }
 
+    /// Whether this turn of the authority is in flight.
+    pub fn has_turn(&self, authority: &str, turn: TurnNo) -> bool
+        ensures { result ≡ has_turn (history self.now) authority.now turn }
+    {
+        self.cache.has_turn(authority, turn)
+    }
+
+    /// How many entries the history has, those before its base among them.
+    pub fn entry_count(&self) -> u64
+        ensures { result ≡ entry_count (history self.now) }
+    {
+        self.base.entries() + self.entries.len() as u64
+    }
+
+    /// How many fetches were started, those before the base among them.
+    pub fn started_count(&self) -> u64
+        ensures { result ≡ started_count (history self.now) }
+    {
+        self.starts
+    }
+
     /// How many unspent permits are out.
     pub fn unspent_count(&self) -> u64
         ensures { result ≡ length (unspent (history self.now)) }

@@ -63,6 +63,7 @@ impl Book {
             reason,
         });
         self.clock = moment;
+        self.starts += 1;
     }
 
     // Enters a start that is denied.

@@ -42,14 +42,15 @@ impl Book {
         ensures { IsState (history self.now) authority.now (moment_at self.now moment) result }
     {
         let moment = self.moment_of_call(moment);
-        let standing = match self.cache.look(authority, moment) {
+        let found = self.cache.find(authority);
+        let standing = match self.cache.look_at(found, moment) {
             Look::Unknown => Standing::Unknown,
             Look::Expired => Standing::Expired,
             Look::InForce(answer) => standing_as(answer),
         };
         State {
             standing,
-            fetching: self.cache.in_flight(authority),
+            fetching: found.is_fetching(),
         }
     }
 

@@ -1,5 +1,8 @@
--- The base as its callers see it.
--- The value of `base.rt`.
+-- The base as its callers see it, and what is true of the texts of a fetch.
+-- The value of `base.rt`, and the invariant of `fetch_text.rt`.
+use Rattle.std.specs.Prelude.{◌≡◌, ℕ, ◌≤◌, List, Some, drop, length, take}
+use Rattle.path_normal.specs.PageUrl.{IsPage}
+use Rattle.robots_text.specs.Token.{token_of}
 use Rattle.gate_history.specs.declared.base.Base.TheInside.{Inside}
 use Rattle.gate_history.specs.Base.{Base}
 
@@ -16,3 +19,9 @@ base_of b = record {
   entries = b.entries;
   started = b.started;
 }
+
+-- a token up to this place, and the text of a page from it on
+pub record IsFetchText (octets : List ℕ) (url_start : ℕ) : Type 0 where
+  pub within : url_start ≤ length octets
+  pub token : token_of (take url_start octets) ≡ Some (take url_start octets)
+  pub page : IsPage (drop url_start octets)

@@ -1,6 +1,8 @@
 //! The token and the URL of a fetch, as an entry keeps them.
 //! RFC 9309, section 2.2.1.
-ghost use Rattle.std.specs.Prelude.{◌≡◌, IfOk};
+ghost use Rattle.std.specs.Prelude.{◌≡◌, IfOk, Some};
+ghost use Rattle.path_normal.specs.PageUrl.{IsPage};
+ghost use Rattle.robots_text.specs.Token.{token_of};
 
 use path_normal::PageUrl;
 use robots_text::Token;
@@ -17,8 +19,9 @@ pub struct FetchText {
 }
 
 impl Model for FetchText {
-    ghost use Rattle.std.specs.Prelude.{drop, length, take, ◌≤◌};
+    ghost use Rattle.std.specs.Prelude.{drop, take};
     ghost use Rattle.permit_book.specs.declared.out.Fetch.{Fetch};
+    ghost use Rattle.gate_history.specs.Kept.{IsFetchText};
 
     ghost Value = { Fetch };
 
@@ -27,7 +30,7 @@ impl Model for FetchText {
       url = drop text.url_start text.octets.items;
     } };
 
-    ghost invariant = { λ text. text.url_start ≤ length text.octets.items };
+    ghost invariant = { λ text. IsFetchText text.octets.items text.url_start };
 }
 
 impl FetchText {
@@ -48,14 +51,16 @@ impl FetchText {
 
     /// The octets of the token.
     pub fn token(&self) -> &[u8]
-        ensures { result.now ≡ self.now.token }
+        ensures value { result.now ≡ self.now.token }
+        ensures own { token_of self.now.token ≡ Some self.now.token }
     {
         &self.octets[..self.url_start]
     }
 
     /// The octets of the URL.
     pub fn url(&self) -> &[u8]
-        ensures { result.now ≡ self.now.url }
+        ensures value { result.now ≡ self.now.url }
+        ensures page { IsPage self.now.url }
     {
         &self.octets[self.url_start..]
     }

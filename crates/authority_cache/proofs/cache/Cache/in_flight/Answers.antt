@@ -1,13 +1,5 @@
--- The entry that is found is what is known.
-use Rattle.std.proofs.Common.{refl, sym}
-use Rattle.authority_cache.proofs.SiteLaws.{state-none, state-some}
+-- What is found is what is known.
 use Rattle.authority_cache.proofs.cache.Cache.in_flight.Goals as goal
 
-pub returns-in-Some : goal.returns-in-Some
-returns-in-Some c =
-    rw (← c.self.view_is, state-some c.self.inside.limit c.args.authority.now c.self.inside.sites.entries c.in-Some.site.now (sym c.in-Some.ensures.value))
-    c.is_some.ensures
-
-pub returns-in-None : goal.returns-in-None
-returns-in-None c =
-    rw (← c.self.view_is, state-none c.self.inside.limit c.args.authority.now c.self.inside.sites.entries (sym c.in-None.ensures.value)) refl
+pub returns : goal.returns
+returns c = c.find.ensures.fetching

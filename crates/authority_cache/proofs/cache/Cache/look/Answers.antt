@@ -1,13 +1,10 @@
--- The entry that is found is what is known.
-use Rattle.std.proofs.Common.{refl, sym}
-use Rattle.authority_cache.proofs.SiteLaws.{state-none, state-some}
+-- What is known of an authority that was found is what is known of it.
+use Rattle.std.proofs.Common.{subst}
+use Rattle.authority_cache.specs.Calls.{LooksAt}
+use Rattle.authority_cache.specs.Sites.{State}
+use Rattle.authority_cache.proofs.FoundLaws.{state_found}
 use Rattle.authority_cache.proofs.cache.Cache.look.Goals as goal
 
-pub returns-in-Some : goal.returns-in-Some
-returns-in-Some c =
-    rw (← c.self.view_is, state-some c.self.inside.limit c.args.authority.now c.self.inside.sites.entries c.in-Some.site.now (sym c.in-Some.ensures.value))
-    c.look.ensures
-
-pub returns-in-None : goal.returns-in-None
-returns-in-None c =
-    rw (← c.self.view_is, state-none c.self.inside.limit c.args.authority.now c.self.inside.sites.entries (sym c.in-None.ensures.value)) refl
+pub returns : goal.returns
+returns c =
+    subst (λ (s : State). LooksAt s c.args.moment c.look_at.result) (state_found c.args.self.now c.args.authority.now c.find.result c.find.ensures) c.look_at.ensures

@@ -1,12 +1,11 @@
 -- An ask is what the answer in force, the places and the grant say.
 -- The lemma `asks_by` of `Calling` says so.
 use Rattle.std.proofs.Common.{◌∙◌, ℕ, Ok, sym, subst}
-use Rattle.std.proofs.lemmas.Bool.{true≢false}
 use Rattle.gate_history.specs.Cause.{Decides}
 use Rattle.gate_core.specs.Gate.{history}
 use Rattle.gate_core.specs.Judged.{Asked}
 use Rattle.gate_core.specs.Replies.{Asks}
-use Rattle.gate_core.proofs.Calling.{asks_by, full}
+use Rattle.gate_core.proofs.Calling.{asks_by}
 use Rattle.gate_core.proofs.book.Book.ask_judged.Goals as goal
 
 pub returns-in-Ok : goal.returns-in-Ok
@@ -18,4 +17,4 @@ returns-in-Ok c =
     subst (λ (a : Asked). Asks c.args.self.now a.token a.url c.args.moment c.grant.result c.grant.new.self) c.judged.view_is
     (asks_by c.args.self.now token url c.args.moment c.moment_of_call-moment.result c.moment_of_call-moment.ensures
     (c.has_room.ensures.0 c.if-not-has_room.false) (c.in-Ok.field-0, allowed)
-    (full (λ busy. true≢false (sym (c.is_busy.ensures.1 busy) ∙ c.if-is_busy.false))) c.grant.result c.grant.new.self c.grant.ensures)
+    c.grant.result c.grant.new.self c.grant.ensures)

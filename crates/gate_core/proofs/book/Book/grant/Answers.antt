@@ -1,24 +1,18 @@
 -- The next number is granted.
 -- The lemmas of `Keeping` and `Refusing` say what that keeps, and what is refused.
 use Rattle.std.proofs.Common.{◌∷◌, ◌++◌, [], sym, ap, ◌∙◌, subst, arith, Err}
-use Rattle.path_normal.specs.PageText.{authority_of}
 use Rattle.permit_book.specs.declared.out.Fetch.{Fetch}
 use Rattle.gate_history.specs.declared.entry.Entry.TheVariants.{Granted}
-use Rattle.gate_core.specs.Gate.{Gate, HasRoom, held, history, promised}
+use Rattle.gate_core.specs.Gate.{Gate, HasRoom, history, promised}
 use Rattle.gate_core.specs.Opened.{Grants}
 use Rattle.gate_core.specs.Replies.{IsNext}
-use Rattle.gate_core.proofs.Keeping.{adds_of, granted_kept, held_many, kept_refused, next_is}
-use Rattle.gate_core.proofs.Refusing.{grant_fits, refuses_grant, same_err}
+use Rattle.gate_core.proofs.Keeping.{adds_of, granted_kept, kept_refused, next_is}
+use Rattle.gate_core.proofs.Refusing.{grant_fits, has_place, refuses_grant, same_err}
 use Rattle.gate_core.proofs.book.Book.grant.Goals as goal
 
 pub take_permit-requires : goal.take_permit-requires
 take_permit-requires c =
-    let b = c.self.inside in
-    let authority = authority_of c.args.url in
-    let place = c.requires.place in
-    let many = held_many b c.self.invariant authority ∙ ap (λ (g : Gate). held (history g) authority) c.self.view_is in
-    let few = c.self.invariant.limits.places in
-    omega (arith, place, many, few, ap (λ (g : Gate). g.limits.places) c.self.view_is)
+    c.self.invariant.limits.places
 
 pub invariant_of-self : goal.invariant_of-self
 invariant_of-self c =
@@ -52,6 +46,7 @@ returns c =
     let number = c.in_ok-number.number in
     let fetch : Fetch = record { token = c.args.token; url = c.args.url } in
     let fit = grant_fits b c.self.invariant c.args.self.now c.self.view_is c.args.moment number fetch c.requires.late c.requires.decided c.in_ok-number.ensures.next in (
+      has_place b c.self.invariant c.args.self.now c.self.view_is c.args.url c.in_ok-number.ensures.place,
       subst (λ (g : Gate). IsNext g number) c.self.view_is (next_is b c.self.invariant b.entries number c.in_ok-number.ensures.next),
       adds_of b c.args.self.now (Granted c.args.moment number fetch) c.push_reserved.new.self.items c.self.view_is
           (c.push_reserved.ensures.items ∙ (λ i. c.take_permit.ensures.items i ++ Granted c.args.moment number (c.in_ok-number.ensures.fetch i) ∷ [])) fit,

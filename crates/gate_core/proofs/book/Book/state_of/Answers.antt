@@ -2,6 +2,10 @@
 -- The lemmas of `Looking` say so.
 use Rattle.std.proofs.Common.{ℕ, sym, ◌∙◌, subst}
 use Rattle.robots_verdict.specs.Answer.{said}
+use Rattle.authority_cache.specs.declared.look.Look.TheVariants.{Unknown, Expired, InForce}
+use Rattle.authority_cache.specs.Calls.{LooksAt}
+use Rattle.authority_cache.specs.Sites.{State}
+use Rattle.authority_cache.proofs.FoundLaws.{state_found}
 use Rattle.gate_history.specs.Standing.{standing_of}
 use Rattle.gate_core.specs.Gate.{Gate, history}
 use Rattle.gate_core.specs.States.{IsState, StandsAs}
@@ -16,12 +20,14 @@ returns c =
     let authority = c.args.authority.now in
     let moment = c.moment_of_call-moment.result in
     let found = standing_of (told b) authority in
-    let stands : StandsAs found moment c.match-look.standing = elim c.match-look.branch [
-      | in-Unknown w ↦ subst (StandsAs found moment) (sym w.standing-is) (stands_as_unknown found moment (none_stands b c.self.invariant authority moment w.in-Unknown.ensures))
-      | in-Expired w ↦ subst (StandsAs found moment) (sym w.standing-is) (stands_as_expired found moment (stands_past b c.self.invariant authority moment w.in-Expired.ensures))
+    let same = state_found b.cache authority c.find-found.result c.find-found.ensures in
+    let stands : StandsAs found moment c.match-look_at.standing = elim c.match-look_at.branch [
+      | in-Unknown w ↦ subst (StandsAs found moment) (sym w.standing-is) (stands_as_unknown found moment (none_stands b c.self.invariant authority moment (subst (λ (s : State). LooksAt s moment Unknown) same w.in-Unknown.ensures)))
+      | in-Expired w ↦ subst (StandsAs found moment) (sym w.standing-is) (stands_as_expired found moment (stands_past b c.self.invariant authority moment (subst (λ (s : State). LooksAt s moment Expired) same w.in-Expired.ensures)))
       | in-InForce w ↦ subst (StandsAs found moment) (sym (w.standing-is ∙ w.standing_as-standing.ensures))
-          (stands_as_said found moment (said w.in-InForce.answer.now) (stands_in_force b c.self.invariant authority moment (said w.in-InForce.answer.now) w.in-InForce.ensures.0 w.in-InForce.ensures.1))
+          (stands_as_said found moment (said w.in-InForce.answer.now) (let force = subst (λ (s : State). LooksAt s moment (InForce w.in-InForce.answer)) same w.in-InForce.ensures in
+          stands_in_force b c.self.invariant authority moment (said w.in-InForce.answer.now) force.0 force.1))
     ] in
-    subst (λ (m : ℕ). IsState (history c.args.self.now) authority m (record { standing = c.match-look.standing; fetching = c.in_flight.result })) c.moment_of_call-moment.ensures
-    (subst (λ (g : Gate). IsState (history g) authority moment (record { standing = c.match-look.standing; fetching = c.in_flight.result })) c.self.view_is
-    (record { standing = stands; fetching = c.in_flight.ensures ∙ fetching_is b c.self.invariant authority }))
+    subst (λ (m : ℕ). IsState (history c.args.self.now) authority m (record { standing = c.match-look_at.standing; fetching = c.is_fetching.result })) c.moment_of_call-moment.ensures
+    (subst (λ (g : Gate). IsState (history g) authority moment (record { standing = c.match-look_at.standing; fetching = c.is_fetching.result })) c.self.view_is
+    (record { standing = stands; fetching = c.is_fetching.ensures ∙ c.find-found.ensures.fetching ∙ fetching_is b c.self.invariant authority }))

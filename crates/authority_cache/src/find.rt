@@ -1,0 +1,40 @@
+//! Where an authority stands in the cache: found once, for all that a call wants of it.
+//! RFC 9309, sections 2.3.1 and 2.4.
+ghost use Rattle.std.specs.Prelude.{◌≡◌};
+ghost use Rattle.authority_cache.specs.Calls.{IsFound};
+
+use crate::cache::Cache;
+
+/// Where an authority stands in a cache, until the cache changes, and whether a turn is in flight.
+#[derive(Clone, Copy, Debug, PartialEq, Eq)]
+pub struct Found {
+    pub(crate) index: Option<usize>,
+    pub(crate) is_fetching: bool,
+}
+
+impl Found {
+    /// Whether a turn of the authority is in flight.
+    pub fn is_fetching(&self) -> bool
+        ensures { result ≡ self.now.is_fetching }
+    {
+        self.is_fetching
+    }
+}
+
+impl Cache {
+    /// Finds an authority. It takes no memory.
+    pub fn find(&self, authority: &str) -> Found
+        ensures { IsFound self.now authority.now result }
+    {
+        match self.sites.get_full(authority) {
+            Some((index, _authority, site)) => Found {
+                index: Some(index),
+                is_fetching: site.in_flight.is_some(),
+            },
+            None => Found {
+                index: None,
+                is_fetching: false,
+            },
+        }
+    }
+}
