@@ -58,18 +58,19 @@ impl<'a, G: Gate> Desk<'a, G> {
         requires { self.old.seen ≤ entry_count (history held.old) }
         ensures { DeskAsks self.old held.old judged.token judged.url moment result held.new self.new }
     {
+        let round = &mut *held.guard;
         let promised = 2 * self.permits + self.runs + self.turns;
         let Ok(texts) = prepare(&mut self.marks, promised, &judged) else {
-            self.seen = held.guard.entry_count();
-            return Err(held.guard.refuse_ask(&judged, moment));
+            self.seen = round.entry_count();
+            return Err(round.refuse_ask(&judged, moment));
         };
         let AskTexts { token, url, fetch } = texts;
-        let result = held.guard.ask(judged, moment, &mut self.mine);
-        self.seen = held.guard.entry_count();
+        let result = round.ask(judged, moment, &mut self.mine);
+        self.seen = round.entry_count();
         match result {
             Ok((number, one)) => {
                 self.permits += 1;
-                let last = held.guard.last();
+                let last = round.last();
                 self.marks.push_reserved(Mark {
                     place: last.place,
                     deed: Deed::Granted {
@@ -87,7 +88,7 @@ impl<'a, G: Gate> Desk<'a, G> {
                 })
             }
             Err(AskRefusal::Denied(denial)) => {
-                let last = held.guard.last();
+                let last = round.last();
                 self.marks.push_reserved(Mark {
                     place: last.place,
                     deed: Deed::AskDenied {
@@ -104,11 +105,7 @@ impl<'a, G: Gate> Desk<'a, G> {
 }
 
 // Makes room for the marks of the permit beside those that are promised, and copies the texts.
-fn prepare(
-    marks: &mut Vec<Mark>,
-    promised: u64,
-    judged: &Judged,
-) -> Result<AskTexts, AllocError>
+fn prepare(marks: &mut Vec<Mark>, promised: u64, judged: &Judged) -> Result<AskTexts, AllocError>
     requires { promised < 2 ^ 63 }
     ensures items { marks.new.items ≡ marks.old.items }
     ensures capacity { vec_capacity marks.old ≤ vec_capacity marks.new }

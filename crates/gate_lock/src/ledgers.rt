@@ -38,8 +38,7 @@ impl<
     U: Ledger + Send + Sync,
     N: Ledger + Send + Sync,
     T: Ledger + Send + Sync,
-> Gate for Five<E, S, U, N, T>
-{
+> Gate for Five<E, S, U, N, T> {
     type Entries = E;
 
     type Starts = S;

@@ -4,18 +4,17 @@
 
 mod ask;
 mod desk;
-mod later;
 mod ledgers;
 mod lock;
+mod look;
 mod mark;
 mod receipts;
 mod round;
-mod spend;
-mod turns;
-mod look;
 mod shares;
+mod spend;
 mod tally;
 mod tokens;
+mod turns;
 
 pub use desk::Desk;
 pub use ledgers::{Five, Gate};

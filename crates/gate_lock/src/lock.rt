@@ -8,7 +8,6 @@ ghost use Rattle.gate_history.specs.Standing.{has_turn, is_fetching};
 ghost use Rattle.gate_core.specs.Gate.{HasLegalHistory, history};
 ghost use Rattle.gate_lock.specs.Balance.{all_desk_parts, all_out_parts};
 
-use crate::later::has_turn;
 use crate::ledgers::Gate;
 use crate::round::Round;
 use crate::tally::Tally;
@@ -203,7 +202,7 @@ impl<G: Gate> GateLock<G> {
         let round = self.round.lock(rt);
         let guard = self.moved.wait_while(rt, round, |round| {
             let book = round.book();
-            round.entry_count() < seen || turns == 0 || !has_turn(book, authority, number)
+            round.entry_count() < seen || turns == 0 || !book.has_turn(authority, number)
         });
         let held = Held { guard };
         let _legal = held.book();

@@ -30,16 +30,17 @@ impl<'a, G: Gate> Desk<'a, G> {
         requires { self.old.seen ≤ entry_count (history held.old) }
         ensures { DeskSweeps self.old held.old moment result held.new self.new }
     {
+        let round = &mut *held.guard;
         let promised = 2 * self.permits + self.runs + self.turns;
         if self.marks.reserve(promised as usize + 1).is_err() {
-            self.seen = held.guard.entry_count();
-            return Err(held.guard.refuse_sweep(moment));
+            self.seen = round.entry_count();
+            return Err(round.refuse_sweep(moment));
         }
-        let result = held.guard.sweep(moment, &mut self.mine);
-        self.seen = held.guard.entry_count();
+        let result = round.sweep(moment, &mut self.mine);
+        self.seen = round.entry_count();
         match result {
             Ok(count) => {
-                let last = held.guard.last();
+                let last = round.last();
                 self.marks.push_reserved(Mark {
                     place: last.place,
                     deed: Deed::Swept {

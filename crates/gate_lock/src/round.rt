@@ -11,7 +11,6 @@ ghost use Rattle.gate_core.specs.Replies.{Arrives, Asks, Begins, Finishes, Retur
 ghost use Rattle.gate_lock.specs.Balance.{most_desks, nothing};
 ghost use Rattle.gate_lock.specs.Results.{IsLast, entries_of_ask, entries_of_ok, is_denial, reply_in};
 
-use crate::later::entry_count;
 use crate::ledgers::Gate;
 use crate::shares::{Mine, One};
 use crate::tally::{DesksFull, Tally};
@@ -86,6 +85,8 @@ impl<G: Gate> Round<G> {
         ensures share { mine.new ≡ record mine.old {
           entries = mine.old.entries + entries_of_ask result;
         } }
+        ensures count { entry_count (history self.new)
+            ≡ entry_count (history self.old) + entries_of_ask result }
     {
         no_later_entry_closes();
         each_entry_counts();
@@ -120,6 +121,7 @@ impl<G: Gate> Round<G> {
           entries = mine.old.entries + 1;
           starts = mine.old.starts + entries_of_ok result;
         } }
+        ensures count { entry_count (history self.new) ≡ entry_count (history self.old) + 1 }
     {
         no_later_entry_closes();
         each_entry_counts();
@@ -240,7 +242,7 @@ impl<G: Gate> Round<G> {
     pub fn entry_count(&self) -> u64
         ensures { result ≡ entry_count (history self.now) }
     {
-        entry_count(&self.book)
+        self.book.entry_count()
     }
 
     // The place and the moment of the last entry.
@@ -253,7 +255,7 @@ impl<G: Gate> Round<G> {
             None => 0,
         };
         Last {
-            place: entry_count(&self.book).saturating_sub(1),
+            place: self.book.entry_count().saturating_sub(1),
             moment,
         }
     }

@@ -68,6 +68,7 @@ impl<'a, G: Gate> Desk<'a, G> {
         requires own { permit.desk ≡ self.old.no }
         ensures { DeskStarts self.old held.old permit moment result held.new self.new }
     {
+        let round = &mut *held.guard;
         let Permit {
             number,
             token,
@@ -75,12 +76,10 @@ impl<'a, G: Gate> Desk<'a, G> {
             desk,
             one,
         } = permit;
-        let result = held
-            .guard
-            .start(number, &token, url, one, moment, &mut self.mine);
-        self.seen = held.guard.entry_count();
+        let result = round.start(number, &token, url, one, moment, &mut self.mine);
+        self.seen = round.entry_count();
         self.permits -= 1;
-        let last = held.guard.last();
+        let last = round.last();
         match result {
             Ok((started, one)) => {
                 let Started {
@@ -126,6 +125,7 @@ impl<'a, G: Gate> Desk<'a, G> {
         requires unspent { is_unspent (history held.old) permit.number ≡ true }
         ensures { DeskReturns self.old held.old permit.number held.new self.new }
     {
+        let round = &mut *held.guard;
         let Permit {
             number,
             token: _,
@@ -133,10 +133,10 @@ impl<'a, G: Gate> Desk<'a, G> {
             desk: _,
             one,
         } = permit;
-        held.guard.back(number, one, &mut self.mine);
-        self.seen = held.guard.entry_count();
+        round.back(number, one, &mut self.mine);
+        self.seen = round.entry_count();
         self.permits -= 1;
-        let last = held.guard.last();
+        let last = round.last();
         self.marks.push_reserved(Mark {
             place: last.place,
             deed: Deed::Returned { number },
@@ -149,6 +149,7 @@ impl<'a, G: Gate> Desk<'a, G> {
         requires running { is_running (history held.old) fetched.number ≡ true }
         ensures { DeskFinishes self.old held.old fetched.number held.new self.new }
     {
+        let round = &mut *held.guard;
         let Fetched {
             number,
             token: _,
@@ -156,10 +157,10 @@ impl<'a, G: Gate> Desk<'a, G> {
             desk: _,
             one,
         } = fetched;
-        held.guard.finish(number, one, &mut self.mine);
-        self.seen = held.guard.entry_count();
+        round.finish(number, one, &mut self.mine);
+        self.seen = round.entry_count();
         self.runs -= 1;
-        let last = held.guard.last();
+        let last = round.last();
         self.marks.push_reserved(Mark {
             place: last.place,
             deed: Deed::Finished { number },

@@ -48,17 +48,18 @@ impl<'a, G: Gate> Desk<'a, G> {
         requires { self.old.seen ≤ entry_count (history held.old) }
         ensures { DeskBegins self.old held.old authority.now moment result held.new self.new }
     {
+        let round = &mut *held.guard;
         let promised = 2 * self.permits + self.runs + self.turns;
         let Ok((named, kept)) = prepare(&mut self.marks, promised, authority) else {
-            self.seen = held.guard.entry_count();
-            return Err(held.guard.refuse_begin(authority, moment));
+            self.seen = round.entry_count();
+            return Err(round.refuse_begin(authority, moment));
         };
-        let result = held.guard.begin(authority, moment, &mut self.mine);
-        self.seen = held.guard.entry_count();
+        let result = round.begin(authority, moment, &mut self.mine);
+        self.seen = round.entry_count();
         match result {
             Ok((turn, one)) => {
                 self.turns += 1;
-                let last = held.guard.last();
+                let last = round.last();
                 self.marks.push_reserved(Mark {
                     place: last.place,
                     deed: Deed::Begun {
@@ -112,6 +113,7 @@ impl<'a, G: Gate> Desk<'a, G> {
         requires spares { 1 < spares_of answer }
         ensures { DeskArrives self.old held.old turn (said answer) life moment held.new self.new }
     {
+        let round = &mut *held.guard;
         let RobotsTurn {
             authority,
             turn,
@@ -121,11 +123,18 @@ impl<'a, G: Gate> Desk<'a, G> {
         let mut standing = answer;
         let says = standing.twin().into_said();
         let kept = life_of(&standing, life);
-        held.guard
-            .arrive(&authority, turn, one, standing, life, moment, &mut self.mine);
-        self.seen = held.guard.entry_count();
+        round.arrive(
+            &authority,
+            turn,
+            one,
+            standing,
+            life,
+            moment,
+            &mut self.mine,
+        );
+        self.seen = round.entry_count();
         self.turns -= 1;
-        let last = held.guard.last();
+        let last = round.last();
         self.marks.push_reserved(Mark {
             place: last.place,
             deed: Deed::Arrived {
