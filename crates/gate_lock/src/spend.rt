@@ -80,31 +80,8 @@ impl<'a, G: Gate> Desk<'a, G> {
         self.seen = round.entry_count();
         self.permits -= 1;
         let last = round.last();
-        match result {
-            Ok((started, one)) => {
-                let Started {
-                    number: _,
-                    url,
-                    reason,
-                } = started;
-                self.runs += 1;
-                self.marks.push_reserved(Mark {
-                    place: last.place,
-                    deed: Deed::Started {
-                        moment: last.moment,
-                        number,
-                        reason,
-                    },
-                });
-                Ok(Running {
-                    number,
-                    token,
-                    url,
-                    desk,
-                    reason,
-                    one,
-                })
-            }
+        let (started, one) = match result {
+            Ok(both) => both,
             Err(denial) => {
                 self.marks.push_reserved(Mark {
                     place: last.place,
@@ -114,9 +91,31 @@ impl<'a, G: Gate> Desk<'a, G> {
                         cause: denial.cause,
                     },
                 });
-                Err(denial)
+                return Err(denial);
             }
-        }
+        };
+        let Started {
+            number: _,
+            url,
+            reason,
+        } = started;
+        self.runs += 1;
+        self.marks.push_reserved(Mark {
+            place: last.place,
+            deed: Deed::Started {
+                moment: last.moment,
+                number,
+                reason,
+            },
+        });
+        Ok(Running {
+            number,
+            token,
+            url,
+            desk,
+            reason,
+            one,
+        })
     }
 
     fn back_in(&mut self, held: &mut Held<'_, G>, permit: Permit<G>)
