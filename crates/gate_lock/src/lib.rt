@@ -4,22 +4,28 @@
 
 mod ask;
 mod desk;
+mod fit;
 mod ledgers;
 mod lock;
 mod look;
 mod mark;
 mod receipts;
 mod round;
+mod settlement;
 mod shares;
 mod spend;
 mod tally;
 mod tokens;
 mod turns;
+mod visit;
 
 pub use desk::Desk;
+pub use fit::marks_fit;
 pub use ledgers::{Five, Gate};
 pub use lock::{GateLock, Held};
 pub use mark::{Deed, Mark};
 pub use receipts::Receipts;
+pub use settlement::{SettleFault, Settled, settle};
 pub use tally::{DesksFull, MAX_DESKS};
 pub use tokens::{Fetched, Permit, RobotsTurn, Running};
+pub use visit::{Visit, with_gate};
