@@ -56,7 +56,8 @@ impl<'a, G: Gate> Model for Desk<'a, G> {
 impl<G: Gate> GateLock<G> {
     /// One more desk, with a number of its own from 1.
     pub fn desk<R: Wait>(&self, rt: &R, alloc: Global) -> Result<Desk<'_, G>, DesksFull>
-        ensures { IfOk result IsNew }
+        ensures new { IfOk result IsNew }
+        ensures out { IfOk result (λ desk. out_of desk ≡ 0) }
     {
         let mut held = self.lend(rt);
         let (no, mine) = held.guard.desk()?;
