@@ -17,7 +17,6 @@ mod spend;
 mod tally;
 mod tokens;
 mod turns;
-mod visit;
 
 pub use desk::Desk;
 pub use fit::marks_fit;
@@ -28,4 +27,6 @@ pub use receipts::Receipts;
 pub use settlement::{SettleFault, Settled, settle};
 pub use tally::{DesksFull, MAX_DESKS};
 pub use tokens::{Fetched, Permit, RobotsTurn, Running};
-pub use visit::{Visit, with_gate};
+
+#[cfg(test)]
+mod tests;
