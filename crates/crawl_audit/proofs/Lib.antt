@@ -1,6 +1,9 @@
 -- Lemmas that several proofs share.
+pub mod Auditing
 pub mod Back
 pub mod Exporting
+pub mod Following
+pub mod Numbering
 pub mod Pushing
 pub mod Shown
 pub mod Spelling
