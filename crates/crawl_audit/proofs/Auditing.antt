@@ -130,7 +130,7 @@ other_line version entries line d is spelled unfit = λ e is' fit room short sam
 
 -- ---- where line feeds stand
 
-feedless : (line : List ℕ) → HasNoLineFeed line → HasNoFeed line
+pub feedless : (line : List ℕ) → HasNoLineFeed line → HasNoFeed line
 feedless line none = λ k d within. unequal _ (none k d within)
   where
     unequal : (o : ℕ) → (o ≡ 10 → ⊥) → (o == 10) ≡ false
@@ -145,7 +145,7 @@ beyond (o ∷ raw) (p ∷ l) x r none is short =
     beyond raw l x r (All-tail (λ octet. octet ≢ 10) o raw none) rest (omega arith)
 
 -- no entry's line is the head of version 2
-not_head : (version : Version) (e : Entry) → entry_line version e ≡ codes "V 2" → ⊥
+pub not_head : (version : Version) (e : Entry) → entry_line version e ≡ codes "V 2" → ⊥
 not_head version (Begun _ _ _) is = omega (arith, ap (λ k. get_or k 0 0) is)
 not_head version (Arrived _ _ _ _ _) is = omega (arith, ap (λ k. get_or k 0 0) is)
 not_head version (Granted _ _ _) is = omega (arith, ap (λ k. get_or k 0 0) is)
@@ -156,7 +156,7 @@ not_head version (Returned _) is = omega (arith, ap (λ k. get_or k 0 0) is)
 not_head version (Finished _) is = omega (arith, ap (λ k. get_or k 0 0) is)
 not_head version (Swept _ _) is = omega (arith, ap (λ k. get_or k 0 0) is)
 
-head_feedless : HasNoLineFeed (codes "V 2")
+pub head_feedless : HasNoLineFeed (codes "V 2")
 head_feedless = All-cons (λ o. o ≢ 10) 86 (32 ∷ 50 ∷ []) (λ e. omega arith) (All-cons (λ o. o ≢ 10) 32 (50 ∷ []) (λ e. omega arith) (All-cons (λ o. o ≢ 10) 50 [] (λ e. omega arith) (All-nil (λ o. o ≢ 10))))
 
 -- a text that begins with no entry begins with the head of version 2 only where what stands there does

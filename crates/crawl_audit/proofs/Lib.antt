@@ -5,6 +5,7 @@ pub mod Exporting
 pub mod Following
 pub mod Numbering
 pub mod Pushing
+pub mod Returning
 pub mod Shown
 pub mod Spelling
 pub mod Stripping

@@ -227,7 +227,7 @@ cut_lines l l' r r' none none' e =
 pub text_then : (version : Version) (e : Entry) (behind : List ℕ) → entry_text version e ++ behind ≡ entry_line version e ++ 10 ∷ behind
 text_then version e behind = append_assoc (entry_line version e) line_end behind
 
-not_empty : (line behind : List ℕ) → [] ≡ line ++ 10 ∷ behind → ⊥
+pub not_empty : (line behind : List ℕ) → [] ≡ line ++ 10 ∷ behind → ⊥
 not_empty [] behind e = cc
 not_empty (octet ∷ line) behind e = cc
 
