@@ -1,7 +1,11 @@
 -- Lemmas that several proofs share.
+pub mod Auditing
 pub mod Back
 pub mod Exporting
+pub mod Following
+pub mod Numbering
 pub mod Pushing
+pub mod Returning
 pub mod Shown
 pub mod Spelling
 pub mod Stripping

@@ -209,19 +209,15 @@ pub utf8_line : (version : Version) (e : Entry) → IsEntry version e → IsUtf8
 utf8_line version e is =
     IsUtf8-from_ascii (entry_line version e) (IsAscii-from_all (entry_line version e) (weaker IsLineOctet (λ octet. octet < 128) (λ octet h. h.1) (entry_line version e) (line_octets version e is)))
 
-is_feed : ℕ → Bool
-is_feed octet = octet == 10
-
-pub HasNoFeed : List ℕ → Type 0
-HasNoFeed line = All (λ octet. is_feed octet ≡ false) line
+-- no octet is a line feed
+abbrev pub HasNoFeed : List ℕ → Type 0
+HasNoFeed line = All (λ octet. (octet == 10) ≡ false) line
 
 pub no_feed : (version : Version) (e : Entry) → IsEntry version e → HasNoFeed (entry_line version e)
-unfolding HasNoFeed is_feed
 no_feed version e is = weaker IsLineOctet (λ octet. (octet == 10) ≡ false) (λ octet h. grind (arith, nat_tests)) (entry_line version e) (line_octets version e is)
 
 -- two texts that begin with a line and its end begin with the same one
 pub cut_lines : (l l' r r' : List ℕ) → HasNoFeed l → HasNoFeed l' → l ++ 10 ∷ r ≡ l' ++ 10 ∷ r' → (l ≡ l') × (r ≡ r')
-unfolding HasNoFeed is_feed
 cut_lines l l' r r' none none' e =
     let first : l ≡ l' = ap head_word (sym (slice_split_at (λ o. o == 10) l 10 r none refl) ∙ ap (slice_split (λ o. o == 10)) e ∙ slice_split_at (λ o. o == 10) l' 10 r' none' refl) in
     let rest : 10 ∷ r ≡ 10 ∷ r' = append_cancel_left l (10 ∷ r) (10 ∷ r') (e ∙ ap (λ k. k ++ 10 ∷ r') (sym first)) in
@@ -231,7 +227,7 @@ cut_lines l l' r r' none none' e =
 pub text_then : (version : Version) (e : Entry) (behind : List ℕ) → entry_text version e ++ behind ≡ entry_line version e ++ 10 ∷ behind
 text_then version e behind = append_assoc (entry_line version e) line_end behind
 
-not_empty : (line behind : List ℕ) → [] ≡ line ++ 10 ∷ behind → ⊥
+pub not_empty : (line behind : List ℕ) → [] ≡ line ++ 10 ∷ behind → ⊥
 not_empty [] behind e = cc
 not_empty (octet ∷ line) behind e = cc
 

@@ -1,11 +1,11 @@
 -- What the fields of an entry are, wherever it comes from: numbers below 2 to the 64, tokens, URLs,
 -- authorities and bodies that read as themselves.
 -- RFC 9309, sections 2.2.1 and 2.5.
-use Rattle.std.specs.Prelude.{◌≡◌, ◌<◌, ◌^◌, ℕ, All, List, Some}
+use Rattle.std.specs.Prelude.{◌≡◌, ◌<◌, ◌≤◌, ◌^◌, ℕ, All, List, Some, length}
 use Rattle.path_normal.specs.Authority.{IsAuthority}
 use Rattle.path_normal.specs.PageUrl.{IsPage}
 use Rattle.permit_book.specs.declared.out.Fetch.{Fetch}
-use Rattle.robots_text.specs.Lines.{kept}
+use Rattle.robots_text.specs.Lines.{kept, text_limit}
 use Rattle.robots_text.specs.Token.{token_of}
 use Rattle.robots_verdict.specs.declared.said.Said.{Said}
 use Rattle.robots_verdict.specs.declared.said.Said.TheVariants as says
@@ -31,6 +31,7 @@ pub record IsFetch (fetch : Fetch) : Type 0 where
 -- the octets that are kept of a body
 pub record IsBody (text : List ℕ) : Type 0 where
   pub own : kept text ≡ text
+  pub few : length text ≤ text_limit
   pub octets : All (λ octet. octet < 256) text
 
 -- what an answer says

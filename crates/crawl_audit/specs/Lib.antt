@@ -1,5 +1,6 @@
 -- What the contracts of exports and audits cite.
 -- docs/FORMATS.md has the text.
+pub mod Audit
 pub mod Body
 pub mod Spell
 pub mod Entries
@@ -8,3 +9,4 @@ pub mod Laws
 pub mod Pieces
 pub mod Reading
 pub mod Strips
+pub mod Tables

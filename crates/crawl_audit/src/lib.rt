@@ -2,16 +2,25 @@
 //! decision anew (docs/FORMATS.md; RFC 9309, sections 2.2.2, 2.3.1 and 2.4).
 #![tactic(auto)]
 
+mod audit_text;
+mod auditor;
 mod body;
+mod decide;
 mod entry_pieces;
 mod export_text;
+mod fault;
 mod fields;
 pub mod laws;
+mod ledger;
+mod numbers;
 mod pieces;
 mod read;
 mod record;
 mod unread;
 mod version;
 
+pub use audit_text::audit;
+pub use auditor::MAX_LINE;
 pub use export_text::export;
+pub use fault::{AuditFault, Audited};
 pub use version::Version;

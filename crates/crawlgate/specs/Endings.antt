@@ -11,6 +11,7 @@ abbrev pub status_of : Ending → ℕ
 status_of endings.Done = 0
 status_of endings.LongLine = 1
 status_of endings.ManyLines = 1
+status_of endings.BadLine = 1
 status_of endings.BadWords = 2
 status_of endings.NoMemory = 3
 status_of endings.Device = 3
@@ -20,6 +21,7 @@ abbrev pub message_of : Ending → Option (List ℕ)
 message_of endings.Done = None
 message_of endings.LongLine = Some (codes "line too long")
 message_of endings.ManyLines = Some (codes "too many lines")
+message_of endings.BadLine = None
 message_of endings.BadWords = None
 message_of endings.NoMemory = Some (codes "no memory")
 message_of endings.Device = Some (codes "device")

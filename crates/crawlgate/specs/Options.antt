@@ -1,7 +1,7 @@
 -- What the program's words may ask for: where they are taken, each option is a number in its range.
 -- The contract of `options`; docs/crawlgate.1.md has the ranges.
 use Rattle.crawlgate.specs.declared.options.Subcommand.{Subcommand}
-use Rattle.crawlgate.specs.declared.options.Subcommand.TheVariants.{Replay, Export, Lines}
+use Rattle.crawlgate.specs.declared.options.Subcommand.TheVariants.{Replay, Export, Lines, Audit}
 use Rattle.gate_core.specs.Limits.{AreLimits}
 
 -- the subcommand's options are in their ranges
@@ -9,3 +9,4 @@ abbrev pub IsInRange : Subcommand → Type 0
 IsInRange (Replay limits) = AreLimits limits
 IsInRange (Export limits) = AreLimits limits
 IsInRange Lines = Unit {0}
+IsInRange Audit = Unit {0}

@@ -14,6 +14,8 @@ pub enum Ending {
     LongLine,
     /// The input has more lines than a session takes.
     ManyLines,
+    /// The audit found a bad line, and told its number.
+    BadLine,
     /// The program's words were refused, or asked for help.
     BadWords,
     /// A growth of memory was refused.
@@ -42,7 +44,7 @@ impl Ending {
     {
         match self {
             Ending::Done => 0,
-            Ending::LongLine | Ending::ManyLines => 1,
+            Ending::LongLine | Ending::ManyLines | Ending::BadLine => 1,
             Ending::BadWords => 2,
             Ending::NoMemory | Ending::Device => 3,
         }
@@ -53,7 +55,7 @@ impl Ending {
         ensures { option_map (λ text. text.now) result ≡ message_of self }
     {
         match self {
-            Ending::Done | Ending::BadWords => None,
+            Ending::Done | Ending::BadLine | Ending::BadWords => None,
             Ending::LongLine => Some("line too long"),
             Ending::ManyLines => Some("too many lines"),
             Ending::NoMemory => Some("no memory"),

@@ -15,7 +15,7 @@ mod tests;
 use clap::error::ErrorKind;
 use command_server::replay;
 use counted_io::{Counted, Output};
-use crawl_audit::export;
+use crawl_audit::{AuditFault, Audited, audit, export};
 use ending::Ending;
 use gate_core::{Book, Config, Limits};
 use options::{Subcommand, options};
@@ -63,6 +63,7 @@ fn run_words(rt: &HostRuntime, words: &[&str]) -> io::Result<Ending> {
         Ok(Subcommand::Replay(limits)) => Ok(replay_streams(rt, limits)),
         Ok(Subcommand::Export(limits)) => Ok(export_streams(rt, limits)),
         Ok(Subcommand::Lines) => Ok(lines_streams(rt)),
+        Ok(Subcommand::Audit) => audit_streams(rt),
         Err(error) if error.kind() == ErrorKind::OutOfMemory => Ok(Ending::NoMemory),
         Err(error) => {
             eprint!(rt; "{}", error.to_string(rt.alloc())?)?;
@@ -118,4 +119,23 @@ fn lines_streams(rt: &HostRuntime) -> Ending {
     let mut reader = Counted::new(rt.stdin());
     let mut writer = Counted::new(rt.stdout());
     Ending::of(lines::lines(rt.alloc(), &mut reader, &mut writer))
+}
+
+// Audits standard input. The keys of the audit's tables are drawn anew.
+fn audit_streams(rt: &HostRuntime) -> io::Result<Ending> {
+    let Ok(keys) = RandomState::new(rt) else {
+        return Ok(Ending::Device);
+    };
+    match audit(rt.alloc(), keys, &mut Counted::new(rt.stdin())) {
+        Ok(Audited { events, starts }) => {
+            println!(rt; "OK events {events} starts {starts}")?;
+            Ok(Ending::Done)
+        }
+        Err(AuditFault::BadLine(line)) => {
+            println!(rt; "BAD line {line}")?;
+            Ok(Ending::BadLine)
+        }
+        Err(AuditFault::Read) => Ok(Ending::Device),
+        Err(AuditFault::NoMemory) => Ok(Ending::NoMemory),
+    }
 }

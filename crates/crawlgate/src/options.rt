@@ -21,6 +21,8 @@ pub enum Subcommand {
     Export(Limits),
     /// Reads a robots text from standard input, and writes what each of its lines says.
     Lines,
+    /// Audits the text of a history on standard input.
+    Audit,
 }
 
 /// Reads the program's words, of which the first is its own name. The error has what `clap`
@@ -37,6 +39,7 @@ pub fn options<'a>(alloc: Global, words: &'a [&'a str]) -> Result<Subcommand, Er
             // `clap` has refused such numbers.
             None => Err(program.error(ErrorKind::ValueValidation, "a number is out of its range")?),
         },
+        Some(("audit", _)) => Ok(Subcommand::Audit),
         // There is no other subcommand, and one is required.
         _ => Ok(Subcommand::Lines),
     }
@@ -83,11 +86,15 @@ fn program<'a>(alloc: Global) -> Result<Command<'a>, AllocError> {
     let lines = Command::new(alloc, "lines").about(
         "Writes what each line of the robots.txt on standard input says",
     );
+    let audit = Command::new(alloc, "audit").about(
+        "Checks every decision in the history on standard input, as replay --export writes it",
+    );
     Command::new(alloc, "crawlgate")
         .about("A gate for web crawlers, under every site's robots.txt (RFC 9309)")
         .subcommand_required(true)
         .subcommand(replay)?
-        .subcommand(lines)
+        .subcommand(lines)?
+        .subcommand(audit)
 }
 
 // An option with a number from 1 to `most`.

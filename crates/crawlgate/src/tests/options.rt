@@ -16,7 +16,7 @@ const USUAL: Limits = Limits {
 };
 
 // What the words are, the words behind the program's name, and what they come to.
-const ROWS: [(&str, &[&str], Result<Subcommand, ErrorKind>); 15] = [
+const ROWS: [(&str, &[&str], Result<Subcommand, ErrorKind>); 16] = [
     ("replay", &["replay"], Ok(Subcommand::Replay(USUAL))),
     (
         "replay with its export",
@@ -24,6 +24,7 @@ const ROWS: [(&str, &[&str], Result<Subcommand, ErrorKind>); 15] = [
         Ok(Subcommand::Export(USUAL)),
     ),
     ("lines", &["lines"], Ok(Subcommand::Lines)),
+    ("audit", &["audit"], Ok(Subcommand::Audit)),
     ("no word", &[], Err(ErrorKind::MissingSubcommand)),
     (
         "an unknown word",

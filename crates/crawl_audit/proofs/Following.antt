@@ -1,0 +1,322 @@
+-- What each entry does to a ledger that says what the history does, and why an entry is not legal.
+-- Used by the calls of the ledger.
+use Rattle.std.proofs.Common.{◌≡◌, ◌≢◌, ℕ, ◌+◌, ◌<◌, ◌≤◌, ◌==◌, Bool, true, false, IsTrue, max, List, [], ◌∷◌, ◌++◌, filter, inl, inr, refl, sym, ap, subst, ◌∙◌, arith, Ok, Err}
+use Rattle.std.specs.Prelude.{◌&&◌, ◌||◌, MatchBool, Option, Result, Some, None, is_err, is_some, unwrap_or}
+use Rattle.std.specs.Borrow.{Bor}
+use Rattle.std.specs.List.{find, list_any}
+use Rattle.std.specs.Option.{option_map, option_map_or}
+use Rattle.std.specs.Str.{bytes_eq}
+use Rattle.std.proofs.lemmas.Bool.{and_parts, true≢false}
+use Rattle.std.proofs.lemmas.Slice.Eq.{bytes_eq-Decides}
+use Rattle.path_normal.specs.PageText.{authority_of}
+use Rattle.permit_book.specs.declared.out.Fetch.{Fetch}
+use Rattle.permit_book.specs.declared.permit.Permit.{Permit}
+use Rattle.permit_book.specs.Outstanding.{fetch_of, is_listed, is_numbered, permit_for}
+use Rattle.permit_book.specs.Table.{is_fetch_of}
+use Rattle.permit_book.proofs.Filters.{list_any-both, list_any-filter}
+use Rattle.robots_verdict.specs.declared.said.Said.{Said}
+use Rattle.authority_cache.specs.declared.site.Flight.{Flight}
+use Rattle.authority_cache.specs.declared.standing_answer.StandingAnswer.{StandingAnswer}
+use Rattle.authority_cache.specs.declared.turn.Turn.{Turn}
+use Rattle.authority_cache.specs.Calls.{Arrives, Begins, Changes, Sweeps}
+use Rattle.authority_cache.specs.declared.refusal.BeginRefusal.{BeginRefusal}
+use Rattle.authority_cache.specs.declared.refusal.Stale.{Stale}
+use Rattle.authority_cache.specs.Laws.{ReadsAlike}
+use Rattle.authority_cache.specs.Lists.{answer_for, is_answer_for, is_past_answer, TellsCache}
+use Rattle.authority_cache.specs.Lives.{life_of}
+use Rattle.authority_cache.specs.Sites.{Answered, arrived, has_past, has_turn as site_turn, is_flying, is_past, IsApart, Known, site_of, with_flight}
+use Rattle.authority_cache.proofs.Reading as reading
+use Rattle.authority_cache.proofs.Telling as telling
+use Rattle.gate_history.specs.declared.entry.Entry.TheVariants.{Begun, Arrived, Granted, AskDenied, Started, StartDenied, Returned, Finished, Swept}
+use Rattle.gate_history.specs.declared.outcome.Cause.{Cause}
+use Rattle.gate_history.specs.declared.outcome.Cause.TheVariants as causes
+use Rattle.gate_history.specs.declared.outcome.Reason.{Reason}
+use Rattle.gate_history.specs.Cause.{Decides, Judges, Says}
+use Rattle.gate_history.specs.History.{History, ◌▸◌, begins, now}
+use Rattle.gate_history.specs.Legal.{IsLegal, MayFollow, SpendsAs}
+use Rattle.gate_history.specs.Outstanding.{is_running, is_unspent, stands, unspent, was_granted}
+use Rattle.gate_history.specs.Standing.{has_turn, in_flight, is_fetching, past_count, standing, standing_of}
+use Rattle.gate_history.proofs.Deciding.{decides_once}
+use Rattle.gate_history.proofs.Soundness.{stands_once}
+use Rattle.gate_core.proofs.Looking.{decides_by, decides_expired, decides_unknown, IsInForce, IsPast}
+use Rattle.crawl_audit.specs.declared.ledger.Ledger.{Ledger}
+use Rattle.crawl_audit.specs.declared.numbers.Numbers.{Numbers}
+use Rattle.crawl_audit.specs.declared.numbers.Phase.{Phase}
+use Rattle.crawl_audit.specs.declared.numbers.Phase.TheVariants.{Unspent, Running, Ended}
+use Rattle.crawl_audit.specs.Tables.{GivesUnspent, is_running_in, is_unspent_in, Keeps, phases_of, Tells, TellsNumbers, unspent_under}
+use Rattle.crawl_audit.proofs.Numbering.{finished_tells, granted_tells, returned_tells, start_denied_tells, started_tells}
+
+-- ---- what the cache finds decides
+
+past_of : (o : Option Answered) (authority : List ℕ) (moment : ℕ) → option_map_or (is_past moment) o false ≡ true → IsPast (option_map (answer_for authority) o) moment
+past_of None authority moment is = absurd (true≢false (sym is))
+past_of (Some s) authority moment is = record { answer = answer_for authority s; stands = refl; past = is }
+
+in_force_of : (o : Option Answered) (authority : List ℕ) (moment : ℕ) (says : Said) → option_map_or (is_past moment) o false ≡ false → option_map (λ s. s.says) o ≡ Some says →
+    IsInForce (option_map (answer_for authority) o) moment says
+in_force_of None authority moment says is said = absurd (true≢false (ap is_some (sym said)))
+in_force_of (Some s) authority moment says is said =
+    record { answer = answer_for authority s; stands = refl; in_force = is; said = ap (λ (o : Option Said). unwrap_or o says) said }
+
+module _ (k : Known) (answers : List StandingAnswer) (turns : List Turn) (tells : TellsCache k answers turns) (a authority token url : List ℕ) (same : a ≡ authority) (moment : ℕ) where
+  found : option_map (answer_for a) (site_of k a).standing ≡ find (is_answer_for authority) answers
+  found = (reading.reads_alike k answers turns tells).answers a ∙ ap (λ b. find (is_answer_for b) answers) same
+
+  pub judges_unknown : (site_of k a).standing ≡ None → Judges (find (is_answer_for authority) answers) token url moment (Err causes.Unknown)
+  judges_unknown is = decides_unknown _ token url moment (sym found ∙ ap (option_map (answer_for a)) is)
+
+  pub judges_expired : has_past moment (site_of k a) ≡ true → Judges (find (is_answer_for authority) answers) token url moment (Err causes.Expired)
+  judges_expired is =
+      decides_expired _ token url moment (subst (λ (o : Option StandingAnswer). IsPast o moment) found (past_of (site_of k a).standing a moment is))
+
+  pub judges_in_force : (says : Said) (outcome : Result Reason Cause) → has_past moment (site_of k a) ≡ false → option_map (λ s. s.says) (site_of k a).standing ≡ Some says → Says says token url outcome →
+      Judges (find (is_answer_for authority) answers) token url moment outcome
+  judges_in_force says outcome is said by =
+      decides_by _ token url moment says outcome (subst (λ (o : Option StandingAnswer). IsInForce o moment says) found (in_force_of (site_of k a).standing a moment says is said)) by
+
+-- ---- the moment
+
+pub late : (clock moment now : ℕ) → clock ≡ now → moment < clock → now ≤ moment → ⊥
+late clock moment now same early fit = omega arith
+
+on_time : (moment now clock : ℕ) → clock ≡ now → clock ≤ moment → moment ≡ max moment now
+on_time moment now clock same fit = omega arith
+
+module _ (l : Ledger) (h : History) (t : Tells l h) where
+  abbrev reads : ReadsAlike l.cache (standing h) (in_flight h)
+  reads = reading.reads_alike l.cache (standing h) (in_flight h) t.cache_tells
+
+  -- ---- begins
+
+  pub fetching : (a authority : List ℕ) → a ≡ authority → (b : Bool) → b ≡ is_flying (site_of l.cache a) → is_fetching h authority ≡ b
+  fetching a authority same b is = ap (λ c. is_fetching h c) (sym same) ∙ sym (is ∙ reads.flying a)
+
+  pub begun_follows : (moment turn count : ℕ) (a authority : List ℕ) (cache : Known) → a ≡ authority → l.clock ≤ moment → false ≡ is_flying (site_of l.cache a) → turn ≡ l.begins + 1 → count ≡ turn →
+      is_flying (site_of l.cache authority) ≡ false → Changes l.cache authority (with_flight (record { turn = turn; begun = moment }) (site_of l.cache authority)) cache →
+      MayFollow h (Begun moment authority turn) × Tells (record { clock = moment; begins = count; cache = cache; numbers = l.numbers }) (h ▸ Begun moment authority turn)
+  begun_follows moment turn count a authority cache same fit idle next counted free changes = (
+    (omega (arith, t.clock_is), fetching a authority same false idle, next ∙ ap (λ n. n + 1) t.begins_are),
+    record {
+      clock_is = on_time moment (now h) l.clock t.clock_is fit;
+      begins_are = counted ∙ next ∙ ap (λ n. n + 1) t.begins_are;
+      cache_tells = telling.begun l.cache cache (standing h) (in_flight h) authority (record { turn = turn; begun = moment }) t.cache_tells free changes;
+      numbers_tell = record { unspent_are = t.numbers_tell.unspent_are; running_are = t.numbers_tell.running_are; granted_are = t.numbers_tell.granted_are };
+    },
+  )
+
+  -- ---- arrivals
+
+  pub flying_turn : (authority : List ℕ) (turn : ℕ) → has_turn h authority turn ≡ site_turn turn (site_of l.cache authority)
+  flying_turn authority turn = sym (reads.turns authority turn)
+
+  pub arrived_follows : IsLegal h → (moment turn life : ℕ) (authority : List ℕ) (says : Said) (cache : Known) → l.clock ≤ moment → life_of says life ≡ life →
+      site_turn turn (site_of l.cache authority) ≡ true → Changes l.cache authority (arrived turn says life (site_of l.cache authority)) cache →
+      MayFollow h (Arrived moment authority turn says life) × Tells (record { clock = moment; begins = l.begins; cache = cache; numbers = l.numbers }) (h ▸ Arrived moment authority turn says life)
+  arrived_follows legal moment turn life authority says cache fit lasting flying changes =
+      let there = flying_turn authority turn ∙ flying in (
+        (omega (arith, t.clock_is), there, lasting),
+        record {
+          clock_is = on_time moment (now h) l.clock t.clock_is fit;
+          begins_are = t.begins_are;
+          cache_tells = telling.arrives l.cache cache (standing h) (in_flight h) authority turn life says t.cache_tells flying ((stands_once h legal).own_turn authority turn there) changes;
+          numbers_tell = record { unspent_are = t.numbers_tell.unspent_are; running_are = t.numbers_tell.running_are; granted_are = t.numbers_tell.granted_are };
+        },
+      )
+
+  -- ---- sweeps
+
+  pub swept_count : (moment count : ℕ) (cache : Known) → Sweeps l.cache moment count cache → IsApart l.cache → count ≡ past_count h moment
+  swept_count moment count cache sweeps apart = sweeps.dropped ∙ (telling.counts_alike l.cache (standing h) (in_flight h) t.cache_tells apart).past moment
+
+  pub swept_follows : (moment count swept : ℕ) (cache : Known) → l.clock ≤ moment → swept ≡ count → Sweeps l.cache moment swept cache → IsApart l.cache →
+      MayFollow h (Swept moment count) × Tells (record { clock = moment; begins = l.begins; cache = cache; numbers = l.numbers }) (h ▸ Swept moment count)
+  swept_follows moment count swept cache fit same sweeps apart = (
+    (omega (arith, t.clock_is), sym same ∙ swept_count moment swept cache sweeps apart),
+    record {
+      clock_is = on_time moment (now h) l.clock t.clock_is fit;
+      begins_are = t.begins_are;
+      cache_tells = telling.swept_away l.cache cache (standing h) (in_flight h) moment swept t.cache_tells sweeps;
+      numbers_tell = record { unspent_are = t.numbers_tell.unspent_are; running_are = t.numbers_tell.running_are; granted_are = t.numbers_tell.granted_are };
+    },
+  )
+
+  -- ---- grants
+
+  pub granted_follows : (moment n : ℕ) (fetch : Fetch) (reason : Reason) (numbers : Numbers) → l.clock ≤ moment → is_some (phases_of l.numbers n) ≡ false → Decides h fetch.token fetch.url moment (Ok reason) →
+      Keeps (phases_of l.numbers) n (Some (Unspent fetch)) (phases_of numbers) →
+      MayFollow h (Granted moment n fetch) × Tells (record { clock = moment; begins = l.begins; cache = l.cache; numbers = numbers }) (h ▸ Granted moment n fetch)
+  granted_follows moment n fetch reason numbers fit new decided keeps = (
+    (omega (arith, t.clock_is), t.numbers_tell.granted_are n ∙ new, (reason, decided)),
+    record {
+      clock_is = on_time moment (now h) l.clock t.clock_is fit;
+      begins_are = t.begins_are;
+      cache_tells = t.cache_tells;
+      numbers_tell = granted_tells (phases_of l.numbers) (phases_of numbers) h n t.numbers_tell moment fetch (none_of (phases_of l.numbers n) new) keeps;
+    },
+  )
+    where
+      none_of : (o : Option Phase) → is_some o ≡ false → o ≡ None
+      none_of None is = refl
+      none_of (Some x) is = absurd (true≢false is)
+
+  -- a fetch that is denied is not allowed
+  pub not_allowed : (token url : List ℕ) (moment : ℕ) (outcome : Result Reason Cause) → Decides h token url moment outcome → is_err outcome ≡ true →
+      ((reason : Reason) × Decides h token url moment (Ok reason)) → ⊥
+  not_allowed token url moment (Err cause) decided is allowed = clash (decides_once h token url moment (Err cause) (Ok allowed.0) decided allowed.1)
+    where
+      clash : Err cause ≡ Ok allowed.0 → ⊥
+      clash e = cc
+  not_allowed token url moment (Ok reason) decided is allowed = true≢false (sym is)
+
+  pub not_so : (token url : List ℕ) (moment : ℕ) (one other : Result Reason Cause) → Decides h token url moment one → (one ≡ other → ⊥) → Decides h token url moment other → ⊥
+  not_so token url moment one other decided apart so = apart (decides_once h token url moment one other decided so)
+
+  -- ---- permits
+
+  -- what stands of a number stands of its one permit
+  stands_of : (n : ℕ) (token url : List ℕ) → stands h n token url ≡ list_any (λ p. is_fetch_of token url (fetch_of p)) (unspent_under n (phases_of l.numbers n))
+  stands_of n token url = list_any-both (is_numbered n) (λ p. is_fetch_of token url (fetch_of p)) (unspent h) ∙ ap (list_any (λ p. is_fetch_of token url (fetch_of p))) (t.numbers_tell.unspent_are n)
+
+  pub unspent_of : (n : ℕ) → is_unspent h n ≡ is_unspent_in (phases_of l.numbers n)
+  unspent_of n = list_any-filter (is_numbered n) (unspent h) ∙ ap (list_any (λ _. true)) (t.numbers_tell.unspent_are n) ∙ there (phases_of l.numbers n)
+    where
+      there : (o : Option Phase) → list_any (λ _. true) (unspent_under n o) ≡ is_unspent_in o
+      there None = refl
+      there (Some (Unspent fetch)) = refl
+      there (Some Running) = refl
+      there (Some Ended) = refl
+
+  pub no_spend : (n moment : ℕ) (outcome : Result Reason Cause) → is_unspent_in (phases_of l.numbers n) ≡ false → SpendsAs h n moment outcome → ⊥
+  no_spend n moment outcome none spends =
+      true≢false (sym spends.1.1.0 ∙ stands_of n spends.0 spends.1.0 ∙ nothing (phases_of l.numbers n) none)
+    where
+      nothing : (o : Option Phase) → is_unspent_in o ≡ false → list_any (λ p. is_fetch_of spends.0 spends.1.0 (fetch_of p)) (unspent_under n o) ≡ false
+      nothing None is = refl
+      nothing (Some (Unspent fetch)) is = absurd (true≢false is)
+      nothing (Some Running) is = refl
+      nothing (Some Ended) is = refl
+
+  or_none : (b : Bool) → (b || false) ≡ b
+  or_none true = refl
+  or_none false = refl
+
+  pub spends_as : (n moment : ℕ) (fetch : Fetch) (one outcome : Result Reason Cause) → phases_of l.numbers n ≡ Some (Unspent fetch) → Decides h fetch.token fetch.url moment one → one ≡ outcome → SpendsAs h n moment outcome
+  spends_as n moment fetch one outcome some decided same = (
+    fetch.token,
+    (
+      fetch.url,
+      (
+        stands_of n fetch.token fetch.url ∙ ap (λ o. list_any (λ p. is_fetch_of fetch.token fetch.url (fetch_of p)) (unspent_under n o)) some ∙ or_none (is_fetch_of fetch.token fetch.url fetch) ∙ own,
+        subst (Decides h fetch.token fetch.url moment) same decided,
+      ),
+    ),
+  )
+    where
+      own : is_fetch_of fetch.token fetch.url fetch ≡ true
+      own = rw ((bytes_eq-Decides fetch.token fetch.token).1 refl, (bytes_eq-Decides fetch.url fetch.url).1 refl) refl
+
+  pub spent_as : (n moment : ℕ) (fetch : Fetch) (one outcome : Result Reason Cause) → phases_of l.numbers n ≡ Some (Unspent fetch) → Decides h fetch.token fetch.url moment one → SpendsAs h n moment outcome → one ≡ outcome
+  spent_as n moment fetch one outcome some decided spends =
+      let token = spends.0 in
+      let url = spends.1.0 in
+      let both : is_fetch_of token url fetch ≡ true =
+      sym (stands_of n token url ∙ ap (λ o. list_any (λ p. is_fetch_of token url (fetch_of p)) (unspent_under n o)) some ∙ or_none (is_fetch_of token url fetch)) ∙ spends.1.1.0 in
+      let parts = and_parts (bytes_eq fetch.token token) (bytes_eq fetch.url url) both in
+      let same_token = (bytes_eq-Decides fetch.token token).0 parts.0 in
+      let same_url = (bytes_eq-Decides fetch.url url).0 parts.1 in
+      decides_once h token url moment one outcome
+      (subst (λ (u : List ℕ). Decides h token u moment one) same_url (subst (λ (k : List ℕ). Decides h k fetch.url moment one) same_token decided)) spends.1.1.1
+
+  pub fetch_spent : (n moment : ℕ) (outcome : Result Reason Cause) → SpendsAs h n moment outcome → (fetch : Fetch) × (phases_of l.numbers n ≡ Some (Unspent fetch))
+  fetch_spent n moment outcome spends = by (phases_of l.numbers n) refl
+    where
+      by : (o : Option Phase) → phases_of l.numbers n ≡ o → (fetch : Fetch) × (phases_of l.numbers n ≡ Some (Unspent fetch))
+      by None is = absurd (no_spend n moment outcome (ap is_unspent_in is) spends)
+      by (Some (Unspent fetch)) is = (fetch, is)
+      by (Some Running) is = absurd (no_spend n moment outcome (ap is_unspent_in is) spends)
+      by (Some Ended) is = absurd (no_spend n moment outcome (ap is_unspent_in is) spends)
+
+  pub started_follows : (moment n : ℕ) (reason : Reason) (numbers : Numbers) → l.clock ≤ moment → SpendsAs h n moment (Ok reason) → Keeps (phases_of l.numbers) n (Some Running) (phases_of numbers) →
+      MayFollow h (Started moment n reason) × Tells (record { clock = moment; begins = l.begins; cache = l.cache; numbers = numbers }) (h ▸ Started moment n reason)
+  started_follows moment n reason numbers fit spends keeps =
+      let fetch = fetch_spent n moment (Ok reason) spends in (
+        (omega (arith, t.clock_is), spends),
+        record {
+          clock_is = on_time moment (now h) l.clock t.clock_is fit;
+          begins_are = t.begins_are;
+          cache_tells = t.cache_tells;
+          numbers_tell = started_tells (phases_of l.numbers) (phases_of numbers) h n t.numbers_tell moment reason fetch.0 fetch.1 keeps;
+        },
+      )
+
+  pub start_denied_follows : (moment n : ℕ) (cause : Cause) (numbers : Numbers) → l.clock ≤ moment → SpendsAs h n moment (Err cause) → Keeps (phases_of l.numbers) n (Some Ended) (phases_of numbers) →
+      MayFollow h (StartDenied moment n cause) × Tells (record { clock = moment; begins = l.begins; cache = l.cache; numbers = numbers }) (h ▸ StartDenied moment n cause)
+  start_denied_follows moment n cause numbers fit spends keeps =
+      let fetch = fetch_spent n moment (Err cause) spends in (
+        (omega (arith, t.clock_is), spends),
+        record {
+          clock_is = on_time moment (now h) l.clock t.clock_is fit;
+          begins_are = t.begins_are;
+          cache_tells = t.cache_tells;
+          numbers_tell = start_denied_tells (phases_of l.numbers) (phases_of numbers) h n t.numbers_tell moment cause fetch.0 fetch.1 keeps;
+        },
+      )
+
+  pub returned_follows : (n : ℕ) (fetch : Fetch) (numbers : Numbers) → phases_of l.numbers n ≡ Some (Unspent fetch) → Keeps (phases_of l.numbers) n (Some Ended) (phases_of numbers) →
+      MayFollow h (Returned n) × Tells (record { clock = l.clock; begins = l.begins; cache = l.cache; numbers = numbers }) (h ▸ Returned n)
+  returned_follows n fetch numbers some keeps = (
+    unspent_of n ∙ ap is_unspent_in some,
+    record {
+      clock_is = omega (arith, t.clock_is);
+      begins_are = t.begins_are;
+      cache_tells = t.cache_tells;
+      numbers_tell = returned_tells (phases_of l.numbers) (phases_of numbers) h n t.numbers_tell fetch some keeps;
+    },
+  )
+
+  pub finished_follows : (n : ℕ) (numbers : Numbers) → is_running_in (phases_of l.numbers n) ≡ true → Keeps (phases_of l.numbers) n (Some Ended) (phases_of numbers) →
+      MayFollow h (Finished n) × Tells (record { clock = l.clock; begins = l.begins; cache = l.cache; numbers = numbers }) (h ▸ Finished n)
+  finished_follows n numbers runs keeps = (
+    t.numbers_tell.running_are n ∙ runs,
+    record {
+      clock_is = omega (arith, t.clock_is);
+      begins_are = t.begins_are;
+      cache_tells = t.cache_tells;
+      numbers_tell = finished_tells (phases_of l.numbers) (phases_of numbers) h n t.numbers_tell (running_one (phases_of l.numbers n) runs) keeps;
+    },
+  )
+    where
+      running_one : (o : Option Phase) → is_running_in o ≡ true → o ≡ Some Running
+      running_one None is = absurd (true≢false (sym is))
+      running_one (Some (Unspent fetch)) is = absurd (true≢false (sym is))
+      running_one (Some Running) is = refl
+      running_one (Some Ended) is = absurd (true≢false (sym is))
+
+-- ---- what calls answered
+
+pub begins_fine : {old new : Known} {authority : List ℕ} {flight : Flight} (r : Result (Unit {0}) BeginRefusal) → is_err r ≡ false → Begins old authority flight r new →
+    (is_flying (site_of old authority) ≡ false) × Changes old authority (with_flight flight (site_of old authority)) new
+begins_fine (Ok _) is b = (b.0, b.2)
+begins_fine (Err e) is b = absurd (true≢false is)
+
+pub arrives_fine : (old new : Known) (authority : List ℕ) (turn life : ℕ) (says : Said) (r : Result (Unit {0}) Stale) → is_err r ≡ false → Arrives old authority turn says life r new →
+    (site_turn turn (site_of old authority) ≡ true) × Changes old authority (arrived turn says life (site_of old authority)) new
+arrives_fine old new authority turn life says (Ok _) is b = b
+arrives_fine old new authority turn life says (Err e) is b = absurd (true≢false is)
+
+pub arrives_stale : (old new : Known) (authority : List ℕ) (turn life : ℕ) (says : Said) (r : Result (Unit {0}) Stale) → is_err r ≡ true → Arrives old authority turn says life r new →
+    site_turn turn (site_of old authority) ≡ false
+arrives_stale old new authority turn life says (Ok _) is b = absurd (true≢false (sym is))
+arrives_stale old new authority turn life says (Err e) is b = b.0
+
+pub allowed_by : (h : History) (token url : List ℕ) (moment : ℕ) (r : Result Reason Cause) → is_err r ≡ false → Decides h token url moment r → (reason : Reason) × Decides h token url moment (Ok reason)
+allowed_by h token url moment (Ok reason) is decided = (reason, decided)
+allowed_by h token url moment (Err cause) is decided = absurd (true≢false is)
+
+pub none_given : (o : Option Phase) (r : Option (Bor Fetch)) → GivesUnspent o r → is_some r ≡ false → is_unspent_in o ≡ false
+none_given o None gives is = gives
+none_given o (Some fetch) gives is = absurd (true≢false is)
+
+pub some_given : (o : Option Phase) (r : Option (Bor Fetch)) → GivesUnspent o r → is_some r ≡ true → (fetch : Fetch) × (o ≡ Some (Unspent fetch))
+some_given o None gives is = absurd (true≢false (sym is))
+some_given o (Some fetch) gives is = (fetch.now, gives)

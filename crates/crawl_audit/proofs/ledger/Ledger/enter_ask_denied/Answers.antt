@@ -1,0 +1,19 @@
+-- A denied ask is legal where it comes in time with the cause that the answer gives.
+use Rattle.std.proofs.Common.{◌≡◌, ◌+◌, ap, sym, ◌∙◌}
+use Rattle.std.proofs.lemmas.Bool.{true≢false}
+use Rattle.gate_history.specs.History.{now}
+use Rattle.gate_history.specs.Standing.{in_flight, standing}
+use Rattle.crawl_audit.specs.Tables.{phases_of}
+use Rattle.crawl_audit.proofs.Following.{late, not_so}
+use Rattle.crawl_audit.proofs.ledger.Ledger.enter_ask_denied.Goals as goal
+use Rattle.std.proofs.Common.{Err}
+use Rattle.crawl_audit.proofs.ledger.Ledger.enter_ask_denied.Goals.{then-moment-self-via-then-moment-self, then-moment-self-via-else-moment-self+then-not-is_same}
+
+pub returns-then-moment-self : goal.returns-then-moment-self
+returns-then-moment-self c = λ h t may.
+    elim c.then-moment-self.branch [
+      | then-moment-self-via-then-moment-self w ↦ late c.args.self.now.clock c.args.moment (now h) t.clock_is w.if-moment-self.true may.0
+      | then-moment-self-via-else-moment-self+then-not-is_same w ↦
+          not_so c.args.self.now h t c.args.token.now c.args.url.now c.args.moment w.decide.result (Err c.args.cause) (w.decide.ensures (standing h) (in_flight h) t.cache_tells)
+          (λ e. true≢false (sym (w.is_same.ensures.1 e) ∙ w.if-not-is_same.true)) may.1
+    ]

@@ -1,0 +1,17 @@
+-- A grant is legal where it comes in time, its number is new, and its fetch is allowed.
+use Rattle.std.proofs.Common.{◌≡◌, ◌+◌, ap, sym, ◌∙◌}
+use Rattle.std.proofs.lemmas.Bool.{true≢false}
+use Rattle.gate_history.specs.History.{now}
+use Rattle.gate_history.specs.Standing.{in_flight, standing}
+use Rattle.crawl_audit.specs.Tables.{phases_of}
+use Rattle.crawl_audit.proofs.Following.{allowed_by, granted_follows, not_allowed}
+use Rattle.crawl_audit.proofs.ledger.Ledger.enter_granted.Goals as goal
+
+pub returns-then-is_err : goal.returns-then-is_err
+returns-then-is_err c = λ h t may.
+    not_allowed c.args.self.now h t c.args.token c.args.url c.args.moment c.decide.result (c.decide.ensures (standing h) (in_flight h) t.cache_tells) (sym c.is_err.ensures.value ∙ c.if-is_err.true) may.2
+
+pub returns : goal.returns
+returns c = λ h t.
+    let allowed = allowed_by h c.args.token c.args.url c.args.moment c.decide.result (sym c.is_err.ensures.value ∙ c.if-is_err.false) (c.decide.ensures (standing h) (in_flight h) t.cache_tells) in
+    granted_follows c.args.self.now h t c.args.moment c.args.number (record { token = c.args.token; url = c.args.url }) allowed.0 c.put.new.self c.if-moment-self.false (sym c.was_granted.ensures ∙ c.if-was_granted.false) allowed.1 c.in_ok-put.ensures

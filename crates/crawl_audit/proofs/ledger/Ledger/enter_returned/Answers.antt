@@ -1,0 +1,18 @@
+-- A return is legal where it names an unspent permit.
+use Rattle.std.proofs.Common.{◌≡◌, ◌+◌, ap, not, sym, ◌∙◌}
+use Rattle.std.proofs.lemmas.Bool.{true≢false}
+use Rattle.gate_history.specs.History.{now}
+use Rattle.gate_history.specs.Standing.{in_flight, standing}
+use Rattle.crawl_audit.specs.Tables.{phases_of}
+use Rattle.crawl_audit.proofs.Following.{none_given, returned_follows, some_given, unspent_of}
+use Rattle.crawl_audit.proofs.ledger.Ledger.enter_returned.Goals as goal
+
+pub returns-then-is_none : goal.returns-then-is_none
+returns-then-is_none c = λ h t may.
+    let none = none_given (phases_of c.args.self.now.numbers c.args.number) c.unspent.result c.unspent.ensures (c.is_none.ensures ∙ ap not c.if-is_none.true) in
+    true≢false (sym may ∙ unspent_of c.args.self.now h t c.args.number ∙ none)
+
+pub returns : goal.returns
+returns c = λ h t.
+    let given = some_given (phases_of c.args.self.now.numbers c.args.number) c.unspent.result c.unspent.ensures (c.is_none.ensures ∙ ap not c.if-is_none.false) in
+    returned_follows c.args.self.now h t c.args.number given.0 c.put.new.self given.1 c.in_ok-put.ensures

@@ -1,0 +1,280 @@
+//! The ledger: what the entries that were read so far say, in tables, by which the next one is judged.
+//! RFC 9309, sections 2.2.2, 2.3.1 and 2.4.
+ghost use Rattle.std.specs.Prelude.{◌≡◌, ◌≤◌, ◌+◌, ◌↔◌, IsTrue};
+ghost use Rattle.robots_verdict.specs.Answer.{said};
+ghost use Rattle.authority_cache.specs.Lives.{life_of};
+ghost use Rattle.gate_history.specs.declared.entry.Entry.TheVariants.{AskDenied, Arrived, Begun, Finished, Granted, Returned, StartDenied, Started, Swept};
+ghost use Rattle.gate_history.specs.Base.{empty_base};
+ghost use Rattle.gate_history.specs.History.{History, from};
+ghost use Rattle.gate_history.specs.Legal.{IsLegal, SpendsAs};
+ghost use Rattle.crawl_audit.specs.Entries.{HasLife};
+ghost use Rattle.crawl_audit.specs.Reading.{entry_of};
+ghost use Rattle.crawl_audit.specs.Tables.{Follows, Tells};
+
+use crate::decide::decide;
+use crate::numbers::{Numbers, Phase};
+use crate::record::Record;
+use crate::version::Version;
+use authority_cache::{Cache, TurnNo};
+use gate_history::{Cause, Reason};
+use path_normal::{Authority, PageUrl};
+use permit_book::{Fetch, PermitNo};
+use robots_text::Token;
+use robots_verdict::Answer;
+use std::alloc::{AllocError, Global};
+use std::hash::RandomState;
+
+/// Why an entry was not entered.
+#[derive(Clone, Copy, Debug, PartialEq, Eq)]
+pub(crate) enum Unfit {
+    /// It is not legal after the entries before it.
+    Illegal,
+    /// There is no memory for it.
+    NoMemory,
+}
+
+impl From<AllocError> for Unfit {
+    ghost use Rattle.std.specs.Prelude.{◌≡◌};
+    ghost use Rattle.crawl_audit.specs.declared.ledger.Unfit.{Unfit};
+
+    ghost from_gives = { λ _ unfit. unfit ≡ Unfit.NoMemory };
+
+    fn from(_: AllocError) -> Unfit {
+        Unfit::NoMemory
+    }
+}
+
+/// What the entries so far say. After an entry that is not entered it is of no use.
+#[derive(Drop)]
+pub(crate) struct Ledger {
+    pub(crate) clock: u64,
+    pub(crate) begins: u64,
+    pub(crate) cache: Cache,
+    pub(crate) numbers: Numbers,
+}
+
+impl Ledger {
+    /// The ledger of no entry, with the keys of its tables' hashers.
+    pub(crate) fn new(alloc: Global, keys: RandomState) -> Ledger
+        ensures { Tells result (from empty_base) }
+    {
+        Ledger {
+            clock: 0,
+            begins: 0,
+            // The authorities of a text are not limited.
+            cache: Cache::new(alloc, u64::MAX, keys),
+            numbers: Numbers::new(alloc, keys),
+        }
+    }
+
+    /// Enters an entry, where it is legal after those so far.
+    pub(crate) fn enter(&mut self, found: Record) -> Result<(), Unfit>
+        requires { HasLife Version.Two (entry_of found) }
+        ensures { (h : History) → IsLegal h → Tells self.old h
+            → Follows h (entry_of found) result self.new }
+    {
+        match found {
+            Record::Begun {
+                moment,
+                authority,
+                turn,
+            } => self.enter_begun(moment, &authority, turn),
+            Record::Arrived {
+                moment,
+                authority,
+                turn,
+                answer,
+                life,
+            } => self.enter_arrived(moment, &authority, turn, answer, life),
+            Record::Granted {
+                moment,
+                number,
+                token,
+                url,
+            } => self.enter_granted(moment, number, token, url),
+            Record::AskDenied {
+                moment,
+                token,
+                url,
+                cause,
+            } => self.enter_ask_denied(moment, &token, &url, cause),
+            Record::Started {
+                moment,
+                number,
+                reason,
+            } => self.enter_started(moment, number, reason),
+            Record::StartDenied {
+                moment,
+                number,
+                cause,
+            } => self.enter_start_denied(moment, number, cause),
+            Record::Returned { number } => self.enter_returned(number),
+            Record::Finished { number } => self.enter_finished(number),
+            Record::Swept { moment, count } => self.enter_swept(moment, count),
+        }
+    }
+
+    fn enter_begun(&mut self, moment: u64, authority: &Authority, turn: TurnNo) -> Result<(), Unfit>
+        ensures { (h : History) → Tells self.old h
+            → Follows h (Begun moment authority.now turn) result self.new }
+    {
+        if moment < self.clock || self.cache.in_flight(authority.text()) || !self.is_next(turn) {
+            return Err(Unfit::Illegal);
+        }
+        if self.cache.begin(authority, turn, moment).is_err() {
+            return Err(Unfit::NoMemory);
+        }
+        self.clock = moment;
+        self.begins = turn.number();
+        Ok(())
+    }
+
+    // Whether the turn is one more than the begins so far.
+    fn is_next(&self, turn: TurnNo) -> bool
+        ensures { IsTrue result ↔ (turn ≡ self.now.begins + 1) }
+    {
+        turn.number() > 0 && turn.number() - 1 == self.begins
+    }
+
+    fn enter_arrived(
+        &mut self,
+        moment: u64,
+        authority: &Authority,
+        turn: TurnNo,
+        answer: Answer,
+        life: u64,
+    ) -> Result<(), Unfit>
+        requires { life_of (said answer) life ≡ life }
+        ensures { (h : History) → IsLegal h → Tells self.old h
+            → Follows h (Arrived moment authority.now turn (said answer) life) result self.new }
+    {
+        if moment < self.clock {
+            return Err(Unfit::Illegal);
+        }
+        if self.cache.arrive(authority, turn, answer, life).is_err() {
+            return Err(Unfit::Illegal);
+        }
+        self.clock = moment;
+        Ok(())
+    }
+
+    fn enter_granted(
+        &mut self,
+        moment: u64,
+        number: PermitNo,
+        token: Token,
+        url: PageUrl,
+    ) -> Result<(), Unfit>
+        ensures { (h : History) → Tells self.old h
+            → Follows h (Granted moment number (record { token = token; url = url })) result self.new }
+    {
+        if moment < self.clock || self.numbers.was_granted(number) {
+            return Err(Unfit::Illegal);
+        }
+        if decide(&self.cache, &token, &url, moment).is_err() {
+            return Err(Unfit::Illegal);
+        }
+        self.numbers
+            .put(number, Phase::Unspent(Fetch { token, url }))?;
+        self.clock = moment;
+        Ok(())
+    }
+
+    fn enter_ask_denied(
+        &mut self,
+        moment: u64,
+        token: &Token,
+        url: &PageUrl,
+        cause: Cause,
+    ) -> Result<(), Unfit>
+        ensures { (h : History) → Tells self.old h
+            → Follows h (AskDenied moment (record { token = token.now; url = url.now }) cause) result
+            self.new }
+    {
+        if moment < self.clock || !is_same(decide(&self.cache, token, url, moment), Err(cause)) {
+            return Err(Unfit::Illegal);
+        }
+        self.clock = moment;
+        Ok(())
+    }
+
+    fn enter_started(&mut self, moment: u64, number: PermitNo, reason: Reason) -> Result<(), Unfit>
+        ensures { (h : History) → Tells self.old h
+            → Follows h (Started moment number reason) result self.new }
+    {
+        if moment < self.clock || !self.decides(number, moment, Ok(reason)) {
+            return Err(Unfit::Illegal);
+        }
+        self.numbers.put(number, Phase::Running)?;
+        self.clock = moment;
+        Ok(())
+    }
+
+    fn enter_start_denied(
+        &mut self,
+        moment: u64,
+        number: PermitNo,
+        cause: Cause,
+    ) -> Result<(), Unfit>
+        ensures { (h : History) → Tells self.old h
+            → Follows h (StartDenied moment number cause) result self.new }
+    {
+        if moment < self.clock || !self.decides(number, moment, Err(cause)) {
+            return Err(Unfit::Illegal);
+        }
+        self.numbers.put(number, Phase::Ended)?;
+        self.clock = moment;
+        Ok(())
+    }
+
+    // Whether an unspent permit of the number stands, whose fetch is decided so.
+    fn decides(&self, number: PermitNo, moment: u64, outcome: Result<Reason, Cause>) -> bool
+        ensures { (h : History) → Tells self.now h
+            → IsTrue result ↔ SpendsAs h number moment outcome }
+    {
+        match self.numbers.unspent(number) {
+            Some(fetch) => is_same(
+                decide(&self.cache, &fetch.token, &fetch.url, moment),
+                outcome,
+            ),
+            None => false,
+        }
+    }
+
+    fn enter_returned(&mut self, number: PermitNo) -> Result<(), Unfit>
+        ensures { (h : History) → Tells self.old h → Follows h (Returned number) result self.new }
+    {
+        if self.numbers.unspent(number).is_none() {
+            return Err(Unfit::Illegal);
+        }
+        self.numbers.put(number, Phase::Ended)?;
+        Ok(())
+    }
+
+    fn enter_finished(&mut self, number: PermitNo) -> Result<(), Unfit>
+        ensures { (h : History) → Tells self.old h → Follows h (Finished number) result self.new }
+    {
+        if !self.numbers.is_running(number) {
+            return Err(Unfit::Illegal);
+        }
+        self.numbers.put(number, Phase::Ended)?;
+        Ok(())
+    }
+
+    fn enter_swept(&mut self, moment: u64, count: u64) -> Result<(), Unfit>
+        ensures { (h : History) → Tells self.old h → Follows h (Swept moment count) result self.new }
+    {
+        if moment < self.clock || self.cache.sweep(moment) != count {
+            return Err(Unfit::Illegal);
+        }
+        self.clock = moment;
+        Ok(())
+    }
+}
+
+// Whether both decide the same.
+fn is_same(one: Result<Reason, Cause>, other: Result<Reason, Cause>) -> bool
+    ensures { IsTrue result ↔ (one ≡ other) }
+{
+    one == other
+}
