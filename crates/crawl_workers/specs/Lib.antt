@@ -1,0 +1,4 @@
+-- What contracts say of the crate's clock, of times that are limited, and of one fetch.
+pub mod Clock
+pub mod Exchange
+pub mod Times

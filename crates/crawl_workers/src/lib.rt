@@ -1,0 +1,19 @@
+//! What workers crawl with: a clock, and pages fetched over TCP in bounded time.
+#![tactic(auto)]
+
+mod clock;
+mod deadline;
+mod http_exchange;
+mod server;
+mod tcp;
+mod time_limits;
+mod timed_stream;
+
+pub use clock::{Clock, SystemClock};
+pub use http_exchange::exchange;
+pub use server::{HTTP_PORT, Server, server_of};
+pub use tcp::TcpClient;
+pub use time_limits::TimeLimits;
+
+#[cfg(test)]
+mod tests;

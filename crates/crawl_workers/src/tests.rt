@@ -1,0 +1,6 @@
+//! Tests of what clauses don't show: real connections on the loopback, their faults, and their times.
+
+mod endings;
+mod fetches;
+mod stalls;
+mod test_server;
