@@ -1,8 +1,8 @@
 //! One request and its response.
 //! RFC 9112, sections 2 and 3.
-ghost use Rattle.std.specs.Prelude.{◌≡◌, ◌≤◌, All};
 ghost use Rattle.path_normal.specs.PageText.{authority_of, target_of};
 ghost use Rattle.http_wire.specs.Request.{request};
+ghost use Rattle.crawl_workers.specs.Agent.{IsAgent};
 ghost use Rattle.crawl_workers.specs.Exchange.{Exchanges};
 
 use counted_io::{Sink, Source};
@@ -22,7 +22,7 @@ pub fn exchange<S: Source, W: Sink>(
     limit: usize,
 ) -> Result<HttpReply, WireFault>
     // No octet of the agent ends its line.
-    requires { All (λ octet. (32 ≤ octet) × (octet ≤ 126)) agent.now }
+    requires { IsAgent agent.now }
     ensures { Exchanges (request (target_of url.now) (authority_of url.now) agent.now) limit
         (W.written writer.old) (W.written writer.new)
         (W.failures writer.old) (W.failures writer.new) (S.left reader.old)

@@ -5,14 +5,15 @@ mod clock;
 mod deadline;
 mod http_exchange;
 mod server;
-mod tcp;
+mod tcp_client;
+mod tcp_fetcher;
 mod time_limits;
 mod timed_stream;
 
 pub use clock::{Clock, SystemClock};
 pub use http_exchange::exchange;
-pub use server::{HTTP_PORT, Server, server_of};
-pub use tcp::TcpClient;
+pub use tcp_client::TcpClient;
+pub use tcp_fetcher::TcpFetcher;
 pub use time_limits::TimeLimits;
 
 #[cfg(test)]

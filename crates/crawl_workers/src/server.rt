@@ -1,42 +1,58 @@
-//! Where the server of an authority listens.
+//! Where the server of a page listens.
 //! RFC 3986, section 3.2; RFC 9110, section 4.2.1.
-/// The port of `http` where an authority writes none.
-pub const HTTP_PORT: u16 = 80;
+ghost use Rattle.std.specs.Prelude.{◌≡◌, ◌++◌, ℕ, List, Option, ◌^◌, ◌<◌, IfSome, unwrap_or};
+ghost use Rattle.url.specs.declared.host.Host.{Host};
+ghost use Rattle.url.specs.declared.scheme.SchemeType.TheVariants.{SpecialNotFile};
+ghost use Rattle.url.specs.Host.{host_text, IsHostOf};
+ghost use Rattle.path_normal.specs.PageUrl.{port_text};
+ghost use Rattle.crawl_workers.specs.Server.{IsServerOf, bare_host, http_port};
 
-/// The host and the port that an authority names.
+use path_normal::PageUrl;
+
+/// The port of `http`, where none is written.
+const HTTP_PORT: u16 = 80;
+
+/// The host and the port of a page.
 #[derive(Clone, Copy, Debug, PartialEq, Eq)]
-pub struct Server<'a> {
-    /// A name or an address, without the brackets round one of IPv6.
-    pub host: &'a str,
-    pub port: u16,
+pub(crate) struct Server<'a> {
+    /// A name or an address, without the brackets that a URL has round one of IPv6.
+    pub(crate) host: &'a str,
+    pub(crate) port: u16,
 }
 
-/// The server that an authority names. None where what stands behind the host is no port.
-pub fn server_of(authority: &str) -> Option<Server<'_>> {
-    if let Some(bracketed) = authority.strip_prefix('[') {
-        let (host, tail) = bracketed.split_once(']')?;
-        return Some(Server {
-            host,
-            port: port_behind(tail)?,
-        });
-    }
-    match authority.split_once(':') {
-        Some((host, port)) => Some(Server {
-            host,
-            port: port.parse().ok()?,
-        }),
-        None => Some(Server {
-            host: authority,
-            port: HTTP_PORT,
-        }),
+/// The server of a page.
+pub(crate) fn server_of(url: &PageUrl) -> Server<'_>
+    ensures { IsServerOf url.now result.host.now result.port }
+{
+    let (host, tail) = split_host(url.authority());
+    Server {
+        host,
+        port: port_of(tail),
     }
 }
 
-// The port that stands behind an address in brackets.
-fn port_behind(tail: &str) -> Option<u16> {
+// The host of an authority, without brackets, and what stands behind it.
+fn split_host(authority: &str) -> (&str, &str)
+    ensures { (host : Host (List ℕ)) (port : Option ℕ) → IsHostOf SpecialNotFile host
+        → authority.now ≡ host_text host ++ port_text port
+        → (result.0.now ≡ bare_host host) × (result.1.now ≡ port_text port) }
+{
+    match authority.strip_prefix('[') {
+        Some(bracketed) => bracketed.split_once(']').unwrap_or((bracketed, "")),
+        None => match authority.find(':') {
+            Some(end) => authority.split_at(end),
+            None => (authority, ""),
+        },
+    }
+}
+
+// The port that is written behind a host.
+fn port_of(tail: &str) -> u16
+    ensures { (port : Option ℕ) → IfSome port (λ n. n < 2 ^ 16) → tail.now ≡ port_text port
+        → result ≡ unwrap_or port http_port }
+{
     match tail.strip_prefix(':') {
-        Some(port) => port.parse().ok(),
-        None if tail.is_empty() => Some(HTTP_PORT),
-        None => None,
+        Some(digits) => digits.parse().unwrap_or(HTTP_PORT),
+        None => HTTP_PORT,
     }
 }

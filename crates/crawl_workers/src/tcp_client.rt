@@ -1,6 +1,7 @@
 //! Pages fetched over TCP, each over a connection of its own.
-ghost use Rattle.std.specs.Prelude.{◌≤◌, All, None};
+ghost use Rattle.std.specs.Prelude.{None};
 ghost use Rattle.http_wire.specs.Response.{Tells};
+ghost use Rattle.crawl_workers.specs.Agent.{IsAgent};
 
 use crate::deadline::Deadline;
 use crate::http_exchange::exchange;
@@ -42,13 +43,13 @@ impl<R: Net<Stream = TcpStream> + time::Clock> TcpClient<R> {
         limit: usize,
     ) -> Result<HttpReply, WireFault>
         // No octet of the agent ends its line.
-        requires { All (λ octet. (32 ≤ octet) × (octet ≤ 126)) agent.now }
+        requires { IsAgent agent.now }
         ensures { Tells None limit result }
     {
         let Ok(deadline) = Deadline::begin(&self.rt, self.limits.whole) else {
             return Err(WireFault::Device);
         };
-        let Ok(stream) = self.connect(url.authority(), &deadline) else {
+        let Ok(stream) = self.connect(url, &deadline) else {
             return Err(WireFault::Device);
         };
         let mut reader = Counted::new(self.timed(&stream, deadline));
@@ -56,11 +57,9 @@ impl<R: Net<Stream = TcpStream> + time::Clock> TcpClient<R> {
         exchange(alloc, &mut reader, &mut writer, url, agent, limit)
     }
 
-    // Connects to the first address of the authority's server that takes a connection.
-    fn connect(&self, authority: &str, deadline: &Deadline) -> io::Result<TcpStream> {
-        let Some(server) = server_of(authority) else {
-            return Err(io::Error::from(ErrorKind::InvalidInput));
-        };
+    // Connects to the first address of the page's server that takes a connection.
+    fn connect(&self, url: &PageUrl, deadline: &Deadline) -> io::Result<TcpStream> {
+        let server = server_of(url);
         let mut last = io::Error::from(ErrorKind::NotFound);
         for address in (server.host, server.port).to_socket_addrs(&self.rt)? {
             let left = deadline.left(&self.rt, self.limits.connect)?;
