@@ -13,7 +13,7 @@ use std::alloc::Global;
 /// Writes the request for a page, as `write_get` does, and reads the response, as `read_response`
 /// does, with at most `limit` octets of its body. `agent` is the value of User-Agent. Where the
 /// request can't be written, nothing is read.
-pub fn exchange<S: Source, W: Sink>(
+pub(crate) fn exchange<S: Source, W: Sink>(
     alloc: Global,
     reader: &mut S,
     writer: &mut W,

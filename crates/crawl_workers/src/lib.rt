@@ -11,8 +11,6 @@ mod time_limits;
 mod timed_stream;
 
 pub use clock::{Clock, SystemClock};
-pub use http_exchange::exchange;
-pub use tcp_client::TcpClient;
 pub use tcp_fetcher::TcpFetcher;
 pub use time_limits::TimeLimits;
 

@@ -17,15 +17,15 @@ use std::net::{Net, TcpStream, ToSocketAddrs};
 use std::{io, time};
 
 /// What fetches pages over TCP. It keeps no connection, and follows no redirect.
-#[derive(Clone, Copy, Debug, Drop)]
-pub struct TcpClient<R: Net<Stream = TcpStream> + time::Clock> {
+#[derive(Debug, Drop)]
+pub(crate) struct TcpClient<R: Net<Stream = TcpStream> + time::Clock> {
     rt: R,
     limits: TimeLimits,
 }
 
 impl<R: Net<Stream = TcpStream> + time::Clock> TcpClient<R> {
     /// A client whose fetches take no longer than these limits.
-    pub fn new(rt: R, limits: TimeLimits) -> TcpClient<R> {
+    pub(crate) fn new(rt: R, limits: TimeLimits) -> TcpClient<R> {
         TcpClient { rt, limits }
     }
 
@@ -35,7 +35,7 @@ impl<R: Net<Stream = TcpStream> + time::Clock> TcpClient<R> {
     /// `Device` where the host has no address, no address takes a connection, a read or a write fails,
     /// or a limit of time is passed. The addresses of a name are looked up by the system, whose own
     /// limits of time hold there, and are tried one after the other.
-    pub fn fetch(
+    pub(crate) fn fetch(
         &self,
         alloc: Global,
         url: &PageUrl,

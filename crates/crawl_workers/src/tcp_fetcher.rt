@@ -69,7 +69,12 @@ impl<R: Net<Stream = TcpStream> + time::Clock> TcpFetcher<R> {
 
     /// Fetches a page as the crawler that the token names, with at most `limit` octets of its body.
     /// A redirect is a reply like others. The faults are those of `TcpClient::fetch`.
-    pub fn page(&self, token: &Token, url: &PageUrl, limit: usize) -> Result<HttpReply, WireFault>
+    pub(crate) fn page(
+        &self,
+        token: &Token,
+        url: &PageUrl,
+        limit: usize,
+    ) -> Result<HttpReply, WireFault>
         ensures { Tells None limit result }
     {
         self.client
@@ -78,7 +83,7 @@ impl<R: Net<Stream = TcpStream> + time::Clock> TcpFetcher<R> {
 
     /// Fetches a robots file, with at most 512,001 octets of its body. A redirect is a reply like
     /// others. The faults are those of `TcpClient::fetch`.
-    pub fn robots(&self, url: &PageUrl) -> Result<HttpReply, WireFault>
+    pub(crate) fn robots(&self, url: &PageUrl) -> Result<HttpReply, WireFault>
         ensures { Tells None robots_limit result }
     {
         self.client

@@ -2,5 +2,7 @@
 
 mod endings;
 mod fetches;
+mod requests;
 mod stalls;
 mod test_server;
+mod values;

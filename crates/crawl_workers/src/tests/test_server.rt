@@ -1,6 +1,7 @@
 //! A server on the loopback for one connection, and one fetch from it.
 
-use crate::{TcpClient, TimeLimits};
+use crate::TimeLimits;
+use crate::tcp_client::TcpClient;
 use http_wire::{HttpReply, WireFault};
 use path_normal::PageUrl;
 use std::alloc::Global;
@@ -24,6 +25,19 @@ pub(super) enum Script {
     Stalls(&'static str),
     /// Sends a text and resets the connection.
     Resets(&'static str),
+}
+
+impl Script {
+    // The text that it sends first.
+    fn front(self) -> &'static str {
+        match self {
+            Script::Sends(front)
+            | Script::Repeats(front, _)
+            | Script::Drips(front)
+            | Script::Stalls(front)
+            | Script::Resets(front) => front,
+        }
+    }
 }
 
 /// The most octets that a repeating server sends.
@@ -100,61 +114,69 @@ where
     let url = page_of(alloc, &listener)?;
     let (served, fetched) = thread::join(
         rt,
-        || serve(rt, &listener, script),
+        || serve(rt, alloc, &listener, script),
         || fetch(rt, alloc, &url, limits, limit),
     );
     served?;
     Ok(fetched?)
 }
 
-// Accepts one connection, reads the head of a request and does as the script says.
-fn serve(rt: &impl time::Clock, listener: &TcpListener, script: Script) -> io::Result<()> {
-    let (mut stream, _) = listener.accept()?;
-    stream.set_read_timeout(Some(Duration::from_secs(10)))?;
-    stream.set_write_timeout(Some(Duration::from_secs(10)))?;
-    match script {
-        Script::Sends(text) => {
-            read_request(&mut stream)?;
-            send(&mut stream, text)
-        }
-        Script::Repeats(front, piece) => {
-            read_request(&mut stream)?;
-            send(&mut stream, front)?;
-            repeat(&mut stream, piece);
-            Ok(())
-        }
-        Script::Drips(front) => {
-            read_request(&mut stream)?;
-            send(&mut stream, front)?;
-            drip(rt, &mut stream);
-            Ok(())
-        }
-        Script::Stalls(front) => {
-            read_request(&mut stream)?;
-            send(&mut stream, front)?;
-            let _ = stream.read(&mut [0])?;
-            Ok(())
-        }
-        // A connection that is closed with octets unread is reset.
-        Script::Resets(front) => {
-            stream.peek(&mut [0])?;
-            send(&mut stream, front)
-        }
-    }
+/// Accepts one connection, and reads the head of a request.
+pub(super) fn accept_request(
+    alloc: Global,
+    listener: &TcpListener,
+) -> io::Result<(TcpStream, Vec<u8>)> {
+    let mut stream = accept(listener)?;
+    let request = read_request(alloc, &mut stream)?;
+    Ok((stream, request))
 }
 
-// Reads up to the empty line behind a request's head.
-fn read_request(stream: &mut TcpStream) -> io::Result<()> {
-    let mut seen = [0; 4];
-    for _ in 0..8_192 {
-        let mut octet = [0];
-        stream.read_exact(&mut octet)?;
-        seen = [seen[1], seen[2], seen[3], octet[0]];
-        if seen == *b"\r\n\r\n" {
-            break;
+// Accepts one connection, whose reads and writes here wait for 10 seconds at most.
+fn accept(listener: &TcpListener) -> io::Result<TcpStream> {
+    let (stream, _) = listener.accept()?;
+    stream.set_read_timeout(Some(Duration::from_secs(10)))?;
+    stream.set_write_timeout(Some(Duration::from_secs(10)))?;
+    Ok(stream)
+}
+
+// Accepts one connection, reads the head of a request and does as the script says.
+fn serve(
+    rt: &impl time::Clock,
+    alloc: Global,
+    listener: &TcpListener,
+    script: Script,
+) -> io::Result<()> {
+    // A connection that is closed with octets unread is reset.
+    if let Script::Resets(front) = script {
+        let mut stream = accept(listener)?;
+        stream.peek(&mut [0])?;
+        return send(&mut stream, front);
+    }
+    let (mut stream, _) = accept_request(alloc, listener)?;
+    send(&mut stream, script.front())?;
+    match script {
+        Script::Sends(_) | Script::Resets(_) => {}
+        Script::Repeats(_, piece) => repeat(&mut stream, piece),
+        Script::Drips(_) => drip(rt, &mut stream),
+        Script::Stalls(_) => {
+            let _ = stream.read(&mut [0])?;
         }
     }
     Ok(())
+}
+
+// Reads up to the empty line behind a request's head.
+fn read_request(alloc: Global, stream: &mut TcpStream) -> io::Result<Vec<u8>> {
+    let mut request = Vec::new(alloc);
+    for _ in 0..8_192 {
+        let mut octet = [0];
+        stream.read_exact(&mut octet)?;
+        request.push(octet[0])?;
+        if request.ends_with(b"\r\n\r\n") {
+            break;
+        }
+    }
+    Ok(request)
 }
 
 // Sends a text, in which `|` stands for CR LF.
