@@ -71,7 +71,11 @@ impl<R: Net<Stream = TcpStream> + time::Clock> TcpClient<R> {
         Err(last)
     }
 
-    fn timed<'a>(&'a self, stream: &'a TcpStream, deadline: Deadline) -> TimedStream<'a, R> {
+    fn timed<'a>(
+        &'a self,
+        stream: &'a TcpStream,
+        deadline: Deadline,
+    ) -> TimedStream<'a, R, &'a TcpStream> {
         TimedStream {
             rt: &self.rt,
             stream,

@@ -2,6 +2,7 @@
 
 mod endings;
 mod fetches;
+mod interrupts;
 mod requests;
 mod stalls;
 mod test_server;

@@ -61,7 +61,7 @@ fn a_robots_file_is_fetched_under_the_agent(rt: HostRuntime) -> Result<(), Fail>
 #[test]
 fn two_threads_share_a_fetcher(rt: HostRuntime) -> Result<(), Fail> {
     let alloc = rt.alloc();
-    let fetcher = TcpFetcher::with_limits(alloc, &rt, b"crawlgate", patient())?;
+    let fetcher = TcpFetcher::new(alloc, &rt, b"crawlgate")?;
     let listener = listen(&rt)?;
     let url = page_of(alloc, &listener)?;
     let (seen, replies) = thread::join(
