@@ -2,5 +2,6 @@
 pub mod Agent
 pub mod Clock
 pub mod Exchange
+pub mod Limits
 pub mod Server
 pub mod Times
