@@ -10,7 +10,7 @@ use Rattle.std.proofs.lemmas.Bool.{and_parts, true≢false}
 use Rattle.std.proofs.lemmas.Slice.Eq.{bytes_eq-Decides}
 use Rattle.path_normal.specs.PageText.{authority_of}
 use Rattle.permit_book.specs.declared.out.Fetch.{Fetch}
-use Rattle.permit_book.specs.declared.permit.Permit.{Permit}
+use Rattle.permit_book.specs.declared.granted_permit.GrantedPermit.{GrantedPermit}
 use Rattle.permit_book.specs.Outstanding.{fetch_of, is_listed, is_numbered, permit_for}
 use Rattle.permit_book.specs.Table.{is_fetch_of}
 use Rattle.permit_book.proofs.Filters.{list_any-both, list_any-filter}
