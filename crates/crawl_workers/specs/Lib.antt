@@ -1,0 +1,6 @@
+-- What contracts say of the crate's clock, of times that are limited, and of one fetch.
+pub mod Agent
+pub mod Clock
+pub mod Exchange
+pub mod Server
+pub mod Times
