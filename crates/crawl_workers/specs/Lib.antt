@@ -2,5 +2,8 @@
 pub mod Agent
 pub mod Clock
 pub mod Exchange
+pub mod Leaves
+pub mod Network
 pub mod Server
+pub mod Sites
 pub mod Times
