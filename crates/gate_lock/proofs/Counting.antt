@@ -1,9 +1,8 @@
 -- The balance of a gate behind one more entry.
 -- Used by the methods of `Round`.
-use Rattle.std.proofs.Common.{◌≡◌, ℕ, ◌+◌, List, refl, sym, ap, ◌∙◌, subst, arith}
+use Rattle.std.proofs.Common.{◌≡◌, ℕ, ◌+◌, List, [], ◌∷◌, length, sym, ap, ◌∙◌, subst, arith}
 use Rattle.gate_history.specs.declared.entry.Entry.{Entry}
-use Rattle.gate_history.specs.Base.{Base}
-use Rattle.gate_history.specs.History.{History, ◌▸◌, from}
+use Rattle.gate_history.specs.History.{History, ◌▸◌, entry_count, followed_by, from}
 use Rattle.gate_history.specs.Laws.{Counts, OneMore}
 use Rattle.gate_core.specs.Gate.{Adds, Gate, history}
 use Rattle.gate_lock.specs.Balance.{Balance, IsBalanceOf, Loses}
@@ -37,3 +36,8 @@ begun more old new e adds counts b entered left now is enters loses starts =
       running = omega (arith, ap (λ (b : Balance). b.running) starts, ap (λ (b : Balance). b.running) enters, loses.running_are, is.running, counts.running_are);
       turns = omega (arith, ap (λ (b : Balance). b.turns) starts, ap (λ (b : Balance). b.turns) enters, loses.turns_are, is.turns, counts.flights_are);
     })
+
+-- entries count for themselves
+pub counted : (h : History) (later : List Entry) → entry_count (followed_by h later) ≡ entry_count h + length later
+counted h [] = omega arith
+counted h (e ∷ later) = let more = counted (h ▸ e) later in omega (arith, more)

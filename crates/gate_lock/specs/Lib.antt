@@ -5,3 +5,4 @@ pub mod Results
 pub mod Marks
 pub mod Desks
 pub mod Steps
+pub mod Settling

@@ -1,8 +1,9 @@
 //! `Desk::ask` and `Desk::ask_in`: a permit for one fetch. The matching is done before the lock is taken.
 //! RFC 9309, sections 2.2 and 2.3.1.
-ghost use Rattle.std.specs.Prelude.{◌≡◌, ◌+◌, ◌^◌, ◌<◌, ◌≤◌, IfOk, OnOk, length, vec_capacity};
+ghost use Rattle.std.specs.Prelude.{◌≡◌, ◌+◌, ◌^◌, ◌<◌, ◌≤◌, IfOk, OnErr, OnOk, length, vec_capacity};
 ghost use Rattle.gate_history.specs.History.{entry_count};
 ghost use Rattle.gate_core.specs.Gate.{history};
+ghost use Rattle.gate_lock.specs.Desks.{HasOut, KeepsOut};
 ghost use Rattle.gate_lock.specs.Steps.{DeskAsks, Somewhere};
 
 use crate::desk::Desk;
@@ -36,7 +37,10 @@ impl<'a, G: Gate> Desk<'a, G> {
         url: PageUrl,
         moment: u64,
     ) -> Result<Permit<G>, AskRefusal>
-        ensures { Somewhere self.old (λ old new. DeskAsks self.old old token url moment result new self.new) }
+        ensures step { Somewhere self.old (λ old new. DeskAsks self.old old token url moment result new self.new) }
+        ensures no { self.new.no ≡ self.old.no }
+        ensures ok { IfOk result (λ p. (p.desk ≡ self.old.no) × HasOut self.old self.new 1 0 0 0 0 0) }
+        ensures err { OnErr result (KeepsOut self.old self.new) }
     {
         let gate = self.gate;
         let policy = gate.hint(rt, url.authority(), moment);

@@ -1,10 +1,12 @@
 //! A desk: one thread's part of a gate. It makes the book's calls, and keeps a mark of each entry that it made.
 //! RFC 9309, sections 2.2 to 2.4.
 ghost use Rattle.std.specs.Prelude.{◌≡◌, ◌+◌, ◌≤◌, IfOk, length};
+ghost use Rattle.gate_history.specs.History.{entry_count};
+ghost use Rattle.gate_core.specs.Gate.{HasLegalHistory, history};
 ghost use Rattle.gate_lock.specs.Desks.{IsNew, out_of};
 
 use crate::ledgers::Gate;
-use crate::lock::GateLock;
+use crate::lock::{GateLock, Held};
 use crate::mark::Mark;
 use crate::receipts::Receipts;
 use crate::shares::Mine;
@@ -56,7 +58,8 @@ impl<'a, G: Gate> Model for Desk<'a, G> {
 impl<G: Gate> GateLock<G> {
     /// One more desk, with a number of its own from 1.
     pub fn desk<R: Wait>(&self, rt: &R, alloc: Global) -> Result<Desk<'_, G>, DesksFull>
-        ensures { IfOk result IsNew }
+        ensures new { IfOk result IsNew }
+        ensures out { IfOk result (λ desk. out_of desk ≡ 0) }
     {
         let mut held = self.lend(rt);
         let (no, mine) = held.guard.desk()?;
@@ -101,6 +104,14 @@ impl<'a, G: Gate> Desk<'a, G> {
         ensures { result ≡ out_of self.now }
     {
         self.permits + self.runs + self.turns
+    }
+
+    /// The lock, once the history has the entries that this desk has seen: for the calls that end in `_in`.
+    pub fn lend<R: Wait>(&self, rt: &R) -> Held<'a, G>
+        ensures legal { HasLegalHistory result }
+        ensures seen { self.now.seen ≤ entry_count (history result) }
+    {
+        self.gate.lend_from(rt, self.seen)
     }
 
     /// Closes a desk that has nothing out.

@@ -4,12 +4,14 @@
 
 mod ask;
 mod desk;
+mod fit;
 mod ledgers;
 mod lock;
 mod look;
 mod mark;
 mod receipts;
 mod round;
+mod settlement;
 mod shares;
 mod spend;
 mod tally;
@@ -17,9 +19,14 @@ mod tokens;
 mod turns;
 
 pub use desk::Desk;
+pub use fit::marks_fit;
 pub use ledgers::{Five, Gate};
 pub use lock::{GateLock, Held};
 pub use mark::{Deed, Mark};
 pub use receipts::Receipts;
+pub use settlement::{SettleFault, Settled, settle};
 pub use tally::{DesksFull, MAX_DESKS};
 pub use tokens::{Fetched, Permit, RobotsTurn, Running};
+
+#[cfg(test)]
+mod tests;

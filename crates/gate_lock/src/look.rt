@@ -3,6 +3,7 @@
 ghost use Rattle.std.specs.Prelude.{◌≡◌, ◌≤◌, false};
 ghost use Rattle.gate_history.specs.History.{entry_count};
 ghost use Rattle.gate_core.specs.Gate.{history};
+ghost use Rattle.gate_lock.specs.Desks.{KeepsOut};
 ghost use Rattle.gate_lock.specs.Steps.{DeskReads, DeskSweeps, Somewhere};
 
 use crate::desk::Desk;
@@ -16,7 +17,9 @@ use std::sync::Wait;
 impl<'a, G: Gate> Desk<'a, G> {
     /// Drops the answers that are older than their lives, and tells how many they were.
     pub fn sweep<R: Wait>(&mut self, rt: &R, moment: u64) -> Result<u64, SweepRefusal>
-        ensures { Somewhere self.old (λ old new. DeskSweeps self.old old moment result new self.new) }
+        ensures step { Somewhere self.old (λ old new. DeskSweeps self.old old moment result new self.new) }
+        ensures no { self.new.no ≡ self.old.no }
+        ensures out { KeepsOut self.old self.new }
     {
         let gate = self.gate;
         let mut held = gate.lend_from(rt, self.seen);
@@ -56,7 +59,9 @@ impl<'a, G: Gate> Desk<'a, G> {
 
     /// What is known of an authority at the moment of the call. It takes no memory.
     pub fn state_of<R: Wait>(&mut self, rt: &R, authority: &str, moment: u64) -> State
-        ensures { Somewhere self.old (λ old new. DeskReads self.old old authority.now moment result new self.new) }
+        ensures step { Somewhere self.old (λ old new. DeskReads self.old old authority.now moment result new self.new) }
+        ensures no { self.new.no ≡ self.old.no }
+        ensures out { KeepsOut self.old self.new }
     {
         let gate = self.gate;
         let mut held = gate.lend_from(rt, self.seen);
@@ -75,7 +80,9 @@ impl<'a, G: Gate> Desk<'a, G> {
     /// Waits while a turn of the authority is in flight, and tells what is known of it then. The lock is
     /// not held meanwhile, and each arrival wakes those that wait.
     pub fn wait_answer<R: Wait>(&mut self, rt: &R, authority: &str, moment: u64) -> State
-        ensures state { Somewhere self.old (λ old new. DeskReads self.old old authority.now moment result new self.new) }
+        ensures step { Somewhere self.old (λ old new. DeskReads self.old old authority.now moment result new self.new) }
+        ensures no { self.new.no ≡ self.old.no }
+        ensures out { KeepsOut self.old self.new }
         ensures idle { result.fetching ≡ false }
     {
         let gate = self.gate;

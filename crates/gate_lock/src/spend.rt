@@ -1,9 +1,10 @@
 //! `Desk::start`, `back` and `finish`: how a permit and a fetch are spent. None takes memory or is refused.
 //! RFC 9309, section 2.4.
-ghost use Rattle.std.specs.Prelude.{◌≡◌, ◌<◌, ◌≤◌, true};
+ghost use Rattle.std.specs.Prelude.{◌≡◌, ◌<◌, ◌≤◌, IfOk, OnErr, true};
 ghost use Rattle.gate_history.specs.History.{entry_count};
 ghost use Rattle.gate_history.specs.Outstanding.{is_running, is_unspent, stands};
 ghost use Rattle.gate_core.specs.Gate.{history};
+ghost use Rattle.gate_lock.specs.Desks.{HasOut};
 ghost use Rattle.gate_lock.specs.Steps.{DeskFinishes, DeskReturns, DeskStarts, Somewhere};
 
 use crate::desk::Desk;
@@ -25,7 +26,10 @@ impl<'a, G: Gate> Desk<'a, G> {
         moment: u64,
     ) -> Result<Running<G>, Denial>
         requires { permit.desk ≡ self.old.no }
-        ensures { Somewhere self.old (λ old new. DeskStarts self.old old permit moment result new self.new) }
+        ensures step { Somewhere self.old (λ old new. DeskStarts self.old old permit moment result new self.new) }
+        ensures no { self.new.no ≡ self.old.no }
+        ensures ok { IfOk result (λ r. (r.pass ≡ permit) × HasOut self.old self.new 0 1 1 0 0 0) }
+        ensures err { OnErr result (HasOut self.old self.new 0 1 0 0 0 0) }
     {
         let gate = self.gate;
         let mut held = gate.lend_permit(rt, self.seen, self.permits, &permit);
@@ -37,7 +41,9 @@ impl<'a, G: Gate> Desk<'a, G> {
     /// Gives a permit of this desk back.
     pub fn back<R: Wait>(&mut self, rt: &R, permit: Permit<G>)
         requires { permit.desk ≡ self.old.no }
-        ensures { Somewhere self.old (λ old new. DeskReturns self.old old permit.number new self.new) }
+        ensures step { Somewhere self.old (λ old new. DeskReturns self.old old permit.number new self.new) }
+        ensures no { self.new.no ≡ self.old.no }
+        ensures out { HasOut self.old self.new 0 1 0 0 0 0 }
     {
         let gate = self.gate;
         let mut held = gate.lend_unspent(rt, self.seen, self.permits, permit.number);
@@ -48,7 +54,9 @@ impl<'a, G: Gate> Desk<'a, G> {
     /// Ends a fetch that this desk started.
     pub fn finish<R: Wait>(&mut self, rt: &R, fetched: Fetched<G>)
         requires { fetched.desk ≡ self.old.no }
-        ensures { Somewhere self.old (λ old new. DeskFinishes self.old old fetched.number new self.new) }
+        ensures step { Somewhere self.old (λ old new. DeskFinishes self.old old fetched.number new self.new) }
+        ensures no { self.new.no ≡ self.old.no }
+        ensures out { HasOut self.old self.new 0 0 0 1 0 0 }
     {
         let gate = self.gate;
         let mut held = gate.lend_running(rt, self.seen, self.runs, fetched.number);

@@ -1,10 +1,11 @@
 //! `Desk::begin` and `arrive`: a turn to fetch a robots file, and the answer that it brings.
 //! RFC 9309, section 2.3.
-ghost use Rattle.std.specs.Prelude.{◌≡◌, ◌+◌, ◌^◌, ◌<◌, ◌≤◌, IfOk, OnOk, length, true, vec_capacity};
+ghost use Rattle.std.specs.Prelude.{◌≡◌, ◌+◌, ◌^◌, ◌<◌, ◌≤◌, IfOk, OnErr, OnOk, length, true, vec_capacity};
 ghost use Rattle.robots_verdict.specs.Answer.{said, spares_of};
 ghost use Rattle.gate_history.specs.History.{entry_count};
 ghost use Rattle.gate_history.specs.Standing.{has_turn};
 ghost use Rattle.gate_core.specs.Gate.{history};
+ghost use Rattle.gate_lock.specs.Desks.{HasOut, KeepsOut};
 ghost use Rattle.gate_lock.specs.Steps.{DeskArrives, DeskBegins, Somewhere};
 
 use crate::desk::Desk;
@@ -28,7 +29,11 @@ impl<'a, G: Gate> Desk<'a, G> {
         authority: &Authority,
         moment: u64,
     ) -> Result<RobotsTurn<G>, BeginRefusal>
-        ensures { Somewhere self.old (λ old new. DeskBegins self.old old authority.now moment result new self.new) }
+        ensures step { Somewhere self.old (λ old new. DeskBegins self.old old authority.now moment result new self.new) }
+        ensures no { self.new.no ≡ self.old.no }
+        ensures ok { IfOk result (λ t. (t.desk ≡ self.old.no) × (t.authority ≡ authority.now)
+            × HasOut self.old self.new 0 0 0 0 1 0) }
+        ensures err { OnErr result (KeepsOut self.old self.new) }
     {
         let gate = self.gate;
         let mut held = gate.lend_from(rt, self.seen);
@@ -91,7 +96,9 @@ impl<'a, G: Gate> Desk<'a, G> {
     )
         requires own { turn.desk ≡ self.old.no }
         requires spares { 1 < spares_of answer }
-        ensures { Somewhere self.old (λ old new. DeskArrives self.old old turn (said answer) life moment new self.new) }
+        ensures step { Somewhere self.old (λ old new. DeskArrives self.old old turn (said answer) life moment new self.new) }
+        ensures no { self.new.no ≡ self.old.no }
+        ensures out { HasOut self.old self.new 0 0 0 0 0 1 }
     {
         let gate = self.gate;
         let mut held = gate.lend_turn(rt, self.seen, self.turns, &turn);
