@@ -1,12 +1,8 @@
 -- The time that is left of a limited time.
--- The contracts of `Deadline` and `TimeLimits` cite it. Times are in nanoseconds.
-use Rattle.std.specs.Prelude.{◌≡◌, ℕ, ◌*◌, ◌-◌, ◌<◌, min, Option, MatchOption}
+-- The contracts of `Deadline` cite it. Times are in nanoseconds.
+use Rattle.std.specs.Prelude.{◌≡◌, ℕ, ◌-◌, ◌<◌, min, Option, MatchOption}
 use Rattle.std.specs.Duration.{as_nanos}
 use Rattle.std.specs.declared.time.Duration.{Duration}
-
--- the nanoseconds of so many seconds
-abbrev pub of_seconds : ℕ → ℕ
-of_seconds seconds = seconds * 1_000_000_000
 
 -- how long a step may take at a moment: no longer than its own limit, and than what is left of the
 -- whole, which began at another moment

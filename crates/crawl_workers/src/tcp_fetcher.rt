@@ -2,7 +2,8 @@
 //! RFC 9309, section 2.2.1; RFC 9110, section 10.1.5.
 ghost use Rattle.std.specs.Prelude.{◌≡◌, IfOk, None};
 ghost use Rattle.http_wire.specs.Response.{Tells};
-ghost use Rattle.crawl_workers.specs.Agent.{robots_limit, IsAgent};
+ghost use Rattle.crawl_workers.specs.Agent.{IsAgent};
+ghost use Rattle.crawl_workers.specs.Limits.{robots_limit};
 
 use crate::fetcher::{Fetcher, PageLeave, RobotsLeave};
 use crate::tcp_client::TcpClient;

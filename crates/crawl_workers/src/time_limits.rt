@@ -2,7 +2,7 @@
 //! The one place of these limits.
 ghost use Rattle.std.specs.Prelude.{◌≡◌};
 ghost use Rattle.std.specs.Duration.{as_nanos};
-ghost use Rattle.crawl_workers.specs.Times.{of_seconds};
+ghost use Rattle.crawl_workers.specs.Limits.{connect_time, step_time, whole_time};
 
 use std::time::Duration;
 
@@ -32,9 +32,9 @@ pub struct TimeLimits {
 impl TimeLimits {
     /// The limits of crawlers: 10 seconds, 30 seconds and 300 seconds.
     pub fn standard() -> TimeLimits
-        ensures connect { as_nanos result.connect ≡ of_seconds 10 }
-        ensures step { as_nanos result.step ≡ of_seconds 30 }
-        ensures whole { as_nanos result.whole ≡ of_seconds 300 }
+        ensures connect { as_nanos result.connect ≡ connect_time }
+        ensures step { as_nanos result.step ≡ step_time }
+        ensures whole { as_nanos result.whole ≡ whole_time }
     {
         TimeLimits {
             connect: Duration::from_secs(CONNECT_SECONDS),
