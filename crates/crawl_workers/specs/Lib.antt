@@ -2,6 +2,9 @@
 pub mod Agent
 pub mod Clock
 pub mod Exchange
+pub mod Leaves
 pub mod Limits
+pub mod Network
 pub mod Server
+pub mod Sites
 pub mod Times

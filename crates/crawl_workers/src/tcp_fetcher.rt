@@ -5,11 +5,11 @@ ghost use Rattle.http_wire.specs.Response.{Tells};
 ghost use Rattle.crawl_workers.specs.Agent.{IsAgent};
 ghost use Rattle.crawl_workers.specs.Limits.{robots_limit};
 
+use crate::fetcher::{Fetcher, PageLeave, RobotsLeave};
 use crate::tcp_client::TcpClient;
 use crate::time_limits::TimeLimits;
 use http_wire::{HttpReply, WireFault};
-use path_normal::PageUrl;
-use robots_text::{MAX_TEXT, Token};
+use robots_text::MAX_TEXT;
 use std::alloc::{AllocError, Global};
 use std::marker::Model;
 use std::net::{Net, TcpStream};
@@ -17,7 +17,7 @@ use std::time;
 
 /// The most octets that are taken of a robots file: those that are kept, and one that tells that
 /// there are more.
-const ROBOTS_LIMIT: usize = MAX_TEXT + 1;
+pub(crate) const ROBOTS_LIMIT: usize = MAX_TEXT + 1;
 
 /// What fetches pages under the tokens of crawlers, and robots files under an agent of its own.
 ///
@@ -68,30 +68,30 @@ impl<R: Net<Stream = TcpStream> + time::Clock> TcpFetcher<R> {
         })
     }
 
-    /// Fetches a page as the crawler that the token names, with at most `limit` octets of its body.
-    /// A redirect is a reply like others. The faults are those of `TcpClient::fetch`.
-    pub(crate) fn page(
-        &self,
-        token: &Token,
-        url: &PageUrl,
-        limit: usize,
-    ) -> Result<HttpReply, WireFault>
-        ensures { Tells None limit result }
-    {
-        self.client
-            .fetch(self.allocator(), url, token.text().as_bytes(), limit)
-    }
-
-    /// Fetches a robots file, with at most 512,001 octets of its body. A redirect is a reply like
-    /// others. The faults are those of `TcpClient::fetch`.
-    pub(crate) fn robots(&self, url: &PageUrl) -> Result<HttpReply, WireFault>
-        ensures { Tells None robots_limit result }
-    {
-        self.client
-            .fetch(self.allocator(), url, self.agent.as_slice(), ROBOTS_LIMIT)
-    }
-
     fn allocator(&self) -> Global {
         *self.agent.allocator()
+    }
+}
+
+/// Nothing is known of a network, so each fetch gives what some octets give as a response.
+impl<R: Net<Stream = TcpStream> + time::Clock> Fetcher for TcpFetcher<R> {
+    ghost use Rattle.crawl_workers.specs.Network.{GivesAny};
+
+    ghost gives = { λ _. GivesAny };
+
+    fn load_page(&self, leave: &PageLeave<'_>, limit: usize) -> Result<HttpReply, WireFault>
+        ensures { Tells None limit result }
+    {
+        let agent = leave.token().text().as_bytes();
+        self.client
+            .fetch(self.allocator(), leave.url(), agent, limit)
+    }
+
+    fn load_robots(&self, leave: &RobotsLeave<'_>) -> Result<HttpReply, WireFault>
+        ensures { Tells None robots_limit result }
+    {
+        let agent = self.agent.as_slice();
+        self.client
+            .fetch(self.allocator(), leave.url(), agent, ROBOTS_LIMIT)
     }
 }

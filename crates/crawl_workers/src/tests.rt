@@ -4,6 +4,7 @@ mod endings;
 mod fetches;
 mod interrupts;
 mod requests;
+mod scripts;
 mod stalls;
 mod test_server;
 mod values;

@@ -1,7 +1,7 @@
 //! What a server sees of a fetch, and one fetcher of two threads.
 
 use super::test_server::{accept_request, listen, page_of, patient};
-use crate::TcpFetcher;
+use crate::{Fetcher, PageLeave, RobotsLeave, TcpFetcher};
 use robots_text::Token;
 use std::alloc::Global;
 use std::io::Write;
@@ -34,10 +34,14 @@ fn a_page_is_fetched_under_its_token(rt: HostRuntime) -> Result<(), Fail> {
     let token = Token::new(alloc, b"FooBot")?;
     let listener = listen(&rt)?;
     let url = page_of(alloc, &listener)?;
+    let leave = PageLeave {
+        token: &token,
+        url: &url,
+    };
     let (seen, reply) = thread::join(
         &rt,
         || answer(alloc, &listener),
-        || fetcher.page(&token, &url, 9),
+        || fetcher.load_page(&leave, 9),
     );
     let want = request(alloc, listener.local_addr()?.port(), "foobot")?;
     assert_eq!(rt; seen?.as_slice(), want.as_bytes());
@@ -51,7 +55,12 @@ fn a_robots_file_is_fetched_under_the_agent(rt: HostRuntime) -> Result<(), Fail>
     let fetcher = TcpFetcher::with_limits(alloc, &rt, b"crawlgate", patient())?;
     let listener = listen(&rt)?;
     let url = page_of(alloc, &listener)?;
-    let (seen, reply) = thread::join(&rt, || answer(alloc, &listener), || fetcher.robots(&url));
+    let leave = RobotsLeave { url: &url };
+    let (seen, reply) = thread::join(
+        &rt,
+        || answer(alloc, &listener),
+        || fetcher.load_robots(&leave),
+    );
     let want = request(alloc, listener.local_addr()?.port(), "crawlgate")?;
     assert_eq!(rt; seen?.as_slice(), want.as_bytes());
     assert_eq!(rt; reply?.body.as_slice(), b"hello".as_slice());
@@ -64,10 +73,15 @@ fn two_threads_share_a_fetcher(rt: HostRuntime) -> Result<(), Fail> {
     let fetcher = TcpFetcher::new(alloc, &rt, b"crawlgate")?;
     let listener = listen(&rt)?;
     let url = page_of(alloc, &listener)?;
+    let leave = RobotsLeave { url: &url };
     let (seen, replies) = thread::join(
         &rt,
         || answer(alloc, &listener).is_ok() && answer(alloc, &listener).is_ok(),
-        || thread::join(&rt, || fetcher.robots(&url), || fetcher.robots(&url)),
+        || thread::join(
+            &rt,
+            || fetcher.load_robots(&leave),
+            || fetcher.load_robots(&leave),
+        ),
     );
     assert!(rt; seen);
     assert_eq!(rt; replies.0?.status, 200);
