@@ -1,17 +1,15 @@
 -- What one more line does to what was read so far, and why a line is bad.
 -- Used by the calls of the auditor and by `audit`.
-use Rattle.std.proofs.Common.{◌≡◌, ◌≢◌, ℕ, ◌+◌, ◌<◌, ◌≤◌, ◌==◌, All, Bool, true, false, IsTrue, cond, min, List, [], ◌∷◌, ◌++◌, Some, None, Ok, Err, length, inl, inr, refl, sym, ap, subst, ◌∙◌, arith, append_assoc, append-nil, length-append, codes, get_or, flat_map}
-use Rattle.std.specs.Prelude.{◌⊎◌, Option, Result}
+use Rattle.std.proofs.Common.{◌≡◌, ◌≢◌, ℕ, ◌+◌, ◌<◌, ◌≤◌, ◌==◌, All, Bool, true, false, cond, List, [], ◌∷◌, ◌++◌, Some, None, Ok, Err, length, inl, inr, refl, sym, ap, subst, ◌∙◌, arith, append_assoc, append-nil, length-append, codes, get_or}
+use Rattle.std.specs.Prelude.{Option}
 use Rattle.std.specs.Io.KnownBytes.{Consumes, IsAtEnd, prepend_known}
-use Rattle.std.proofs.KnownBytes.{Consumes-nil, Consumes-trans, Keeps-refl, prepend_known-end}
-use Rattle.std.proofs.lemmas.Bool.{true≢false}
+use Rattle.std.proofs.KnownBytes.{Consumes-trans, Keeps-refl, prepend_known-end}
 use Rattle.std.proofs.lemmas.Bool.Decides.{nat_tests}
 use Rattle.std.proofs.lemmas.List.{flat_map_more}
 use Rattle.std.proofs.lemmas.List.Elements.{All-nil, All-cons, All-head, All-tail, All-push}
-use Rattle.counted_io.specs.Lines.{FindsEnd, FindsTooLongTo, HasNoLineFeed, IsDrained, TakesLast, TakesLineTo}
+use Rattle.counted_io.specs.Lines.{FindsEnd, FindsTooLongTo, HasNoLineFeed, TakesLast, TakesLineTo}
 use Rattle.counted_io.specs.declared.line_end.LineEnd.TheVariants.{Lf}
-use Rattle.authority_cache.specs.Lives.{greatest_life, life_of}
-use Rattle.robots_verdict.specs.declared.said.Said.{Said}
+use Rattle.authority_cache.specs.Lives.{life_of}
 use Rattle.robots_verdict.specs.declared.said.Said.TheVariants as says
 use Rattle.gate_history.specs.declared.entry.Entry.{Entry}
 use Rattle.gate_history.specs.declared.entry.Entry.TheVariants.{Begun, Arrived, Granted, AskDenied, Started, StartDenied, Returned, Finished, Swept}
@@ -26,10 +24,10 @@ use Rattle.crawl_audit.specs.declared.fault.Audited.{Audited}
 use Rattle.crawl_audit.specs.declared.ledger.Ledger.{Ledger}
 use Rattle.crawl_audit.specs.declared.version.Version.{Version}
 use Rattle.crawl_audit.specs.declared.version.Version.TheVariants.{One, Two}
-use Rattle.crawl_audit.specs.Audit.{ContinuesNot, head_lines, Heard, Holds, IsAudited, IsBadAt, IsFault, is_start, line_limit, Steps, TakesLine}
-use Rattle.crawl_audit.specs.Entries.{HasLife, IsEntry, IsLife}
-use Rattle.crawl_audit.specs.Exports.{history_of, IsExport}
-use Rattle.crawl_audit.specs.Spell.{entry_line, entry_text, head_of, line_end, lines_of, spell}
+use Rattle.crawl_audit.specs.Audit.{ContinuesNot, head_lines, Heard, Holds, IsAudited, IsBadAt, IsFault, is_start, line_limit, TakesLine}
+use Rattle.crawl_audit.specs.Entries.{HasLife, IsEntry}
+use Rattle.crawl_audit.specs.Exports.{history_of}
+use Rattle.crawl_audit.specs.Spell.{entry_line, entry_text, head_of, lines_of, spell}
 use Rattle.crawl_audit.specs.Tables.{Tells}
 use Rattle.crawl_audit.proofs.Spelling.{cut_lines, HasNoFeed, no_feed, one_entry, text_then}
 

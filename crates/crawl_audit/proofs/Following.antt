@@ -1,17 +1,15 @@
 -- What each entry does to a ledger that says what the history does, and why an entry is not legal.
 -- Used by the calls of the ledger.
-use Rattle.std.proofs.Common.{◌≡◌, ◌≢◌, ℕ, ◌+◌, ◌<◌, ◌≤◌, ◌==◌, Bool, true, false, IsTrue, max, List, [], ◌∷◌, ◌++◌, filter, inl, inr, refl, sym, ap, subst, ◌∙◌, arith, Ok, Err}
-use Rattle.std.specs.Prelude.{◌&&◌, ◌||◌, MatchBool, Option, Result, Some, None, is_err, is_some, unwrap_or}
+use Rattle.std.proofs.Common.{◌≡◌, ℕ, ◌+◌, ◌<◌, ◌≤◌, Bool, true, false, max, List, refl, sym, ap, subst, ◌∙◌, arith, Ok, Err}
+use Rattle.std.specs.Prelude.{◌||◌, Option, Result, Some, None, is_err, is_some, unwrap_or}
 use Rattle.std.specs.Borrow.{Bor}
 use Rattle.std.specs.List.{find, list_any}
 use Rattle.std.specs.Option.{option_map, option_map_or}
 use Rattle.std.specs.Str.{bytes_eq}
 use Rattle.std.proofs.lemmas.Bool.{and_parts, true≢false}
 use Rattle.std.proofs.lemmas.Slice.Eq.{bytes_eq-Decides}
-use Rattle.path_normal.specs.PageText.{authority_of}
 use Rattle.permit_book.specs.declared.out.Fetch.{Fetch}
-use Rattle.permit_book.specs.declared.granted_permit.GrantedPermit.{GrantedPermit}
-use Rattle.permit_book.specs.Outstanding.{fetch_of, is_listed, is_numbered, permit_for}
+use Rattle.permit_book.specs.Outstanding.{fetch_of, is_numbered}
 use Rattle.permit_book.specs.Table.{is_fetch_of}
 use Rattle.permit_book.proofs.Filters.{list_any-both, list_any-filter}
 use Rattle.robots_verdict.specs.declared.said.Said.{Said}
@@ -22,20 +20,20 @@ use Rattle.authority_cache.specs.Calls.{Arrives, Begins, Changes, Sweeps}
 use Rattle.authority_cache.specs.declared.refusal.BeginRefusal.{BeginRefusal}
 use Rattle.authority_cache.specs.declared.refusal.Stale.{Stale}
 use Rattle.authority_cache.specs.Laws.{ReadsAlike}
-use Rattle.authority_cache.specs.Lists.{answer_for, is_answer_for, is_past_answer, TellsCache}
+use Rattle.authority_cache.specs.Lists.{answer_for, is_answer_for, TellsCache}
 use Rattle.authority_cache.specs.Lives.{life_of}
 use Rattle.authority_cache.specs.Sites.{Answered, arrived, has_past, has_turn as site_turn, is_flying, is_past, IsApart, Known, site_of, with_flight}
 use Rattle.authority_cache.proofs.Reading as reading
 use Rattle.authority_cache.proofs.Telling as telling
-use Rattle.gate_history.specs.declared.entry.Entry.TheVariants.{Begun, Arrived, Granted, AskDenied, Started, StartDenied, Returned, Finished, Swept}
+use Rattle.gate_history.specs.declared.entry.Entry.TheVariants.{Begun, Arrived, Granted, Started, StartDenied, Returned, Finished, Swept}
 use Rattle.gate_history.specs.declared.outcome.Cause.{Cause}
 use Rattle.gate_history.specs.declared.outcome.Cause.TheVariants as causes
 use Rattle.gate_history.specs.declared.outcome.Reason.{Reason}
 use Rattle.gate_history.specs.Cause.{Decides, Judges, Says}
-use Rattle.gate_history.specs.History.{History, ◌▸◌, begins, now}
+use Rattle.gate_history.specs.History.{History, ◌▸◌, now}
 use Rattle.gate_history.specs.Legal.{IsLegal, MayFollow, SpendsAs}
-use Rattle.gate_history.specs.Outstanding.{is_running, is_unspent, stands, unspent, was_granted}
-use Rattle.gate_history.specs.Standing.{has_turn, in_flight, is_fetching, past_count, standing, standing_of}
+use Rattle.gate_history.specs.Outstanding.{is_unspent, stands, unspent}
+use Rattle.gate_history.specs.Standing.{has_turn, in_flight, is_fetching, past_count, standing}
 use Rattle.gate_history.proofs.Deciding.{decides_once}
 use Rattle.gate_history.proofs.Soundness.{stands_once}
 use Rattle.gate_core.proofs.Looking.{decides_by, decides_expired, decides_unknown, IsInForce, IsPast}
@@ -43,7 +41,7 @@ use Rattle.crawl_audit.specs.declared.ledger.Ledger.{Ledger}
 use Rattle.crawl_audit.specs.declared.numbers.Numbers.{Numbers}
 use Rattle.crawl_audit.specs.declared.numbers.Phase.{Phase}
 use Rattle.crawl_audit.specs.declared.numbers.Phase.TheVariants.{Unspent, Running, Ended}
-use Rattle.crawl_audit.specs.Tables.{GivesUnspent, is_running_in, is_unspent_in, Keeps, phases_of, Tells, TellsNumbers, unspent_under}
+use Rattle.crawl_audit.specs.Tables.{GivesUnspent, is_running_in, is_unspent_in, Keeps, phases_of, Tells, unspent_under}
 use Rattle.crawl_audit.proofs.Numbering.{finished_tells, granted_tells, returned_tells, start_denied_tells, started_tells}
 
 -- ---- what the cache finds decides

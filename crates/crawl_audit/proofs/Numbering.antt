@@ -1,6 +1,6 @@
 -- How each entry changes what the table of numbers has to say.
 -- Used by the calls of the ledger.
-use Rattle.std.proofs.Common.{◌≡◌, ◌≢◌, ℕ, ◌==◌, Bool, true, false, cond, List, [], ◌∷◌, ◌++◌, filter, inl, inr, refl, sym, ap, subst, ◌∙◌}
+use Rattle.std.proofs.Common.{◌≡◌, ◌≢◌, ℕ, ◌==◌, Bool, true, false, List, [], ◌∷◌, ◌++◌, filter, inl, inr, refl, sym, ap, subst, ◌∙◌}
 use Rattle.std.specs.Prelude.{◌||◌, Option, Some, None, is_some}
 use Rattle.std.specs.List.{list_any}
 use Rattle.std.proofs.lemmas.Bool.Decides.{eqb_tells}
@@ -9,7 +9,7 @@ use Rattle.permit_book.specs.declared.granted_permit.GrantedPermit.{GrantedPermi
 use Rattle.permit_book.specs.Outstanding.{is_listed, is_numbered, permit_for, without}
 use Rattle.permit_book.proofs.Filters.{list_any-filter, numbered-added, numbered-gone, numbered-new, numbered-without}
 use Rattle.permit_book.proofs.TableLaws.{same_number}
-use Rattle.gate_history.specs.declared.entry.Entry.TheVariants.{Begun, Arrived, Granted, AskDenied, Started, StartDenied, Returned, Finished, Swept}
+use Rattle.gate_history.specs.declared.entry.Entry.TheVariants.{Granted, Started, StartDenied, Returned, Finished}
 use Rattle.gate_history.specs.declared.outcome.Cause.{Cause}
 use Rattle.gate_history.specs.declared.outcome.Reason.{Reason}
 use Rattle.gate_history.specs.History.{History, ◌▸◌}

@@ -1,10 +1,8 @@
 -- A text that an export writes is bad at no line.
 -- Used by `laws`.
-use Rattle.std.proofs.Common.{◌≡◌, ◌≢◌, ℕ, ◌+◌, ◌*◌, ◌^◌, ◌<◌, ◌≤◌, ◌==◌, All, Bool, true, false, cond, List, [], ◌∷◌, ◌++◌, Some, length, decimal, refl, sym, ap, subst, ◌∙◌, arith, append_assoc, length-append, codes, flat_map}
-use Rattle.std.specs.Prelude.{◌&&◌, None, nat_le}
-use Rattle.std.specs.List.{list_all}
+use Rattle.std.proofs.Common.{◌≡◌, ◌≢◌, ℕ, ◌+◌, ◌*◌, ◌^◌, ◌<◌, ◌≤◌, ◌==◌, All, Bool, true, false, cond, List, [], ◌∷◌, ◌++◌, Some, length, decimal, refl, sym, ap, subst, ◌∙◌, arith, append_assoc, length-append, codes}
+use Rattle.std.specs.Prelude.{None}
 use Rattle.std.specs.Str.{bytes_eq}
-use Rattle.std.proofs.lemmas.Bool.{and_parts}
 use Rattle.std.proofs.lemmas.Bool.Decides.{nat_tests}
 use Rattle.std.proofs.lemmas.Fmt.{length-decimal-le}
 use Rattle.std.proofs.lemmas.List.{append_cancel_left}
@@ -13,9 +11,7 @@ use Rattle.std.proofs.lemmas.Option.{none-some}
 use Rattle.percent_encoding.specs.Percent.{percent_encode_byte}
 use Rattle.path_normal.specs.Normal.{is_unreserved}
 use Rattle.robots_text.specs.Token.{is_token, lower_case, token_of}
-use Rattle.robots_verdict.specs.declared.answer.Closure.{Closure}
 use Rattle.robots_verdict.specs.declared.answer.Closure.TheVariants as closures
-use Rattle.robots_verdict.specs.declared.answer.Opening.{Opening}
 use Rattle.robots_verdict.specs.declared.answer.Opening.TheVariants as openings
 use Rattle.robots_verdict.specs.declared.said.Said.{Said}
 use Rattle.robots_verdict.specs.declared.said.Said.TheVariants as says
@@ -28,13 +24,12 @@ use Rattle.gate_history.specs.declared.outcome.Reason.TheVariants as reasons
 use Rattle.gate_history.specs.Base.{empty_base}
 use Rattle.gate_history.specs.History.{History, ◌▸◌, followed_by, from}
 use Rattle.gate_history.specs.Legal.{IsLegal, MayFollow}
-use Rattle.gate_core.specs.Limits.{most_entries}
 use Rattle.crawl_audit.specs.declared.version.Version.{Version}
 use Rattle.crawl_audit.specs.declared.version.Version.TheVariants.{One, Two}
 use Rattle.crawl_audit.specs.Audit.{ContinuesNot, IsBadAt, line_limit}
 use Rattle.crawl_audit.specs.Body.{body_octet, body_word, escaped_body}
 use Rattle.crawl_audit.specs.Entries.{IsBody, IsCause, IsEntry, IsLife, IsNumber, IsReason, IsSaid}
-use Rattle.crawl_audit.specs.Exports.{history_of, IsExport}
+use Rattle.crawl_audit.specs.Exports.{IsExport}
 use Rattle.crawl_audit.specs.Spell.{answer_fields, cause_fields, entry_line, entry_text, head_of, lines_of, reason_fields, spaced_fields, spell}
 use Rattle.crawl_audit.proofs.Auditing.{feedless, head_feedless, not_head}
 use Rattle.crawl_audit.proofs.Exporting.{legal_before}

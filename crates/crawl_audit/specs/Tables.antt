@@ -14,7 +14,7 @@ use Rattle.gate_history.specs.Outstanding.{is_running, unspent, was_granted}
 use Rattle.gate_history.specs.Standing.{in_flight, standing}
 use Rattle.crawl_audit.specs.declared.numbers.Numbers.{Numbers}
 use Rattle.crawl_audit.specs.declared.numbers.Phase.{Phase}
-use Rattle.crawl_audit.specs.declared.numbers.Phase.TheVariants.{Unspent, Running, Ended}
+use Rattle.crawl_audit.specs.declared.numbers.Phase.TheVariants.{Unspent, Running}
 use Rattle.crawl_audit.specs.declared.ledger.Ledger.{Ledger}
 use Rattle.crawl_audit.specs.declared.ledger.Unfit.{Unfit}
 use Rattle.crawl_audit.specs.declared.ledger.Unfit.TheVariants.{Illegal, NoMemory}

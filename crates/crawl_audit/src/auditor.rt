@@ -3,7 +3,8 @@
 ghost use Rattle.std.specs.Prelude.{◌≡◌, ◌≢◌, ℕ, Err, IfOk, List, Option, codes};
 ghost use Rattle.std.specs.Io.KnownBytes.{prepend_known};
 ghost use Rattle.gate_history.specs.declared.entry.Entry.{Entry};
-ghost use Rattle.crawl_audit.specs.Audit.{Heard, Holds, Steps, TakesLine, failures_after_audit, is_start};
+ghost use Rattle.crawl_audit.specs.Audit.{Heard, Holds, Steps, TakesLine};
+ghost use Rattle.crawl_audit.specs.Audit.{failures_after_audit, is_start};
 ghost use Rattle.crawl_audit.specs.Reading.{entry_of};
 
 use crate::fault::{AuditFault, Audited};
@@ -35,7 +36,8 @@ pub(crate) struct Auditor {
 impl Auditor {
     /// An auditor that has read nothing, with the keys of its tables' hashers.
     pub(crate) fn new(alloc: Global, keys: RandomState) -> Result<Auditor, AllocError>
-        ensures heard { IfOk result (λ auditor. (left : Option (List ℕ)) → Heard auditor left (prepend_known auditor.reader left)) }
+        ensures heard { IfOk result (λ auditor. (left : Option (List ℕ))
+            → Heard auditor left (prepend_known auditor.reader left)) }
         ensures lines { IfOk result (λ auditor. auditor.lines ≡ 0) }
     {
         Ok(Auditor {
@@ -55,9 +57,12 @@ impl Auditor {
         alloc: Global,
         reader: &mut R,
     ) -> Result<bool, AuditFault>
-        ensures steps { (input : Option (List ℕ)) → Heard self.old input (prepend_known self.old.reader (R.left reader.old))
-            → Steps input self.old result self.new (prepend_known self.new.reader (R.left reader.new)) }
-        ensures reads { R.failures reader.new ≡ failures_after_audit (R.failures reader.old) result }
+        ensures steps { (input : Option (List ℕ))
+            → Heard self.old input (prepend_known self.old.reader (R.left reader.old))
+            → Steps input self.old result self.new
+            (prepend_known self.new.reader (R.left reader.new)) }
+        ensures reads { R.failures reader.new
+            ≡ failures_after_audit (R.failures reader.old) result }
     {
         let number = self.lines.saturating_add(1);
         match self

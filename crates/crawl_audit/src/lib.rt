@@ -10,6 +10,7 @@ mod entry_pieces;
 mod export_text;
 mod fault;
 mod fields;
+mod kinds;
 pub mod laws;
 mod ledger;
 mod numbers;
@@ -24,3 +25,6 @@ pub use auditor::MAX_LINE;
 pub use export_text::export;
 pub use fault::{AuditFault, Audited};
 pub use version::Version;
+
+#[cfg(test)]
+mod tests;

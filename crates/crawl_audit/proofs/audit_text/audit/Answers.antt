@@ -1,5 +1,5 @@
 -- Each way out of the loop is the end or a fault, behind the lines of a legal history.
-use Rattle.std.proofs.Common.{◌≡◌, ◌+◌, Bool, Ok, true, false, ap, sym, ◌∙◌, subst, refl, arith}
+use Rattle.std.proofs.Common.{◌+◌, Bool, Ok, ap, ◌∙◌, subst}
 use Rattle.std.specs.Io.KnownBytes.{prepend_known}
 use Rattle.crawl_audit.specs.Audit.{Steps}
 use Rattle.crawl_audit.proofs.Auditing.{all_audited}

@@ -1,7 +1,7 @@
 -- Each way out is a line, the end, or a fault.
-use Rattle.std.proofs.Common.{ap, sym, ◌∙◌, refl, arith}
+use Rattle.std.proofs.Common.{refl, arith}
 use Rattle.std.specs.Io.KnownBytes.{prepend_known}
-use Rattle.crawl_audit.proofs.Auditing.{end_heard, few_heard, last_fault, line_fault, line_heard, long_fault, moved}
+use Rattle.crawl_audit.proofs.Auditing.{few_heard, last_fault, line_fault, long_fault, moved}
 use Rattle.crawl_audit.proofs.auditor.Auditor.take.Goals as goal
 
 pub returns-in-Err-clause-steps : goal.returns-in-Err-clause-steps

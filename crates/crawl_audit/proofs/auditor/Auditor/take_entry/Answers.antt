@@ -1,6 +1,5 @@
 -- An entry that was entered is one more, and one that is not legal continues nothing.
 use Rattle.std.proofs.Common.{◌≡◌, ◌+◌, ◌∷◌, ◌++◌, [], cond, ap, sym, ◌∙◌, refl, arith}
-use Rattle.gate_history.specs.History.{◌▸◌}
 use Rattle.crawl_audit.specs.Exports.{history_of}
 use Rattle.crawl_audit.specs.Reading.{entry_of}
 use Rattle.crawl_audit.specs.Spell.{spell}

@@ -1,5 +1,5 @@
 -- The first line may be the head of version 2.
-use Rattle.std.proofs.Common.{[], ap, sym, ◌∙◌, refl, arith}
+use Rattle.std.proofs.Common.{[], sym, ◌∙◌, refl, arith}
 use Rattle.std.proofs.lemmas.Slice.Eq.{bytes_eq-Decides}
 use Rattle.crawl_audit.proofs.Auditing.{head_taken}
 use Rattle.crawl_audit.proofs.auditor.Auditor.take_line.Goals as goal

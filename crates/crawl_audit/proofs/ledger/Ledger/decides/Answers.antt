@@ -1,9 +1,7 @@
 -- The one unspent permit of the number decides.
-use Rattle.std.proofs.Common.{◌≡◌, ◌+◌, ap, sym, ◌∙◌}
+use Rattle.std.proofs.Common.{sym}
 use Rattle.std.proofs.lemmas.Bool.{true≢false}
-use Rattle.gate_history.specs.History.{now}
 use Rattle.gate_history.specs.Standing.{in_flight, standing}
-use Rattle.crawl_audit.specs.Tables.{phases_of}
 use Rattle.crawl_audit.proofs.Following.{no_spend, spends_as, spent_as}
 use Rattle.crawl_audit.proofs.ledger.Ledger.decides.Goals as goal
 

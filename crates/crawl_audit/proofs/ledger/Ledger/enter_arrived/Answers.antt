@@ -1,9 +1,6 @@
 -- An arrival is legal where it comes in time for the turn in flight.
-use Rattle.std.proofs.Common.{◌≡◌, ◌+◌, ap, sym, ◌∙◌}
+use Rattle.std.proofs.Common.{sym, ◌∙◌}
 use Rattle.std.proofs.lemmas.Bool.{true≢false}
-use Rattle.gate_history.specs.History.{now}
-use Rattle.gate_history.specs.Standing.{in_flight, standing}
-use Rattle.crawl_audit.specs.Tables.{phases_of}
 use Rattle.crawl_audit.proofs.Following.{arrived_follows, arrives_fine, arrives_stale, flying_turn}
 use Rattle.crawl_audit.proofs.ledger.Ledger.enter_arrived.Goals as goal
 use Rattle.robots_verdict.specs.Answer.{said}

@@ -1,9 +1,8 @@
 -- A denied ask is legal where it comes in time with the cause that the answer gives.
-use Rattle.std.proofs.Common.{◌≡◌, ◌+◌, ap, sym, ◌∙◌}
+use Rattle.std.proofs.Common.{sym, ◌∙◌}
 use Rattle.std.proofs.lemmas.Bool.{true≢false}
 use Rattle.gate_history.specs.History.{now}
 use Rattle.gate_history.specs.Standing.{in_flight, standing}
-use Rattle.crawl_audit.specs.Tables.{phases_of}
 use Rattle.crawl_audit.proofs.Following.{late, not_so}
 use Rattle.crawl_audit.proofs.ledger.Ledger.enter_ask_denied.Goals as goal
 use Rattle.std.proofs.Common.{Err}

@@ -1,9 +1,7 @@
 -- A begin is legal where it comes in time, no turn is in flight, and it is the next.
-use Rattle.std.proofs.Common.{◌≡◌, ◌+◌, ap, sym, ◌∙◌}
+use Rattle.std.proofs.Common.{◌+◌, ap, sym, ◌∙◌}
 use Rattle.std.proofs.lemmas.Bool.{true≢false}
 use Rattle.gate_history.specs.History.{now}
-use Rattle.gate_history.specs.Standing.{in_flight, standing}
-use Rattle.crawl_audit.specs.Tables.{phases_of}
 use Rattle.crawl_audit.proofs.Following.{begins_fine, begun_follows, fetching, late}
 use Rattle.crawl_audit.proofs.ledger.Ledger.enter_begun.Goals as goal
 use Rattle.std.proofs.Common.{true}

@@ -1,9 +1,5 @@
 -- A finish is legal where it names a running fetch.
-use Rattle.std.proofs.Common.{◌≡◌, ◌+◌, ap, sym, ◌∙◌}
-use Rattle.std.proofs.lemmas.Bool.{true≢false}
-use Rattle.gate_history.specs.History.{now}
-use Rattle.gate_history.specs.Standing.{in_flight, standing}
-use Rattle.crawl_audit.specs.Tables.{phases_of}
+use Rattle.std.proofs.Common.{sym, ◌∙◌}
 use Rattle.crawl_audit.proofs.Following.{finished_follows}
 use Rattle.crawl_audit.proofs.ledger.Ledger.enter_finished.Goals as goal
 

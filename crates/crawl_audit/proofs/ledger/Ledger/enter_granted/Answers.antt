@@ -1,9 +1,6 @@
 -- A grant is legal where it comes in time, its number is new, and its fetch is allowed.
-use Rattle.std.proofs.Common.{◌≡◌, ◌+◌, ap, sym, ◌∙◌}
-use Rattle.std.proofs.lemmas.Bool.{true≢false}
-use Rattle.gate_history.specs.History.{now}
+use Rattle.std.proofs.Common.{sym, ◌∙◌}
 use Rattle.gate_history.specs.Standing.{in_flight, standing}
-use Rattle.crawl_audit.specs.Tables.{phases_of}
 use Rattle.crawl_audit.proofs.Following.{allowed_by, granted_follows, not_allowed}
 use Rattle.crawl_audit.proofs.ledger.Ledger.enter_granted.Goals as goal
 

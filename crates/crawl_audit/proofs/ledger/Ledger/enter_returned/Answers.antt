@@ -1,8 +1,6 @@
 -- A return is legal where it names an unspent permit.
-use Rattle.std.proofs.Common.{◌≡◌, ◌+◌, ap, not, sym, ◌∙◌}
+use Rattle.std.proofs.Common.{ap, not, sym, ◌∙◌}
 use Rattle.std.proofs.lemmas.Bool.{true≢false}
-use Rattle.gate_history.specs.History.{now}
-use Rattle.gate_history.specs.Standing.{in_flight, standing}
 use Rattle.crawl_audit.specs.Tables.{phases_of}
 use Rattle.crawl_audit.proofs.Following.{none_given, returned_follows, some_given, unspent_of}
 use Rattle.crawl_audit.proofs.ledger.Ledger.enter_returned.Goals as goal

@@ -1,9 +1,4 @@
 -- A denied start is legal where it spends a permit with its cause.
-use Rattle.std.proofs.Common.{◌≡◌, ◌+◌, ap, sym, ◌∙◌}
-use Rattle.std.proofs.lemmas.Bool.{true≢false}
-use Rattle.gate_history.specs.History.{now}
-use Rattle.gate_history.specs.Standing.{in_flight, standing}
-use Rattle.crawl_audit.specs.Tables.{phases_of}
 use Rattle.crawl_audit.proofs.Following.{start_denied_follows}
 use Rattle.crawl_audit.proofs.ledger.Ledger.enter_start_denied.Goals as goal
 

@@ -1,9 +1,6 @@
 -- A sweep is legal where it comes in time and counts what it ends.
-use Rattle.std.proofs.Common.{◌≡◌, ◌+◌, ap, sym, ◌∙◌}
-use Rattle.std.proofs.lemmas.Bool.{true≢false}
+use Rattle.std.proofs.Common.{sym, ◌∙◌}
 use Rattle.gate_history.specs.History.{now}
-use Rattle.gate_history.specs.Standing.{in_flight, standing}
-use Rattle.crawl_audit.specs.Tables.{phases_of}
 use Rattle.crawl_audit.proofs.Following.{late, swept_count, swept_follows}
 use Rattle.crawl_audit.proofs.ledger.Ledger.enter_swept.Goals as goal
 use Rattle.crawl_audit.proofs.ledger.Ledger.enter_swept.Goals.{then-moment-self-via-then-moment-self, then-moment-self-via-else-moment-self+then-sweep-count}
