@@ -46,7 +46,24 @@ pub fn options<'a>(alloc: Global, words: &'a [&'a str]) -> Result<Subcommand, Er
 }
 
 fn program<'a>(alloc: Global) -> Result<Command<'a>, AllocError> {
-    let replay = Command::new(alloc, "replay")
+    let replay = replay_words(alloc)?;
+    let lines = Command::new(alloc, "lines").about(
+        "Writes what each line of the robots.txt on standard input says",
+    );
+    let audit = Command::new(alloc, "audit").about(
+        "Checks every decision in the history on standard input, as replay --export writes it",
+    );
+    Command::new(alloc, "crawlgate")
+        .about("A gate for web crawlers, under every site's robots.txt (RFC 9309)")
+        .subcommand_required(true)
+        .subcommand(replay)?
+        .subcommand(lines)?
+        .subcommand(audit)
+}
+
+// The words of `replay`.
+fn replay_words<'a>(alloc: Global) -> Result<Command<'a>, AllocError> {
+    Command::new(alloc, "replay")
         .about("Answers the lines of standard input, one reply a line")
         .arg(number(
             alloc,
@@ -82,19 +99,7 @@ fn program<'a>(alloc: Global) -> Result<Command<'a>, AllocError> {
                 .long("export")
                 .action(ArgAction::SetTrue)
                 .help("Writes the history at the end, and no replies"),
-        )?;
-    let lines = Command::new(alloc, "lines").about(
-        "Writes what each line of the robots.txt on standard input says",
-    );
-    let audit = Command::new(alloc, "audit").about(
-        "Checks every decision in the history on standard input, as replay --export writes it",
-    );
-    Command::new(alloc, "crawlgate")
-        .about("A gate for web crawlers, under every site's robots.txt (RFC 9309)")
-        .subcommand_required(true)
-        .subcommand(replay)?
-        .subcommand(lines)?
-        .subcommand(audit)
+        )
 }
 
 // An option with a number from 1 to `most`.
