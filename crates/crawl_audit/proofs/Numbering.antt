@@ -5,7 +5,7 @@ use Rattle.std.specs.Prelude.{◌||◌, Option, Some, None, is_some}
 use Rattle.std.specs.List.{list_any}
 use Rattle.std.proofs.lemmas.Bool.Decides.{eqb_tells}
 use Rattle.permit_book.specs.declared.out.Fetch.{Fetch}
-use Rattle.permit_book.specs.declared.permit.Permit.{Permit}
+use Rattle.permit_book.specs.declared.granted_permit.GrantedPermit.{GrantedPermit}
 use Rattle.permit_book.specs.Outstanding.{is_listed, is_numbered, permit_for, without}
 use Rattle.permit_book.proofs.Filters.{list_any-filter, numbered-added, numbered-gone, numbered-new, numbered-without}
 use Rattle.permit_book.proofs.TableLaws.{same_number}
@@ -19,7 +19,7 @@ use Rattle.crawl_audit.specs.declared.numbers.Phase.TheVariants.{Unspent, Runnin
 use Rattle.crawl_audit.specs.Tables.{is_running_in, Keeps, Phases, TellsNumbers, unspent_under}
 
 -- numbers are listed alike where the permits of them are the same
-listed_same : (xs ys : List Permit) (m : ℕ) → filter (is_numbered m) xs ≡ filter (is_numbered m) ys → is_listed xs m ≡ is_listed ys m
+listed_same : (xs ys : List GrantedPermit) (m : ℕ) → filter (is_numbered m) xs ≡ filter (is_numbered m) ys → is_listed xs m ≡ is_listed ys m
 listed_same xs ys m same = list_any-filter (is_numbered m) xs ∙ ap (list_any (λ _. true)) same ∙ sym (list_any-filter (is_numbered m) ys)
 
 or_true : (b : Bool) → (b || true) ≡ true
@@ -27,7 +27,7 @@ or_true true = refl
 or_true false = refl
 
 -- a permit that was added is listed
-listed_added : (xs : List Permit) (p : Permit) → is_listed (xs ++ p ∷ []) p.number ≡ true
+listed_added : (xs : List GrantedPermit) (p : GrantedPermit) → is_listed (xs ++ p ∷ []) p.number ≡ true
 listed_added [] p = rw (same_number p.number) refl
 listed_added (x ∷ xs) p = rw (listed_added xs p) (or_true (x.number == p.number))
 

@@ -4,7 +4,7 @@ use Rattle.std.specs.Prelude.{◌≡◌, ℕ, ◌==◌, Bool, true, false, List,
 use Rattle.std.specs.Borrow.{Bor}
 use Rattle.std.specs.HashMap.{get}
 use Rattle.permit_book.specs.declared.out.Fetch.{Fetch}
-use Rattle.permit_book.specs.declared.permit.Permit.{Permit}
+use Rattle.permit_book.specs.declared.granted_permit.GrantedPermit.{GrantedPermit}
 use Rattle.permit_book.specs.Outstanding.{is_numbered, permit_for}
 use Rattle.authority_cache.specs.Lists.{TellsCache}
 use Rattle.gate_history.specs.declared.entry.Entry.{Entry}
@@ -32,7 +32,7 @@ abbrev pub Keeps : Phases → ℕ → Option Phase → Phases → Type 0
 Keeps old number phase new = (other : ℕ) → new other ≡ (if number == other then phase else old other)
 
 -- the permit of the number, where it is unspent
-abbrev pub unspent_under : ℕ → Option Phase → List Permit
+abbrev pub unspent_under : ℕ → Option Phase → List GrantedPermit
 unspent_under number (Some (Unspent fetch)) = permit_for number fetch ∷ []
 unspent_under number _ = []
 

@@ -23,7 +23,7 @@ use Rattle.authority_cache.proofs.Telling as telling
 use Rattle.permit_book.specs.declared.out.Fetch.{Fetch}
 use Rattle.permit_book.specs.declared.out.Out.{Out}
 use Rattle.permit_book.specs.declared.out.Out.TheVariants.{Nothing, Running, Unspent}
-use Rattle.permit_book.specs.declared.permit.Permit.{Permit}
+use Rattle.permit_book.specs.declared.granted_permit.GrantedPermit.{GrantedPermit}
 use Rattle.permit_book.specs.Next.{IsNext, NoneFree}
 use Rattle.permit_book.specs.Outstanding.{fetch_of, is_listed, is_listed_for, is_numbered, IsNextBy, NoneFreeBy, TellsPermits}
 use Rattle.permit_book.specs.Laws.{ReadsAlike}
@@ -171,7 +171,7 @@ module _ (b : Inside) (kept : IsKept b) (entries : Vec Entry Global) where
   pub spends_out : (number moment : ℕ) (outcome : Result Reason Cause) → SpendsAs (told b) number moment outcome → is_unspent b.permits number ≡ true
   spends_out number moment outcome spends = reads.unspent_numbers number ∙ listed (unspent (told b)) spends.1.1.0
     where
-      listed : (permits : List Permit) → is_listed_for permits number spends.0 spends.1.0 ≡ true → is_listed permits number ≡ true
+      listed : (permits : List GrantedPermit) → is_listed_for permits number spends.0 spends.1.0 ≡ true → is_listed permits number ≡ true
       listed permits is =
           let one = any_passes (λ p. is_numbered number p && is_fetch_of spends.0 spends.1.0 (fetch_of p)) permits is in
           passes_any (is_numbered number) permits one.one one.stands (and_parts (is_numbered number one.one) (is_fetch_of spends.0 spends.1.0 (fetch_of one.one)) one.passes).0

@@ -1,6 +1,8 @@
 //! A list of calls, answered one after another.
 //! RFC 9309, sections 2.2.2, 2.3.1 and 2.4.
-ghost use Rattle.std.specs.Prelude.{◌≡◌, All, IfOk, OnErr};
+ghost use Rattle.std.specs.Prelude.{◌≡◌, ◌<◌, All, IfOk, OnErr};
+ghost use Rattle.robots_verdict.specs.Answer.{spares_of};
+ghost use Rattle.gate_core.specs.declared.call.Call.TheVariants.{Arrive};
 ghost use Rattle.gate_core.specs.Calls.{HasSpare, Replies, Step};
 ghost use Rattle.gate_core.specs.Gate.{history};
 ghost use Rattle.gate_core.specs.Headline.{IsTold, RunTells};
@@ -9,6 +11,9 @@ use crate::book::Book;
 use crate::call::{Call, Reply};
 use crate::refusal::NoMemory;
 use crate::state::standing_as;
+use authority_cache::TurnNo;
+use path_normal::Authority;
+use robots_verdict::Answer;
 use std::alloc::Global;
 
 impl Book {
@@ -38,15 +43,7 @@ impl Book {
                 answer,
                 life,
                 moment,
-            } => {
-                let brought = standing_as(&answer);
-                let result = self.arrive(&authority, turn, answer, life, moment);
-                Reply::Arrive {
-                    authority,
-                    brought,
-                    result,
-                }
-            }
+            } => self.bring(authority, turn, answer, life, moment),
             Call::Ask { token, url, moment } => Reply::Ask {
                 result: self.ask(token, url, moment),
             },
@@ -69,6 +66,27 @@ impl Book {
             Call::Sweep { moment } => Reply::Sweep {
                 result: self.sweep(moment),
             },
+        }
+    }
+
+    // Makes an arrival, whose reply says what was brought.
+    fn bring(
+        &mut self,
+        authority: Authority,
+        turn: TurnNo,
+        answer: Answer,
+        life: u64,
+        moment: u64,
+    ) -> Reply
+        requires { 0 < spares_of answer }
+        ensures { Step self.old (Arrive authority turn answer life moment) result self.new }
+    {
+        let brought = standing_as(&answer);
+        let result = self.arrive(&authority, turn, answer, life, moment);
+        Reply::Arrive {
+            authority,
+            brought,
+            result,
         }
     }
 }

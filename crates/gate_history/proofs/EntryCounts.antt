@@ -3,7 +3,7 @@
 use Rattle.std.proofs.Common.{◌≡◌, ℕ, ◌+◌, ◌≤◌, Bool, true, false, not, ◌&&◌, List, [], ◌∷◌, length, filter, refl, length-append, arith}
 use Rattle.std.specs.List.{list_any}
 use Rattle.std.proofs.lemmas.List.Filters.{length-filter_both}
-use Rattle.permit_book.specs.declared.permit.Permit.{Permit}
+use Rattle.permit_book.specs.declared.granted_permit.GrantedPermit.{GrantedPermit}
 use Rattle.permit_book.specs.Outstanding.{fetch_of, is_numbered, permit_for, without}
 use Rattle.permit_book.specs.Table.{is_fetch_of}
 use Rattle.permit_book.proofs.Filters.{list_any-more}
@@ -18,7 +18,7 @@ use Rattle.gate_history.proofs.Counting.{some-found}
 use Rattle.gate_history.proofs.Soundness.{stands_once}
 
 -- the permits of other numbers, and those of this one
-without-parts : (number : ℕ) (permits : List Permit) → length (filter (is_numbered number) permits) + length (without number permits) ≡ length permits
+without-parts : (number : ℕ) (permits : List GrantedPermit) → length (filter (is_numbered number) permits) + length (without number permits) ≡ length permits
 without-parts number permits = length-filter_both (is_numbered number) (λ p. not (is_numbered number p)) (λ p. refl) permits
 
 -- both of two tests
@@ -27,7 +27,7 @@ first-of true b is = refl
 first-of false b is = is
 
 -- one that is found and does not stand twice is one
-one-permit : (permits : List Permit) (number : ℕ) → list_any (is_numbered number) permits ≡ true → length (filter (is_numbered number) permits) ≤ 1 →
+one-permit : (permits : List GrantedPermit) (number : ℕ) → list_any (is_numbered number) permits ≡ true → length (filter (is_numbered number) permits) ≤ 1 →
     length (without number permits) + 1 ≡ length permits
 one-permit permits number found once =
     let some = some-found (is_numbered number) permits found in omega (arith, without-parts number permits)

@@ -3,7 +3,7 @@
 use Rattle.std.proofs.Common.{◌≡◌, ℕ, ◌+◌, ◌==◌, Bool, true, false, cond, not, ◌&&◌, ◌||◌, max, List, [], ◌∷◌, length, filter, refl, sym, ap, ◌∙◌, arith}
 use Rattle.std.specs.Str.{bytes_eq}
 use Rattle.path_normal.specs.PageText.{authority_of}
-use Rattle.permit_book.specs.declared.permit.Permit.{Permit}
+use Rattle.permit_book.specs.declared.granted_permit.GrantedPermit.{GrantedPermit}
 use Rattle.permit_book.specs.Numbers.{slot_of, generation_of}
 use Rattle.permit_book.specs.Outstanding.{fetch_of, granted_in, is_numbered, permit_for}
 use Rattle.permit_book.specs.Table.{is_fetch_of}
@@ -90,7 +90,7 @@ one-more g h (Arrived m a turn says life) same = record {
 one-more g h (Granted m n fetch) same = record {
   answers = same.answers;
   turns = same.turns;
-  permits = (let new : Permit = permit_for n fetch in
+  permits = (let new : GrantedPermit = permit_for n fetch in
       says-append is_numbered (unspent g) (unspent h) (new ∷ []) (new ∷ []) same.permits (says-itself is_numbered (new ∷ [])));
   runs = same.runs;
   slots = grants_alike n (grants g) (grants h) same.slots;

@@ -8,7 +8,7 @@ use Rattle.std.proofs.lemmas.Bool.Decides.{eqb_tells}
 use Rattle.std.proofs.lemmas.Slice.Eq.{bytes_eq-Decides}
 use Rattle.robots_verdict.specs.declared.said.Said.{Said}
 use Rattle.permit_book.specs.declared.out.Fetch.{Fetch}
-use Rattle.permit_book.specs.declared.permit.Permit.{Permit}
+use Rattle.permit_book.specs.declared.granted_permit.GrantedPermit.{GrantedPermit}
 use Rattle.permit_book.specs.Outstanding.{is_numbered, permit_for, without}
 use Rattle.permit_book.proofs.Filters.{filter-dropped, filter-parts}
 use Rattle.permit_book.proofs.TableLaws.{same_number}
@@ -25,26 +25,26 @@ use Rattle.gate_history.proofs.Counting.{all-append, all-filter, all-more, all-o
 use Rattle.gate_history.proofs.GrantLaws.{own-covered, slots_once-granted, still-covered}
 
 -- how often a number is out after a grant
-pub times-granted : (unspent running : List Permit) (number : ℕ) (fetch : Fetch) (k : ℕ) →
+pub times-granted : (unspent running : List GrantedPermit) (number : ℕ) (fetch : Fetch) (k : ℕ) →
     times_out (unspent ++ permit_for number fetch ∷ []) running k ≡ times_out unspent running k + one_if (number == k)
 times-granted unspent running number fetch k = omega (arith, count-push (is_numbered k) unspent (permit_for number fetch))
 
 -- and after an allowed start, which moves the permit
-pub times-started : (unspent running : List Permit) (number k : ℕ) →
+pub times-started : (unspent running : List GrantedPermit) (number k : ℕ) →
     times_out (without number unspent) (running ++ filter (is_numbered number) unspent) k ≡ times_out unspent running k
 times-started unspent running number k =
     omega (arith, count-append (is_numbered k) running (filter (is_numbered number) unspent), filter-parts (is_numbered k) (is_numbered number) unspent)
 
 -- and after a denied start or a return
-pub times-returned : (unspent running : List Permit) (number k : ℕ) → times_out (without number unspent) running k ≤ times_out unspent running k
+pub times-returned : (unspent running : List GrantedPermit) (number k : ℕ) → times_out (without number unspent) running k ≤ times_out unspent running k
 times-returned unspent running number k = omega (arith, filter-parts (is_numbered k) (is_numbered number) unspent)
 
 -- and after a finish
-pub times-finished : (unspent running : List Permit) (number k : ℕ) → times_out unspent (without number running) k ≤ times_out unspent running k
+pub times-finished : (unspent running : List GrantedPermit) (number k : ℕ) → times_out unspent (without number running) k ≤ times_out unspent running k
 times-finished unspent running number k = omega (arith, filter-parts (is_numbered k) (is_numbered number) running)
 
 -- permits of which no number is out more often than before
-pub permits-moved : (unspent running unspent' running' : List Permit) (grants : List SlotGrant) →
+pub permits-moved : (unspent running unspent' running' : List GrantedPermit) (grants : List SlotGrant) →
     ArePermits unspent running grants → ((k : ℕ) → times_out unspent' running' k ≤ times_out unspent running k) → ArePermits unspent' running' grants
 permits-moved unspent running unspent' running' grants are fewer = record {
   numbers_once = λ k. let few = fewer k in let once = are.numbers_once k in omega arith;
@@ -53,7 +53,7 @@ permits-moved unspent running unspent' running' grants are fewer = record {
 }
 
 -- permits after a grant of a number that was not out
-pub permits-granted : (unspent running : List Permit) (grants : List SlotGrant) (number : ℕ) (fetch : Fetch) →
+pub permits-granted : (unspent running : List GrantedPermit) (grants : List SlotGrant) (number : ℕ) (fetch : Fetch) →
     ArePermits unspent running grants → times_out unspent running number ≡ 0 →
     ArePermits (unspent ++ permit_for number fetch ∷ []) running (with_grant number grants)
 permits-granted unspent running grants number fetch are none = record {

@@ -2,7 +2,7 @@
 -- RFC 9309, sections 2.3.1 and 2.4; the value of `base.rt`.
 use Rattle.std.specs.Prelude.{◌≡◌, ℕ, ◌+◌, ◌<◌, ◌≤◌, ◌==◌, Bool, true, nat_le, List, [], length, filter}
 use Rattle.std.specs.List.{list_all}
-use Rattle.permit_book.specs.declared.permit.Permit.{Permit}
+use Rattle.permit_book.specs.declared.granted_permit.GrantedPermit.{GrantedPermit}
 use Rattle.permit_book.specs.Outstanding.{is_numbered}
 use Rattle.authority_cache.specs.declared.standing_answer.StandingAnswer.{StandingAnswer}
 use Rattle.authority_cache.specs.declared.turn.Turn.{Turn}
@@ -17,8 +17,8 @@ use Rattle.gate_history.specs.Grants.{is_covered, is_in}
 pub record Base : Type 0 where
   pub standing : List StandingAnswer
   pub in_flight : List Turn
-  pub unspent : List Permit
-  pub running : List Permit
+  pub unspent : List GrantedPermit
+  pub running : List GrantedPermit
   pub grants : List SlotGrant
   pub begins : ℕ
   pub moment : ℕ
@@ -40,7 +40,7 @@ empty_base = record {
 }
 
 -- how often a permit of the number is out, unspent or running
-abbrev pub times_out : List Permit → List Permit → ℕ → ℕ
+abbrev pub times_out : List GrantedPermit → List GrantedPermit → ℕ → ℕ
 times_out unspent running number = length (filter (is_numbered number) unspent) + length (filter (is_numbered number) running)
 
 -- the answer was brought by the turn of this number
@@ -56,7 +56,7 @@ abbrev pub has_its_life : StandingAnswer → Bool
 has_its_life s = life_of s.says s.life == s.life
 
 -- what is out: no number is out twice, each was granted, and no slot has two greatest generations
-pub record ArePermits (unspent running : List Permit) (grants : List SlotGrant) : Type 0 where
+pub record ArePermits (unspent running : List GrantedPermit) (grants : List SlotGrant) : Type 0 where
   pub numbers_once : (number : ℕ) → times_out unspent running number ≤ 1
   pub numbers_granted : (number : ℕ) → 0 < times_out unspent running number → is_covered grants number ≡ true
   pub slots_once : (slot : ℕ) → length (filter (is_in slot) grants) ≤ 1

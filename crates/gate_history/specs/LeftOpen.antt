@@ -2,7 +2,7 @@
 -- unspent permits and running ones. The laws say that each of their lists is what is left open so.
 use Rattle.std.specs.Prelude.{Bool, false, not, List, [], ◌∷◌, ◌++◌, map, filter}
 use Rattle.std.specs.List.{list_any}
-use Rattle.permit_book.specs.declared.permit.Permit.{Permit}
+use Rattle.permit_book.specs.declared.granted_permit.GrantedPermit.{GrantedPermit}
 use Rattle.permit_book.specs.Outstanding.{is_numbered, permit_for}
 use Rattle.authority_cache.specs.declared.standing_answer.StandingAnswer.{StandingAnswer}
 use Rattle.authority_cache.specs.declared.turn.Turn.{Turn}
@@ -51,23 +51,23 @@ closes_answer (Swept moment _) s = is_past_answer moment s
 closes_answer _ s = false
 
 -- a grant opens its permit
-abbrev pub permits_opened : History → Entry → List Permit
+abbrev pub permits_opened : History → Entry → List GrantedPermit
 permits_opened h (Granted _ number fetch) = permit_for number fetch ∷ []
 permits_opened h _ = []
 
 -- a start, allowed or denied, and a return close the permit of their number
-abbrev pub closes_permit : Entry → Permit → Bool
+abbrev pub closes_permit : Entry → GrantedPermit → Bool
 closes_permit (Started _ number _) p = is_numbered number p
 closes_permit (StartDenied _ number _) p = is_numbered number p
 closes_permit (Returned number) p = is_numbered number p
 closes_permit _ p = false
 
 -- an allowed start opens the run of the permit that it closes
-abbrev pub runs_opened : History → Entry → List Permit
+abbrev pub runs_opened : History → Entry → List GrantedPermit
 runs_opened h (Started _ number _) = filter (is_numbered number) (unspent h)
 runs_opened h _ = []
 
 -- a finish closes the run of its number
-abbrev pub closes_run : Entry → Permit → Bool
+abbrev pub closes_run : Entry → GrantedPermit → Bool
 closes_run (Finished number) p = is_numbered number p
 closes_run _ p = false

@@ -1,7 +1,7 @@
 -- The permits that are out after a history, and the generations that were granted.
 -- RFC 9309 has no permits: they make each fetch look at the answer in force (2.4).
 use Rattle.std.specs.Prelude.{ℕ, ◌==◌, Bool, ◌||◌, max, List, [], ◌∷◌, ◌++◌, filter}
-use Rattle.permit_book.specs.declared.permit.Permit.{Permit}
+use Rattle.permit_book.specs.declared.granted_permit.GrantedPermit.{GrantedPermit}
 use Rattle.permit_book.specs.Outstanding.{granted_in, is_listed, is_listed_for, is_numbered, permit_for, without}
 use Rattle.gate_history.specs.declared.base.SlotGrant.{SlotGrant}
 use Rattle.gate_history.specs.declared.entry.Entry.TheVariants.{Granted, Started, StartDenied, Returned, Finished}
@@ -10,7 +10,7 @@ use Rattle.gate_history.specs.History.{History, from, ◌▸◌}
 
 -- the permits that were granted and that no start has spent: a grant adds its permit; a start, allowed
 -- or denied, and a return take those of their number away
-abbrev pub unspent : History → List Permit
+abbrev pub unspent : History → List GrantedPermit
 unspent (from base) = base.unspent
 unspent (h ▸ Granted _ number fetch) = unspent h ++ permit_for number fetch ∷ []
 unspent (h ▸ Started _ number _) = without number (unspent h)
@@ -20,7 +20,7 @@ unspent (h ▸ _) = unspent h
 
 -- the permits whose fetch was started and has not ended: a start adds the unspent ones of its number; a
 -- finish takes those of its number away
-abbrev pub running : History → List Permit
+abbrev pub running : History → List GrantedPermit
 running (from base) = base.running
 running (h ▸ Started _ number _) = running h ++ filter (is_numbered number) (unspent h)
 running (h ▸ Finished number) = without number (running h)

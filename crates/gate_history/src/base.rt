@@ -4,7 +4,7 @@ ghost use Rattle.std.specs.Prelude.{◌≡◌};
 ghost use Rattle.gate_history.specs.Base.{IsBase, empty_base};
 
 use authority_cache::{StandingAnswer, Turn};
-use permit_book::Permit;
+use permit_book::GrantedPermit;
 use std::alloc::Global;
 use std::marker::Model;
 
@@ -22,8 +22,8 @@ pub struct SlotGrant {
 pub struct Base {
     standing: Vec<StandingAnswer>,
     in_flight: Vec<Turn>,
-    unspent: Vec<Permit>,
-    running: Vec<Permit>,
+    unspent: Vec<GrantedPermit>,
+    running: Vec<GrantedPermit>,
     grants: Vec<SlotGrant>,
     begins: u64,
     moment: u64,
@@ -76,14 +76,14 @@ impl Base {
     }
 
     /// The permits that no start has spent.
-    pub fn unspent(&self) -> &[Permit]
+    pub fn unspent(&self) -> &[GrantedPermit]
         ensures { result.now ≡ self.now.unspent }
     {
         self.unspent.as_slice()
     }
 
     /// The permits whose fetch was started and has not ended.
-    pub fn running(&self) -> &[Permit]
+    pub fn running(&self) -> &[GrantedPermit]
         ensures { result.now ≡ self.now.running }
     {
         self.running.as_slice()

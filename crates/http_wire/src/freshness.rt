@@ -5,7 +5,8 @@ ghost use Rattle.http_wire.specs.Freshness.{HasMaxAge, IsMaxAge, IsNoMaxAge, IsQ
 ghost use Rattle.http_wire.specs.Left.{pairs};
 
 use crate::fields::{Field, Members, is_same_word};
-use crate::numbers::{is_numeral, number_in};
+use crate::numbers::number_in;
+use line_text::is_numeral;
 
 /// The directive that is read, with what stands before its argument.
 const MAX_AGE: &[u8] = b"max-age=";

@@ -7,6 +7,6 @@ mod octets;
 mod piece;
 mod words;
 
-pub use numbers::number_of;
+pub use numbers::{is_numeral, number_of};
 pub use piece::{Piece, Pieces};
 pub use words::Words;

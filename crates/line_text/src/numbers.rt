@@ -10,16 +10,17 @@ pub fn number_of(word: &str) -> Option<u64>
     ensures { result ≡ number_of word.now }
 {
     // `parse` would take a sign.
-    if !is_numeral(word) {
+    if !is_numeral(word.as_bytes()) {
         return None;
     }
     word.parse().ok()
 }
 
-fn is_numeral(word: &str) -> bool
-    ensures { result ≡ is_numeral word.now }
+/// Whether the octets are digits, one or more.
+pub fn is_numeral(octets: &[u8]) -> bool
+    ensures { result ≡ is_numeral octets.now }
 {
-    !word.is_empty() && are_digits(word.as_bytes())
+    !octets.is_empty() && are_digits(octets)
 }
 
 fn are_digits(octets: &[u8]) -> bool

@@ -8,7 +8,7 @@ use Rattle.std.proofs.lemmas.List.Elements.{filter-append}
 use Rattle.std.proofs.lemmas.List.Filters.{sum_by-filter_both}
 use Rattle.std.proofs.lemmas.List.Sums.{length-filter}
 use Rattle.permit_book.specs.declared.out.Fetch.{Fetch}
-use Rattle.permit_book.specs.declared.permit.Permit.{Permit}
+use Rattle.permit_book.specs.declared.granted_permit.GrantedPermit.{GrantedPermit}
 use Rattle.permit_book.specs.Outstanding.{count_for, fetch_of, is_listed, is_numbered, without}
 use Rattle.permit_book.proofs.TableLaws.{one_if, same_number}
 
@@ -85,14 +85,14 @@ filter-all [] = refl
 filter-all (x ∷ xs) = ap (λ ys. x ∷ ys) (filter-all xs)
 
 -- a permit that a test finds is listed
-pub found : (q : Permit → Bool) (permits : List Permit) → list_any q permits ≡ true →
-    (p : Permit) × (q p ≡ true) × (is_listed permits p.number ≡ true)
+pub found : (q : GrantedPermit → Bool) (permits : List GrantedPermit) → list_any q permits ≡ true →
+    (p : GrantedPermit) × (q p ≡ true) × (is_listed permits p.number ≡ true)
 found q [] none = absurd (true≢false (sym none))
 found q (p ∷ permits) some = step (found q permits) (q p) refl some
   where
-    step : (list_any q permits ≡ true → (p' : Permit) × (q p' ≡ true) × (is_listed permits p'.number ≡ true)) →
+    step : (list_any q permits ≡ true → (p' : GrantedPermit) × (q p' ≡ true) × (is_listed permits p'.number ≡ true)) →
         (b : Bool) → q p ≡ b → (b || list_any q permits) ≡ true →
-        (p' : Permit) × (q p' ≡ true) × (is_listed (p ∷ permits) p'.number ≡ true)
+        (p' : GrantedPermit) × (q p' ≡ true) × (is_listed (p ∷ permits) p'.number ≡ true)
     step rest true passes some = (p, passes, rw (same_number p.number) refl)
     step rest false passes some = let later = rest some in (later.0, later.1, rw later.2 (or_true (p.number == later.0.number)))
 
@@ -104,7 +104,7 @@ apart_fails m n k apart is = elim (eqb_tells k n) [
 ]
 
 -- the permits of another number, after one was added
-pub numbered-added : (permits : List Permit) (p : Permit) (m : ℕ) → m ≢ p.number →
+pub numbered-added : (permits : List GrantedPermit) (p : GrantedPermit) (m : ℕ) → m ≢ p.number →
     filter (is_numbered m) (permits ++ p ∷ []) ≡ filter (is_numbered m) permits
 numbered-added permits p m apart =
     filter-append (is_numbered m) permits (p ∷ []) ∙ rw (other) (append-nil (filter (is_numbered m) permits))
@@ -113,13 +113,13 @@ numbered-added permits p m apart =
     other = elim (eqb_tells p.number m) [ inl e ↦ absurd (apart (sym e.1)) | inr d ↦ d.0 ]
 
 -- the permits of its number
-pub numbered-new : (permits : List Permit) (p : Permit) → filter (is_numbered p.number) permits ≡ [] →
+pub numbered-new : (permits : List GrantedPermit) (p : GrantedPermit) → filter (is_numbered p.number) permits ≡ [] →
     filter (is_numbered p.number) (permits ++ p ∷ []) ≡ p ∷ []
 numbered-new permits p none =
     filter-append (is_numbered p.number) permits (p ∷ []) ∙ rw (none, same_number p.number) refl
 
 -- a count of permits, after one was added
-pub count_for-added : (test : Fetch → Bool) (permits : List Permit) (p : Permit) →
+pub count_for-added : (test : Fetch → Bool) (permits : List GrantedPermit) (p : GrantedPermit) →
     count_for test (permits ++ p ∷ []) ≡ count_for test permits + one_if (test (fetch_of p))
 count_for-added test permits p =
     ap length (filter-append (λ q. test (fetch_of q)) permits (p ∷ []))
@@ -130,17 +130,17 @@ count_for-added test permits p =
     one false = refl
 
 -- the permits of another number, after those of one were taken out
-pub numbered-without : (permits : List Permit) (n m : ℕ) → m ≢ n →
+pub numbered-without : (permits : List GrantedPermit) (n m : ℕ) → m ≢ n →
     filter (is_numbered m) (without n permits) ≡ filter (is_numbered m) permits
 numbered-without permits n m apart =
     filter-kept (is_numbered m) (λ p. not (is_numbered n p)) permits (λ p is. rw (apart_fails m n p.number apart is) refl)
 
 -- none of its number is left
-pub numbered-gone : (permits : List Permit) (n : ℕ) → filter (is_numbered n) (without n permits) ≡ []
+pub numbered-gone : (permits : List GrantedPermit) (n : ℕ) → filter (is_numbered n) (without n permits) ≡ []
 numbered-gone permits n = filter-dropped (is_numbered n) (λ p. not (is_numbered n p)) permits (λ p is. rw is refl)
 
 -- a count of permits, after the one of a number was taken out
-pub count_for-without : (test : Fetch → Bool) (permits : List Permit) (p : Permit) → filter (is_numbered p.number) permits ≡ p ∷ [] →
+pub count_for-without : (test : Fetch → Bool) (permits : List GrantedPermit) (p : GrantedPermit) → filter (is_numbered p.number) permits ≡ p ∷ [] →
     count_for test (without p.number permits) + one_if (test (fetch_of p)) ≡ count_for test permits
 count_for-without test permits p is =
     let parts = filter-parts (λ q. test (fetch_of q)) (is_numbered p.number) permits in

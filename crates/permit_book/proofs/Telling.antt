@@ -7,7 +7,7 @@ use Rattle.permit_book.specs.declared.out.Fetch.{Fetch}
 use Rattle.permit_book.specs.declared.out.Out.{Out}
 use Rattle.permit_book.specs.declared.out.Out.TheVariants.{Nothing, Unspent, Running}
 use Rattle.permit_book.specs.declared.out.Slot.{Slot}
-use Rattle.permit_book.specs.declared.permit.Permit.{Permit}
+use Rattle.permit_book.specs.declared.granted_permit.GrantedPermit.{GrantedPermit}
 use Rattle.permit_book.specs.Numbers.{slot_of, generation_of}
 use Rattle.permit_book.specs.Table.{Table, is_nothing, is_running_out, is_unspent_out, last_in, out_under, slot_at, unused, with_out}
 use Rattle.permit_book.specs.Next.{generation_after}
@@ -79,13 +79,13 @@ apart_under t n m last same apart = elim (eqb_tells (last_in t (slot_of m)) (gen
 
 -- a list of permits after one number's part of it was changed: of that number there is this part,
 -- the others stay, and of each test the count goes from the one to the other
-record Changes (old new : List Permit) (number : ℕ) (part : List Permit) (less more : (Fetch → Bool) → ℕ) : Type 0 where
+record Changes (old new : List GrantedPermit) (number : ℕ) (part : List GrantedPermit) (less more : (Fetch → Bool) → ℕ) : Type 0 where
   own : filter (is_numbered number) new ≡ part
   others : (m : ℕ) → m ≢ number → filter (is_numbered m) new ≡ filter (is_numbered m) old
   counted : (test : Fetch → Bool) → count_for test new + less test ≡ count_for test old + more test
 
 -- what a table tells, after something else is out under one number
-step : (t : Table) (unspent running unspent' running' : List Permit) (greatest greatest' : ℕ → ℕ) (n : ℕ) (old out : Out) →
+step : (t : Table) (unspent running unspent' running' : List GrantedPermit) (greatest greatest' : ℕ → ℕ) (n : ℕ) (old out : Out) →
     TellsPermits t unspent running greatest → slot_of n < length t.slots → (slot_at t (slot_of n)).out ≡ old →
     ((m : ℕ) → slot_of m ≡ slot_of n → m ≢ n → out_under t m ≡ Nothing) →
     Changes unspent unspent' n (unspent_in n out) (λ test. one_if (is_unspent_for test old)) (λ test. one_if (is_unspent_for test out)) →
@@ -127,7 +127,7 @@ step t unspent running unspent' running' greatest greatest' n old out tells with
     written = record { last = generation_of n; out = out }
 
 -- one permit more
-Changes-added : (permits : List Permit) (n : ℕ) (fetch : Fetch) → filter (is_numbered n) permits ≡ [] →
+Changes-added : (permits : List GrantedPermit) (n : ℕ) (fetch : Fetch) → filter (is_numbered n) permits ≡ [] →
     Changes permits (permits ++ permit_for n fetch ∷ []) n (permit_for n fetch ∷ []) (λ _. 0) (λ test. one_if (test fetch))
 Changes-added permits n fetch none = record {
   own = numbered-new permits (permit_for n fetch) none;
@@ -136,7 +136,7 @@ Changes-added permits n fetch none = record {
 }
 
 -- one permit less
-Changes-without : (permits : List Permit) (n : ℕ) (fetch : Fetch) → filter (is_numbered n) permits ≡ permit_for n fetch ∷ [] →
+Changes-without : (permits : List GrantedPermit) (n : ℕ) (fetch : Fetch) → filter (is_numbered n) permits ≡ permit_for n fetch ∷ [] →
     Changes permits (without n permits) n [] (λ test. one_if (test fetch)) (λ _. 0)
 Changes-without permits n fetch is = record {
   own = numbered-gone permits n;
@@ -145,7 +145,7 @@ Changes-without permits n fetch is = record {
 }
 
 -- the same permits
-Changes-nothing : (permits : List Permit) (n : ℕ) (part : List Permit) → filter (is_numbered n) permits ≡ part →
+Changes-nothing : (permits : List GrantedPermit) (n : ℕ) (part : List GrantedPermit) → filter (is_numbered n) permits ≡ part →
     Changes permits permits n part (λ _. 0) (λ _. 0)
 Changes-nothing permits n part is = record { own = is; others = λ m apart. refl; counted = λ test. refl }
 

@@ -10,7 +10,7 @@ use Rattle.permit_book.specs.declared.out.Fetch.{Fetch}
 use Rattle.permit_book.specs.declared.out.Out.{Out}
 use Rattle.permit_book.specs.declared.out.Out.TheVariants.{Nothing, Unspent, Running}
 use Rattle.permit_book.specs.declared.out.Slot.{Slot}
-use Rattle.permit_book.specs.declared.permit.Permit.{Permit}
+use Rattle.permit_book.specs.declared.granted_permit.GrantedPermit.{GrantedPermit}
 use Rattle.permit_book.specs.Numbers.{slot_of, generation_of, number_in, last_generation, most_slots}
 use Rattle.permit_book.specs.Table.{Table, is_fetch_of, is_nothing, is_out_for, is_permit_for, is_running, is_running_out, is_unspent, is_unspent_out, last_in, out_under, slot_at}
 use Rattle.permit_book.specs.Next.{IsNext, NoneFree, generation_after, is_free_in}
@@ -43,19 +43,19 @@ listed_running number (Running fetch) = refl
 listed_running number Nothing = refl
 
 -- the unspent numbers
-pub unspent_numbers : (t : Table) (unspent running : List Permit) (greatest : ℕ → ℕ) → TellsPermits t unspent running greatest →
+pub unspent_numbers : (t : Table) (unspent running : List GrantedPermit) (greatest : ℕ → ℕ) → TellsPermits t unspent running greatest →
     (number : ℕ) → is_unspent t number ≡ is_listed unspent number
 unspent_numbers t unspent running greatest tells number =
     sym (list_any-filter (is_numbered number) unspent ∙ (ap (list_any (λ _. true)) (tells.unspent_under number) ∙ listed_unspent number (out_under t number)))
 
 -- the running numbers
-pub running_numbers : (t : Table) (unspent running : List Permit) (greatest : ℕ → ℕ) → TellsPermits t unspent running greatest →
+pub running_numbers : (t : Table) (unspent running : List GrantedPermit) (greatest : ℕ → ℕ) → TellsPermits t unspent running greatest →
     (number : ℕ) → is_running t number ≡ is_listed running number
 running_numbers t unspent running greatest tells number =
     sym (list_any-filter (is_numbered number) running ∙ (ap (list_any (λ _. true)) (tells.running_under number) ∙ listed_running number (out_under t number)))
 
 -- a permit of the slot's own number is one of the slot
-numbered_slot : (slot number : ℕ) → slot_of number ≡ slot → (p : Permit) → is_numbered number p ≡ true → (slot_of p.number == slot) ≡ true
+numbered_slot : (slot number : ℕ) → slot_of number ≡ slot → (p : GrantedPermit) → is_numbered number p ≡ true → (slot_of p.number == slot) ≡ true
 numbered_slot slot number of p is = elim (eqb_tells p.number number) [
   | inl e ↦ rw (e.1, of) (same_number slot)
   | inr d ↦ absurd (true≢false (sym is ∙ d.0))
@@ -73,7 +73,7 @@ equal : (a b : ℕ) → (a == b) ≡ true → a ≡ b
 equal a b is = elim (eqb_tells a b) [ inl e ↦ e.1 | inr d ↦ absurd (true≢false (sym is ∙ d.0)) ]
 
 -- an unspent permit of the slot is listed where one is out in it
-holds_unspent : (t : Table) (unspent running : List Permit) (greatest : ℕ → ℕ) → TellsPermits t unspent running greatest →
+holds_unspent : (t : Table) (unspent running : List GrantedPermit) (greatest : ℕ → ℕ) → TellsPermits t unspent running greatest →
     (slot : ℕ) → slot < most_slots → holds_slot unspent slot ≡ is_unspent_out (slot_at t slot).out
 holds_unspent t unspent running greatest tells slot small = alike _ _ there back
   where
@@ -92,7 +92,7 @@ holds_unspent t unspent running greatest tells slot small = alike _ _ there back
         (sym (unspent_numbers t unspent running greatest tells number) ∙ is)
 
 -- a running one is listed where one is out in it
-holds_running : (t : Table) (unspent running : List Permit) (greatest : ℕ → ℕ) → TellsPermits t unspent running greatest →
+holds_running : (t : Table) (unspent running : List GrantedPermit) (greatest : ℕ → ℕ) → TellsPermits t unspent running greatest →
     (slot : ℕ) → slot < most_slots → holds_slot running slot ≡ is_running_out (slot_at t slot).out
 holds_running t unspent running greatest tells slot small = alike _ _ there back
   where
@@ -111,7 +111,7 @@ holds_running t unspent running greatest tells slot small = alike _ _ there back
         (sym (running_numbers t unspent running greatest tells number) ∙ is)
 
 -- a slot of the table is free where it is by the lists
-pub free_alike : (t : Table) (unspent running : List Permit) (greatest : ℕ → ℕ) → TellsPermits t unspent running greatest →
+pub free_alike : (t : Table) (unspent running : List GrantedPermit) (greatest : ℕ → ℕ) → TellsPermits t unspent running greatest →
     (slot : ℕ) → slot < length t.slots → is_free_in t slot ≡ is_free_by unspent running greatest slot
 free_alike t unspent running greatest tells slot inside =
     let small : slot < most_slots = (let few = tells.within.slots in omega arith) in

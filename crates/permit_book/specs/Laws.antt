@@ -3,7 +3,7 @@
 use Rattle.std.specs.Prelude.{◌≡◌, ◌↔◌, ℕ, ◌+◌, true, false, max, List, [], ◌∷◌, ◌++◌, length, filter, replicate}
 use Rattle.permit_book.specs.declared.out.Fetch.{Fetch}
 use Rattle.permit_book.specs.declared.out.Out.TheVariants.{Nothing, Unspent}
-use Rattle.permit_book.specs.declared.permit.Permit.{Permit}
+use Rattle.permit_book.specs.declared.granted_permit.GrantedPermit.{GrantedPermit}
 use Rattle.permit_book.specs.Table.{Table, decided, held_count, is_nothing, is_running, is_unspent, one_for, out_under, running_count, stands, unspent_count, unused, with_out}
 use Rattle.permit_book.specs.Next.{IsNext, NoneFree}
 use Rattle.permit_book.specs.Kept.{IsWithin}
@@ -16,44 +16,44 @@ NewTells = (first slots : ℕ) → IsWithin (record { first_generation = first; 
 
 -- a grant adds its permit to the unspent ones
 abbrev pub GrantTells : Type 0
-GrantTells = (t : Table) (unspent running : List Permit) (greatest : ℕ → ℕ) (number : ℕ) (fetch : Fetch)
+GrantTells = (t : Table) (unspent running : List GrantedPermit) (greatest : ℕ → ℕ) (number : ℕ) (fetch : Fetch)
     → TellsPermits t unspent running greatest → IsNext t number
     → TellsPermits (with_out t number (Unspent fetch)) (unspent ++ permit_for number fetch ∷ []) running
     (λ slot. max (granted_in number slot) (greatest slot))
 
 -- an allowed start takes the permit of its number from the unspent ones to the running ones
 abbrev pub StartTells : Type 0
-StartTells = (t : Table) (unspent running : List Permit) (greatest : ℕ → ℕ) (number : ℕ)
+StartTells = (t : Table) (unspent running : List GrantedPermit) (greatest : ℕ → ℕ) (number : ℕ)
     → TellsPermits t unspent running greatest → is_unspent t number ≡ true
     → TellsPermits (with_out t number (decided true (out_under t number))) (without number unspent)
     (running ++ filter (is_numbered number) unspent) greatest
 
 -- a denied start and a return take the permit of their number from the unspent ones
 abbrev pub ReturnTells : Type 0
-ReturnTells = (t : Table) (unspent running : List Permit) (greatest : ℕ → ℕ) (number : ℕ)
+ReturnTells = (t : Table) (unspent running : List GrantedPermit) (greatest : ℕ → ℕ) (number : ℕ)
     → TellsPermits t unspent running greatest → is_unspent t number ≡ true
     → TellsPermits (with_out t number Nothing) (without number unspent) running greatest
 
 -- a finish takes the permit of its number from the running ones
 abbrev pub FinishTells : Type 0
-FinishTells = (t : Table) (unspent running : List Permit) (greatest : ℕ → ℕ) (number : ℕ)
+FinishTells = (t : Table) (unspent running : List GrantedPermit) (greatest : ℕ → ℕ) (number : ℕ)
     → TellsPermits t unspent running greatest → is_running t number ≡ true
     → TellsPermits (with_out t number Nothing) unspent (without number running) greatest
 
 -- the next number of the table is that of the lists
 abbrev pub NextAlike : Type 0
-NextAlike = (t : Table) (unspent running : List Permit) (greatest : ℕ → ℕ) (number : ℕ)
+NextAlike = (t : Table) (unspent running : List GrantedPermit) (greatest : ℕ → ℕ) (number : ℕ)
     → TellsPermits t unspent running greatest
     → IsNext t number ↔ IsNextBy (length t.slots) t.first_generation unspent running greatest number
 
 -- no slot of the table is free where none is by the lists
 abbrev pub NoneFreeAlike : Type 0
-NoneFreeAlike = (t : Table) (unspent running : List Permit) (greatest : ℕ → ℕ)
+NoneFreeAlike = (t : Table) (unspent running : List GrantedPermit) (greatest : ℕ → ℕ)
     → TellsPermits t unspent running greatest
     → NoneFree t ↔ NoneFreeBy (length t.slots) unspent running greatest
 
 -- what is read of the table is what is read of the lists
-pub record ReadsAlike (t : Table) (unspent running : List Permit) : Type 0 where
+pub record ReadsAlike (t : Table) (unspent running : List GrantedPermit) : Type 0 where
   pub unspent_numbers : (number : ℕ) → is_unspent t number ≡ is_listed unspent number
   pub running_numbers : (number : ℕ) → is_running t number ≡ is_listed running number
   pub permits : (number : ℕ) (token url : List ℕ) → stands t number token url ≡ is_listed_for unspent number token url
@@ -63,12 +63,12 @@ pub record ReadsAlike (t : Table) (unspent running : List Permit) : Type 0 where
 
 -- a table that says what the lists say is read alike
 abbrev pub TellingReadsAlike : Type 0
-TellingReadsAlike = (t : Table) (unspent running : List Permit) (greatest : ℕ → ℕ)
+TellingReadsAlike = (t : Table) (unspent running : List GrantedPermit) (greatest : ℕ → ℕ)
     → TellsPermits t unspent running greatest → ReadsAlike t unspent running
 
 -- the greatest generations may be said otherwise
 abbrev pub GreatestAlike : Type 0
-GreatestAlike = (t : Table) (unspent running : List Permit) (greatest others : ℕ → ℕ)
+GreatestAlike = (t : Table) (unspent running : List GrantedPermit) (greatest others : ℕ → ℕ)
     → TellsPermits t unspent running greatest → ((slot : ℕ) → others slot ≡ greatest slot)
     → TellsPermits t unspent running others
 

@@ -8,31 +8,31 @@ use Rattle.path_normal.specs.PageText.{authority_of}
 use Rattle.permit_book.specs.declared.out.Fetch.{Fetch}
 use Rattle.permit_book.specs.declared.out.Out.{Out}
 use Rattle.permit_book.specs.declared.out.Out.TheVariants.{Unspent, Running}
-use Rattle.permit_book.specs.declared.permit.Permit.{Permit}
+use Rattle.permit_book.specs.declared.granted_permit.GrantedPermit.{GrantedPermit}
 use Rattle.permit_book.specs.Numbers.{slot_of, generation_of, last_generation}
 use Rattle.permit_book.specs.Table.{Table, is_fetch_of, last_in, out_under}
 use Rattle.permit_book.specs.Next.{generation_after}
 use Rattle.permit_book.specs.Kept.{IsWithin}
 
 -- the permit has this number
-abbrev pub is_numbered : ℕ → Permit → Bool
+abbrev pub is_numbered : ℕ → GrantedPermit → Bool
 is_numbered number p = p.number == number
 
 -- the fetch that the permit is for
-abbrev pub fetch_of : Permit → Fetch
+abbrev pub fetch_of : GrantedPermit → Fetch
 fetch_of p = record { token = p.token; url = p.url }
 
 -- the permit of this number for a fetch
-abbrev pub permit_for : ℕ → Fetch → Permit
+abbrev pub permit_for : ℕ → Fetch → GrantedPermit
 permit_for number fetch = record { number = number; token = fetch.token; url = fetch.url }
 
 -- the permit of the number, where what is out is unspent
-abbrev pub unspent_in : ℕ → Out → List Permit
+abbrev pub unspent_in : ℕ → Out → List GrantedPermit
 unspent_in number (Unspent fetch) = permit_for number fetch ∷ []
 unspent_in number _ = []
 
 -- the permit of the number, where what is out is running
-abbrev pub running_in : ℕ → Out → List Permit
+abbrev pub running_in : ℕ → Out → List GrantedPermit
 running_in number (Running fetch) = permit_for number fetch ∷ []
 running_in number _ = []
 
@@ -47,13 +47,13 @@ is_running_for test (Running fetch) = test fetch
 is_running_for test _ = false
 
 -- how many of the permits are for a fetch that passes the test
-abbrev pub count_for : (Fetch → Bool) → List Permit → ℕ
+abbrev pub count_for : (Fetch → Bool) → List GrantedPermit → ℕ
 count_for test permits = length (filter (λ p. test (fetch_of p)) permits)
 
 -- the table says what the lists say: of each number the unspent permits are none or the one that is
 -- out, and so are the running ones; of each test, as many of each list pass as of the slots; and
 -- each slot's last grant is of its greatest generation
-pub record TellsPermits (t : Table) (unspent running : List Permit) (greatest : ℕ → ℕ) : Type 0 where
+pub record TellsPermits (t : Table) (unspent running : List GrantedPermit) (greatest : ℕ → ℕ) : Type 0 where
   pub within : IsWithin t
   pub last : (slot : ℕ) → slot < length t.slots → last_in t slot ≡ greatest slot
   pub unspent_under : (number : ℕ) → filter (is_numbered number) unspent ≡ unspent_in number (out_under t number)
@@ -62,35 +62,35 @@ pub record TellsPermits (t : Table) (unspent running : List Permit) (greatest : 
   pub running_for : (test : Fetch → Bool) → count_for test running ≡ length (filter (λ slot. is_running_for test slot.out) t.slots)
 
 -- an unspent permit of this number is listed
-abbrev pub is_listed : List Permit → ℕ → Bool
+abbrev pub is_listed : List GrantedPermit → ℕ → Bool
 is_listed permits number = list_any (is_numbered number) permits
 
 -- a permit of this number for this token and URL is listed
-abbrev pub is_listed_for : List Permit → ℕ → List ℕ → List ℕ → Bool
+abbrev pub is_listed_for : List GrantedPermit → ℕ → List ℕ → List ℕ → Bool
 is_listed_for permits number token url = list_any (λ p. is_numbered number p && is_fetch_of token url (fetch_of p)) permits
 
 -- how many of the permits are for pages of this authority
-abbrev pub listed_for : List Permit → List ℕ → ℕ
+abbrev pub listed_for : List GrantedPermit → List ℕ → ℕ
 listed_for permits authority = length (filter (λ p. bytes_eq (authority_of p.url) authority) permits)
 
 -- a permit of the slot is listed
-abbrev pub holds_slot : List Permit → ℕ → Bool
+abbrev pub holds_slot : List GrantedPermit → ℕ → Bool
 holds_slot permits slot = list_any (λ p. slot_of p.number == slot) permits
 
 -- the slot is free by the lists: none of its numbers is out, and its last generation was not granted
-abbrev pub is_free_by : List Permit → List Permit → (ℕ → ℕ) → ℕ → Bool
+abbrev pub is_free_by : List GrantedPermit → List GrantedPermit → (ℕ → ℕ) → ℕ → Bool
 is_free_by unspent running greatest slot =
     not (holds_slot unspent slot || holds_slot running slot) && nat_lt (greatest slot) last_generation
 
 -- the next number by the lists: the lowest free slot, with the generation after its greatest
-pub record IsNextBy (slots first : ℕ) (unspent running : List Permit) (greatest : ℕ → ℕ) (number : ℕ) : Type 0 where
+pub record IsNextBy (slots first : ℕ) (unspent running : List GrantedPermit) (greatest : ℕ → ℕ) (number : ℕ) : Type 0 where
   pub in_range : slot_of number < slots
   pub free : is_free_by unspent running greatest (slot_of number) ≡ true
   pub lowest : (slot : ℕ) → slot < slot_of number → is_free_by unspent running greatest slot ≡ false
   pub generation : generation_of number ≡ generation_after first (greatest (slot_of number))
 
 -- no slot is free by the lists
-abbrev pub NoneFreeBy : ℕ → List Permit → List Permit → (ℕ → ℕ) → Type 0
+abbrev pub NoneFreeBy : ℕ → List GrantedPermit → List GrantedPermit → (ℕ → ℕ) → Type 0
 NoneFreeBy slots unspent running greatest = (slot : ℕ) → slot < slots → is_free_by unspent running greatest slot ≡ false
 
 -- the generation that a grant of this number brings to a slot
@@ -98,5 +98,5 @@ abbrev pub granted_in : ℕ → ℕ → ℕ
 granted_in number slot = if slot_of number == slot then generation_of number else 0
 
 -- the permits of other numbers
-abbrev pub without : ℕ → List Permit → List Permit
+abbrev pub without : ℕ → List GrantedPermit → List GrantedPermit
 without number permits = filter (λ p. not (is_numbered number p)) permits

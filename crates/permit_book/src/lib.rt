@@ -5,18 +5,18 @@
 mod drafts;
 mod ends;
 mod free_slots;
+mod granted_permit;
 pub mod laws;
 mod number;
 mod out;
-mod permit;
 mod permits;
 mod refusal;
 mod words;
 
 pub use drafts::Draft;
+pub use granted_permit::GrantedPermit;
 pub use number::{LAST_GENERATION, MAX_SLOTS, PermitNo, SLOTS_PER_GENERATION};
 pub use out::{Fetch, Out, Slot};
-pub use permit::Permit;
 pub use permits::Permits;
 pub use refusal::{NotOut, PermitsFull};
 

@@ -7,7 +7,7 @@ use robots_text::Token;
 
 /// A permit for one fetch of a URL under a token, with its number.
 #[derive(Debug, Drop)]
-pub struct Permit {
+pub struct GrantedPermit {
     /// The permit's number.
     pub number: PermitNo,
     /// The product token that may use it.

@@ -1,0 +1,45 @@
+//! The clock that a gate's moments are read from.
+ghost use Rattle.std.specs.Prelude.{◌≡◌};
+ghost use Rattle.crawl_workers.specs.Clock.{seconds_of};
+
+use std::time::{SystemTime, UNIX_EPOCH};
+use std::{io, time};
+
+/// What tells the moment of a call, in seconds. It may go back.
+pub trait Clock {
+    /// The moment now.
+    fn now(&self) -> u64;
+}
+
+/// The system's clock: whole seconds since the beginning of 1970, in UTC. It tells 0 where it is set
+/// to an earlier time, or can't be read.
+#[derive(Debug, Drop)]
+pub struct SystemClock<R: time::Clock> {
+    rt: R,
+}
+
+impl<R: time::Clock> SystemClock<R> {
+    /// The clock of the runtime.
+    pub fn new(rt: R) -> SystemClock<R> {
+        SystemClock { rt }
+    }
+}
+
+impl<R: time::Clock> Clock for SystemClock<R> {
+    fn now(&self) -> u64 {
+        whole_seconds(SystemTime::now(&self.rt))
+    }
+}
+
+// The whole seconds of a reading of the system's clock.
+fn whole_seconds(reading: io::Result<SystemTime>) -> u64
+    ensures { result ≡ seconds_of reading }
+{
+    let Ok(time) = reading else {
+        return 0;
+    };
+    match time.duration_since(UNIX_EPOCH) {
+        Ok(duration) => duration.as_secs(),
+        Err(_) => 0,
+    }
+}

@@ -1,0 +1,96 @@
+//! What workers fetch by, and the leaves without which nothing is fetched.
+ghost use Rattle.std.specs.Prelude.{◌≡◌};
+ghost use Rattle.crawl_workers.specs.Leaves.{page_of, robots_page_of, token_of_leave};
+
+use gate_lock::{Fetched, Gate, RobotsTurn, Running};
+use http_wire::{HttpReply, WireFault};
+use path_normal::PageUrl;
+use robots_text::Token;
+
+/// Leave to fetch a page once. `Fetcher::fetch_page` has it of a started permit, and nothing else
+/// makes one.
+#[derive(Debug, Drop)]
+pub struct PageLeave<'a> {
+    pub(crate) token: &'a Token,
+    pub(crate) url: &'a PageUrl,
+}
+
+impl PageLeave<'_> {
+    /// The token under which the page is fetched.
+    pub fn token(&self) -> &Token
+        ensures { result.now ≡ token_of_leave self.now }
+    {
+        self.token
+    }
+
+    /// The page to fetch.
+    pub fn url(&self) -> &PageUrl
+        ensures { result.now ≡ page_of self.now }
+    {
+        self.url
+    }
+}
+
+/// Leave to fetch a robots file, or what a redirect led to from one, once.
+/// `Fetcher::fetch_robots` has it of a turn in flight, and nothing else makes one.
+#[derive(Debug, Drop)]
+pub struct RobotsLeave<'a> {
+    pub(crate) url: &'a PageUrl,
+}
+
+impl RobotsLeave<'_> {
+    /// The file to fetch.
+    pub fn url(&self) -> &PageUrl
+        ensures { result.now ≡ robots_page_of self.now }
+    {
+        self.url
+    }
+}
+
+/// What fetches pages and robots files. A redirect is a reply like others, and is not followed.
+pub trait Fetcher {
+    ghost use Rattle.std.specs.Prelude.{ℕ, List, Result};
+    ghost use Rattle.http_wire.specs.declared.fault.WireFault.{WireFault};
+    ghost use Rattle.http_wire.specs.declared.response.HttpReply.{HttpReply};
+
+    /// Holds of a URL and each result that a fetch of it gives.
+    ghost gives: { Self → List ℕ → Result HttpReply WireFault → Type 0 };
+
+    /// Fetches a page, and gives at most `limit` octets of its body.
+    fn load_page(&self, leave: &PageLeave<'_>, limit: usize) -> Result<HttpReply, WireFault>
+        ensures { gives self.now (page_of leave.now) result };
+
+    /// Fetches a robots file, and gives at most 512,001 octets of its body: those that are kept, and
+    /// one that tells that there are more.
+    fn load_robots(&self, leave: &RobotsLeave<'_>) -> Result<HttpReply, WireFault>
+        ensures { gives self.now (robots_page_of leave.now) result };
+
+    /// Makes a fetch that may be made, under its token, with at most `limit` octets of the page's
+    /// body. Whatever comes of it, the fetch was made.
+    final fn fetch_page<G: Gate>(
+        &self,
+        running: Running<G>,
+        limit: usize,
+    ) -> (Fetched<G>, Result<HttpReply, WireFault>)
+        ensures spent { result.0 ≡ running.pass }
+        ensures given { gives self.now running.pass.url result.1 }
+    {
+        let leave = PageLeave {
+            token: running.token(),
+            url: running.url(),
+        };
+        let reply = self.load_page(&leave, limit);
+        (running.spend(), reply)
+    }
+
+    /// Fetches a robots file, or what a redirect led to from one, while a turn is in flight.
+    final fn fetch_robots<G: Gate>(
+        &self,
+        _turn: &RobotsTurn<G>,
+        url: &PageUrl,
+    ) -> Result<HttpReply, WireFault>
+        ensures { gives self.now url.now result }
+    {
+        self.load_robots(&RobotsLeave { url })
+    }
+}

@@ -1,0 +1,93 @@
+//! Reads and writes that a signal interrupts, and those whose time is over.
+
+use crate::deadline::Deadline;
+use crate::timed_stream::{TimedStream, Waits};
+use std::io::{ErrorKind, Read, Write};
+use std::test::Fail;
+use std::time::{Duration, Instant};
+use std::{io, time};
+
+// A connection whose first calls a signal interrupts. Then it gives and takes one octet a call.
+#[derive(Drop)]
+struct Interrupted(u32);
+
+impl Interrupted {
+    fn call(&mut self) -> io::Result<()> {
+        match self.0.checked_sub(1) {
+            Some(left) => {
+                self.0 = left;
+                Err(io::Error::from(ErrorKind::Interrupted))
+            }
+            None => Ok(()),
+        }
+    }
+}
+
+impl Read for Interrupted {
+    fn read(&mut self, buf: &mut [u8]) -> io::Result<usize> {
+        self.call()?;
+        match buf.first_mut() {
+            Some(octet) => {
+                *octet = b'x';
+                Ok(1)
+            }
+            None => Ok(0),
+        }
+    }
+}
+
+impl Write for Interrupted {
+    fn write(&mut self, buf: &[u8]) -> io::Result<usize> {
+        self.call()?;
+        Ok(buf.len().min(1))
+    }
+
+    fn flush(&mut self) -> io::Result<()> {
+        Ok(())
+    }
+}
+
+impl Waits for Interrupted {
+    fn limit_reads(&self, _most: Duration) -> io::Result<()> {
+        Ok(())
+    }
+
+    fn limit_writes(&self, _most: Duration) -> io::Result<()> {
+        Ok(())
+    }
+}
+
+// A stream that a signal interrupts so many times, with so many seconds for the whole.
+fn stream_of<R: time::Clock>(
+    rt: &R,
+    times: u32,
+    whole: u64,
+) -> io::Result<TimedStream<'_, R, Interrupted>> {
+    Ok(TimedStream {
+        rt,
+        stream: Interrupted(times),
+        deadline: Deadline {
+            begun: Instant::now(rt)?,
+            whole: Duration::from_secs(whole),
+        },
+        step: Duration::from_secs(30),
+    })
+}
+
+#[test]
+fn interruptions(rt: HostRuntime) -> Result<(), Fail> {
+    for (times, want) in [(0, true), (3, true), (999, true), (1_000, false)] {
+        let read = stream_of(&rt, times, 60)?.read(&mut [0, 0]);
+        assert_eq!(rt; read.is_ok(), want, "after {times} interruptions");
+        let written = stream_of(&rt, times, 60)?.write(b"ab");
+        assert_eq!(rt; written.is_ok(), want, "after {times} interruptions");
+    }
+    Ok(())
+}
+
+#[test]
+fn a_time_that_is_over(rt: HostRuntime) -> Result<(), Fail> {
+    assert!(rt; stream_of(&rt, 0, 0)?.read(&mut [0, 0]).is_err());
+    assert!(rt; stream_of(&rt, 0, 0)?.write(b"ab").is_err());
+    Ok(())
+}

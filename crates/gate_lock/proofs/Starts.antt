@@ -1,0 +1,11 @@
+-- The started fetches among marks, with one mark more.
+-- Used by the methods of `Desk`.
+use Rattle.std.proofs.Common.{◌≡◌, ℕ, ◌+◌, List, [], ◌∷◌, ◌++◌, refl, arith}
+use Rattle.std.specs.Prelude.{if◌then◌else◌}
+use Rattle.gate_lock.specs.declared.mark.Mark.{Mark}
+use Rattle.gate_lock.specs.Marks.{is_start, starts_in}
+
+-- one mark more counts for itself
+pub starts_in_push : (ms : List Mark) (m : Mark) → starts_in (ms ++ m ∷ []) ≡ starts_in ms + (if is_start m.deed then 1 else 0)
+starts_in_push [] m = omega arith
+starts_in_push (x ∷ ms) m = let e = starts_in_push ms m in omega (arith, e)

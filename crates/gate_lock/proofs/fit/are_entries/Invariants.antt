@@ -1,0 +1,10 @@
+-- What is left of the marks are entries exactly where all of them are.
+use Rattle.std.proofs.Common.{◌↔◌, length}
+use Rattle.gate_lock.specs.Settling.{AreEntries}
+use Rattle.gate_lock.proofs.fit.are_entries.Given as goal
+
+abbrev pub invariant-loop-rest : goal.invariant-loop-rest
+invariant-loop-rest l = AreEntries l.sealed l.history l.rest ↔ AreEntries l.sealed l.history l.marks
+
+abbrev pub decreases-loop-rest : goal.decreases-loop-rest
+decreases-loop-rest l = length l.rest

@@ -1,0 +1,10 @@
+-- What is left of the lists fits exactly where all of them do.
+use Rattle.std.proofs.Common.{◌↔◌, length}
+use Rattle.gate_lock.specs.Settling.{EachFits}
+use Rattle.gate_lock.proofs.fit.each_fits.Given as goal
+
+abbrev pub invariant-loop-rest : goal.invariant-loop-rest
+invariant-loop-rest g l = EachFits l.sealed l.history l.rest ↔ EachFits l.sealed l.history l.all
+
+abbrev pub decreases-loop-rest : goal.decreases-loop-rest
+decreases-loop-rest g l = length l.rest

@@ -1,0 +1,13 @@
+-- The places of a history fit its count.
+-- The lemma `counted` of `Counting` says so.
+use Rattle.std.proofs.Common.{ap, arith, length}
+use Rattle.gate_history.specs.Base.{Base}
+use Rattle.gate_history.specs.History.{from}
+use Rattle.gate_lock.proofs.Counting.{counted}
+use Rattle.gate_lock.proofs.settlement.settle.Goals as goal
+
+pub marks_fit-requires-after_bounds : goal.marks_fit-requires-after_bounds
+marks_fit-requires-after_bounds g c κs within =
+    let book = c.book-book.result.now in
+    let n = counted (from book.base) book.entries in
+    omega (arith, n, c.entry_count-events.ensures, c.entry_count-events.type_inv, c.entries.ensures, ap (λ (base : Base). base.entries) c.base.ensures, ap length c.history.ensures.entries)

@@ -1,0 +1,97 @@
+-- What contracts see of a desk and of the values that must be spent at it, and what an entry does to a desk.
+-- RFC 9309 has none of it: permits make each fetch look at the answer in force (2.4).
+use Rattle.std.specs.Prelude.{◌≡◌, ℕ, ◌+◌, ◌*◌, ◌≤◌, List, [], ◌∷◌, ◌++◌, length}
+use Rattle.gate_history.specs.declared.entry.Entry.{Entry}
+use Rattle.gate_history.specs.declared.entry.Entry.TheVariants.{Begun, Arrived, Granted, AskDenied, Started, StartDenied, Returned, Finished, Swept}
+use Rattle.gate_history.specs.declared.outcome.Reason.{Reason}
+use Rattle.gate_history.specs.History.{entry_count}
+use Rattle.gate_core.specs.Gate.{Gate, HasLegalHistory, history}
+use Rattle.gate_lock.specs.declared.mark.Mark.{Mark}
+use Rattle.gate_lock.specs.Marks.{mark_at, starts_in}
+
+-- a permit, or a started fetch that was made: its number, its token and URL, and the desk that must spend it
+pub record Pass : Type 0 where
+  pub number : ℕ
+  pub token : List ℕ
+  pub url : List ℕ
+  pub desk : ℕ
+
+-- a fetch that may be made, and why
+pub record Run : Type 0 where
+  pub pass : Pass
+  pub reason : Reason
+
+-- a turn to fetch an authority's robots file, and the desk that must bring its answer
+pub record Errand : Type 0 where
+  pub authority : List ℕ
+  pub turn : ℕ
+  pub desk : ℕ
+
+-- the shares of a desk: how many entries it made, and how many started fetches are among them
+pub record Shares : Type 0 where
+  pub entries : ℕ
+  pub starts : ℕ
+
+-- a desk: its number; how many entries the history had when it last looked; how many permits, running
+-- fetches and turns it must still spend; and the marks of the entries that it made
+pub record DeskView : Type 0 where
+  pub no : ℕ
+  pub seen : ℕ
+  pub permits : ℕ
+  pub runs : ℕ
+  pub turns : ℕ
+  pub marks : List Mark
+
+-- what a desk must still spend: permits, runs and turns more and less
+pub record HasOut (d d2 : DeskView) (permits permits_less runs runs_less turns turns_less : ℕ) : Type 0 where
+  pub permits_are : d2.permits + permits_less ≡ d.permits + permits
+  pub runs_are : d2.runs + runs_less ≡ d.runs + runs
+  pub turns_are : d2.turns + turns_less ≡ d.turns + turns
+
+-- it must still spend what it had to
+abbrev pub KeepsOut : DeskView → DeskView → Type 0
+KeepsOut d d2 = HasOut d d2 0 0 0 0 0 0
+
+-- what the desk that made an entry must still spend behind it
+abbrev pub HasOutBy : Entry → DeskView → DeskView → Type 0
+HasOutBy (Begun _ _ _) d d2 = HasOut d d2 0 0 0 0 1 0
+HasOutBy (Arrived _ _ _ _ _) d d2 = HasOut d d2 0 0 0 0 0 1
+HasOutBy (Granted _ _ _) d d2 = HasOut d d2 1 0 0 0 0 0
+HasOutBy (AskDenied _ _ _) d d2 = KeepsOut d d2
+HasOutBy (Started _ _ _) d d2 = HasOut d d2 0 1 1 0 0 0
+HasOutBy (StartDenied _ _ _) d d2 = HasOut d d2 0 1 0 0 0 0
+HasOutBy (Returned _) d d2 = HasOut d d2 0 1 0 0 0 0
+HasOutBy (Finished _) d d2 = HasOut d d2 0 0 0 1 0 0
+HasOutBy (Swept _ _) d d2 = KeepsOut d d2
+
+-- the desk made an entry in a gate: it has seen the history behind it, and has its mark, at its place
+pub record Makes (d : DeskView) (g : Gate) (e : Entry) (d2 : DeskView) : Type 0 where
+  pub no_is : d2.no ≡ d.no
+  pub seen_is : d2.seen ≡ entry_count (history g) + 1
+  pub out_is : HasOutBy e d d2
+  pub marks_are : d2.marks ≡ d.marks ++ mark_at (entry_count (history g)) e ∷ []
+
+-- the desk made no entry, and has seen the history of a gate
+pub record Looks (d : DeskView) (g : Gate) (d2 : DeskView) : Type 0 where
+  pub no_is : d2.no ≡ d.no
+  pub seen_is : d2.seen ≡ entry_count (history g)
+  pub out_is : KeepsOut d d2
+  pub marks_are : d2.marks ≡ d.marks
+
+-- how many values a desk must still spend
+abbrev pub out_of : DeskView → ℕ
+out_of d = d.permits + d.runs + d.turns
+
+-- what is true of every desk: its shares count its marks; it made no more entries than it has seen; and there
+-- is room for the marks of what it must still spend, two for each permit and one for each run and turn
+pub record IsDesk (view : DeskView) (shares : Shares) (room : ℕ) : Type 0 where
+  pub entries_are : shares.entries ≡ length view.marks
+  pub starts_are : shares.starts ≡ starts_in view.marks
+  pub few : length view.marks ≤ view.seen
+  pub fits : length view.marks + (2 * view.permits + view.runs + view.turns) ≤ room
+
+-- a new desk, which has looked at the history of some gate
+abbrev pub IsNew : DeskView → Type 0
+IsNew d =
+    (g : Gate) × (HasLegalHistory g
+    × (d ≡ record { no = d.no; seen = entry_count (history g); permits = 0; runs = 0; turns = 0; marks = [] }))

@@ -1,0 +1,8 @@
+-- What the contracts of the lock and its desks cite.
+-- RFC 9309, sections 2.3.1 and 2.4.
+pub mod Balance
+pub mod Results
+pub mod Marks
+pub mod Desks
+pub mod Steps
+pub mod Settling

@@ -1,0 +1,82 @@
+-- When a gate is settled: nothing is out, and the receipts of its desks are its history.
+-- The contracts of `marks_fit` and `settle`.
+use Rattle.std.specs.Prelude.{◌≡◌, ℕ, ◌+◌, ◌-◌, ◌<◌, ◌≤◌, ◌==◌, Bool, true, false, nat_lt, List, [], ◌∷◌, if◌then◌else◌, length, map, Some}
+use Rattle.std.specs.List.{slice_get, slice_index_or}
+use Rattle.gate_history.specs.declared.entry.Entry.{Entry}
+use Rattle.gate_history.specs.History.{entry_count, started_count}
+use Rattle.gate_history.specs.Outstanding.{running, unspent}
+use Rattle.gate_history.specs.Standing.{in_flight}
+use Rattle.gate_core.specs.Gate.{Gate, HasLegalHistory, history}
+use Rattle.gate_lock.specs.declared.mark.Mark.{Mark}
+use Rattle.gate_lock.specs.declared.settlement.Settled.{Settled}
+use Rattle.gate_lock.specs.Marks.{deed_of}
+
+-- one where a test holds
+abbrev pub one_if : Bool → ℕ
+one_if test = if test then 1 else 0
+
+-- the mark's place is before that of the next one
+abbrev pub IsBefore : Mark → List Mark → Type 0
+IsBefore m [] = Unit {0}
+IsBefore m (next ∷ _) = m.place < next.place
+
+-- the places ascend
+abbrev pub Ascend : List Mark → Type 0
+Ascend [] = Unit {0}
+Ascend (m ∷ ms) = IsBefore m ms × Ascend ms
+
+-- the mark is the entry at its place, unless that place is sealed
+abbrev pub IsEntryAt : ℕ → List Entry → Mark → Type 0
+IsEntryAt sealed entries m = sealed ≤ m.place → slice_get (map deed_of entries) (m.place - sealed) ≡ Some m.deed
+
+-- so is each mark
+abbrev pub AreEntries : ℕ → List Entry → List Mark → Type 0
+AreEntries sealed entries [] = Unit {0}
+AreEntries sealed entries (m ∷ ms) = IsEntryAt sealed entries m × AreEntries sealed entries ms
+
+-- in each list the places ascend, and each mark is its entry
+abbrev pub EachFits : ℕ → List Entry → List (List Mark) → Type 0
+EachFits sealed entries [] = Unit {0}
+EachFits sealed entries (ms ∷ mss) = Ascend ms × AreEntries sealed entries ms × EachFits sealed entries mss
+
+-- how many of the marks have this place
+abbrev pub times_in : ℕ → List Mark → ℕ
+times_in place [] = 0
+times_in place (m ∷ ms) = one_if (m.place == place) + times_in place ms
+
+-- how many of the marks of all lists have it
+abbrev pub times_in_all : ℕ → List (List Mark) → ℕ
+times_in_all place [] = 0
+times_in_all place (ms ∷ mss) = times_in place ms + times_in_all place mss
+
+-- the places are all those below a number, each once
+abbrev pub EachOnce : ℕ → List (List Mark) → Type 0
+EachOnce count mss = (place : ℕ) → times_in_all place mss ≡ one_if (nat_lt place count)
+
+-- lists of marks are a history of which so many entries were sealed: the places are all its places, each
+-- once and ascending in each list, and each mark that is not sealed is its entry
+pub record MarksFit (sealed : ℕ) (entries : List Entry) (mss : List (List Mark)) : Type 0 where
+  pub each : EachFits sealed entries mss
+  pub once : EachOnce (sealed + length entries) mss
+
+-- a place is among those that were found, which counts one
+abbrev pub found_at : List Bool → ℕ → ℕ
+found_at found place = one_if (slice_index_or found place false)
+
+-- some place comes more often than it may: its marks, and where it was found before
+abbrev pub TooOften : List Bool → ℕ → (ℕ → ℕ) → Type 0
+TooOften found count times = (place : ℕ) × (one_if (nat_lt place count) < found_at found place + times place)
+
+-- the gate is settled: its history is legal, nothing is out, and the receipts are its history
+pub record IsSettled (g : Gate) (mss : List (List Mark)) (s : Settled) : Type 0 where
+  pub legal : HasLegalHistory g
+  pub no_permit : unspent (history g) ≡ []
+  pub no_run : running (history g) ≡ []
+  pub no_turn : in_flight (history g) ≡ []
+  pub fit : MarksFit g.base.entries g.entries mss
+  pub events_are : s.events ≡ entry_count (history g)
+  pub starts_are : s.starts ≡ started_count (history g)
+
+-- so is some gate that the lock kept
+abbrev pub SettlesSome : List (List Mark) → Settled → Type 0
+SettlesSome mss s = (g : Gate) × IsSettled g mss s

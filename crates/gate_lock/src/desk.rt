@@ -1,0 +1,134 @@
+//! A desk: one thread's part of a gate. It makes the book's calls, and keeps a mark of each entry that it made.
+//! RFC 9309, sections 2.2 to 2.4.
+ghost use Rattle.std.specs.Prelude.{◌≡◌, ◌+◌, ◌≤◌, IfOk, length};
+ghost use Rattle.gate_history.specs.History.{entry_count};
+ghost use Rattle.gate_core.specs.Gate.{HasLegalHistory, history};
+ghost use Rattle.gate_lock.specs.Desks.{IsNew, out_of};
+
+use crate::ledgers::Gate;
+use crate::lock::{GateLock, Held};
+use crate::mark::Mark;
+use crate::receipts::Receipts;
+use crate::shares::Mine;
+use crate::tally::DesksFull;
+use std::alloc::Global;
+use std::marker::Model;
+use std::sync::Wait;
+
+/// One thread's part of a gate. It has no `Drop`: `close` makes receipts of it.
+/// Dropping one would lose its marks, and the gate could never be settled.
+#[must_use]
+pub struct Desk<'a, G: Gate> {
+    pub(crate) gate: &'a GateLock<G>,
+    pub(crate) no: u64,
+    pub(crate) seen: u64,
+    pub(crate) permits: u64,
+    pub(crate) runs: u64,
+    pub(crate) turns: u64,
+    // The marks, with room for those of what must still be spent.
+    pub(crate) marks: Vec<Mark>,
+    pub(crate) mine: Mine<G>,
+}
+
+impl<'a, G: Gate> Model for Desk<'a, G> {
+    ghost use Rattle.std.specs.Prelude.{vec_capacity};
+    ghost use Rattle.gate_lock.specs.Desks.{DeskView, IsDesk};
+
+    ghost Value = { DeskView };
+
+    ghost view = { λ desk. record {
+      no = desk.no;
+      seen = desk.seen;
+      permits = desk.permits;
+      runs = desk.runs;
+      turns = desk.turns;
+      marks = desk.marks.items;
+    } };
+
+    ghost invariant = { λ desk. IsDesk (record {
+      no = desk.no;
+      seen = desk.seen;
+      permits = desk.permits;
+      runs = desk.runs;
+      turns = desk.turns;
+      marks = desk.marks.items;
+    }) desk.mine (vec_capacity desk.marks) };
+}
+
+impl<G: Gate> GateLock<G> {
+    /// One more desk, with a number of its own from 1.
+    pub fn desk<R: Wait>(&self, rt: &R, alloc: Global) -> Result<Desk<'_, G>, DesksFull>
+        ensures new { IfOk result IsNew }
+        ensures out { IfOk result (λ desk. out_of desk ≡ 0) }
+    {
+        let mut held = self.lend(rt);
+        let (no, mine) = held.guard.desk()?;
+        Ok(Desk {
+            gate: self,
+            no,
+            seen: held.guard.entry_count(),
+            permits: 0,
+            runs: 0,
+            turns: 0,
+            marks: Vec::new(alloc),
+            mine,
+        })
+    }
+}
+
+impl<'a, G: Gate> Desk<'a, G> {
+    /// The number of the desk, from 1.
+    pub fn no(&self) -> u64
+        ensures { result ≡ self.now.no }
+    {
+        self.no
+    }
+
+    /// How many entries it made.
+    pub fn share(&self) -> u64
+        ensures marks { result ≡ length self.now.marks }
+        ensures seen { result ≤ self.now.seen }
+    {
+        self.marks.len() as u64
+    }
+
+    /// How many entries the history had when it last looked, from the first one ever.
+    pub fn seen(&self) -> u64
+        ensures { result ≡ self.now.seen }
+    {
+        self.seen
+    }
+
+    /// How many permits, running fetches and turns it must still spend.
+    pub fn out(&self) -> u64
+        ensures { result ≡ out_of self.now }
+    {
+        self.permits + self.runs + self.turns
+    }
+
+    /// The lock, once the history has the entries that this desk has seen: for the calls that end in `_in`.
+    pub fn lend<R: Wait>(&self, rt: &R) -> Held<'a, G>
+        ensures legal { HasLegalHistory result }
+        ensures seen { self.now.seen ≤ entry_count (history result) }
+    {
+        self.gate.lend_from(rt, self.seen)
+    }
+
+    /// Closes a desk that has nothing out.
+    pub fn close(self) -> Receipts<G>
+        requires { out_of self ≡ 0 }
+        ensures { result ≡ self.entry.marks }
+    {
+        let Desk {
+            gate: _,
+            no: _,
+            seen: _,
+            permits: _,
+            runs: _,
+            turns: _,
+            marks,
+            mine,
+        } = self;
+        Receipts { marks, mine }
+    }
+}

@@ -1,0 +1,253 @@
+//! `marks_fit`: whether the marks of receipts are a history.
+//! Each mark is compared with its entry, and each place is found once.
+ghost use Rattle.std.specs.Prelude.{◌≡◌, ◌+◌, ◌^◌, ◌<◌, ◌≤◌, ◌↔◌, ◌==◌, IfOk, IsTrue, false, length, nat_lt, true, vec_len, ℕ};
+ghost use Rattle.gate_history.specs.History.{entry_count};
+ghost use Rattle.gate_lock.specs.Marks.{deed_of};
+ghost use Rattle.gate_lock.specs.Settling.{AreEntries, Ascend, EachFits, EachOnce, IsBefore, IsEntryAt, MarksFit, TooOften, found_at, one_if, times_in, times_in_all};
+
+use crate::ledgers::Gate;
+use crate::mark::{Deed, Mark};
+use crate::receipts::Receipts;
+use gate_history::Entry;
+use std::alloc::{AllocError, Global};
+
+/// Whether the places of the marks are all places of the history, each once and ascending in each list,
+/// and each mark is its entry. `sealed` counts the entries before the history, whose marks have places
+/// and are not compared. It takes an octet for each place.
+pub fn marks_fit<G: Gate>(
+    alloc: Global,
+    sealed: u64,
+    history: &[Entry],
+    all: &[Receipts<G>],
+) -> Result<bool, AllocError>
+    requires { sealed + length history.now < 2 ^ 64 }
+    ensures { IfOk result (λ fit. IsTrue fit ↔ MarksFit sealed history.now all.now) }
+{
+    if !each_fits(sealed, history, all) {
+        return Ok(false);
+    }
+    each_once(alloc, sealed as usize + history.len(), all)
+}
+
+// Whether in each list the places ascend, and each mark is its entry.
+fn each_fits<G: Gate>(sealed: u64, history: &[Entry], all: &[Receipts<G>]) -> bool
+    ensures { IsTrue result ↔ EachFits sealed history.now all.now }
+{
+    let mut rest = all;
+    while let [receipts, after @ ..] = rest {
+        let marks = receipts.marks();
+        if !ascend(marks) || !are_entries(sealed, history, marks) {
+            return false;
+        }
+        rest = after;
+    }
+    true
+}
+
+// Whether the places ascend.
+fn ascend(marks: &[Mark]) -> bool
+    ensures { IsTrue result ↔ Ascend marks.now }
+{
+    let mut rest = marks;
+    while let [mark, after @ ..] = rest {
+        if !is_before(mark, after) {
+            return false;
+        }
+        rest = after;
+    }
+    true
+}
+
+// Whether the mark's place is before that of the next one.
+fn is_before(mark: &Mark, after: &[Mark]) -> bool
+    ensures { IsTrue result ↔ IsBefore mark.now after.now }
+{
+    match after {
+        [] => true,
+        [next, ..] => mark.place < next.place,
+    }
+}
+
+// Whether each mark is its entry.
+fn are_entries(sealed: u64, history: &[Entry], marks: &[Mark]) -> bool
+    ensures { IsTrue result ↔ AreEntries sealed history.now marks.now }
+{
+    let mut rest = marks;
+    while let [mark, after @ ..] = rest {
+        if !is_entry(sealed, history, mark) {
+            return false;
+        }
+        rest = after;
+    }
+    true
+}
+
+// Whether the mark is the entry at its place, unless that is sealed.
+fn is_entry(sealed: u64, history: &[Entry], mark: &Mark) -> bool
+    ensures { IsTrue result ↔ IsEntryAt sealed history.now mark.now }
+{
+    if mark.place < sealed {
+        return true;
+    }
+    match history.get((mark.place - sealed) as usize) {
+        Some(entry) => is_deed_of(&mark.deed, entry),
+        None => false,
+    }
+}
+
+// Whether the deed is what a desk keeps of the entry.
+fn is_deed_of(deed: &Deed, entry: &Entry) -> bool
+    ensures { IsTrue result ↔ (deed.now ≡ deed_of entry.now) }
+{
+    match (deed, entry) {
+        (
+            Deed::Begun {
+                moment,
+                authority,
+                turn,
+            },
+            Entry::Begun {
+                moment: m,
+                authority: a,
+                turn: t,
+            },
+        ) => moment == m && authority == a && turn == t,
+        (
+            Deed::Arrived {
+                moment,
+                turn,
+                says,
+                life,
+            },
+            Entry::Arrived {
+                moment: m,
+                authority: _,
+                turn: t,
+                says: s,
+                life: l,
+            },
+        ) => moment == m && turn == t && says == s && life == l,
+        (
+            Deed::Granted {
+                moment,
+                number,
+                fetch,
+            },
+            Entry::Granted {
+                moment: m,
+                number: n,
+                fetch: f,
+            },
+        ) => moment == m && number == n && fetch.token() == f.token() && fetch.url() == f.url(),
+        (
+            Deed::AskDenied {
+                moment,
+                fetch,
+                cause,
+            },
+            Entry::AskDenied {
+                moment: m,
+                fetch: f,
+                cause: c,
+            },
+        ) => moment == m && fetch.token() == f.token() && fetch.url() == f.url() && cause == c,
+        (
+            Deed::Started {
+                moment,
+                number,
+                reason,
+            },
+            Entry::Started {
+                moment: m,
+                number: n,
+                reason: r,
+            },
+        ) => moment == m && number == n && reason == r,
+        (
+            Deed::StartDenied {
+                moment,
+                number,
+                cause,
+            },
+            Entry::StartDenied {
+                moment: m,
+                number: n,
+                cause: c,
+            },
+        ) => moment == m && number == n && cause == c,
+        (Deed::Returned { number }, Entry::Returned { number: n }) => number == n,
+        (Deed::Finished { number }, Entry::Finished { number: n }) => number == n,
+        (
+            Deed::Swept { moment, count },
+            Entry::Swept {
+                moment: m,
+                count: c,
+            },
+        ) => { moment == m && count == c }
+        _ => false,
+    }
+}
+
+// Whether the places are all those below a number, each once.
+fn each_once<G: Gate>(alloc: Global, count: usize, all: &[Receipts<G>]) -> Result<bool, AllocError>
+    ensures { IfOk result (λ once. IsTrue once ↔ EachOnce count all.now) }
+{
+    let mut found = vec![in alloc; false; count]?;
+    Ok(find_each(&mut found, all) && are_found(&found))
+}
+
+// Finds the places of all lists, each once.
+fn find_each<G: Gate>(found: &mut [bool], all: &[Receipts<G>]) -> bool
+    ensures len { length found.new ≡ length found.old }
+    ensures yes { result ≡ true → ((place : ℕ) →
+        found_at found.new place ≡ found_at found.old place + times_in_all place all.now) }
+    ensures no { result ≡ false → TooOften found.old (length found.old) (λ place. times_in_all place all.now) }
+{
+    let mut rest = all;
+    while let [receipts, after @ ..] = rest {
+        if !find_marks(found, receipts.marks()) {
+            return false;
+        }
+        rest = after;
+    }
+    true
+}
+
+// Finds the places of a list, each once.
+fn find_marks(found: &mut [bool], marks: &[Mark]) -> bool
+    ensures len { length found.new ≡ length found.old }
+    ensures yes { result ≡ true → ((place : ℕ) →
+        found_at found.new place ≡ found_at found.old place + times_in place marks.now) }
+    ensures no { result ≡ false → TooOften found.old (length found.old) (λ place. times_in place marks.now) }
+{
+    let mut rest = marks;
+    while let [mark, after @ ..] = rest {
+        if !find(found, mark.place) {
+            return false;
+        }
+        rest = after;
+    }
+    true
+}
+
+// Finds one place, where it is one and was not found yet.
+fn find(found: &mut [bool], place: u64) -> bool
+    ensures len { length found.new ≡ length found.old }
+    ensures yes { result ≡ true → ((other : ℕ) →
+        found_at found.new other ≡ found_at found.old other + one_if (place == other)) }
+    ensures no { result ≡ false → one_if (nat_lt place (length found.old)) < found_at found.old place + 1 }
+{
+    let place = place as usize;
+    if place >= found.len() || found[place] {
+        return false;
+    }
+    found[place] = true;
+    true
+}
+
+// Whether each place was found.
+fn are_found(found: &[bool]) -> bool
+    ensures { IsTrue result ↔ ((place : ℕ) → found_at found.now place ≡ one_if (nat_lt place (length found.now))) }
+{
+    found.iter().all(|found| *found)
+}

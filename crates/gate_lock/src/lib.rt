@@ -1,0 +1,32 @@
+//! One gate for several threads: a lock round the book, desks that share it, and values that must be spent
+//! (RFC 9309, sections 2.2 to 2.4, in the profile of docs/POLICY.md).
+#![tactic(auto)]
+
+mod ask;
+mod desk;
+mod fit;
+mod ledgers;
+mod lock;
+mod look;
+mod mark;
+mod receipts;
+mod round;
+mod settlement;
+mod shares;
+mod spend;
+mod tally;
+mod tokens;
+mod turns;
+
+pub use desk::Desk;
+pub use fit::marks_fit;
+pub use ledgers::{Five, Gate};
+pub use lock::{GateLock, Held};
+pub use mark::{Deed, Mark};
+pub use receipts::Receipts;
+pub use settlement::{SettleFault, Settled, settle};
+pub use tally::{DesksFull, MAX_DESKS};
+pub use tokens::{Fetched, Permit, RobotsTurn, Running};
+
+#[cfg(test)]
+mod tests;

@@ -1,0 +1,92 @@
+//! `Desk::sweep`, and what a desk may know of an authority: `state_of` and `wait_answer`.
+//! RFC 9309, section 2.4.
+ghost use Rattle.std.specs.Prelude.{◌≡◌, ◌≤◌, false};
+ghost use Rattle.gate_history.specs.History.{entry_count};
+ghost use Rattle.gate_core.specs.Gate.{history};
+ghost use Rattle.gate_lock.specs.Desks.{KeepsOut};
+ghost use Rattle.gate_lock.specs.Steps.{DeskReads, DeskSweeps, Somewhere};
+
+use crate::desk::Desk;
+use crate::ledgers::Gate;
+use crate::lock::Held;
+use crate::mark::{Deed, Mark};
+use gate_core::{State, SweepRefusal};
+use std::sync::Wait;
+
+#[tactic(auto, using(std::proofs::lemmas::Grind::common_steps, crate::proofs::Starts::starts_in_push))]
+impl<'a, G: Gate> Desk<'a, G> {
+    /// Drops the answers that are older than their lives, and tells how many they were.
+    pub fn sweep<R: Wait>(&mut self, rt: &R, moment: u64) -> Result<u64, SweepRefusal>
+        ensures step { Somewhere self.old (λ old new. DeskSweeps self.old old moment result new self.new) }
+        ensures no { self.new.no ≡ self.old.no }
+        ensures out { KeepsOut self.old self.new }
+    {
+        let gate = self.gate;
+        let mut held = gate.lend_from(rt, self.seen);
+        let result = self.sweep_in(&mut held, moment);
+        gate.tell();
+        result
+    }
+
+    /// Drops them while the lock is held.
+    pub fn sweep_in(&mut self, held: &mut Held<'_, G>, moment: u64) -> Result<u64, SweepRefusal>
+        requires { self.old.seen ≤ entry_count (history held.old) }
+        ensures { DeskSweeps self.old held.old moment result held.new self.new }
+    {
+        let round = &mut *held.guard;
+        let promised = 2 * self.permits + self.runs + self.turns;
+        if self.marks.reserve(promised as usize + 1).is_err() {
+            self.seen = round.entry_count();
+            return Err(round.refuse_sweep(moment));
+        }
+        let result = round.sweep(moment, &mut self.mine);
+        self.seen = round.entry_count();
+        match result {
+            Ok(count) => {
+                let last = round.last();
+                self.marks.push_reserved(Mark {
+                    place: last.place,
+                    deed: Deed::Swept {
+                        moment: last.moment,
+                        count,
+                    },
+                });
+                Ok(count)
+            }
+            Err(refusal) => Err(refusal),
+        }
+    }
+
+    /// What is known of an authority at the moment of the call. It takes no memory.
+    pub fn state_of<R: Wait>(&mut self, rt: &R, authority: &str, moment: u64) -> State
+        ensures step { Somewhere self.old (λ old new. DeskReads self.old old authority.now moment result new self.new) }
+        ensures no { self.new.no ≡ self.old.no }
+        ensures out { KeepsOut self.old self.new }
+    {
+        let gate = self.gate;
+        let mut held = gate.lend_from(rt, self.seen);
+        self.state_in(&mut held, authority, moment)
+    }
+
+    /// What is known of an authority while the lock is held.
+    pub fn state_in(&mut self, held: &mut Held<'_, G>, authority: &str, moment: u64) -> State
+        requires { self.old.seen ≤ entry_count (history held.old) }
+        ensures { DeskReads self.old held.old authority.now moment result held.new self.new }
+    {
+        self.seen = held.guard.entry_count();
+        held.guard.book().state_of(authority, moment)
+    }
+
+    /// Waits while a turn of the authority is in flight, and tells what is known of it then. The lock is
+    /// not held meanwhile, and each arrival wakes those that wait.
+    pub fn wait_answer<R: Wait>(&mut self, rt: &R, authority: &str, moment: u64) -> State
+        ensures step { Somewhere self.old (λ old new. DeskReads self.old old authority.now moment result new self.new) }
+        ensures no { self.new.no ≡ self.old.no }
+        ensures out { KeepsOut self.old self.new }
+        ensures idle { result.fetching ≡ false }
+    {
+        let gate = self.gate;
+        let mut held = gate.lend_idle(rt, self.seen, authority);
+        self.state_in(&mut held, authority, moment)
+    }
+}

@@ -1,0 +1,324 @@
+//! What lies under the lock: the book, and the ledgers that count what is out.
+//! Each change is one call of the book with the shares that it moves; RFC 9309, sections 2.3.1 and 2.4.
+ghost use Rattle.std.specs.Prelude.{◌≡◌, ◌+◌, ◌<◌, ◌≤◌, ◌↔◌, [], Err, IfOk, IsTrue, Ok, OnErr, true, false};
+ghost use Rattle.robots_verdict.specs.Answer.{said, spares_of};
+ghost use Rattle.gate_history.specs.Base.{empty_base};
+ghost use Rattle.gate_history.specs.History.{entry_count, moment_of};
+ghost use Rattle.gate_history.specs.Outstanding.{is_running, is_unspent, stands};
+ghost use Rattle.gate_history.specs.Standing.{has_turn};
+ghost use Rattle.gate_core.specs.Gate.{HasLegalHistory, HasRoom, history};
+ghost use Rattle.gate_core.specs.Replies.{Arrives, Asks, Begins, Finishes, Returns, Starts, Sweeps};
+ghost use Rattle.gate_lock.specs.Balance.{most_desks, nothing};
+ghost use Rattle.gate_lock.specs.Results.{IsLast, entries_of_ask, entries_of_ok, is_denial, reply_in};
+
+use crate::ledgers::Gate;
+use crate::shares::{Mine, One};
+use crate::tally::{DesksFull, Tally};
+use authority_cache::TurnNo;
+use gate_core::{AskRefusal, BeginRefusal, Book, Denial, Judged, Started, SweepRefusal};
+use gate_history::Entry;
+use gate_history::laws::{each_entry_counts, no_later_entry_closes};
+use path_normal::{Authority, PageUrl};
+use permit_book::PermitNo;
+use robots_text::Token;
+use robots_verdict::Answer;
+use std::marker::Model;
+
+// Where and when the last entry was made.
+#[derive(Clone, Copy)]
+pub(crate) struct Last {
+    pub place: u64,
+    pub moment: u64,
+}
+
+// The book, and the ledgers by which its numbers are the sums of what desks and values have.
+#[derive(Drop)]
+pub(crate) struct Round<G: Gate> {
+    book: Book,
+    tally: Tally<G>,
+}
+
+impl<G: Gate> Model for Round<G> {
+    ghost use Rattle.gate_core.specs.Gate.{Gate, history};
+    ghost use Rattle.gate_lock.specs.Balance.{IsBalanceOf};
+
+    ghost Value = { Gate };
+
+    ghost view = { λ round. round.book };
+
+    ghost invariant = { λ round. IsBalanceOf (history round.book) round.tally };
+}
+
+impl<G: Gate> Round<G> {
+    // A book that has made no entry.
+    pub fn new(book: Book, tally: Tally<G>) -> Round<G>
+        requires book { (book.base ≡ empty_base) × (book.entries ≡ []) }
+        requires tally { tally ≡ nothing }
+        ensures { result ≡ book }
+    {
+        Round { book, tally }
+    }
+
+    // The book.
+    pub fn book(&self) -> &Book
+        ensures { result.now ≡ self.now }
+    {
+        &self.book
+    }
+
+    // The shares of one more desk.
+    pub fn desk(&mut self) -> Result<(u64, Mine<G>), DesksFull>
+        ensures same { self.new ≡ self.old }
+        ensures share { IfOk result (λ desk. desk.1 ≡ record { entries = 0; starts = 0 }) }
+    {
+        self.tally.desk()
+    }
+
+    // Makes the book's ask.
+    pub fn ask(
+        &mut self,
+        judged: Judged,
+        moment: u64,
+        mine: &mut Mine<G>,
+    ) -> Result<(PermitNo, One<G::Unspent>), AskRefusal>
+        ensures reply { Asks self.old judged.token judged.url moment (reply_in result) self.new }
+        ensures share { mine.new ≡ record mine.old {
+          entries = mine.old.entries + entries_of_ask result;
+        } }
+        ensures count { entry_count (history self.new)
+            ≡ entry_count (history self.old) + entries_of_ask result }
+    {
+        no_later_entry_closes();
+        each_entry_counts();
+        let _legal = self.book.history();
+        let _limits = self.book.limits();
+        match self.book.ask_judged(judged, moment) {
+            Ok(number) => {
+                self.tally.enter(mine);
+                Ok((number, self.tally.grant()))
+            }
+            Err(AskRefusal::Denied(denial)) => {
+                self.tally.enter(mine);
+                Err(AskRefusal::Denied(denial))
+            }
+            Err(refusal) => Err(refusal),
+        }
+    }
+
+    // Makes the book's start of a permit that stands.
+    pub fn start(
+        &mut self,
+        number: PermitNo,
+        token: &Token,
+        url: PageUrl,
+        one: One<G::Unspent>,
+        moment: u64,
+        mine: &mut Mine<G>,
+    ) -> Result<(Started, One<G::Running>), Denial>
+        requires { stands (history self.old) number token.now url ≡ true }
+        ensures reply { Starts self.old number token.now url moment (reply_in result) self.new }
+        ensures share { mine.new ≡ record {
+          entries = mine.old.entries + 1;
+          starts = mine.old.starts + entries_of_ok result;
+        } }
+        ensures count { entry_count (history self.new) ≡ entry_count (history self.old) + 1 }
+    {
+        no_later_entry_closes();
+        each_entry_counts();
+        let _legal = self.book.history();
+        let _limits = self.book.limits();
+        let result = self.book.start(number, token, url, moment);
+        self.tally.enter(mine);
+        self.tally.spend(one);
+        match result {
+            Ok(started) => Ok((started, self.tally.start(mine))),
+            Err(denial) => Err(denial),
+        }
+    }
+
+    // Makes the book's back of a permit that stands.
+    pub fn back(&mut self, number: PermitNo, one: One<G::Unspent>, mine: &mut Mine<G>)
+        requires { is_unspent (history self.old) number ≡ true }
+        ensures reply { Returns self.old number (Ok tt) self.new }
+        ensures share { mine.new ≡ record mine.old { entries = mine.old.entries + 1 } }
+    {
+        no_later_entry_closes();
+        each_entry_counts();
+        let _legal = self.book.history();
+        let Ok(()) = self.book.back(number) else {
+            unreachable!()
+        };
+        self.tally.enter(mine);
+        self.tally.spend(one);
+    }
+
+    // Makes the book's finish of a number that is running.
+    pub fn finish(&mut self, number: PermitNo, one: One<G::Running>, mine: &mut Mine<G>)
+        requires { is_running (history self.old) number ≡ true }
+        ensures reply { Finishes self.old number (Ok tt) self.new }
+        ensures share { mine.new ≡ record mine.old { entries = mine.old.entries + 1 } }
+    {
+        no_later_entry_closes();
+        each_entry_counts();
+        let _legal = self.book.history();
+        let Ok(()) = self.book.finish(number) else {
+            unreachable!()
+        };
+        self.tally.enter(mine);
+        self.tally.finish(one);
+    }
+
+    // Makes the book's begin.
+    pub fn begin(
+        &mut self,
+        authority: &Authority,
+        moment: u64,
+        mine: &mut Mine<G>,
+    ) -> Result<(TurnNo, One<G::Turns>), BeginRefusal>
+        ensures reply { Begins self.old authority.now moment (reply_in result) self.new }
+        ensures share { mine.new ≡ record mine.old {
+          entries = mine.old.entries + entries_of_ok result;
+        } }
+    {
+        no_later_entry_closes();
+        each_entry_counts();
+        let _legal = self.book.history();
+        let _limits = self.book.limits();
+        match self.book.begin(authority, moment) {
+            Ok(turn) => {
+                self.tally.enter(mine);
+                Ok((turn, self.tally.begin()))
+            }
+            Err(refusal) => Err(refusal),
+        }
+    }
+
+    // Makes the book's arrive of a turn that is in flight.
+    pub fn arrive(
+        &mut self,
+        authority: &Authority,
+        turn: TurnNo,
+        one: One<G::Turns>,
+        answer: Answer,
+        life: u64,
+        moment: u64,
+        mine: &mut Mine<G>,
+    )
+        requires spare { 0 < spares_of answer }
+        requires turn { has_turn (history self.old) authority.now turn ≡ true }
+        ensures reply { Arrives self.old authority.now turn (said answer) life moment (Ok tt) self.new }
+        ensures share { mine.new ≡ record mine.old { entries = mine.old.entries + 1 } }
+    {
+        no_later_entry_closes();
+        each_entry_counts();
+        let _legal = self.book.history();
+        let Ok(()) = self.book.arrive(authority, turn, answer, life, moment) else {
+            unreachable!()
+        };
+        self.tally.enter(mine);
+        self.tally.arrive(one);
+    }
+
+    // Makes the book's sweep.
+    pub fn sweep(&mut self, moment: u64, mine: &mut Mine<G>) -> Result<u64, SweepRefusal>
+        ensures reply { Sweeps self.old moment result self.new }
+        ensures share { mine.new ≡ record mine.old {
+          entries = mine.old.entries + entries_of_ok result;
+        } }
+    {
+        no_later_entry_closes();
+        each_entry_counts();
+        let _legal = self.book.history();
+        match self.book.sweep(moment) {
+            Ok(count) => {
+                self.tally.enter(mine);
+                Ok(count)
+            }
+            Err(refusal) => Err(refusal),
+        }
+    }
+
+    // How many entries the history has, from the first one ever.
+    pub fn entry_count(&self) -> u64
+        ensures { result ≡ entry_count (history self.now) }
+    {
+        self.book.entry_count()
+    }
+
+    // The place and the moment of the last entry.
+    pub fn last(&self) -> Last
+        ensures { IsLast self.now result }
+    {
+        no_later_entry_closes();
+        let moment = match self.book.history().last() {
+            Some(entry) => moment_of(entry),
+            None => 0,
+        };
+        Last {
+            place: self.book.entry_count().saturating_sub(1),
+            moment,
+        }
+    }
+
+    // Whether so many more entries fit under the limit of the log.
+    fn has_room(&self, more: u64) -> bool
+        requires { more ≤ 3 }
+        ensures { IsTrue result ↔ HasRoom self.now more }
+    {
+        let book = &self.book;
+        let limits = book.limits();
+        let entries = book.history().len() as u64;
+        let promised = book.flight_count() + 2 * book.unspent_count() + book.running_count();
+        entries + promised + more <= limits.log_limit
+    }
+
+    // What an ask is answered for which memory was refused before it was made.
+    pub fn refuse_ask(&self, judged: &Judged, moment: u64) -> AskRefusal
+        ensures reply { Asks self.now judged.now.token judged.now.url moment (Err result) self.now }
+        ensures no_entry { is_denial result ≡ false }
+    {
+        if self.has_room(3) {
+            return AskRefusal::NoMemory;
+        }
+        AskRefusal::LogFull
+    }
+
+    // What a begin is answered for which memory was refused before it was made.
+    pub fn refuse_begin(&self, authority: &Authority, moment: u64) -> BeginRefusal
+        ensures { Begins self.now authority.now moment (Err result) self.now }
+    {
+        if self.book.is_fetching(authority.text()) {
+            return BeginRefusal::InFlight;
+        }
+        if self.has_room(2) {
+            return BeginRefusal::NoMemory;
+        }
+        BeginRefusal::LogFull
+    }
+
+    // What a sweep is answered for which memory was refused before it was made.
+    pub fn refuse_sweep(&self, moment: u64) -> SweepRefusal
+        ensures { Sweeps self.now moment (Err result) self.now }
+    {
+        if self.has_room(1) {
+            return SweepRefusal::NoMemory;
+        }
+        SweepRefusal::LogFull
+    }
+}
+
+// The moment that an entry brings, 0 where it brings none.
+fn moment_of(entry: &Entry) -> u64
+    ensures { result ≡ moment_of entry.now }
+{
+    match entry {
+        Entry::Begun { moment, .. }
+        | Entry::Arrived { moment, .. }
+        | Entry::Granted { moment, .. }
+        | Entry::AskDenied { moment, .. }
+        | Entry::Started { moment, .. }
+        | Entry::StartDenied { moment, .. }
+        | Entry::Swept { moment, .. } => *moment,
+        Entry::Returned { .. } | Entry::Finished { .. } => 0,
+    }
+}

@@ -1,0 +1,67 @@
+//! `settle`: the end of a gate, when all its desks are closed.
+//! Nothing is out, and the receipts are the whole history; RFC 9309 has none of it.
+ghost use Rattle.std.specs.Prelude.{◌≡◌, IfOk};
+ghost use Rattle.gate_lock.specs.Settling.{SettlesSome};
+
+use crate::fit::marks_fit;
+use crate::ledgers::Gate;
+use crate::lock::GateLock;
+use crate::receipts::Receipts;
+use std::alloc::{AllocError, Global};
+use std::sync::Wait;
+
+/// A gate that was settled.
+#[derive(Clone, Copy, Debug, PartialEq, Eq)]
+pub struct Settled {
+    /// How many entries its history has, from the first one ever.
+    pub events: u64,
+    /// How many of them are started fetches.
+    pub starts: u64,
+}
+
+/// Why a gate is not settled, in the order of the tests. Nothing has changed.
+#[derive(Clone, Copy, Debug, PartialEq, Eq)]
+pub enum SettleFault {
+    /// An unspent permit, a running fetch or a turn is out.
+    StillOut,
+    /// The receipts are not the history: some are missing, or are those of another gate.
+    Mismatch,
+    /// A growth of memory was refused.
+    NoMemory,
+}
+
+impl From<AllocError> for SettleFault {
+    ghost use Rattle.std.specs.Prelude.{◌≡◌};
+    ghost use Rattle.gate_lock.specs.declared.settlement.SettleFault.{SettleFault};
+
+    ghost from_gives = { λ _ fault. fault ≡ SettleFault.NoMemory };
+
+    fn from(_: AllocError) -> SettleFault {
+        SettleFault::NoMemory
+    }
+}
+
+/// Settles a gate by the receipts of its desks. It holds the lock meanwhile, and takes an octet for each
+/// entry.
+pub fn settle<G: Gate, R: Wait>(
+    rt: &R,
+    alloc: Global,
+    gate: &GateLock<G>,
+    all: &[Receipts<G>],
+) -> Result<Settled, SettleFault>
+    ensures { IfOk result (SettlesSome all.now) }
+{
+    let held = gate.lend(rt);
+    let book = held.book();
+    if book.unspent_count() > 0 || book.running_count() > 0 || book.flight_count() > 0 {
+        return Err(SettleFault::StillOut);
+    }
+    let events = book.entry_count();
+    if !marks_fit(alloc, book.base().entries(), book.history(), all)? {
+        return Err(SettleFault::Mismatch);
+    }
+    Ok(Settled {
+        events,
+        starts: book.started_count(),
+    })
+}

@@ -1,0 +1,40 @@
+//! Shares of the ledgers as desks and values have them.
+//! They take no memory, and only proofs see what they count.
+
+use crate::ledgers::Gate;
+use std::marker::Model;
+use std::sync::ledger::{Ledger, Share};
+
+// The share of a value that must be spent: it counts for one.
+#[derive(Drop)]
+pub(crate) struct One<L: Ledger> {
+    pub share: Share<L>,
+}
+
+impl<L: Ledger> Model for One<L> {
+    ghost use Rattle.std.specs.Prelude.{◌≡◌};
+
+    ghost Value = { Unit {0} };
+
+    ghost view = { λ _. tt };
+
+    ghost invariant = { λ one. (one.share.amount ≡ 1) × (one.share.parts ≡ 1) };
+}
+
+// The shares of a desk. A clause sees how many entries and started fetches they count.
+#[derive(Drop)]
+pub(crate) struct Mine<G: Gate> {
+    pub entries: Share<G::Entries>,
+    pub starts: Share<G::Starts>,
+}
+
+impl<G: Gate> Model for Mine<G> {
+    ghost use Rattle.std.specs.Prelude.{◌≡◌};
+    ghost use Rattle.gate_lock.specs.Desks.{Shares};
+
+    ghost Value = { Shares };
+
+    ghost view = { λ mine. record { entries = mine.entries.amount; starts = mine.starts.amount } };
+
+    ghost invariant = { λ mine. (mine.entries.parts ≡ 1) × (mine.starts.parts ≡ 1) };
+}

@@ -1,0 +1,176 @@
+//! `Desk::start`, `back` and `finish`: how a permit and a fetch are spent. None takes memory or is refused.
+//! RFC 9309, section 2.4.
+ghost use Rattle.std.specs.Prelude.{◌≡◌, ◌<◌, ◌≤◌, IfOk, OnErr, true};
+ghost use Rattle.gate_history.specs.History.{entry_count};
+ghost use Rattle.gate_history.specs.Outstanding.{is_running, is_unspent, stands};
+ghost use Rattle.gate_core.specs.Gate.{history};
+ghost use Rattle.gate_lock.specs.Desks.{HasOut};
+ghost use Rattle.gate_lock.specs.Steps.{DeskFinishes, DeskReturns, DeskStarts, Somewhere};
+
+use crate::desk::Desk;
+use crate::ledgers::Gate;
+use crate::lock::Held;
+use crate::mark::{Deed, Mark};
+use crate::tokens::{Fetched, Permit, Running};
+use gate_core::{Denial, Started};
+use std::sync::Wait;
+
+#[tactic(auto, using(std::proofs::lemmas::Grind::common_steps, crate::proofs::Starts::starts_in_push))]
+impl<'a, G: Gate> Desk<'a, G> {
+    /// Starts the fetch of a permit of this desk. The answer in force at this start decides, and a denied
+    /// start spends the permit too. Its cause is never `Spent`.
+    pub fn start<R: Wait>(
+        &mut self,
+        rt: &R,
+        permit: Permit<G>,
+        moment: u64,
+    ) -> Result<Running<G>, Denial>
+        requires { permit.desk ≡ self.old.no }
+        ensures step { Somewhere self.old (λ old new. DeskStarts self.old old permit moment result new self.new) }
+        ensures no { self.new.no ≡ self.old.no }
+        ensures ok { IfOk result (λ r. (r.pass ≡ permit) × HasOut self.old self.new 0 1 1 0 0 0) }
+        ensures err { OnErr result (HasOut self.old self.new 0 1 0 0 0 0) }
+    {
+        let gate = self.gate;
+        let mut held = gate.lend_permit(rt, self.seen, self.permits, &permit);
+        let result = self.start_in(&mut held, permit, moment);
+        gate.tell();
+        result
+    }
+
+    /// Gives a permit of this desk back.
+    pub fn back<R: Wait>(&mut self, rt: &R, permit: Permit<G>)
+        requires { permit.desk ≡ self.old.no }
+        ensures step { Somewhere self.old (λ old new. DeskReturns self.old old permit.number new self.new) }
+        ensures no { self.new.no ≡ self.old.no }
+        ensures out { HasOut self.old self.new 0 1 0 0 0 0 }
+    {
+        let gate = self.gate;
+        let mut held = gate.lend_unspent(rt, self.seen, self.permits, permit.number);
+        self.back_in(&mut held, permit);
+        gate.tell();
+    }
+
+    /// Ends a fetch that this desk started.
+    pub fn finish<R: Wait>(&mut self, rt: &R, fetched: Fetched<G>)
+        requires { fetched.desk ≡ self.old.no }
+        ensures step { Somewhere self.old (λ old new. DeskFinishes self.old old fetched.number new self.new) }
+        ensures no { self.new.no ≡ self.old.no }
+        ensures out { HasOut self.old self.new 0 0 0 1 0 0 }
+    {
+        let gate = self.gate;
+        let mut held = gate.lend_running(rt, self.seen, self.runs, fetched.number);
+        self.finish_in(&mut held, fetched);
+        gate.tell();
+    }
+
+    fn start_in(
+        &mut self,
+        held: &mut Held<'_, G>,
+        permit: Permit<G>,
+        moment: u64,
+    ) -> Result<Running<G>, Denial>
+        requires seen { self.old.seen ≤ entry_count (history held.old) }
+        requires some { 0 < self.old.permits }
+        requires stands { stands (history held.old) permit.number permit.token permit.url ≡ true }
+        requires own { permit.desk ≡ self.old.no }
+        ensures { DeskStarts self.old held.old permit moment result held.new self.new }
+    {
+        let round = &mut *held.guard;
+        let Permit {
+            number,
+            token,
+            url,
+            desk,
+            one,
+        } = permit;
+        let result = round.start(number, &token, url, one, moment, &mut self.mine);
+        self.seen = round.entry_count();
+        self.permits -= 1;
+        let last = round.last();
+        let (started, one) = match result {
+            Ok(both) => both,
+            Err(denial) => {
+                self.marks.push_reserved(Mark {
+                    place: last.place,
+                    deed: Deed::StartDenied {
+                        moment: last.moment,
+                        number,
+                        cause: denial.cause,
+                    },
+                });
+                return Err(denial);
+            }
+        };
+        let Started {
+            number: _,
+            url,
+            reason,
+        } = started;
+        self.runs += 1;
+        self.marks.push_reserved(Mark {
+            place: last.place,
+            deed: Deed::Started {
+                moment: last.moment,
+                number,
+                reason,
+            },
+        });
+        Ok(Running {
+            number,
+            token,
+            url,
+            desk,
+            reason,
+            one,
+        })
+    }
+
+    fn back_in(&mut self, held: &mut Held<'_, G>, permit: Permit<G>)
+        requires seen { self.old.seen ≤ entry_count (history held.old) }
+        requires some { 0 < self.old.permits }
+        requires unspent { is_unspent (history held.old) permit.number ≡ true }
+        ensures { DeskReturns self.old held.old permit.number held.new self.new }
+    {
+        let round = &mut *held.guard;
+        let Permit {
+            number,
+            token: _,
+            url: _,
+            desk: _,
+            one,
+        } = permit;
+        round.back(number, one, &mut self.mine);
+        self.seen = round.entry_count();
+        self.permits -= 1;
+        let last = round.last();
+        self.marks.push_reserved(Mark {
+            place: last.place,
+            deed: Deed::Returned { number },
+        });
+    }
+
+    fn finish_in(&mut self, held: &mut Held<'_, G>, fetched: Fetched<G>)
+        requires seen { self.old.seen ≤ entry_count (history held.old) }
+        requires some { 0 < self.old.runs }
+        requires running { is_running (history held.old) fetched.number ≡ true }
+        ensures { DeskFinishes self.old held.old fetched.number held.new self.new }
+    {
+        let round = &mut *held.guard;
+        let Fetched {
+            number,
+            token: _,
+            url: _,
+            desk: _,
+            one,
+        } = fetched;
+        round.finish(number, one, &mut self.mine);
+        self.seen = round.entry_count();
+        self.runs -= 1;
+        let last = round.last();
+        self.marks.push_reserved(Mark {
+            place: last.place,
+            deed: Deed::Finished { number },
+        });
+    }
+}

@@ -1,0 +1,182 @@
+//! The ledgers of a gate with their totals, and what is left of them to hand out.
+//! They take no memory: a share is a value of no octets, and only proofs see its amount.
+ghost use Rattle.std.specs.Prelude.{◌≡◌, ◌+◌, ◌<◌, ◌≤◌, IfOk, OnErr};
+ghost use Rattle.gate_lock.specs.Balance.{Loses, all_desk_parts, all_out_parts, most_desks, nothing};
+
+use crate::ledgers::Gate;
+use crate::shares::{Mine, One};
+use std::marker::Model;
+use std::sync::ledger::{Blank, Book, Share};
+
+/// The most desks that are made of one gate.
+pub const MAX_DESKS: u64 = 65_536;
+
+/// As many desks of the gate were made as may be.
+#[derive(Clone, Copy, Debug, PartialEq, Eq)]
+pub struct DesksFull;
+
+// The totals of the ledgers, the parts of them that nobody has, and how many desks were made.
+#[derive(Drop)]
+pub(crate) struct Tally<G: Gate> {
+    entries: Book<G::Entries>,
+    starts: Book<G::Starts>,
+    unspent: Book<G::Unspent>,
+    running: Book<G::Running>,
+    turns: Book<G::Turns>,
+    entry_parts: Share<G::Entries>,
+    start_parts: Share<G::Starts>,
+    unspent_parts: Share<G::Unspent>,
+    running_parts: Share<G::Running>,
+    turn_parts: Share<G::Turns>,
+    desks: u64,
+}
+
+impl<G: Gate> Model for Tally<G> {
+    ghost use Rattle.std.specs.Prelude.{◌≡◌, ◌+◌, ◌≤◌};
+    ghost use Rattle.gate_lock.specs.Balance.{Balance, AreParts};
+
+    ghost Value = { Balance };
+
+    ghost view = { λ t. record {
+      entries = t.entries.total;
+      starts = t.starts.total;
+      unspent = t.unspent.total;
+      running = t.running.total;
+      turns = t.turns.total;
+      desks = t.desks;
+    } };
+
+    ghost invariant = { λ t. AreParts t.desks t.entry_parts.parts t.start_parts.parts
+        t.unspent.total t.unspent_parts.parts t.running.total t.running_parts.parts
+        t.turns.total t.turn_parts.parts
+        × (t.entry_parts.amount ≡ 0) × (t.start_parts.amount ≡ 0) × (t.unspent_parts.amount ≡ 0)
+        × (t.running_parts.amount ≡ 0) × (t.turn_parts.amount ≡ 0) };
+}
+
+impl<G: Gate> Tally<G> {
+    // New ledgers, by which nothing is counted yet.
+    pub fn open(
+        entries: Blank,
+        starts: Blank,
+        unspent: Blank,
+        running: Blank,
+        turns: Blank,
+    ) -> Tally<G>
+        requires entries { (entries.name ≡ G.Entries.name) × (entries.parts ≡ G.Entries.parts)
+            × (entries.parts ≡ all_desk_parts) }
+        requires starts { (starts.name ≡ G.Starts.name) × (starts.parts ≡ G.Starts.parts)
+            × (starts.parts ≡ all_desk_parts) }
+        requires unspent { (unspent.name ≡ G.Unspent.name) × (unspent.parts ≡ G.Unspent.parts)
+            × (unspent.parts ≡ all_out_parts) }
+        requires running { (running.name ≡ G.Running.name) × (running.parts ≡ G.Running.parts)
+            × (running.parts ≡ all_out_parts) }
+        requires turns { (turns.name ≡ G.Turns.name) × (turns.parts ≡ G.Turns.parts)
+            × (turns.parts ≡ all_out_parts) }
+        ensures { result ≡ nothing }
+    {
+        let (entries, entry_parts) = entries.open::<G::Entries>();
+        let (starts, start_parts) = starts.open::<G::Starts>();
+        let (unspent, unspent_parts) = unspent.open::<G::Unspent>();
+        let (running, running_parts) = running.open::<G::Running>();
+        let (turns, turn_parts) = turns.open::<G::Turns>();
+        Tally {
+            entries,
+            starts,
+            unspent,
+            running,
+            turns,
+            entry_parts,
+            start_parts,
+            unspent_parts,
+            running_parts,
+            turn_parts,
+            desks: 0,
+        }
+    }
+
+    // The shares of one more desk, which is numbered from 1.
+    pub fn desk(&mut self) -> Result<(u64, Mine<G>), DesksFull>
+        ensures ok { IfOk result (λ desk. (desk.0 ≡ self.old.desks + 1)
+            × (self.new ≡ record self.old { desks = self.old.desks + 1 })
+            × (desk.1 ≡ record { entries = 0; starts = 0 })) }
+        ensures full { OnErr result ((self.old.desks ≡ most_desks) × (self.new ≡ self.old)) }
+    {
+        if self.desks >= MAX_DESKS {
+            return Err(DesksFull);
+        }
+        self.desks += 1;
+        let entries = self.entry_parts.split_off(1, 0);
+        let starts = self.start_parts.split_off(1, 0);
+        Ok((self.desks, Mine { entries, starts }))
+    }
+
+    // One more entry, which a desk made.
+    pub fn enter(&mut self, mine: &mut Mine<G>)
+        ensures total { self.new ≡ record self.old { entries = self.old.entries + 1 } }
+        ensures share { mine.new ≡ record mine.old { entries = mine.old.entries + 1 } }
+    {
+        self.entries.add(&mut mine.entries, 1);
+    }
+
+    // One more unspent permit, and its share.
+    pub fn grant(&mut self) -> One<G::Unspent>
+        requires { self.old.unspent + 1 < all_out_parts }
+        ensures { self.new ≡ record self.old { unspent = self.old.unspent + 1 } }
+    {
+        let mut share = self.unspent_parts.split_off(1, 0);
+        self.unspent.add(&mut share, 1);
+        One { share }
+    }
+
+    // One unspent permit less, whose share comes back.
+    pub fn spend(&mut self, one: One<G::Unspent>)
+        ensures { Loses self.old self.new 1 0 0 }
+    {
+        let One { mut share } = one;
+        self.unspent.sub(&mut share, 1);
+        self.unspent_parts.merge(share);
+    }
+
+    // One more started fetch of a desk, which runs.
+    pub fn start(&mut self, mine: &mut Mine<G>) -> One<G::Running>
+        requires { self.old.running + 1 < all_out_parts }
+        ensures total { self.new ≡ record self.old {
+          starts = self.old.starts + 1;
+          running = self.old.running + 1;
+        } }
+        ensures share { mine.new ≡ record mine.old { starts = mine.old.starts + 1 } }
+    {
+        self.starts.add(&mut mine.starts, 1);
+        let mut share = self.running_parts.split_off(1, 0);
+        self.running.add(&mut share, 1);
+        One { share }
+    }
+
+    // One running fetch less, whose share comes back.
+    pub fn finish(&mut self, one: One<G::Running>)
+        ensures { Loses self.old self.new 0 1 0 }
+    {
+        let One { mut share } = one;
+        self.running.sub(&mut share, 1);
+        self.running_parts.merge(share);
+    }
+
+    // One more turn in flight, and its share.
+    pub fn begin(&mut self) -> One<G::Turns>
+        requires { self.old.turns + 1 < all_out_parts }
+        ensures { self.new ≡ record self.old { turns = self.old.turns + 1 } }
+    {
+        let mut share = self.turn_parts.split_off(1, 0);
+        self.turns.add(&mut share, 1);
+        One { share }
+    }
+
+    // One turn in flight less, whose share comes back.
+    pub fn arrive(&mut self, one: One<G::Turns>)
+        ensures { Loses self.old self.new 0 0 1 }
+    {
+        let One { mut share } = one;
+        self.turns.sub(&mut share, 1);
+        self.turn_parts.merge(share);
+    }
+}

@@ -1,0 +1,251 @@
+//! The values that must be spent: a permit, a fetch that runs, a fetch that was made, and a turn.
+//! RFC 9309 has none of them: they make each fetch look at the answer in force (2.4).
+ghost use Rattle.std.specs.Prelude.{◌≡◌};
+
+use crate::ledgers::Gate;
+use crate::shares::One;
+use authority_cache::TurnNo;
+use gate_history::Reason;
+use path_normal::{Authority, PageUrl};
+use permit_book::PermitNo;
+use robots_text::Token;
+use std::marker::Model;
+
+/// A permit for one fetch of a URL under a token. It has no `Drop`: a start spends it, or `back` returns it.
+/// Dropping one would leave it unspent for ever, and its slot and its authority's place taken.
+#[must_use]
+pub struct Permit<G: Gate> {
+    pub(crate) number: PermitNo,
+    pub(crate) token: Token,
+    pub(crate) url: PageUrl,
+    pub(crate) desk: u64,
+    pub(crate) one: One<G::Unspent>,
+}
+
+impl<G: Gate> Model for Permit<G> {
+    ghost use Rattle.gate_lock.specs.Desks.{Pass};
+
+    ghost Value = { Pass };
+
+    ghost view = { λ permit. record {
+      number = permit.number;
+      token = permit.token;
+      url = permit.url;
+      desk = permit.desk;
+    } };
+}
+
+impl<G: Gate> Permit<G> {
+    /// Its number.
+    pub fn number(&self) -> PermitNo
+        ensures { result ≡ self.now.number }
+    {
+        self.number
+    }
+
+    /// The token under which the URL may be fetched.
+    pub fn token(&self) -> &Token
+        ensures { result.now ≡ self.now.token }
+    {
+        &self.token
+    }
+
+    /// The URL that may be fetched.
+    pub fn url(&self) -> &PageUrl
+        ensures { result.now ≡ self.now.url }
+    {
+        &self.url
+    }
+
+    /// The number of the desk that made it, at which it is spent.
+    pub fn desk_no(&self) -> u64
+        ensures { result ≡ self.now.desk }
+    {
+        self.desk
+    }
+}
+
+/// A fetch that may be made, once. It has no `Drop`: `spend` makes a `Fetched` of it when it is made.
+/// Dropping one would leave it running for ever, and its slot and its authority's place taken.
+#[must_use]
+pub struct Running<G: Gate> {
+    pub(crate) number: PermitNo,
+    pub(crate) token: Token,
+    pub(crate) url: PageUrl,
+    pub(crate) desk: u64,
+    pub(crate) reason: Reason,
+    pub(crate) one: One<G::Running>,
+}
+
+impl<G: Gate> Model for Running<G> {
+    ghost use Rattle.gate_lock.specs.Desks.{Run};
+
+    ghost Value = { Run };
+
+    ghost view = { λ run. record {
+      pass = record {
+        number = run.number;
+        token = run.token;
+        url = run.url;
+        desk = run.desk;
+      };
+      reason = run.reason;
+    } };
+}
+
+impl<G: Gate> Running<G> {
+    /// The number of the permit that was spent.
+    pub fn number(&self) -> PermitNo
+        ensures { result ≡ self.now.pass.number }
+    {
+        self.number
+    }
+
+    /// The token under which the URL is fetched.
+    pub fn token(&self) -> &Token
+        ensures { result.now ≡ self.now.pass.token }
+    {
+        &self.token
+    }
+
+    /// The URL to fetch.
+    pub fn url(&self) -> &PageUrl
+        ensures { result.now ≡ self.now.pass.url }
+    {
+        &self.url
+    }
+
+    /// Why the fetch is allowed.
+    pub fn reason(&self) -> Reason
+        ensures { result ≡ self.now.reason }
+    {
+        self.reason
+    }
+
+    /// The number of the desk that started it, at which it is finished.
+    pub fn desk_no(&self) -> u64
+        ensures { result ≡ self.now.pass.desk }
+    {
+        self.desk
+    }
+
+    /// The fetch is made: its one leave is used up, and what is left is to be finished.
+    pub fn spend(self) -> Fetched<G>
+        ensures { result ≡ self.pass }
+    {
+        let Running {
+            number,
+            token,
+            url,
+            desk,
+            reason: _,
+            one,
+        } = self;
+        Fetched {
+            number,
+            token,
+            url,
+            desk,
+            one,
+        }
+    }
+}
+
+/// A fetch that was made. It has no `Drop`: `finish` ends it.
+/// Dropping one would leave it running for ever, and its slot and its authority's place taken.
+#[must_use]
+pub struct Fetched<G: Gate> {
+    pub(crate) number: PermitNo,
+    pub(crate) token: Token,
+    pub(crate) url: PageUrl,
+    pub(crate) desk: u64,
+    pub(crate) one: One<G::Running>,
+}
+
+impl<G: Gate> Model for Fetched<G> {
+    ghost use Rattle.gate_lock.specs.Desks.{Pass};
+
+    ghost Value = { Pass };
+
+    ghost view = { λ fetched. record {
+      number = fetched.number;
+      token = fetched.token;
+      url = fetched.url;
+      desk = fetched.desk;
+    } };
+}
+
+impl<G: Gate> Fetched<G> {
+    /// The number of the permit that was spent.
+    pub fn number(&self) -> PermitNo
+        ensures { result ≡ self.now.number }
+    {
+        self.number
+    }
+
+    /// The token under which the URL was fetched.
+    pub fn token(&self) -> &Token
+        ensures { result.now ≡ self.now.token }
+    {
+        &self.token
+    }
+
+    /// The URL that was fetched.
+    pub fn url(&self) -> &PageUrl
+        ensures { result.now ≡ self.now.url }
+    {
+        &self.url
+    }
+
+    /// The number of the desk that started it, at which it is finished.
+    pub fn desk_no(&self) -> u64
+        ensures { result ≡ self.now.desk }
+    {
+        self.desk
+    }
+}
+
+/// A turn to fetch an authority's robots file. It has no `Drop`: `arrive` brings its answer.
+/// Dropping one would leave it in flight for ever, and no other turn of the authority could begin.
+#[must_use]
+pub struct RobotsTurn<G: Gate> {
+    pub(crate) authority: Authority,
+    pub(crate) turn: TurnNo,
+    pub(crate) desk: u64,
+    pub(crate) one: One<G::Turns>,
+}
+
+impl<G: Gate> Model for RobotsTurn<G> {
+    ghost use Rattle.gate_lock.specs.Desks.{Errand};
+
+    ghost Value = { Errand };
+
+    ghost view = { λ turn. record {
+      authority = turn.authority;
+      turn = turn.turn;
+      desk = turn.desk;
+    } };
+}
+
+impl<G: Gate> RobotsTurn<G> {
+    /// Whose robots file is to be fetched.
+    pub fn authority(&self) -> &Authority
+        ensures { result.now ≡ self.now.authority }
+    {
+        &self.authority
+    }
+
+    /// The number of the turn.
+    pub fn number(&self) -> TurnNo
+        ensures { result ≡ self.now.turn }
+    {
+        self.turn
+    }
+
+    /// The number of the desk that began it, at which its answer is brought.
+    pub fn desk_no(&self) -> u64
+        ensures { result ≡ self.now.desk }
+    {
+        self.desk
+    }
+}

@@ -1,0 +1,172 @@
+//! `Desk::begin` and `arrive`: a turn to fetch a robots file, and the answer that it brings.
+//! RFC 9309, section 2.3.
+ghost use Rattle.std.specs.Prelude.{◌≡◌, ◌+◌, ◌^◌, ◌<◌, ◌≤◌, IfOk, OnErr, OnOk, length, true, vec_capacity};
+ghost use Rattle.robots_verdict.specs.Answer.{said, spares_of};
+ghost use Rattle.gate_history.specs.History.{entry_count};
+ghost use Rattle.gate_history.specs.Standing.{has_turn};
+ghost use Rattle.gate_core.specs.Gate.{history};
+ghost use Rattle.gate_lock.specs.Desks.{HasOut, KeepsOut};
+ghost use Rattle.gate_lock.specs.Steps.{DeskArrives, DeskBegins, Somewhere};
+
+use crate::desk::Desk;
+use crate::ledgers::Gate;
+use crate::lock::Held;
+use crate::mark::{Deed, Mark};
+use crate::tokens::RobotsTurn;
+use authority_cache::life_of;
+use gate_core::BeginRefusal;
+use path_normal::Authority;
+use robots_verdict::Answer;
+use std::alloc::AllocError;
+use std::sync::Wait;
+
+#[tactic(auto, using(std::proofs::lemmas::Grind::common_steps, crate::proofs::Starts::starts_in_push))]
+impl<'a, G: Gate> Desk<'a, G> {
+    /// Begins a fetch of the authority's robots file.
+    pub fn begin<R: Wait>(
+        &mut self,
+        rt: &R,
+        authority: &Authority,
+        moment: u64,
+    ) -> Result<RobotsTurn<G>, BeginRefusal>
+        ensures step { Somewhere self.old (λ old new. DeskBegins self.old old authority.now moment result new self.new) }
+        ensures no { self.new.no ≡ self.old.no }
+        ensures ok { IfOk result (λ t. (t.desk ≡ self.old.no) × (t.authority ≡ authority.now)
+            × HasOut self.old self.new 0 0 0 0 1 0) }
+        ensures err { OnErr result (KeepsOut self.old self.new) }
+    {
+        let gate = self.gate;
+        let mut held = gate.lend_from(rt, self.seen);
+        let result = self.begin_in(&mut held, authority, moment);
+        gate.tell();
+        result
+    }
+
+    /// Begins a fetch of the authority's robots file while the lock is held. Room is made for the mark
+    /// of its arrival, which then takes no memory.
+    pub fn begin_in(
+        &mut self,
+        held: &mut Held<'_, G>,
+        authority: &Authority,
+        moment: u64,
+    ) -> Result<RobotsTurn<G>, BeginRefusal>
+        requires { self.old.seen ≤ entry_count (history held.old) }
+        ensures { DeskBegins self.old held.old authority.now moment result held.new self.new }
+    {
+        let round = &mut *held.guard;
+        let promised = 2 * self.permits + self.runs + self.turns;
+        let Ok((named, kept)) = prepare(&mut self.marks, promised, authority) else {
+            self.seen = round.entry_count();
+            return Err(round.refuse_begin(authority, moment));
+        };
+        let result = round.begin(authority, moment, &mut self.mine);
+        self.seen = round.entry_count();
+        match result {
+            Ok((turn, one)) => {
+                self.turns += 1;
+                let last = round.last();
+                self.marks.push_reserved(Mark {
+                    place: last.place,
+                    deed: Deed::Begun {
+                        moment: last.moment,
+                        authority: named,
+                        turn,
+                    },
+                });
+                Ok(RobotsTurn {
+                    authority: kept,
+                    turn,
+                    desk: self.no,
+                    one,
+                })
+            }
+            Err(refusal) => Err(refusal),
+        }
+    }
+
+    /// Brings the answer of a turn of this desk, which stands from now on. Of rules a life of so many
+    /// seconds was asked. It takes no memory, but two spares of the answer.
+    pub fn arrive<R: Wait>(
+        &mut self,
+        rt: &R,
+        turn: RobotsTurn<G>,
+        answer: Answer,
+        life: u64,
+        moment: u64,
+    )
+        requires own { turn.desk ≡ self.old.no }
+        requires spares { 1 < spares_of answer }
+        ensures step { Somewhere self.old (λ old new. DeskArrives self.old old turn (said answer) life moment new self.new) }
+        ensures no { self.new.no ≡ self.old.no }
+        ensures out { HasOut self.old self.new 0 0 0 0 0 1 }
+    {
+        let gate = self.gate;
+        let mut held = gate.lend_turn(rt, self.seen, self.turns, &turn);
+        self.arrive_in(&mut held, turn, answer, life, moment);
+        gate.tell();
+    }
+
+    fn arrive_in(
+        &mut self,
+        held: &mut Held<'_, G>,
+        turn: RobotsTurn<G>,
+        answer: Answer,
+        life: u64,
+        moment: u64,
+    )
+        requires seen { self.old.seen ≤ entry_count (history held.old) }
+        requires some { 0 < self.old.turns }
+        requires turn { has_turn (history held.old) turn.authority turn.turn ≡ true }
+        requires spares { 1 < spares_of answer }
+        ensures { DeskArrives self.old held.old turn (said answer) life moment held.new self.new }
+    {
+        let round = &mut *held.guard;
+        let RobotsTurn {
+            authority,
+            turn,
+            desk: _,
+            one,
+        } = turn;
+        let mut standing = answer;
+        let says = standing.twin().into_said();
+        let kept = life_of(&standing, life);
+        round.arrive(
+            &authority,
+            turn,
+            one,
+            standing,
+            life,
+            moment,
+            &mut self.mine,
+        );
+        self.seen = round.entry_count();
+        self.turns -= 1;
+        let last = round.last();
+        self.marks.push_reserved(Mark {
+            place: last.place,
+            deed: Deed::Arrived {
+                moment: last.moment,
+                turn,
+                says,
+                life: kept,
+            },
+        });
+    }
+}
+
+// Makes room for the marks of the turn beside those that are promised, and copies the authority for the
+// first of them and for the turn.
+fn prepare(
+    marks: &mut Vec<Mark>,
+    promised: u64,
+    authority: &Authority,
+) -> Result<(Authority, Authority), AllocError>
+    requires { promised < 2 ^ 63 }
+    ensures items { marks.new.items ≡ marks.old.items }
+    ensures capacity { vec_capacity marks.old ≤ vec_capacity marks.new }
+    ensures room { OnOk result (length marks.old.items + promised + 2 ≤ vec_capacity marks.new) }
+    ensures copies { IfOk result (λ copies. (copies.0 ≡ authority.now) × (copies.1 ≡ authority.now)) }
+{
+    marks.reserve(promised as usize + 2)?;
+    Ok((authority.copy()?, authority.copy()?))
+}
