@@ -1,18 +1,17 @@
 //! Rows over a gate that several desks share: the settlement, the limit of authorities, and two threads.
 //! RFC 9309, sections 2.2 to 2.4.
-ghost use Rattle.std.specs.Prelude.{◌≡◌, ◌≤◌, [], IfNone, IfOk, IfSome, OnErr};
+ghost use Rattle.std.specs.Prelude.{◌≡◌, ◌≤◌, [], IfOk};
 ghost use Rattle.gate_history.specs.Base.{empty_base};
 ghost use Rattle.gate_lock.specs.Balance.{all_desk_parts, all_out_parts};
-ghost use Rattle.gate_lock.specs.Desks.{HasOut, KeepsOut, out_of};
 
 use super::*;
-use gate_core::{
-    AskRefusal, BeginRefusal, Book, Config, Judged, Limits, Standing, State, SweepRefusal,
-};
-use gate_history::Cause;
+use authority_cache::{LIFE, TurnNo};
+use gate_core::{BeginRefusal, Book, Config, Limits, Standing, State, SweepRefusal};
+use gate_history::{Cause, Entry, FetchText};
 use path_normal::{Authority, PageUrl};
+use permit_book::PermitNo;
 use robots_text::Token;
-use robots_verdict::{Answer, Opening};
+use robots_verdict::{Opening, Said};
 use std::alloc::Global;
 use std::hash::RandomState;
 use std::marker::Brand;
@@ -22,7 +21,13 @@ use std::test::Fail;
 use std::thread;
 use std::thread::Threads;
 
+mod desk_calls;
+
+use desk_calls::{Form, brought, denial, fetch, returned, state, sweep, worked};
+
 const PAGE: &str = "http://a.example/x";
+
+const OTHER_PAGE: &str = "http://a.example/y";
 
 // A book with the usual limits, but these.
 fn book(rt: &HostRuntime, slots: u64, authorities: u64) -> Result<Book, Fail>
@@ -40,162 +45,6 @@ fn book(rt: &HostRuntime, slots: u64, authorities: u64) -> Result<Book, Fail>
     Ok(Book::new(rt.alloc(), config)?)
 }
 
-// How the calls that have both forms are made.
-#[derive(Clone, Copy)]
-enum Form {
-    Plain,
-    Held,
-}
-
-// Begins a turn of the authority, where that is not refused, brings that there is no robots file, and
-// tells the turn's number.
-fn fetch<G: Gate, R: Wait>(
-    rt: &R,
-    desk: &mut Desk<'_, G>,
-    form: Form,
-    site: &Authority,
-    moment: u64,
-) -> Result<u64, BeginRefusal>
-    ensures no { desk.new.no ≡ desk.old.no }
-    ensures out { KeepsOut desk.old desk.new }
-{
-    let turn = begin(rt, desk, form, site, moment)?;
-    let number = turn.number().number();
-    desk.arrive(rt, turn, Answer::Open(Opening::Unavailable), 86_400, moment);
-    Ok(number)
-}
-
-fn begin<G: Gate, R: Wait>(
-    rt: &R,
-    desk: &mut Desk<'_, G>,
-    form: Form,
-    site: &Authority,
-    moment: u64,
-) -> Result<RobotsTurn<G>, BeginRefusal>
-    ensures no { desk.new.no ≡ desk.old.no }
-    ensures ok { IfOk result (λ t. (t.desk ≡ desk.old.no) × HasOut desk.old desk.new 0 0 0 0 1 0) }
-    ensures err { OnErr result (KeepsOut desk.old desk.new) }
-{
-    match form {
-        Form::Plain => desk.begin(rt, site, moment),
-        Form::Held => {
-            let mut held = desk.lend(rt);
-            desk.begin_in(&mut held, site, moment)
-        }
-    }
-}
-
-// Asks for a page with foobot at 110.
-fn granted<G: Gate, R: Wait>(
-    rt: &R,
-    alloc: Global,
-    desk: &mut Desk<'_, G>,
-    form: Form,
-    page: &str,
-) -> Option<Permit<G>>
-    ensures no { desk.new.no ≡ desk.old.no }
-    ensures some { IfSome result (λ p. (p.desk ≡ desk.old.no) × HasOut desk.old desk.new 1 0 0 0 0 0) }
-    ensures none { IfNone result (KeepsOut desk.old desk.new) }
-{
-    let token = Token::new(alloc, b"foobot").ok()?;
-    let url = PageUrl::parse(alloc, page).ok()?;
-    asked(rt, desk, form, token, url).ok()
-}
-
-fn asked<G: Gate, R: Wait>(
-    rt: &R,
-    desk: &mut Desk<'_, G>,
-    form: Form,
-    token: Token,
-    url: PageUrl,
-) -> Result<Permit<G>, AskRefusal>
-    ensures no { desk.new.no ≡ desk.old.no }
-    ensures ok { IfOk result (λ p. (p.desk ≡ desk.old.no) × HasOut desk.old desk.new 1 0 0 0 0 0) }
-    ensures err { OnErr result (KeepsOut desk.old desk.new) }
-{
-    match form {
-        Form::Plain => desk.ask(rt, token, url, 110),
-        Form::Held => {
-            let mut held = desk.lend(rt);
-            desk.ask_in(&mut held, Judged::new(None, token, url), 110)
-        }
-    }
-}
-
-// A desk that brings the answer of a.example, and is closed.
-fn brought<G: Gate, R: Wait>(
-    rt: &R,
-    alloc: Global,
-    gate: &GateLock<G>,
-    form: Form,
-) -> Result<Receipts<G>, Fail> {
-    let site = Authority::new(alloc, "a.example")?;
-    let mut desk = gate.desk(rt, alloc)?;
-    let turn = fetch(rt, &mut desk, form, &site, 100);
-    let receipts = desk.close();
-    turn?;
-    Ok(receipts)
-}
-
-// A desk that asks for the page, gives the permit back, and is closed; and what a settlement without its
-// receipts comes to before and after the permit is given back.
-fn returned<G: Gate, R: Wait>(
-    rt: &R,
-    alloc: Global,
-    gate: &GateLock<G>,
-    form: Form,
-    page: &str,
-    others: &[Receipts<G>],
-) -> Result<(Receipts<G>, [Result<Settled, SettleFault>; 2]), Fail> {
-    let mut desk = gate.desk(rt, alloc)?;
-    let Some(permit) = granted(rt, alloc, &mut desk, form, page) else {
-        desk.close();
-        return Err(Fail::new("no permit"));
-    };
-    let before = settle(rt, alloc, gate, others);
-    desk.back(rt, permit);
-    let after = settle(rt, alloc, gate, others);
-    Ok((desk.close(), [before, after]))
-}
-
-// A round of a fetch that is allowed: whether each step of it is.
-fn round<G: Gate, R: Wait>(rt: &R, alloc: Global, desk: &mut Desk<'_, G>) -> bool
-    ensures no { desk.new.no ≡ desk.old.no }
-    ensures out { KeepsOut desk.old desk.new }
-{
-    let Some(permit) = granted(rt, alloc, desk, Form::Plain, PAGE) else {
-        return false;
-    };
-    let Ok(run) = desk.start(rt, permit, 110) else {
-        return false;
-    };
-    desk.finish(rt, run.spend());
-    true
-}
-
-// A hundred rounds of a desk.
-fn rounds<G: Gate, R: Wait>(rt: &R, alloc: Global, desk: &mut Desk<'_, G>)
-    requires { out_of desk.old ≡ 0 }
-    ensures { out_of desk.new ≡ 0 }
-{
-    for _ in 0..100 {
-        if !round(rt, alloc, desk) {
-            break;
-        }
-    }
-}
-
-// A desk that is closed after a hundred rounds.
-fn worked<G: Gate, R: Wait>(
-    rt: &R,
-    alloc: Global,
-    gate: &GateLock<G>,
-) -> Result<Receipts<G>, DesksFull> {
-    let mut desk = gate.desk(rt, alloc)?;
-    rounds(rt, alloc, &mut desk);
-    Ok(desk.close())
-}
-
 // What the row of one authority shows: a begin of another one, two sweeps, the state and a begin after
 // them, and why an ask is denied.
 #[derive(Clone, Copy, Debug, PartialEq, Eq)]
@@ -208,75 +57,23 @@ struct Limited {
     denied: Option<Cause>,
 }
 
-fn sweep<G: Gate, R: Wait>(
-    rt: &R,
-    desk: &mut Desk<'_, G>,
-    form: Form,
-    moment: u64,
-) -> Result<u64, SweepRefusal>
-    ensures out { KeepsOut desk.old desk.new }
-{
-    match form {
-        Form::Plain => desk.sweep(rt, moment),
-        Form::Held => {
-            let mut held = desk.lend(rt);
-            desk.sweep_in(&mut held, moment)
-        }
-    }
-}
-
-fn state<G: Gate, R: Wait>(
-    rt: &R,
-    desk: &mut Desk<'_, G>,
-    form: Form,
-    name: &str,
-    moment: u64,
-) -> State
-    ensures out { KeepsOut desk.old desk.new }
-{
-    match form {
-        Form::Plain => desk.state_of(rt, name, moment),
-        Form::Held => {
-            let mut held = desk.lend(rt);
-            desk.state_in(&mut held, name, moment)
-        }
-    }
-}
-
-// Why an ask for the page is denied, if it is; a permit is given back.
-fn denial<G: Gate, R: Wait>(
-    rt: &R,
-    desk: &mut Desk<'_, G>,
-    token: Token,
-    url: PageUrl,
-    moment: u64,
-) -> Option<Cause>
-    ensures out { KeepsOut desk.old desk.new }
-{
-    match desk.ask(rt, token, url, moment) {
-        Ok(permit) => {
-            desk.back(rt, permit);
-            None
-        }
-        Err(AskRefusal::Denied(denial)) => Some(denial.cause),
-        Err(_) => None,
-    }
-}
-
 // What is done with a gate.
 #[derive(Clone, Copy)]
 enum Row {
     Settle(Form),
+    Fit,
     Threads,
     Desks,
     Limit(Form),
 }
 
-// What that shows: two settlements that come too early and the last one, or the last one alone; the number
-// of the last desk that could be made; or what one authority at a time means.
+// What that shows: two settlements that come too early and the last one, or the last one alone; whether the
+// receipts fit the gate's entries, and those of another gate; the number of the last desk that could be
+// made; or what one authority at a time means.
 #[derive(Clone, Copy, Debug, PartialEq, Eq)]
 enum Shown {
     Settled([Result<Settled, SettleFault>; 3]),
+    Fit([bool; 2]),
     Threads(Result<Settled, SettleFault>),
     Desks(u64),
     Limited(Limited),
@@ -334,6 +131,7 @@ fn run<
     );
     match row {
         Row::Settle(form) => settle_row(rt, alloc, &gate, form),
+        Row::Fit => fit_row(rt, alloc, &gate),
         Row::Threads => thread_row(rt, alloc, &gate),
         Row::Desks => Ok(Shown::Desks(desk_row(rt, alloc, &gate))),
         Row::Limit(form) => limit_row(rt, alloc, &gate, form),
@@ -351,6 +149,51 @@ fn settle_row<G: Gate, R: Wait>(
     let [first] = first;
     let both = settle(rt, alloc, gate, &[first, last]);
     Ok(Shown::Settled([before, after, both]))
+}
+
+// The entries of a gate at which one desk brings an answer, and another asks for the page and gives its
+// permit back.
+fn entries_of(alloc: Global, page: &str) -> Result<Vec<Entry>, Fail> {
+    let token = Token::new(alloc, b"foobot")?;
+    let url = PageUrl::parse(alloc, page)?;
+    let turn = TurnNo::new(1);
+    let number = PermitNo::new(65_536);
+    let mut entries = Vec::new(alloc);
+    entries.push(Entry::Begun {
+        moment: 100,
+        authority: Authority::new(alloc, "a.example")?,
+        turn,
+    })?;
+    entries.push(Entry::Arrived {
+        moment: 100,
+        authority: Authority::new(alloc, "a.example")?,
+        turn,
+        says: Said::Open(Opening::Unavailable),
+        life: LIFE,
+    })?;
+    entries.push(Entry::Granted {
+        moment: 110,
+        number,
+        fetch: FetchText::of(alloc, &token, &url)?,
+    })?;
+    entries.push(Entry::Returned { number })?;
+    Ok(entries)
+}
+
+// Whether the receipts are those of a gate at which the page was asked for.
+fn is_fit<G: Gate>(alloc: Global, page: &str, all: &[Receipts<G>]) -> Result<bool, Fail> {
+    let entries = entries_of(alloc, page)?;
+    if entries.len() != 4 {
+        return Err(Fail::new("four entries"));
+    }
+    Ok(marks_fit(alloc, 0, entries.as_slice(), all)?)
+}
+
+fn fit_row<G: Gate, R: Wait>(rt: &R, alloc: Global, gate: &GateLock<G>) -> Result<Shown, Fail> {
+    let first = brought(rt, alloc, gate, Form::Plain)?;
+    let (last, _) = returned(rt, alloc, gate, Form::Plain, PAGE, &[])?;
+    let all = [first, last];
+    Ok(Shown::Fit([is_fit(alloc, PAGE, &all)?, is_fit(alloc, OTHER_PAGE, &all)?]))
 }
 
 fn thread_row<G: Gate + Send + Sync, R: Threads + Wait + Sync>(
@@ -424,6 +267,13 @@ fn a_gate_is_settled_by_all_receipts(rt: HostRuntime) -> Result<(), Fail> {
         )?;
         assert_eq!(rt; got, want, "settled");
     }
+    Ok(())
+}
+
+#[test]
+fn marks_fit_the_entries_of_their_own_gate(rt: HostRuntime) -> Result<(), Fail> {
+    let got = show(&rt, rt.alloc(), book(&rt, 1_024, 65_536)?, Row::Fit)?;
+    assert_eq!(rt; got, Shown::Fit([true, false]), "own, and another's");
     Ok(())
 }
 
