@@ -190,8 +190,9 @@ fn is_fit<G: Gate>(alloc: Global, page: &str, all: &[Receipts<G>]) -> Result<boo
 }
 
 fn fit_row<G: Gate, R: Wait>(rt: &R, alloc: Global, gate: &GateLock<G>) -> Result<Shown, Fail> {
-    let first = brought(rt, alloc, gate, Form::Plain)?;
-    let (last, _) = returned(rt, alloc, gate, Form::Plain, PAGE, &[])?;
+    let first = [brought(rt, alloc, gate, Form::Plain)?];
+    let (last, _) = returned(rt, alloc, gate, Form::Plain, PAGE, &first)?;
+    let [first] = first;
     let all = [first, last];
     Ok(Shown::Fit([is_fit(alloc, PAGE, &all)?, is_fit(alloc, OTHER_PAGE, &all)?]))
 }
