@@ -1,6 +1,6 @@
 -- What the book's replies come to where a permit stands.
 -- Used by `Round::start` and `Desk::start`.
-use Rattle.std.proofs.Common.{◌≡◌, ℕ, Bool, true, false, List, sym, ◌∙◌}
+use Rattle.std.proofs.Common.{◌≡◌, ℕ, Bool, true, false, List, sym}
 use Rattle.std.specs.Prelude.{MatchBool, Err}
 use Rattle.std.proofs.lemmas.Bool.{true≢false}
 use Rattle.gate_history.specs.declared.entry.Entry.TheVariants.{StartDenied}

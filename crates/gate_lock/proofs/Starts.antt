@@ -1,6 +1,6 @@
 -- The started fetches among marks, with one mark more.
 -- Used by the methods of `Desk`.
-use Rattle.std.proofs.Common.{◌≡◌, ℕ, ◌+◌, List, [], ◌∷◌, ◌++◌, refl, arith}
+use Rattle.std.proofs.Common.{◌≡◌, ◌+◌, List, [], ◌∷◌, ◌++◌, arith}
 use Rattle.std.specs.Prelude.{if◌then◌else◌}
 use Rattle.gate_lock.specs.declared.mark.Mark.{Mark}
 use Rattle.gate_lock.specs.Marks.{is_start, starts_in}

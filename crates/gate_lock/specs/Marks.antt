@@ -1,6 +1,6 @@
 -- The marks of a desk: what it keeps of each entry that it made, and the entry's place.
 -- A place is how many entries were before it, counted from the first one ever.
-use Rattle.std.specs.Prelude.{◌≡◌, ℕ, ◌+◌, Bool, true, false, List, [], ◌∷◌, if◌then◌else◌}
+use Rattle.std.specs.Prelude.{ℕ, ◌+◌, Bool, true, false, List, [], ◌∷◌, if◌then◌else◌}
 use Rattle.gate_history.specs.declared.entry.Entry.{Entry}
 use Rattle.gate_history.specs.declared.entry.Entry.TheVariants as entries
 use Rattle.gate_lock.specs.declared.mark.Deed.{Deed}

@@ -1,6 +1,6 @@
 -- When a gate is settled: nothing is out, and the receipts of its desks are its history.
 -- The contracts of `marks_fit` and `settle`.
-use Rattle.std.specs.Prelude.{◌≡◌, ℕ, ◌+◌, ◌-◌, ◌<◌, ◌≤◌, ◌==◌, Bool, true, false, nat_lt, List, [], ◌∷◌, if◌then◌else◌, length, map, Some}
+use Rattle.std.specs.Prelude.{◌≡◌, ℕ, ◌+◌, ◌-◌, ◌<◌, ◌≤◌, ◌==◌, Bool, false, nat_lt, List, [], ◌∷◌, if◌then◌else◌, length, map, Some}
 use Rattle.std.specs.List.{slice_get, slice_index_or}
 use Rattle.gate_history.specs.declared.entry.Entry.{Entry}
 use Rattle.gate_history.specs.History.{entry_count, started_count}

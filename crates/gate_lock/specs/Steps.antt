@@ -1,6 +1,6 @@
 -- What each call of a desk does: it makes the book's call of the same name, and what that replies is its
 -- reply; an entry that it makes is the desk's. The contracts of the desk.
-use Rattle.std.specs.Prelude.{◌≡◌, ℕ, ◌≤◌, true, false, List, Result, Ok, Err}
+use Rattle.std.specs.Prelude.{◌≡◌, ℕ, ◌≤◌, true, List, Result, Ok, Err}
 use Rattle.robots_verdict.specs.declared.said.Said.{Said}
 use Rattle.authority_cache.specs.Lives.{life_of}
 use Rattle.gate_history.specs.declared.entry.Entry.TheVariants.{Begun, Arrived, Granted, AskDenied, Started, StartDenied, Returned, Finished, Swept}

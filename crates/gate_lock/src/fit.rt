@@ -1,7 +1,6 @@
 //! `marks_fit`: whether the marks of receipts are a history.
 //! Each mark is compared with its entry, and each place is found once.
-ghost use Rattle.std.specs.Prelude.{◌≡◌, ◌+◌, ◌^◌, ◌<◌, ◌≤◌, ◌↔◌, ◌==◌, IfOk, IsTrue, false, length, nat_lt, true, vec_len, ℕ};
-ghost use Rattle.gate_history.specs.History.{entry_count};
+ghost use Rattle.std.specs.Prelude.{◌≡◌, ◌+◌, ◌^◌, ◌<◌, ◌↔◌, ◌==◌, IfOk, IsTrue, false, length, nat_lt, true, ℕ};
 ghost use Rattle.gate_lock.specs.Marks.{deed_of};
 ghost use Rattle.gate_lock.specs.Settling.{AreEntries, Ascend, EachFits, EachOnce, IsBefore, IsEntryAt, MarksFit, TooOften, found_at, one_if, times_in, times_in_all};
 

@@ -8,19 +8,19 @@ use std::sync::ledger::Ledger;
 /// permits, its running fetches and its turns in flight are counted.
 pub trait Gate {
     /// Counts the entries; each desk has a share, and its receipts after it.
-    type Entries: Ledger + Send + Sync;
+    type Entries: Ledger;
 
     /// Counts the started fetches, alike.
-    type Starts: Ledger + Send + Sync;
+    type Starts: Ledger;
 
     /// Counts the unspent permits; each permit has a share of 1.
-    type Unspent: Ledger + Send + Sync;
+    type Unspent: Ledger;
 
     /// Counts the running fetches; each running one, spent or not, has a share of 1.
-    type Running: Ledger + Send + Sync;
+    type Running: Ledger;
 
     /// Counts the turns in flight; each turn has a share of 1.
-    type Turns: Ledger + Send + Sync;
+    type Turns: Ledger;
 }
 
 /// The gate of five ledgers.
@@ -32,13 +32,7 @@ pub struct Five<E, S, U, N, T> {
     turns: PhantomData<T>,
 }
 
-impl<
-    E: Ledger + Send + Sync,
-    S: Ledger + Send + Sync,
-    U: Ledger + Send + Sync,
-    N: Ledger + Send + Sync,
-    T: Ledger + Send + Sync,
-> Gate for Five<E, S, U, N, T> {
+impl<E: Ledger, S: Ledger, U: Ledger, N: Ledger, T: Ledger> Gate for Five<E, S, U, N, T> {
     type Entries = E;
 
     type Starts = S;

@@ -1,14 +1,14 @@
 //! What lies under the lock: the book, and the ledgers that count what is out.
 //! Each change is one call of the book with the shares that it moves; RFC 9309, sections 2.3.1 and 2.4.
-ghost use Rattle.std.specs.Prelude.{◌≡◌, ◌+◌, ◌<◌, ◌≤◌, ◌↔◌, [], Err, IfOk, IsTrue, Ok, OnErr, true, false};
+ghost use Rattle.std.specs.Prelude.{◌≡◌, ◌+◌, ◌<◌, ◌≤◌, ◌↔◌, [], Err, IfOk, IsTrue, Ok, true, false};
 ghost use Rattle.robots_verdict.specs.Answer.{said, spares_of};
 ghost use Rattle.gate_history.specs.Base.{empty_base};
 ghost use Rattle.gate_history.specs.History.{entry_count, moment_of};
 ghost use Rattle.gate_history.specs.Outstanding.{is_running, is_unspent, stands};
 ghost use Rattle.gate_history.specs.Standing.{has_turn};
-ghost use Rattle.gate_core.specs.Gate.{HasLegalHistory, HasRoom, history};
+ghost use Rattle.gate_core.specs.Gate.{HasRoom, history};
 ghost use Rattle.gate_core.specs.Replies.{Arrives, Asks, Begins, Finishes, Returns, Starts, Sweeps};
-ghost use Rattle.gate_lock.specs.Balance.{most_desks, nothing};
+ghost use Rattle.gate_lock.specs.Balance.{nothing};
 ghost use Rattle.gate_lock.specs.Results.{IsLast, entries_of_ask, entries_of_ok, is_denial, reply_in};
 
 use crate::ledgers::Gate;

@@ -1,6 +1,6 @@
 //! The ledgers of a gate with their totals, and what is left of them to hand out.
 //! They take no memory: a share is a value of no octets, and only proofs see its amount.
-ghost use Rattle.std.specs.Prelude.{◌≡◌, ◌+◌, ◌<◌, ◌≤◌, IfOk, OnErr};
+ghost use Rattle.std.specs.Prelude.{◌≡◌, ◌+◌, ◌<◌, IfOk, OnErr};
 ghost use Rattle.gate_lock.specs.Balance.{Loses, all_desk_parts, all_out_parts, most_desks, nothing};
 
 use crate::ledgers::Gate;
@@ -32,7 +32,7 @@ pub(crate) struct Tally<G: Gate> {
 }
 
 impl<G: Gate> Model for Tally<G> {
-    ghost use Rattle.std.specs.Prelude.{◌≡◌, ◌+◌, ◌≤◌};
+    ghost use Rattle.std.specs.Prelude.{◌≡◌, ◌+◌};
     ghost use Rattle.gate_lock.specs.Balance.{Balance, AreParts};
 
     ghost Value = { Balance };

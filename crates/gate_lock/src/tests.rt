@@ -197,11 +197,14 @@ fn fit_row<G: Gate, R: Wait>(rt: &R, alloc: Global, gate: &GateLock<G>) -> Resul
     Ok(Shown::Fit([is_fit(alloc, PAGE, &all)?, is_fit(alloc, OTHER_PAGE, &all)?]))
 }
 
-fn thread_row<G: Gate + Send + Sync, R: Threads + Wait + Sync>(
-    rt: &R,
-    alloc: Global,
-    gate: &GateLock<G>,
-) -> Result<Shown, Fail> {
+fn thread_row<
+    E: Ledger + Send + Sync,
+    S: Ledger + Send + Sync,
+    U: Ledger + Send + Sync,
+    N: Ledger + Send + Sync,
+    T: Ledger + Send + Sync,
+    R: Threads + Wait + Sync,
+>(rt: &R, alloc: Global, gate: &GateLock<Five<E, S, U, N, T>>) -> Result<Shown, Fail> {
     let first = brought(rt, alloc, gate, Form::Plain)?;
     let (one, other) = thread::join(
         rt,
