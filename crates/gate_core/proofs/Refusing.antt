@@ -1,5 +1,5 @@
 -- What the tables refuse, as the gate tells it.
--- Used by `Book::grant` and `Book::open_turn`.
+-- Used by `Book::grant` and `Book::begin`.
 use Rattle.std.proofs.Common.{◌≡◌, ◌<◌, ◌≤◌, ℕ, false, List, sym, ap, ◌∙◌, subst, arith}
 use Rattle.std.specs.Prelude.{◌&&◌, nat_le, not, IsErr, IsErrAnd, Result, Ok, Err}
 use Rattle.std.proofs.lemmas.Bool.{true≢false}

@@ -1,5 +1,5 @@
 -- The last steps of a begin and of an ask, once all that comes before them was found.
--- Cited by `open_turn` and `grant`.
+-- Cited by `grant`, and by the proof of `Book::begin`.
 use Rattle.std.specs.Prelude.{◌≡◌, ℕ, ◌+◌, ◌<◌, ◌≤◌, true, false, List, Result, Ok, Err}
 use Rattle.permit_book.specs.Next.{NoneFree as NoneFreeIn}
 use Rattle.permit_book.specs.Table.{Table}
