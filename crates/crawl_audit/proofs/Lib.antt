@@ -4,7 +4,6 @@ pub mod Back
 pub mod Exporting
 pub mod Following
 pub mod Numbering
-pub mod Pushing
 pub mod Returning
 pub mod Shown
 pub mod Spelling

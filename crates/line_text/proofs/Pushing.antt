@@ -6,7 +6,7 @@ use Rattle.std.proofs.lemmas.List.Concat.{flat_map-append}
 use Rattle.std.specs.Prelude.{Result, Ok, Err, IsErr}
 use Rattle.counted_io.specs.Device.{AppendsPrefix, one_more}
 use Rattle.counted_io.specs.Output.{Passes, Pushes}
-use Rattle.counted_io.proofs.Writing.{Passes-push, Passes-cut, prefix_longer}
+use Rattle.counted_io.proofs.Writing.{Passes-push, Passes-cut, Passes-pieces, Passes-cut-piece, prefix_longer}
 
 -- the texts of a row, cut at one of them
 cut_at : {X : Type 0} (f : X → List ℕ) (xs : List X) (i : ℕ) (d : X) → i < length xs →
@@ -41,3 +41,11 @@ pub pushes_cut : {T E : Type 0} (a c : Option (List ℕ)) (failures failures' : 
     AppendsPrefix a c (pending ++ octets) → failures' ≡ one_more failures → Pushes a c failures failures' pending left octets result
 pushes_cut a c failures failures' pending left octets (Ok x) failed cut count = search rules
 pushes_cut a c failures failures' pending left octets (Err e) failed cut count = record { ok = tt; err = cut; count = count }
+
+-- the second step comes behind the first, which met no fault
+pub pushes_then : {T E : Type 0} (a b c : Option (List ℕ)) (f f' f'' : ℕ) (pending mid left xs ys : List ℕ) (result : Result T E) →
+    Passes a b (pending ++ xs) mid → f' ≡ f → Pushes b c f' f'' mid left ys result → Pushes a c f f'' pending left (xs ++ ys) result
+pushes_then a b c f f' f'' pending mid left xs ys (Ok x) before same then =
+    record { ok = Passes-pieces a b c pending xs mid ys left before then.ok; err = tt; count = then.count ∙ same }
+pushes_then a b c f f' f'' pending mid left xs ys (Err e) before same then =
+    record { ok = tt; err = Passes-cut-piece a b c pending xs mid ys before then.err; count = then.count ∙ ap one_more same }

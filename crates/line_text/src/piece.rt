@@ -28,6 +28,13 @@ pub struct Pieces<'a> {
 }
 
 impl<'a> Pieces<'a> {
+    /// A line of these pieces as they stand, with its line feed among them.
+    pub fn joined(pieces: [Piece<'a>; 8]) -> Pieces<'a>
+        ensures { pieces_text result ≡ flat_map piece_text pieces.entry }
+    {
+        Pieces { pieces }
+    }
+
     /// A line that is written out, with its line feed.
     pub fn whole(line: &'a str) -> Pieces<'a>
         ensures { pieces_text result ≡ line.now }

@@ -1,9 +1,8 @@
 -- The head and the lines are pushed one after the other.
 use Rattle.counted_io.proofs.Writing.{prefix_piece}
-use Rattle.line_text.proofs.Pushing.{pushes_cut}
+use Rattle.line_text.proofs.Pushing.{pushes_cut, pushes_then}
 use Rattle.crawl_audit.specs.declared.version.Version.TheVariants.{Two}
 use Rattle.crawl_audit.specs.Spell.{head_of, lines_of}
-use Rattle.crawl_audit.proofs.Pushing.{pushes_then}
 use Rattle.crawl_audit.proofs.export_text.push_history.Goals as goal
 
 pub returns-in_err-push-clause-pushes : goal.returns-in_err-push-clause-pushes

@@ -1,9 +1,8 @@
 -- A line and its end are pushed one after the other.
 use Rattle.counted_io.proofs.Writing.{prefix_piece}
-use Rattle.line_text.proofs.Pushing.{pushes_cut}
+use Rattle.line_text.proofs.Pushing.{pushes_cut, pushes_then}
 use Rattle.crawl_audit.specs.Pieces.{pieces_text}
 use Rattle.crawl_audit.specs.Spell.{line_end}
-use Rattle.crawl_audit.proofs.Pushing.{pushes_then}
 use Rattle.crawl_audit.proofs.pieces.Pieces.push.Goals as goal
 
 pub returns-in_err-push_all : goal.returns-in_err-push_all
