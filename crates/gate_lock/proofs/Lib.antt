@@ -1,3 +1,5 @@
 pub mod Counting
+pub mod Holding
+pub mod Keeping
 pub mod Replying
 pub mod Starts

@@ -14,6 +14,19 @@ pub record Balance : Type 0 where
   pub turns : ℕ
   pub desks : ℕ
 
+-- a gate's ledgers, as their names tell them apart: for entries, started fetches, unspent permits, running
+-- fetches and turns in flight
+pub record Ledgers : Type 0 where
+  pub entries : ℕ
+  pub starts : ℕ
+  pub unspent : ℕ
+  pub running : ℕ
+  pub turns : ℕ
+
+-- those of no gate
+abbrev pub no_ledgers : Ledgers
+no_ledgers = record { entries = 0; starts = 0; unspent = 0; running = 0; turns = 0 }
+
 -- nothing is counted yet
 abbrev pub nothing : Balance
 nothing = record { entries = 0; starts = 0; unspent = 0; running = 0; turns = 0; desks = 0 }

@@ -5,4 +5,5 @@ pub mod Results
 pub mod Marks
 pub mod Desks
 pub mod Steps
+pub mod Bags
 pub mod Settling

@@ -1,45 +1,126 @@
 //! The five ledgers of a gate: what each desk and each value that must be spent counts for.
 //! Each is a type, so that no value of one gate is taken for one of another.
 
-use std::marker::PhantomData;
-use std::sync::ledger::Ledger;
+use std::marker::{Brand, Model, PhantomData};
+use std::sync::ledger::{Blank, Ledger};
 
 /// A gate, as a type: it names the ledgers by which its entries, its started fetches, its unspent
 /// permits, its running fetches and its turns in flight are counted.
 pub trait Gate {
-    /// Counts the entries; each desk has a share, and its receipts after it.
-    type Entries: Ledger;
+    ghost use Rattle.gate_lock.specs.Balance.{Ledgers};
 
-    /// Counts the started fetches, alike.
-    type Starts: Ledger;
-
-    /// Counts the unspent permits; each permit has a share of 1.
-    type Unspent: Ledger;
-
-    /// Counts the running fetches; each running one, spent or not, has a share of 1.
-    type Running: Ledger;
-
-    /// Counts the turns in flight; each turn has a share of 1.
-    type Turns: Ledger;
+    /// Its ledgers.
+    ghost ledgers: { Ledgers };
 }
 
-/// The gate of five ledgers.
-pub struct Five<E, S, U, N, T> {
-    entries: PhantomData<E>,
-    starts: PhantomData<S>,
-    unspent: PhantomData<U>,
-    running: PhantomData<N>,
-    turns: PhantomData<T>,
+impl Gate for Brand {
+    ghost use Rattle.gate_lock.specs.Balance.{no_ledgers};
+
+    ghost ledgers = { no_ledgers };
 }
 
-impl<E: Ledger, S: Ledger, U: Ledger, N: Ledger, T: Ledger> Gate for Five<E, S, U, N, T> {
-    type Entries = E;
+/// The ledgers of a gate that is to be made, by which nothing is counted yet.
+pub struct Blanks {
+    pub(crate) entries: Blank,
+    pub(crate) starts: Blank,
+    pub(crate) unspent: Blank,
+    pub(crate) running: Blank,
+    pub(crate) turns: Blank,
+}
 
-    type Starts = S;
+impl Model for Blanks {
+    ghost use Rattle.std.specs.Prelude.{◌≡◌};
+    ghost use Rattle.gate_lock.specs.Balance.{Ledgers, all_desk_parts, all_out_parts};
 
-    type Unspent = U;
+    ghost Value = { Ledgers };
 
-    type Running = N;
+    ghost view = { λ blanks. record {
+      entries = blanks.entries.name;
+      starts = blanks.starts.name;
+      unspent = blanks.unspent.name;
+      running = blanks.running.name;
+      turns = blanks.turns.name;
+    } };
 
-    type Turns = T;
+    ghost invariant = { λ blanks. (blanks.entries.parts ≡ all_desk_parts)
+        × (blanks.starts.parts ≡ all_desk_parts) × (blanks.unspent.parts ≡ all_out_parts)
+        × (blanks.running.parts ≡ all_out_parts) × (blanks.turns.parts ≡ all_out_parts) };
+}
+
+impl Blanks {
+    /// New ledgers, which no gate has.
+    pub fn new() -> Blanks {
+        Blanks {
+            entries: Blank::new(65_537),
+            starts: Blank::new(65_537),
+            unspent: Blank::new(1_099_511_627_776),
+            running: Blank::new(1_099_511_627_776),
+            turns: Blank::new(1_099_511_627_776),
+        }
+    }
+}
+
+// Counts the entries; each desk has a share, and its receipts after it.
+pub(crate) struct EntryLedger<G> {
+    gate: PhantomData<G>,
+}
+
+impl<G: Gate> Ledger for EntryLedger<G> {
+    ghost use Rattle.gate_lock.specs.Balance.{all_desk_parts};
+
+    ghost name = { G.ledgers.entries };
+
+    ghost parts = { all_desk_parts };
+}
+
+// Counts the started fetches, alike.
+pub(crate) struct StartLedger<G> {
+    gate: PhantomData<G>,
+}
+
+impl<G: Gate> Ledger for StartLedger<G> {
+    ghost use Rattle.gate_lock.specs.Balance.{all_desk_parts};
+
+    ghost name = { G.ledgers.starts };
+
+    ghost parts = { all_desk_parts };
+}
+
+// Counts the unspent permits; each permit has a share of 1.
+pub(crate) struct UnspentLedger<G> {
+    gate: PhantomData<G>,
+}
+
+impl<G: Gate> Ledger for UnspentLedger<G> {
+    ghost use Rattle.gate_lock.specs.Balance.{all_out_parts};
+
+    ghost name = { G.ledgers.unspent };
+
+    ghost parts = { all_out_parts };
+}
+
+// Counts the running fetches; each running one, spent or not, has a share of 1.
+pub(crate) struct RunningLedger<G> {
+    gate: PhantomData<G>,
+}
+
+impl<G: Gate> Ledger for RunningLedger<G> {
+    ghost use Rattle.gate_lock.specs.Balance.{all_out_parts};
+
+    ghost name = { G.ledgers.running };
+
+    ghost parts = { all_out_parts };
+}
+
+// Counts the turns in flight; each turn has a share of 1.
+pub(crate) struct TurnLedger<G> {
+    gate: PhantomData<G>,
+}
+
+impl<G: Gate> Ledger for TurnLedger<G> {
+    ghost use Rattle.gate_lock.specs.Balance.{all_out_parts};
+
+    ghost name = { G.ledgers.turns };
+
+    ghost parts = { all_out_parts };
 }

@@ -3,6 +3,7 @@
 #![tactic(auto)]
 
 mod ask;
+mod bag;
 mod desk;
 mod fit;
 mod ledgers;
@@ -14,19 +15,23 @@ mod round;
 mod settlement;
 mod shares;
 mod spend;
+mod store;
 mod tally;
 mod tokens;
 mod turns;
+mod visit;
 
+pub use bag::Bag;
 pub use desk::Desk;
 pub use fit::marks_fit;
-pub use ledgers::{Five, Gate};
+pub use ledgers::{Blanks, Gate};
 pub use lock::{GateLock, Held};
 pub use mark::{Deed, Mark};
 pub use receipts::Receipts;
 pub use settlement::{SettleFault, Settled, settle};
 pub use tally::{DesksFull, MAX_DESKS};
 pub use tokens::{Fetched, Permit, RobotsTurn, Running};
+pub use visit::{Visit, with_gate};
 
 #[cfg(test)]
 mod tests;

@@ -6,9 +6,8 @@ ghost use Rattle.gate_history.specs.History.{entry_count};
 ghost use Rattle.gate_history.specs.Outstanding.{is_running, is_unspent, stands};
 ghost use Rattle.gate_history.specs.Standing.{has_turn, is_fetching};
 ghost use Rattle.gate_core.specs.Gate.{HasLegalHistory, history};
-ghost use Rattle.gate_lock.specs.Balance.{all_desk_parts, all_out_parts};
 
-use crate::ledgers::Gate;
+use crate::ledgers::{Blanks, Gate};
 use crate::round::Round;
 use crate::tally::Tally;
 use crate::tokens::{Permit, RobotsTurn};
@@ -16,7 +15,6 @@ use gate_core::Book;
 use permit_book::PermitNo;
 use robots_verdict::Policy;
 use std::marker::Model;
-use std::sync::ledger::Blank;
 use std::sync::{Arc, Condvar, Mutex, MutexGuard, Wait};
 
 /// One gate for several threads: a book under a lock, with the ledgers of what is out.
@@ -62,27 +60,11 @@ impl<'a, G: Gate> Held<'a, G> {
 
 impl<G: Gate> GateLock<G> {
     /// A lock round a book that has made no entry, with new ledgers.
-    pub fn new(
-        book: Book,
-        entries: Blank,
-        starts: Blank,
-        unspent: Blank,
-        running: Blank,
-        turns: Blank,
-    ) -> GateLock<G>
+    pub fn new(book: Book, blanks: Blanks) -> GateLock<G>
         requires book { (book.base ≡ empty_base) × (book.entries ≡ []) }
-        requires entries { (entries.name ≡ G.Entries.name) × (entries.parts ≡ G.Entries.parts)
-            × (entries.parts ≡ all_desk_parts) }
-        requires starts { (starts.name ≡ G.Starts.name) × (starts.parts ≡ G.Starts.parts)
-            × (starts.parts ≡ all_desk_parts) }
-        requires unspent { (unspent.name ≡ G.Unspent.name) × (unspent.parts ≡ G.Unspent.parts)
-            × (unspent.parts ≡ all_out_parts) }
-        requires running { (running.name ≡ G.Running.name) × (running.parts ≡ G.Running.parts)
-            × (running.parts ≡ all_out_parts) }
-        requires turns { (turns.name ≡ G.Turns.name) × (turns.parts ≡ G.Turns.parts)
-            × (turns.parts ≡ all_out_parts) }
+        requires blanks { blanks ≡ G.ledgers }
     {
-        let tally = Tally::open(entries, starts, unspent, running, turns);
+        let tally = Tally::open(blanks);
         GateLock {
             round: Mutex::new(Round::new(book, tally)),
             moved: Condvar::new(),

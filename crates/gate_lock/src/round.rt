@@ -11,7 +11,7 @@ ghost use Rattle.gate_core.specs.Replies.{Arrives, Asks, Begins, Finishes, Retur
 ghost use Rattle.gate_lock.specs.Balance.{nothing};
 ghost use Rattle.gate_lock.specs.Results.{IsLast, entries_of_ask, entries_of_ok, is_denial, reply_in};
 
-use crate::ledgers::Gate;
+use crate::ledgers::{Gate, RunningLedger, TurnLedger, UnspentLedger};
 use crate::shares::{Mine, One};
 use crate::tally::{DesksFull, Tally};
 use authority_cache::TurnNo;
@@ -80,7 +80,7 @@ impl<G: Gate> Round<G> {
         judged: Judged,
         moment: u64,
         mine: &mut Mine<G>,
-    ) -> Result<(PermitNo, One<G::Unspent>), AskRefusal>
+    ) -> Result<(PermitNo, One<UnspentLedger<G>>), AskRefusal>
         ensures reply { Asks self.old judged.token judged.url moment (reply_in result) self.new }
         ensures share { mine.new ≡ record mine.old {
           entries = mine.old.entries + entries_of_ask result;
@@ -111,10 +111,10 @@ impl<G: Gate> Round<G> {
         number: PermitNo,
         token: &Token,
         url: PageUrl,
-        one: One<G::Unspent>,
+        one: One<UnspentLedger<G>>,
         moment: u64,
         mine: &mut Mine<G>,
-    ) -> Result<(Started, One<G::Running>), Denial>
+    ) -> Result<(Started, One<RunningLedger<G>>), Denial>
         requires { stands (history self.old) number token.now url ≡ true }
         ensures reply { Starts self.old number token.now url moment (reply_in result) self.new }
         ensures share { mine.new ≡ record {
@@ -137,7 +137,7 @@ impl<G: Gate> Round<G> {
     }
 
     // Makes the book's back of a permit that stands.
-    pub fn back(&mut self, number: PermitNo, one: One<G::Unspent>, mine: &mut Mine<G>)
+    pub fn back(&mut self, number: PermitNo, one: One<UnspentLedger<G>>, mine: &mut Mine<G>)
         requires { is_unspent (history self.old) number ≡ true }
         ensures reply { Returns self.old number (Ok tt) self.new }
         ensures share { mine.new ≡ record mine.old { entries = mine.old.entries + 1 } }
@@ -153,7 +153,7 @@ impl<G: Gate> Round<G> {
     }
 
     // Makes the book's finish of a number that is running.
-    pub fn finish(&mut self, number: PermitNo, one: One<G::Running>, mine: &mut Mine<G>)
+    pub fn finish(&mut self, number: PermitNo, one: One<RunningLedger<G>>, mine: &mut Mine<G>)
         requires { is_running (history self.old) number ≡ true }
         ensures reply { Finishes self.old number (Ok tt) self.new }
         ensures share { mine.new ≡ record mine.old { entries = mine.old.entries + 1 } }
@@ -174,7 +174,7 @@ impl<G: Gate> Round<G> {
         authority: &Authority,
         moment: u64,
         mine: &mut Mine<G>,
-    ) -> Result<(TurnNo, One<G::Turns>), BeginRefusal>
+    ) -> Result<(TurnNo, One<TurnLedger<G>>), BeginRefusal>
         ensures reply { Begins self.old authority.now moment (reply_in result) self.new }
         ensures share { mine.new ≡ record mine.old {
           entries = mine.old.entries + entries_of_ok result;
@@ -198,7 +198,7 @@ impl<G: Gate> Round<G> {
         &mut self,
         authority: &Authority,
         turn: TurnNo,
-        one: One<G::Turns>,
+        one: One<TurnLedger<G>>,
         answer: Answer,
         life: u64,
         moment: u64,

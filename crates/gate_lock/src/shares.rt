@@ -1,7 +1,7 @@
 //! Shares of the ledgers as desks and values have them.
 //! They take no memory, and only proofs see what they count.
 
-use crate::ledgers::Gate;
+use crate::ledgers::{EntryLedger, Gate, StartLedger};
 use std::marker::Model;
 use std::sync::ledger::{Ledger, Share};
 
@@ -24,8 +24,8 @@ impl<L: Ledger> Model for One<L> {
 // The shares of a desk. A clause sees how many entries and started fetches they count.
 #[derive(Drop)]
 pub(crate) struct Mine<G: Gate> {
-    pub entries: Share<G::Entries>,
-    pub starts: Share<G::Starts>,
+    pub entries: Share<EntryLedger<G>>,
+    pub starts: Share<StartLedger<G>>,
 }
 
 impl<G: Gate> Model for Mine<G> {

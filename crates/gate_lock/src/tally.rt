@@ -1,12 +1,14 @@
 //! The ledgers of a gate with their totals, and what is left of them to hand out.
 //! They take no memory: a share is a value of no octets, and only proofs see its amount.
 ghost use Rattle.std.specs.Prelude.{◌≡◌, ◌+◌, ◌<◌, IfOk, OnErr};
-ghost use Rattle.gate_lock.specs.Balance.{Loses, all_desk_parts, all_out_parts, most_desks, nothing};
+ghost use Rattle.gate_lock.specs.Balance.{Loses, all_out_parts, most_desks, nothing};
 
-use crate::ledgers::Gate;
+use crate::ledgers::{
+    Blanks, EntryLedger, Gate, RunningLedger, StartLedger, TurnLedger, UnspentLedger,
+};
 use crate::shares::{Mine, One};
 use std::marker::Model;
-use std::sync::ledger::{Blank, Book, Share};
+use std::sync::ledger::{Book, Share};
 
 /// The most desks that are made of one gate.
 pub const MAX_DESKS: u64 = 65_536;
@@ -18,16 +20,16 @@ pub struct DesksFull;
 // The totals of the ledgers, the parts of them that nobody has, and how many desks were made.
 #[derive(Drop)]
 pub(crate) struct Tally<G: Gate> {
-    entries: Book<G::Entries>,
-    starts: Book<G::Starts>,
-    unspent: Book<G::Unspent>,
-    running: Book<G::Running>,
-    turns: Book<G::Turns>,
-    entry_parts: Share<G::Entries>,
-    start_parts: Share<G::Starts>,
-    unspent_parts: Share<G::Unspent>,
-    running_parts: Share<G::Running>,
-    turn_parts: Share<G::Turns>,
+    entries: Book<EntryLedger<G>>,
+    starts: Book<StartLedger<G>>,
+    unspent: Book<UnspentLedger<G>>,
+    running: Book<RunningLedger<G>>,
+    turns: Book<TurnLedger<G>>,
+    entry_parts: Share<EntryLedger<G>>,
+    start_parts: Share<StartLedger<G>>,
+    unspent_parts: Share<UnspentLedger<G>>,
+    running_parts: Share<RunningLedger<G>>,
+    turn_parts: Share<TurnLedger<G>>,
     desks: u64,
 }
 
@@ -55,30 +57,22 @@ impl<G: Gate> Model for Tally<G> {
 
 impl<G: Gate> Tally<G> {
     // New ledgers, by which nothing is counted yet.
-    pub fn open(
-        entries: Blank,
-        starts: Blank,
-        unspent: Blank,
-        running: Blank,
-        turns: Blank,
-    ) -> Tally<G>
-        requires entries { (entries.name ≡ G.Entries.name) × (entries.parts ≡ G.Entries.parts)
-            × (entries.parts ≡ all_desk_parts) }
-        requires starts { (starts.name ≡ G.Starts.name) × (starts.parts ≡ G.Starts.parts)
-            × (starts.parts ≡ all_desk_parts) }
-        requires unspent { (unspent.name ≡ G.Unspent.name) × (unspent.parts ≡ G.Unspent.parts)
-            × (unspent.parts ≡ all_out_parts) }
-        requires running { (running.name ≡ G.Running.name) × (running.parts ≡ G.Running.parts)
-            × (running.parts ≡ all_out_parts) }
-        requires turns { (turns.name ≡ G.Turns.name) × (turns.parts ≡ G.Turns.parts)
-            × (turns.parts ≡ all_out_parts) }
+    pub fn open(blanks: Blanks) -> Tally<G>
+        requires { blanks ≡ G.ledgers }
         ensures { result ≡ nothing }
     {
-        let (entries, entry_parts) = entries.open::<G::Entries>();
-        let (starts, start_parts) = starts.open::<G::Starts>();
-        let (unspent, unspent_parts) = unspent.open::<G::Unspent>();
-        let (running, running_parts) = running.open::<G::Running>();
-        let (turns, turn_parts) = turns.open::<G::Turns>();
+        let Blanks {
+            entries,
+            starts,
+            unspent,
+            running,
+            turns,
+        } = blanks;
+        let (entries, entry_parts) = entries.open::<EntryLedger<G>>();
+        let (starts, start_parts) = starts.open::<StartLedger<G>>();
+        let (unspent, unspent_parts) = unspent.open::<UnspentLedger<G>>();
+        let (running, running_parts) = running.open::<RunningLedger<G>>();
+        let (turns, turn_parts) = turns.open::<TurnLedger<G>>();
         Tally {
             entries,
             starts,
@@ -119,7 +113,7 @@ impl<G: Gate> Tally<G> {
     }
 
     // One more unspent permit, and its share.
-    pub fn grant(&mut self) -> One<G::Unspent>
+    pub fn grant(&mut self) -> One<UnspentLedger<G>>
         requires { self.old.unspent + 1 < all_out_parts }
         ensures { self.new ≡ record self.old { unspent = self.old.unspent + 1 } }
     {
@@ -129,7 +123,7 @@ impl<G: Gate> Tally<G> {
     }
 
     // One unspent permit less, whose share comes back.
-    pub fn spend(&mut self, one: One<G::Unspent>)
+    pub fn spend(&mut self, one: One<UnspentLedger<G>>)
         ensures { Loses self.old self.new 1 0 0 }
     {
         let One { mut share } = one;
@@ -138,7 +132,7 @@ impl<G: Gate> Tally<G> {
     }
 
     // One more started fetch of a desk, which runs.
-    pub fn start(&mut self, mine: &mut Mine<G>) -> One<G::Running>
+    pub fn start(&mut self, mine: &mut Mine<G>) -> One<RunningLedger<G>>
         requires { self.old.running + 1 < all_out_parts }
         ensures total { self.new ≡ record self.old {
           starts = self.old.starts + 1;
@@ -153,7 +147,7 @@ impl<G: Gate> Tally<G> {
     }
 
     // One running fetch less, whose share comes back.
-    pub fn finish(&mut self, one: One<G::Running>)
+    pub fn finish(&mut self, one: One<RunningLedger<G>>)
         ensures { Loses self.old self.new 0 1 0 }
     {
         let One { mut share } = one;
@@ -162,7 +156,7 @@ impl<G: Gate> Tally<G> {
     }
 
     // One more turn in flight, and its share.
-    pub fn begin(&mut self) -> One<G::Turns>
+    pub fn begin(&mut self) -> One<TurnLedger<G>>
         requires { self.old.turns + 1 < all_out_parts }
         ensures { self.new ≡ record self.old { turns = self.old.turns + 1 } }
     {
@@ -172,7 +166,7 @@ impl<G: Gate> Tally<G> {
     }
 
     // One turn in flight less, whose share comes back.
-    pub fn arrive(&mut self, one: One<G::Turns>)
+    pub fn arrive(&mut self, one: One<TurnLedger<G>>)
         ensures { Loses self.old self.new 0 0 1 }
     {
         let One { mut share } = one;

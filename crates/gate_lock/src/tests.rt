@@ -2,7 +2,6 @@
 //! RFC 9309, sections 2.2 to 2.4.
 ghost use Rattle.std.specs.Prelude.{◌≡◌, ◌≤◌, [], IfOk};
 ghost use Rattle.gate_history.specs.Base.{empty_base};
-ghost use Rattle.gate_lock.specs.Balance.{all_desk_parts, all_out_parts};
 
 use super::*;
 use authority_cache::{LIFE, TurnNo};
@@ -16,12 +15,15 @@ use std::alloc::Global;
 use std::hash::RandomState;
 use std::marker::Brand;
 use std::sync::Wait;
-use std::sync::ledger::{Blank, Ledger};
 use std::test::Fail;
 use std::thread;
 use std::thread::Threads;
 
+mod bag_rows;
 mod desk_calls;
+mod judged;
+mod sessions;
+mod wakes;
 
 use desk_calls::{Form, brought, denial, fetch, returned, state, sweep, worked};
 
@@ -45,110 +47,33 @@ fn book(rt: &HostRuntime, slots: u64, authorities: u64) -> Result<Book, Fail>
     Ok(Book::new(rt.alloc(), config)?)
 }
 
-// What the row of one authority shows: a begin of another one, two sweeps, the state and a begin after
-// them, and why an ask is denied.
-#[derive(Clone, Copy, Debug, PartialEq, Eq)]
-struct Limited {
-    full: Result<u64, BeginRefusal>,
-    early: Result<u64, SweepRefusal>,
-    late: Result<u64, SweepRefusal>,
-    state: State,
-    free: Result<u64, BeginRefusal>,
-    denied: Option<Cause>,
-}
-
-// What is done with a gate.
-#[derive(Clone, Copy)]
-enum Row {
-    Settle(Form),
-    Fit,
-    Threads,
-    Desks,
-    Limit(Form),
-}
-
-// What that shows: two settlements that come too early and the last one, or the last one alone; whether the
-// receipts fit the gate's entries, and those of another gate; the number of the last desk that could be
-// made; or what one authority at a time means.
-#[derive(Clone, Copy, Debug, PartialEq, Eq)]
-enum Shown {
-    Settled([Result<Settled, SettleFault>; 3]),
-    Fit([bool; 2]),
-    Threads(Result<Settled, SettleFault>),
-    Desks(u64),
-    Limited(Limited),
-}
-
-// A new gate, and what is done with it. Its ledgers are those of the blanks.
-fn show<R: Threads + Wait + Sync>(
-    rt: &R,
+// Settles a gate twice too early, and then by the receipts of both its desks.
+#[derive(Drop)]
+struct SettleRow<'r, R: Wait> {
+    rt: &'r R,
     alloc: Global,
-    book: Book,
-    row: Row,
-) -> Result<Shown, Fail>
-    requires { (book.base ≡ empty_base) × (book.entries ≡ []) }
-{
-    run::<Brand, Brand, Brand, Brand, Brand, R>(
-        rt,
-        alloc,
-        book,
-        Blank::new(65_537),
-        Blank::new(65_537),
-        Blank::new(1_099_511_627_776),
-        Blank::new(1_099_511_627_776),
-        Blank::new(1_099_511_627_776),
-        row,
-    )
+    form: Form,
 }
 
-fn run<
-    E: Ledger + Send + Sync,
-    S: Ledger + Send + Sync,
-    U: Ledger + Send + Sync,
-    N: Ledger + Send + Sync,
-    T: Ledger + Send + Sync,
-    R: Threads + Wait + Sync,
->(
-    rt: &R,
-    alloc: Global,
-    book: Book,
-    entries: Blank,
-    starts: Blank,
-    unspent: Blank,
-    running: Blank,
-    turns: Blank,
-    row: Row,
-) -> Result<Shown, Fail>
-    requires book { (book.base ≡ empty_base) × (book.entries ≡ []) }
-    requires entries { (entries.name ≡ E.name) × (entries.parts ≡ E.parts) × (entries.parts ≡ all_desk_parts) }
-    requires starts { (starts.name ≡ S.name) × (starts.parts ≡ S.parts) × (starts.parts ≡ all_desk_parts) }
-    requires unspent { (unspent.name ≡ U.name) × (unspent.parts ≡ U.parts) × (unspent.parts ≡ all_out_parts) }
-    requires running { (running.name ≡ N.name) × (running.parts ≡ N.parts) × (running.parts ≡ all_out_parts) }
-    requires turns { (turns.name ≡ T.name) × (turns.parts ≡ T.parts) × (turns.parts ≡ all_out_parts) }
-{
-    let gate: GateLock<Five<E, S, U, N, T>> = GateLock::new(
-        book, entries, starts, unspent, running, turns,
-    );
-    match row {
-        Row::Settle(form) => settle_row(rt, alloc, &gate, form),
-        Row::Fit => fit_row(rt, alloc, &gate),
-        Row::Threads => thread_row(rt, alloc, &gate),
-        Row::Desks => Ok(Shown::Desks(desk_row(rt, alloc, &gate))),
-        Row::Limit(form) => limit_row(rt, alloc, &gate, form),
+impl<R: Wait> Visit for SettleRow<'_, R> {
+    type Out = Result<[Result<Settled, SettleFault>; 3], Fail>;
+
+    fn visit<G: Gate>(self, gate: &GateLock<G>) -> Self::Out {
+        settle_both(self.rt, self.alloc, gate, self.form)
     }
 }
 
-fn settle_row<G: Gate, R: Wait>(
+fn settle_both<G: Gate, R: Wait>(
     rt: &R,
     alloc: Global,
     gate: &GateLock<G>,
     form: Form,
-) -> Result<Shown, Fail> {
+) -> Result<[Result<Settled, SettleFault>; 3], Fail> {
     let first = [brought(rt, alloc, gate, form)?];
     let (last, [before, after]) = returned(rt, alloc, gate, form, PAGE, &first)?;
     let [first] = first;
     let both = settle(rt, alloc, gate, &[first, last]);
-    Ok(Shown::Settled([before, after, both]))
+    Ok([before, after, both])
 }
 
 // The entries of a gate at which one desk brings an answer, and another asks for the page and gives its
@@ -189,33 +114,66 @@ fn is_fit<G: Gate>(alloc: Global, page: &str, all: &[Receipts<G>]) -> Result<boo
     Ok(marks_fit(alloc, 0, entries.as_slice(), all)?)
 }
 
-fn fit_row<G: Gate, R: Wait>(rt: &R, alloc: Global, gate: &GateLock<G>) -> Result<Shown, Fail> {
+// Whether the receipts of a gate fit its own entries, and those of another gate.
+#[derive(Drop)]
+struct FitRow<'r, R: Wait> {
+    rt: &'r R,
+    alloc: Global,
+}
+
+impl<R: Wait> Visit for FitRow<'_, R> {
+    type Out = Result<[bool; 2], Fail>;
+
+    fn visit<G: Gate>(self, gate: &GateLock<G>) -> Self::Out {
+        fit_own(self.rt, self.alloc, gate)
+    }
+}
+
+fn fit_own<G: Gate, R: Wait>(rt: &R, alloc: Global, gate: &GateLock<G>) -> Result<[bool; 2], Fail> {
     let first = [brought(rt, alloc, gate, Form::Plain)?];
     let (last, _) = returned(rt, alloc, gate, Form::Plain, PAGE, &first)?;
     let [first] = first;
     let all = [first, last];
-    Ok(Shown::Fit([is_fit(alloc, PAGE, &all)?, is_fit(alloc, OTHER_PAGE, &all)?]))
+    Ok([is_fit(alloc, PAGE, &all)?, is_fit(alloc, OTHER_PAGE, &all)?])
 }
 
-fn thread_row<
-    E: Ledger + Send + Sync,
-    S: Ledger + Send + Sync,
-    U: Ledger + Send + Sync,
-    N: Ledger + Send + Sync,
-    T: Ledger + Send + Sync,
-    R: Threads + Wait + Sync,
->(rt: &R, alloc: Global, gate: &GateLock<Five<E, S, U, N, T>>) -> Result<Shown, Fail> {
+// A gate at which one desk brings an answer, and two threads make a hundred rounds each.
+fn two_threads<G: Gate + Send + Sync, R: Threads + Wait + Sync>(
+    rt: &R,
+    alloc: Global,
+    book: Book,
+    blanks: Blanks,
+) -> Result<Result<Settled, SettleFault>, Fail>
+    requires book { (book.base ≡ empty_base) × (book.entries ≡ []) }
+    requires blanks { blanks ≡ G.ledgers }
+{
+    let lock: GateLock<G> = GateLock::new(book, blanks);
+    let gate = &lock;
     let first = brought(rt, alloc, gate, Form::Plain)?;
     let (one, other) = thread::join(
         rt,
         move || worked(rt, alloc, gate),
         move || worked(rt, alloc, gate),
     );
-    Ok(Shown::Threads(settle(rt, alloc, gate, &[first, one?, other?])))
+    Ok(settle(rt, alloc, gate, &[first, one?, other?]))
 }
 
 // The number of the last desk that can be made, each closed before the next.
-fn desk_row<G: Gate, R: Wait>(rt: &R, alloc: Global, gate: &GateLock<G>) -> u64 {
+#[derive(Drop)]
+struct DeskRow<'r, R: Wait> {
+    rt: &'r R,
+    alloc: Global,
+}
+
+impl<R: Wait> Visit for DeskRow<'_, R> {
+    type Out = u64;
+
+    fn visit<G: Gate>(self, gate: &GateLock<G>) -> u64 {
+        last_desk(self.rt, self.alloc, gate)
+    }
+}
+
+fn last_desk<G: Gate, R: Wait>(rt: &R, alloc: Global, gate: &GateLock<G>) -> u64 {
     let mut made = 0;
     for _ in 0..70_000 {
         let Ok(desk) = gate.desk(rt, alloc) else {
@@ -227,12 +185,40 @@ fn desk_row<G: Gate, R: Wait>(rt: &R, alloc: Global, gate: &GateLock<G>) -> u64 
     made
 }
 
-fn limit_row<G: Gate, R: Wait>(
+// What the row of one authority shows: a begin of another one, two sweeps, the state and a begin after
+// them, and why an ask is denied.
+#[derive(Clone, Copy, Debug, PartialEq, Eq)]
+struct Limited {
+    full: Result<u64, BeginRefusal>,
+    early: Result<u64, SweepRefusal>,
+    late: Result<u64, SweepRefusal>,
+    state: State,
+    free: Result<u64, BeginRefusal>,
+    denied: Option<Cause>,
+}
+
+// Fetches for two authorities at a gate that knows one at a time.
+#[derive(Drop)]
+struct LimitRow<'r, R: Wait> {
+    rt: &'r R,
+    alloc: Global,
+    form: Form,
+}
+
+impl<R: Wait> Visit for LimitRow<'_, R> {
+    type Out = Result<Limited, Fail>;
+
+    fn visit<G: Gate>(self, gate: &GateLock<G>) -> Self::Out {
+        one_at_a_time(self.rt, self.alloc, gate, self.form)
+    }
+}
+
+fn one_at_a_time<G: Gate, R: Wait>(
     rt: &R,
     alloc: Global,
     gate: &GateLock<G>,
     form: Form,
-) -> Result<Shown, Fail> {
+) -> Result<Limited, Fail> {
     let site = Authority::new(alloc, "a.example")?;
     let other = Authority::new(alloc, "b.example")?;
     let token = Token::new(alloc, b"foobot")?;
@@ -249,26 +235,26 @@ fn limit_row<G: Gate, R: Wait>(
     };
     desk.close();
     first?;
-    Ok(Shown::Limited(limited))
+    Ok(limited)
 }
 
 #[test]
 fn a_gate_is_settled_by_all_receipts(rt: HostRuntime) -> Result<(), Fail> {
-    let want = Shown::Settled([
+    let want = [
         Err(SettleFault::StillOut),
         Err(SettleFault::Mismatch),
         Ok(Settled {
             events: 4,
             starts: 0,
         }),
-    ]);
+    ];
     for form in [Form::Plain, Form::Held] {
-        let got = show(
-            &rt,
-            rt.alloc(),
-            book(&rt, 1_024, 65_536)?,
-            Row::Settle(form),
-        )?;
+        let row = SettleRow {
+            rt: &rt,
+            alloc: rt.alloc(),
+            form,
+        };
+        let got = with_gate(book(&rt, 1_024, 65_536)?, row)?;
         assert_eq!(rt; got, want, "settled");
     }
     Ok(())
@@ -276,19 +262,24 @@ fn a_gate_is_settled_by_all_receipts(rt: HostRuntime) -> Result<(), Fail> {
 
 #[test]
 fn marks_fit_the_entries_of_their_own_gate(rt: HostRuntime) -> Result<(), Fail> {
-    let got = show(&rt, rt.alloc(), book(&rt, 1_024, 65_536)?, Row::Fit)?;
-    assert_eq!(rt; got, Shown::Fit([true, false]), "own, and another's");
+    let row = FitRow {
+        rt: &rt,
+        alloc: rt.alloc(),
+    };
+    let got = with_gate(book(&rt, 1_024, 65_536)?, row)?;
+    assert_eq!(rt; got, [true, false], "own, and another's");
     Ok(())
 }
 
 #[test]
 fn two_threads_share_a_gate(rt: HostRuntime) -> Result<(), Fail> {
-    let want = Shown::Threads(Ok(Settled {
+    let want = Ok(Settled {
         events: 602,
         starts: 200,
-    }));
+    });
     for _ in 0..10 {
-        let got = show(&rt, rt.alloc(), book(&rt, 2, 65_536)?, Row::Threads)?;
+        let book = book(&rt, 2, 65_536)?;
+        let got = two_threads::<Brand, HostRuntime>(&rt, rt.alloc(), book, Blanks::new())?;
         assert_eq!(rt; got, want, "a hundred rounds of each");
     }
     Ok(())
@@ -296,14 +287,18 @@ fn two_threads_share_a_gate(rt: HostRuntime) -> Result<(), Fail> {
 
 #[test]
 fn so_many_desks_and_no_more_are_made(rt: HostRuntime) -> Result<(), Fail> {
-    let got = show(&rt, rt.alloc(), book(&rt, 1_024, 65_536)?, Row::Desks)?;
-    assert_eq!(rt; got, Shown::Desks(MAX_DESKS), "the last desk's number");
+    let row = DeskRow {
+        rt: &rt,
+        alloc: rt.alloc(),
+    };
+    let got = with_gate(book(&rt, 1_024, 65_536)?, row);
+    assert_eq!(rt; got, MAX_DESKS, "the last desk's number");
     Ok(())
 }
 
 #[test]
 fn one_authority_is_known_at_a_time(rt: HostRuntime) -> Result<(), Fail> {
-    let want = Shown::Limited(Limited {
+    let want = Limited {
         full: Err(BeginRefusal::AuthoritiesFull),
         early: Ok(0),
         late: Ok(1),
@@ -313,9 +308,14 @@ fn one_authority_is_known_at_a_time(rt: HostRuntime) -> Result<(), Fail> {
         },
         free: Ok(2),
         denied: Some(Cause::Unknown),
-    });
+    };
     for form in [Form::Plain, Form::Held] {
-        let got = show(&rt, rt.alloc(), book(&rt, 1_024, 1)?, Row::Limit(form))?;
+        let row = LimitRow {
+            rt: &rt,
+            alloc: rt.alloc(),
+            form,
+        };
+        let got = with_gate(book(&rt, 1_024, 1)?, row)?;
         assert_eq!(rt; got, want, "one authority");
     }
     Ok(())

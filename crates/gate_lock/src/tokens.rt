@@ -2,7 +2,7 @@
 //! RFC 9309 has none of them: they make each fetch look at the answer in force (2.4).
 ghost use Rattle.std.specs.Prelude.{◌≡◌};
 
-use crate::ledgers::Gate;
+use crate::ledgers::{Gate, RunningLedger, TurnLedger, UnspentLedger};
 use crate::shares::One;
 use authority_cache::TurnNo;
 use gate_history::Reason;
@@ -19,7 +19,7 @@ pub struct Permit<G: Gate> {
     pub(crate) token: Token,
     pub(crate) url: PageUrl,
     pub(crate) desk: u64,
-    pub(crate) one: One<G::Unspent>,
+    pub(crate) one: One<UnspentLedger<G>>,
 }
 
 impl<G: Gate> Model for Permit<G> {
@@ -74,7 +74,7 @@ pub struct Running<G: Gate> {
     pub(crate) url: PageUrl,
     pub(crate) desk: u64,
     pub(crate) reason: Reason,
-    pub(crate) one: One<G::Running>,
+    pub(crate) one: One<RunningLedger<G>>,
 }
 
 impl<G: Gate> Model for Running<G> {
@@ -159,7 +159,7 @@ pub struct Fetched<G: Gate> {
     pub(crate) token: Token,
     pub(crate) url: PageUrl,
     pub(crate) desk: u64,
-    pub(crate) one: One<G::Running>,
+    pub(crate) one: One<RunningLedger<G>>,
 }
 
 impl<G: Gate> Model for Fetched<G> {
@@ -212,7 +212,7 @@ pub struct RobotsTurn<G: Gate> {
     pub(crate) authority: Authority,
     pub(crate) turn: TurnNo,
     pub(crate) desk: u64,
-    pub(crate) one: One<G::Turns>,
+    pub(crate) one: One<TurnLedger<G>>,
 }
 
 impl<G: Gate> Model for RobotsTurn<G> {

@@ -1,0 +1,23 @@
+-- One more was spent, which was the last one that was left.
+-- So those that were spent are the last ones.
+use Rattle.std.proofs.Common.{◌≡◌, ◌++◌, [], ◌∷◌, List, ap, ◌∙◌, append_assoc, arith}
+use Rattle.std.proofs.lemmas.List.Elements.{All-pop}
+use Rattle.gate_lock.specs.Bags.{kept_in}
+use Rattle.gate_lock.specs.Desks.{Pass}
+use Rattle.gate_lock.proofs.bag.return_each.Goals as goal
+
+pub loop-permit-preserved : goal.loop-permit-preserved
+loop-permit-preserved g c =
+    let inv = c.loop-permit.invariant in
+    let left = All-pop (λ (p : Pass). p.desk ≡ c.args.desk.now.no) _ _ c.pop.result c.pop.ensures.kept inv.1 in
+    let out = c.back.ensures.out in
+    let done = inv.2.0 in (
+      c.back.ensures.no ∙ inv.0,
+      left.0,
+      (
+        c.in-Some.permit ∷ done,
+        inv.2.1 ∙ ap (λ (kept : List Pass). kept ++ done) c.in-Some.ensures.kept ∙ append_assoc (kept_in c.pop.new.self) (c.in-Some.permit ∷ []) done,
+        (c.loop-permit.desk, inv.2.2, c.back.ensures.step),
+        omega (arith, inv.2.3, out.permits_are, out.runs_are, out.turns_are),
+      ),
+    )

@@ -1,0 +1,205 @@
+//! Permits or fetches, each found by its number without a search over the others.
+//! They take memory where room is made for more of them, and nowhere else.
+ghost use Rattle.std.specs.Prelude.{◌≡◌, ◌+◌, ◌^◌, ◌<◌, ◌≤◌, ◌++◌, ◌∷◌, [], false, IfNone, IfOk, IfSome, IsOk, length, OnOk, slice_get, Some, true};
+ghost use Rattle.std.specs.List.{list_any};
+ghost use Rattle.std.specs.List.Sorted.{IsPermutation};
+ghost use Rattle.std.specs.Option.{IsSome, option_to_list};
+ghost use Rattle.gate_lock.specs.Bags.{is_sought, kept_at, kept_in};
+
+use indexmap::IndexMap;
+use std::alloc::{AllocError, Global};
+use std::marker::Model;
+
+// What has a number by which it is found.
+pub(crate) trait Numbered {
+    ghost use Rattle.std.specs.Prelude.{ℕ};
+
+    // Its number.
+    ghost named: { Self → ℕ };
+
+    fn numbered(&self) -> u64
+        ensures { result ≡ named self.now };
+}
+
+// A test of what has the number that is sought.
+pub(crate) trait Sought<T> {
+    ghost use Rattle.std.specs.Prelude.{Bool};
+
+    // Whether it passes.
+    ghost accepts: { Self → T → Bool };
+
+    fn is(&self, kept: &T) -> bool
+        ensures { result ≡ accepts self.now kept.now };
+}
+
+// Where it is kept, until something is put in or taken out.
+#[derive(Clone, Copy)]
+pub(crate) enum Spot {
+    First(usize),
+    Twin(usize),
+}
+
+// What is kept. A gate grants no number twice, so that there are no twins; only the type does not know it.
+pub(crate) struct Store<T: Numbered> {
+    // By number.
+    first: IndexMap<u64, T>,
+    // What has the number of another one.
+    twins: Vec<T>,
+}
+
+impl<T: Numbered> Model for Store<T> {
+    ghost use Rattle.std.specs.Prelude.{◌≡◌, ◌-◌, length, min, vec_capacity};
+    ghost use Rattle.std.specs.List.{All};
+    ghost use Rattle.indexmap.specs.IndexMap.{spare, values};
+    ghost use Rattle.gate_lock.specs.Bags.{StoreView};
+
+    ghost Value = { StoreView T };
+
+    ghost view = { λ store. record {
+      first = values store.first;
+      twins = store.twins.items;
+      room = min (spare store.first) (vec_capacity store.twins - length store.twins.items);
+    } };
+
+    ghost invariant = { λ store. All (λ e. T.named e.1 ≡ e.0) store.first.entries };
+}
+
+impl<T: Numbered> Store<T> {
+    // Nothing is kept, and there is memory for a first one.
+    pub fn new(alloc: Global) -> Result<Store<T>, AllocError>
+        ensures { IfOk result (λ store. kept_in store ≡ []) }
+    {
+        Ok(Store {
+            first: IndexMap::with_capacity(alloc, 1)?,
+            twins: Vec::new(alloc),
+        })
+    }
+
+    // How many are the first of their numbers.
+    pub fn first_count(&self) -> usize
+        ensures count { result ≡ length self.now.first }
+        ensures bound { result < 2 ^ 63 }
+    {
+        self.first.len()
+    }
+
+    // The others.
+    pub fn twins(&self) -> &[T]
+        ensures { result.now ≡ self.now.twins }
+    {
+        self.twins.as_slice()
+    }
+
+    // Makes room for so many more.
+    pub fn make_room(&mut self, more: usize) -> Result<(), AllocError>
+        ensures first { self.new.first ≡ self.old.first }
+        ensures twins { self.new.twins ≡ self.old.twins }
+        ensures room { self.old.room ≤ self.new.room }
+        ensures ok { OnOk result (more ≤ self.new.room) }
+        ensures succeeds { more ≤ self.old.room → IsOk result }
+    {
+        self.first.reserve(more)?;
+        self.twins.reserve(more)
+    }
+
+    // Where one of the number is kept that is sought.
+    pub fn find<S: Sought<T>>(&self, number: u64, sought: &S) -> Option<Spot>
+        ensures some { IfSome result (λ spot. IfSome (kept_at self.now spot) (λ kept. is_sought T.named (S.accepts sought.now) number kept ≡ true)) }
+        ensures there { IfSome result (λ spot. IsSome (kept_at self.now spot)) }
+        ensures none { IfNone result (list_any (is_sought T.named (S.accepts sought.now) number) (kept_in self.now) ≡ false) }
+    {
+        let _unique = self.first.len();
+        let Some((place, _, kept)) = self.first.get_full(&number) else {
+            return self.find_twin(number, sought);
+        };
+        if sought.is(kept) {
+            return Some(Spot::First(place));
+        }
+        self.find_twin(number, sought)
+    }
+
+    // The same, of those that are not the first of their numbers.
+    fn find_twin<S: Sought<T>>(&self, number: u64, sought: &S) -> Option<Spot>
+        ensures some { IfSome result (λ spot. IfSome (kept_at self.now spot) (λ kept. is_sought T.named (S.accepts sought.now) number kept ≡ true)) }
+        ensures there { IfSome result (λ spot. IsSome (kept_at self.now spot)) }
+        ensures none { IfNone result (list_any (is_sought T.named (S.accepts sought.now) number) self.now.twins ≡ false) }
+    {
+        let place = find_among(self.twins.as_slice(), number, sought)?;
+        Some(Spot::Twin(place))
+    }
+
+    // Takes out what is kept there.
+    pub fn remove(&mut self, spot: Spot) -> T
+        requires { IsSome (kept_at self.old spot) }
+        ensures taken { kept_at self.old spot ≡ Some result }
+        ensures left { IsPermutation (kept_in self.old) (result ∷ kept_in self.new) }
+        ensures room { self.old.room ≤ self.new.room }
+    {
+        match spot {
+            Spot::First(place) => match self.first.swap_remove_index(place) {
+                Some((_, kept)) => kept,
+                None => unreachable!(),
+            },
+            Spot::Twin(place) => self.twins.swap_remove(place),
+        }
+    }
+
+    // Keeps one more. It takes no memory.
+    pub fn put(&mut self, kept: T)
+        requires { 0 < self.old.room }
+        ensures kept { IsPermutation (kept ∷ kept_in self.old) (kept_in self.new) }
+        ensures room { self.old.room ≤ self.new.room + 1 }
+    {
+        let number = kept.numbered();
+        if self.first.contains_key(&number) {
+            self.twins.push_reserved(kept);
+            return;
+        }
+        match self.first.insert(number, kept) {
+            Ok(None) => {}
+            Ok(Some(_twin)) => unreachable!(),
+            Err(_refused) => unreachable!(),
+        }
+    }
+
+    // Takes out the last one.
+    pub fn pop(&mut self) -> Option<T>
+        ensures kept { kept_in self.old ≡ kept_in self.new ++ option_to_list result }
+        ensures none { IfNone result (kept_in self.new ≡ []) }
+        ensures room { self.old.room ≤ self.new.room }
+    {
+        if let Some(kept) = self.twins.pop() {
+            return Some(kept);
+        }
+        let (_, kept) = self.first.pop()?;
+        Some(kept)
+    }
+
+    // The end of a store that keeps nothing.
+    pub fn destroy_empty(self)
+        requires { kept_in self ≡ [] }
+    {
+        let Store { first, twins } = self;
+        first.destroy_empty();
+        let _none = twins.as_slice();
+        twins.destroy_empty();
+    }
+}
+
+// The place of one of the number that is sought.
+fn find_among<T: Numbered, S: Sought<T>>(all: &[T], number: u64, sought: &S) -> Option<usize>
+    ensures some { IfSome result (λ place. IfSome (slice_get all.now place) (λ kept. is_sought T.named (S.accepts sought.now) number kept ≡ true)) }
+    ensures there { IfSome result (λ place. IsSome (slice_get all.now place)) }
+    ensures none { IfNone result (list_any (is_sought T.named (S.accepts sought.now) number) all.now ≡ false) }
+{
+    let mut rest = all;
+    let mut place = 0;
+    while let [kept, after @ ..] = rest {
+        if kept.numbered() == number && sought.is(kept) {
+            return Some(place);
+        }
+        rest = after;
+        place += 1;
+    }
+    None
+}

@@ -1,0 +1,41 @@
+//! `with_gate`: a new gate, lent to a visitor that knows nothing of its ledgers.
+//! Who hands the gate to threads makes it by itself: see `Blanks`.
+ghost use Rattle.std.specs.Prelude.{◌≡◌, []};
+ghost use Rattle.gate_history.specs.Base.{empty_base};
+
+use crate::ledgers::{Blanks, Gate};
+use crate::lock::GateLock;
+use gate_core::Book;
+use std::marker::Brand;
+
+/// What is done with a gate, whichever it is.
+pub trait Visit {
+    ghost use Rattle.std.specs.Prelude.{⊤};
+
+    /// What comes of it.
+    type Out;
+
+    /// Holds of a visitor and what comes of it.
+    ghost shows: { Self → Self.Out → Type 0 } = { λ _ _. ⊤ };
+
+    /// Does it.
+    fn visit<G: Gate>(self, gate: &GateLock<G>) -> Self::Out
+        ensures { shows self result };
+}
+
+/// Makes a gate of a book that has made no entry, and lends it.
+pub fn with_gate<V: Visit>(book: Book, visitor: V) -> V::Out
+    requires { (book.base ≡ empty_base) × (book.entries ≡ []) }
+    ensures { V.shows visitor result }
+{
+    visit_new::<Brand, V>(Blanks::new(), book, visitor)
+}
+
+fn visit_new<G: Gate, V: Visit>(blanks: Blanks, book: Book, visitor: V) -> V::Out
+    requires blanks { blanks ≡ G.ledgers }
+    requires book { (book.base ≡ empty_base) × (book.entries ≡ []) }
+    ensures { V.shows visitor result }
+{
+    let gate: GateLock<G> = GateLock::new(book, blanks);
+    visitor.visit(&gate)
+}
