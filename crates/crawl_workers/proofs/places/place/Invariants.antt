@@ -1,0 +1,18 @@
+-- The jobs so far stand at their places, and the other places are as they were.
+-- Used by `place`.
+use Rattle.std.proofs.Common.{◌≡◌, ◌++◌, ℕ, List, length}
+use Rattle.std.specs.List.{slice_get}
+use Rattle.job_line.specs.Sums.{weigh}
+use Rattle.crawl_workers.specs.declared.crew.Done.{Done}
+use Rattle.crawl_workers.specs.Crews.{one_for}
+use Rattle.crawl_workers.specs.Shifts.{ArePlaced, numbers_of}
+use Rattle.crawl_workers.proofs.places.place.Given as goal
+
+abbrev pub invariant-loop-job : goal.invariant-loop-job
+invariant-loop-job l = record {
+  taken : List Done;
+  all : l.fn.done.items ≡ taken ++ l.job-iterator.rest.items;
+  len : length l.outcomes ≡ length l.fn.outcomes;
+  placed : ArePlaced l.outcomes taken;
+  others : (n : ℕ) → weigh (one_for n) (numbers_of taken) ≡ 0 → slice_get l.outcomes n ≡ slice_get l.fn.outcomes n;
+}

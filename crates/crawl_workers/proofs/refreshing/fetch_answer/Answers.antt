@@ -1,0 +1,25 @@
+-- What was given for the walk's URL goes on or decides.
+use Rattle.std.proofs.Common.{ℕ, List, inl, subst}
+use Rattle.robots_fetch.specs.declared.reply.RobotsReply.{RobotsReply}
+use Rattle.robots_fetch.specs.declared.walk.Step.TheVariants.{Go, Done}
+use Rattle.robots_fetch.specs.Steps.{Steps}
+use Rattle.crawl_workers.proofs.Fetching.{fetched, go_on}
+use Rattle.crawl_workers.proofs.refreshing.fetch_answer.Goals as goal
+
+pub returns-in-Done-clause-brings : goal.returns-in-Done-clause-brings
+returns-in-Done-clause-brings g c =
+    let gives = g.F.Fetcher.gives c.args.fetcher.now in
+    let walk = c.loop-next.walk in
+    let P : List ℕ → Type 0 = λ url. gives url c.fetch_robots.result in
+    let Q : RobotsReply → Type 0 = λ reply. Steps walk reply (Done c.in-Done.answer c.in-Done.life) in
+    inl (fetched gives c.args.turn.now.authority walk c.fetch_robots.result c.in-Done.answer c.in-Done.life c.loop-next.invariant
+    (subst P c.url.ensures c.fetch_robots.ensures) (subst Q c.robots_reply-reply.ensures c.in-Done.ensures))
+
+pub loop-next-preserved-in-Go : goal.loop-next-preserved-in-Go
+loop-next-preserved-in-Go g c =
+    let gives = g.F.Fetcher.gives c.args.fetcher.now in
+    let walk = c.loop-next.walk in
+    let P : List ℕ → Type 0 = λ url. gives url c.fetch_robots.result in
+    let Q : RobotsReply → Type 0 = λ reply. Steps walk reply (Go c.in-Go.next) in
+    go_on gives c.args.turn.now.authority walk c.in-Go.next c.fetch_robots.result c.loop-next.invariant
+    (subst P c.url.ensures c.fetch_robots.ensures) (subst Q c.robots_reply-reply.ensures c.in-Go.ensures)

@@ -1,0 +1,205 @@
+-- What came of a job: fetches one behind another, each by a permit of its own, and how the list of hops ends.
+-- RFC 9309, sections 2.2 and 2.3.1; RFC 9110, section 15.4.
+use Rattle.std.specs.Prelude.{◌≡◌, ◌<◌, ◌≤◌, ◌⊎◌, ◌++◌, ◌∷◌, [], ℕ, suc, List, Option, None, Result, Ok, Err, length, map, string_bytes}
+use Rattle.std.specs.Option.{option_map}
+use Rattle.path_normal.specs.PageText.{authority_of}
+use Rattle.robots_verdict.specs.declared.said.Said.{Said}
+use Rattle.gate_history.specs.declared.outcome.Cause.{Cause}
+use Rattle.gate_history.specs.declared.outcome.Reason.{Reason}
+use Rattle.gate_lock.specs.Desks.{DeskView}
+use Rattle.gate_lock.specs.declared.mark.Deed.{Deed}
+use Rattle.gate_lock.specs.declared.mark.Deed.TheVariants as deeds
+use Rattle.gate_lock.specs.declared.mark.Mark.{Mark}
+use Rattle.http_wire.specs.declared.fault.WireFault.{WireFault}
+use Rattle.http_wire.specs.declared.response.HttpReply.{HttpReply}
+use Rattle.robots_fetch.specs.declared.redirect.Stop.{Stop}
+use Rattle.robots_fetch.specs.Redirects.{location_target, most_redirects, redirect_target}
+use Rattle.robots_fetch.specs.Statuses.{class_of}
+use Rattle.robots_fetch.specs.declared.status.StatusClass.TheVariants as classes
+use Rattle.crawl_workers.specs.declared.hop.Hop.{Hop}
+use Rattle.crawl_workers.specs.declared.hop.Hop.TheVariants as hops
+use Rattle.crawl_workers.specs.declared.hop.Refusal.TheVariants as refusals
+use Rattle.crawl_workers.specs.declared.job.Job.{Job}
+use Rattle.crawl_workers.specs.declared.job.Outcome.{Outcome}
+use Rattle.crawl_workers.specs.Refreshes.{IsBrought}
+
+-- what the marks of a desk say
+abbrev pub deeds_of : List Mark → List Deed
+deeds_of ms = map (λ m. m.deed) ms
+
+-- the hop of a fetch, by its permit and what was given
+abbrev pub hop_of : ℕ → Reason → Result HttpReply WireFault → Hop
+hop_of number reason (Ok reply) = hops.Page number reason reply.status (length reply.body.items) reply.cut
+hop_of number reason (Err fault) = hops.Fault number fault
+
+-- the body that was given
+abbrev pub body_of : Result HttpReply WireFault → List ℕ
+body_of (Ok reply) = reply.body.items
+body_of (Err fault) = []
+
+-- the Location that was given
+abbrev pub location_of : Result HttpReply WireFault → Option (List ℕ)
+location_of (Ok reply) = option_map string_bytes reply.location
+location_of (Err fault) = None
+
+-- a reply was given whose status is that of a redirect
+abbrev pub IsRedirect : Result HttpReply WireFault → Type 0
+IsRedirect (Ok reply) = class_of reply.status ≡ classes.Redirect
+IsRedirect (Err fault) = ⊥
+
+-- a turn of the authority began and brought an answer that fetches decide
+pub record IsTurn
+    (gives : List ℕ → Result HttpReply WireFault → Type 0) (authority : List ℕ) (own : List Deed) : Type 0 where
+  pub begun : ℕ
+  pub turn : ℕ
+  pub arrived : ℕ
+  pub says : Said
+  pub life : ℕ
+  pub brings : IsBrought gives authority says life
+  pub own_is : own ≡ deeds.Begun begun authority turn ∷ deeds.Arrived arrived turn says life ∷ []
+
+-- at most one such turn
+abbrev pub MayRefresh : (List ℕ → Result HttpReply WireFault → Type 0) → List ℕ → List Deed → Type 0
+MayRefresh gives authority own = (own ≡ []) ⊎ IsTurn gives authority own
+
+-- a hop behind at most one turn of its authority
+pub record AfterRefresh
+    (gives : List ℕ → Result HttpReply WireFault → Type 0) (url : List ℕ) (Tells : List Deed → Type 0) (own : List Deed)
+    : Type 0 where
+  pub before : List Deed
+  pub behind : List Deed
+  pub may_refresh : MayRefresh gives (authority_of url) before
+  pub tells : Tells behind
+  pub own_is : own ≡ before ++ behind
+
+-- one fetch of a page: a permit of its own is granted for this token and URL, started and finished, and the
+-- hop tells what was given for the URL
+pub record IsFetch
+    (gives : List ℕ → Result HttpReply WireFault → Type 0) (token url : List ℕ) (hop : Hop)
+    (given : Result HttpReply WireFault) (own : List Deed)
+    : Type 0 where
+  pub number : ℕ
+  pub reason : Reason
+  pub granted : ℕ
+  pub started : ℕ
+  pub is_given : gives url given
+  pub own_is :
+      own ≡ deeds.Granted granted number (record { token = token; url = url })
+      ∷ deeds.Started started number reason ∷ deeds.Finished number ∷ []
+  pub tells : hop ≡ hop_of number reason given
+
+-- the denial of an ask for this token and URL
+abbrev pub IsAskDenied : List ℕ → List ℕ → Cause → List Deed → Type 0
+IsAskDenied token url cause own =
+    (moment : ℕ) × (own ≡ deeds.AskDenied moment (record { token = token; url = url }) cause ∷ [])
+
+-- the denial of the start of a permit that was granted for them
+pub record IsStartDenied (token url : List ℕ) (cause : Cause) (own : List Deed) : Type 0 where
+  pub number : ℕ
+  pub granted : ℕ
+  pub denied : ℕ
+  pub own_is :
+      own ≡ deeds.Granted granted number (record { token = token; url = url })
+      ∷ deeds.StartDenied denied number cause ∷ []
+
+-- a fetch behind which no hop comes: no redirect was given
+pub record IsLastFetch
+    (gives : List ℕ → Result HttpReply WireFault → Type 0) (token url : List ℕ) (hop : Hop) (body : List ℕ)
+    (own : List Deed)
+    : Type 0 where
+  pub given : Result HttpReply WireFault
+  pub fetch : IsFetch gives token url hop given own
+  pub ends : IsRedirect given → ⊥
+  pub body_is : body ≡ body_of given
+
+-- a fetch behind which a hop comes at another URL: a redirect leads there
+pub record IsFollowed
+    (gives : List ℕ → Result HttpReply WireFault → Type 0) (token url : List ℕ) (hop : Hop) (next : List ℕ)
+    (own : List Deed)
+    : Type 0 where
+  pub given : Result HttpReply WireFault
+  pub fetch : IsFetch gives token url hop given own
+  pub redirects : IsRedirect given
+  pub leads : location_target url (location_of given) ≡ Ok next
+
+-- why a redirect is not followed, with so many followed before it: it leads nowhere, or there is no memory
+-- for where it leads
+abbrev pub IsStop : ℕ → Result (List ℕ) Stop → Hop → Type 0
+IsStop followed target (hops.Stop stop) = target ≡ Err stop
+IsStop followed target (hops.Refused refusals.NoMemory) = followed < most_redirects
+IsStop followed target _ = ⊥
+
+-- a fetch behind which a hop says why the redirect is not followed
+pub record IsStopped
+    (gives : List ℕ → Result HttpReply WireFault → Type 0) (token url : List ℕ) (followed : ℕ) (hop stop : Hop)
+    (body : List ℕ) (own : List Deed)
+    : Type 0 where
+  pub given : Result HttpReply WireFault
+  pub fetch : IsFetch gives token url hop given own
+  pub redirects : IsRedirect given
+  pub stops : IsStop followed (redirect_target followed url (location_of given)) stop
+  pub body_is : body ≡ []
+
+-- the last hop by itself: a fetch that gave no redirect, a denial, or a refusal
+abbrev pub IsLast :
+    (List ℕ → Result HttpReply WireFault → Type 0) → List ℕ → List ℕ → Hop → List ℕ → List Deed → Type 0
+IsLast gives token url (hops.Page number reason status size cut) body own =
+    IsLastFetch gives token url (hops.Page number reason status size cut) body own
+IsLast gives token url (hops.Fault number fault) body own =
+    IsLastFetch gives token url (hops.Fault number fault) body own
+IsLast gives token url (hops.No denial) body own =
+    (denial.url ≡ url) × (IsAskDenied token url denial.cause own ⊎ IsStartDenied token url denial.cause own)
+    × (body ≡ [])
+IsLast gives token url (hops.Refused refusal) body own = (own ≡ []) × (body ≡ [])
+IsLast gives token url (hops.Stop stop) body own = ⊥
+
+-- the last hops at a URL, with so many redirects followed to it: the last by itself, or a redirect and why
+-- it is not followed
+abbrev pub IsEnd :
+    (List ℕ → Result HttpReply WireFault → Type 0) → List ℕ → List ℕ → ℕ → List Hop → List ℕ → List Deed → Type 0
+IsEnd gives token url followed [] body own = ⊥
+IsEnd gives token url followed (hop ∷ []) body own = AfterRefresh gives url (IsLast gives token url hop body) own
+IsEnd gives token url followed (hop ∷ (stop ∷ [])) body own =
+    AfterRefresh gives url (IsStopped gives token url followed hop stop body) own
+IsEnd gives token url followed (hop ∷ (stop ∷ (other ∷ later))) body own = ⊥
+
+-- the hops are redirects from the one URL to the other, each followed from where the one before it led
+abbrev pub Follows :
+    (List ℕ → Result HttpReply WireFault → Type 0) → List ℕ → List ℕ → List Hop → List ℕ → List Deed → Type 0
+Follows gives token url [] end own = (url ≡ end) × (own ≡ [])
+Follows gives token url (hop ∷ later) end own =
+    (next : List ℕ) × ((first : List Deed) × ((rest : List Deed) ×
+    (AfterRefresh gives url (IsFollowed gives token url hop next) first
+    × Follows gives token next later end rest × (own ≡ first ++ rest))))
+
+-- hops and a body for a token and a URL: redirects, at most five, that are followed, and how they end
+pub record AreHops
+    (gives : List ℕ → Result HttpReply WireFault → Type 0) (token url : List ℕ) (all : List Hop) (body : List ℕ)
+    (own : List Deed)
+    : Type 0 where
+  pub way : List Hop
+  pub last : List Hop
+  pub end : List ℕ
+  pub front : List Deed
+  pub back : List Deed
+  pub are_all : all ≡ way ++ last
+  pub are_few : length way ≤ most_redirects
+  pub follows : Follows gives token url way end front
+  pub ends : IsEnd gives token end (length way) last body back
+  pub own_is : own ≡ front ++ back
+
+-- an outcome of a job is told by what its desk did
+abbrev pub IsOutcome : (List ℕ → Result HttpReply WireFault → Type 0) → Job → Outcome → List Deed → Type 0
+IsOutcome gives job outcome own = AreHops gives job.token job.url outcome.hops.items outcome.body.items own
+
+-- a desk worked on a job: the marks that it made meanwhile are those of the outcome
+abbrev pub Works : (List ℕ → Result HttpReply WireFault → Type 0) → Job → Outcome → DeskView → DeskView → Type 0
+Works gives job outcome old new =
+    (own : List Deed) × ((deeds_of new.marks ≡ deeds_of old.marks ++ own) × IsOutcome gives job outcome own)
+
+-- how many of the hops are fetches of a page, whatever came of them
+abbrev pub fetches_in : List Hop → ℕ
+fetches_in [] = 0
+fetches_in (hops.Page number reason status size cut ∷ later) = suc (fetches_in later)
+fetches_in (hops.Fault number fault ∷ later) = suc (fetches_in later)
+fetches_in (_ ∷ later) = fetches_in later

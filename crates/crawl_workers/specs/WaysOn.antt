@@ -1,0 +1,57 @@
+-- Where a job goes on behind one hop, and what the deeds of that hop are.
+-- RFC 9309, sections 2.2 and 2.3.1; RFC 9110, section 15.4.
+use Rattle.std.specs.Prelude.{◌≡◌, ◌<◌, ◌++◌, [], ℕ, List, Result, Ok}
+use Rattle.gate_core.specs.declared.refusal.AskRefusal.{AskRefusal}
+use Rattle.gate_core.specs.declared.refusal.AskRefusal.TheVariants as asks
+use Rattle.gate_history.specs.declared.outcome.Reason.{Reason}
+use Rattle.gate_lock.specs.Desks.{DeskView}
+use Rattle.gate_lock.specs.declared.mark.Deed.{Deed}
+use Rattle.http_wire.specs.declared.fault.WireFault.{WireFault}
+use Rattle.http_wire.specs.declared.response.HttpReply.{HttpReply}
+use Rattle.robots_fetch.specs.declared.redirect.Stop.{Stop}
+use Rattle.robots_fetch.specs.Redirects.{most_redirects, redirect_target}
+use Rattle.crawl_workers.specs.declared.hop.Hop.{Hop}
+use Rattle.crawl_workers.specs.declared.hop.Hop.TheVariants as hops
+use Rattle.crawl_workers.specs.declared.hop.Refusal.TheVariants as refusals
+use Rattle.crawl_workers.specs.declared.way_on.WayOn.{WayOn}
+use Rattle.crawl_workers.specs.declared.way_on.WayOn.TheVariants as ways
+use Rattle.crawl_workers.specs.Outcomes.{IsFollowed, IsLast, IsRedirect, IsStop, IsStopped, body_of, deeds_of, hop_of, location_of}
+
+-- a desk made some deeds meanwhile, of which this is true
+pub record AddsDeeds (Tells : List Deed → Type 0) (old new : DeskView) : Type 0 where
+  pub own : List Deed
+  pub adds : deeds_of new.marks ≡ deeds_of old.marks ++ own
+  pub tells : Tells own
+
+-- the hop of an ask that granted no permit
+abbrev pub ask_hop : AskRefusal → Hop
+ask_hop (asks.Denied denial) = hops.No denial
+ask_hop asks.LogFull = hops.Refused refusals.LogFull
+ask_hop asks.Busy = hops.Refused refusals.Busy
+ask_hop asks.PermitsFull = hops.Refused refusals.PermitsFull
+ask_hop asks.NoMemory = hops.Refused refusals.NoMemory
+
+-- a redirect with a target, or with why it has none, and with so many followed before it
+abbrev pub LeadsOn : ℕ → Result (List ℕ) Stop → Hop → WayOn → Type 0
+LeadsOn followed target page (ways.Ends hop body) = ⊥
+LeadsOn followed target page (ways.Leads hop next) = (hop ≡ page) × (target ≡ Ok next)
+LeadsOn followed target page (ways.Stops hop stop) = (hop ≡ page) × IsStop followed target stop
+
+-- what comes behind a fetch: nothing behind what is no redirect, else where it leads
+abbrev pub GoesOn : ℕ → Reason → ℕ → List ℕ → Result HttpReply WireFault → WayOn → Type 0
+GoesOn number reason followed url given (ways.Ends hop body) =
+    (hop ≡ hop_of number reason given) × (IsRedirect given → ⊥) × (body.items ≡ body_of given)
+GoesOn number reason followed url given (ways.Leads hop next) =
+    IsRedirect given
+    × LeadsOn followed (redirect_target followed url (location_of given)) (hop_of number reason given) (ways.Leads hop next)
+GoesOn number reason followed url given (ways.Stops hop stop) =
+    IsRedirect given
+    × LeadsOn followed (redirect_target followed url (location_of given)) (hop_of number reason given) (ways.Stops hop stop)
+
+-- the deeds of a hop, behind a refresh of its authority
+abbrev pub TellsWay :
+    (List ℕ → Result HttpReply WireFault → Type 0) → List ℕ → List ℕ → ℕ → WayOn → List Deed → Type 0
+TellsWay gives token url followed (ways.Ends hop body) own = IsLast gives token url hop body.items own
+TellsWay gives token url followed (ways.Leads hop next) own =
+    IsFollowed gives token url hop next own × (followed < most_redirects)
+TellsWay gives token url followed (ways.Stops hop stop) own = IsStopped gives token url followed hop stop [] own

@@ -1,0 +1,22 @@
+//! What is true of every outcome of a job, and the limits of jobs.
+//! RFC 9309, sections 2.2 and 2.3.1.2.
+ghost use Rattle.std.specs.Prelude.{◌≡◌};
+ghost use Rattle.crawl_workers.specs.Limits.{max_hops, page_limit};
+ghost use Rattle.crawl_workers.specs.OutcomeLaws.{FetchesAreCounted, FetchesAreStarted};
+
+use crate::fetcher::Fetcher;
+use crate::worker::PAGE_LIMIT;
+use crate::working::MAX_HOPS;
+
+/// The limits of jobs are those that the definitions name.
+pub fn limits_are()
+    ensures page { PAGE_LIMIT ≡ page_limit }
+    ensures hops { MAX_HOPS ≡ max_hops }
+{}
+
+/// Each page of an outcome was fetched by a permit whose fetch was started for it: the numbers of the
+/// started fetches are those of the pages and faults, in order, and there are as many.
+pub fn fetches_are_started<F: Fetcher>(_fetcher: &F)
+    ensures started { FetchesAreStarted (F.gives _fetcher.now) }
+    ensures counted { FetchesAreCounted }
+{}

@@ -1,0 +1,98 @@
+//! `refresh`: a robots answer of an authority, fetched anew.
+//! RFC 9309, sections 2.3.1 and 2.4.
+ghost use Rattle.std.specs.Prelude.{◌≡◌};
+ghost use Rattle.robots_verdict.specs.Answer.{said, spares_of};
+ghost use Rattle.gate_core.specs.States.{standing_as};
+ghost use Rattle.gate_lock.specs.Desks.{KeepsOut};
+ghost use Rattle.crawl_workers.specs.Refreshes.{IsBrought, IsUndecided, Refreshes, reply_of};
+
+use crate::clock::Clock;
+use crate::fetcher::Fetcher;
+use authority_cache::LIFE;
+use gate_core::{BeginRefusal, Standing};
+use gate_lock::{Desk, Gate, RobotsTurn};
+use http_wire::{HttpReply, WireFault};
+use path_normal::Authority;
+use robots_fetch::{RobotsReply, Step, Walk};
+use robots_verdict::{Answer, Closure};
+use std::alloc::Global;
+use std::sync::Wait;
+
+/// Fetches the robots file of an authority, and has the desk bring the answer, which stands from now
+/// on. It tells that answer's word: rules, open or closed. No lock is held while it fetches.
+///
+/// Where the allocator has no memory for the fetch, the authority is closed. Only what `Desk::begin`
+/// refuses is refused, and then nothing is fetched.
+pub fn refresh<G: Gate, F: Fetcher, C: Clock, R: Wait>(
+    rt: &R,
+    alloc: Global,
+    authority: &Authority,
+    desk: &mut Desk<'_, G>,
+    fetcher: &F,
+    clock: &C,
+) -> Result<Standing, BeginRefusal>
+    ensures refreshes { Refreshes (F.gives fetcher.now) authority.now result desk.old desk.new }
+    ensures no { desk.new.no ≡ desk.old.no }
+    ensures out { KeepsOut desk.old desk.new }
+{
+    let turn = desk.begin(rt, authority, clock.now())?;
+    let (answer, life) = fetch_answer(alloc, &turn, fetcher);
+    let word = word_of(&answer);
+    desk.arrive(rt, turn, answer, life, clock.now());
+    Ok(word)
+}
+
+// The answer that the authority's robots file gives, and its life in seconds.
+fn fetch_answer<G: Gate, F: Fetcher>(
+    alloc: Global,
+    turn: &RobotsTurn<G>,
+    fetcher: &F,
+) -> (Answer, u64)
+    ensures brings { IsBrought (F.gives fetcher.now) turn.now.authority (said result.0) result.1 }
+    ensures spares { spares_of result.0 ≡ 2 }
+{
+    let Ok(mut walk) = Walk::new(turn.authority()) else {
+        return undecided();
+    };
+    loop {
+        let reply = robots_reply(fetcher.fetch_robots(turn, walk.url()));
+        walk = match walk.step(alloc, &reply) {
+            Step::Go(next) => next,
+            Step::Done(answer, life) => return (answer, life),
+            Step::NoMemory(_) => return undecided(),
+        };
+    }
+}
+
+// The answer where memory is refused: a closed site is the safe side.
+fn undecided() -> (Answer, u64)
+    ensures undecided { IsUndecided (said result.0) result.1 }
+    ensures spares { spares_of result.0 ≡ 2 }
+{
+    (Answer::Closed(Closure::Other), LIFE)
+}
+
+fn robots_reply(given: Result<HttpReply, WireFault>) -> RobotsReply
+    ensures { result ≡ reply_of given }
+{
+    match given {
+        Ok(reply) => RobotsReply::Status {
+            code: reply.status,
+            location: reply.location,
+            body: reply.body,
+            max_age: reply.max_age,
+        },
+        Err(WireFault::Coding) => RobotsReply::CodingFault,
+        Err(_) => RobotsReply::NetworkFault,
+    }
+}
+
+fn word_of(answer: &Answer) -> Standing
+    ensures { result ≡ standing_as (said answer.now) }
+{
+    match answer {
+        Answer::Rules(_) => Standing::Rules,
+        Answer::Open(_) => Standing::Open,
+        Answer::Closed(_) => Standing::Closed,
+    }
+}

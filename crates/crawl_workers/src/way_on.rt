@@ -1,0 +1,69 @@
+//! Where a job goes on behind one fetch of a page.
+//! RFC 9110, section 15.4.
+ghost use Rattle.std.specs.Prelude.{string_bytes};
+ghost use Rattle.std.specs.Option.{option_map};
+ghost use Rattle.robots_fetch.specs.Redirects.{redirect_target};
+ghost use Rattle.crawl_workers.specs.WaysOn.{GoesOn, LeadsOn};
+
+use crate::hop::{Hop, Refusal};
+use gate_history::Reason;
+use http_wire::{HttpReply, WireFault};
+use path_normal::PageUrl;
+use permit_book::PermitNo;
+use robots_fetch::{MAX_REDIRECTS, Nowhere, StatusClass, Stop, class_of, redirect_target};
+use std::alloc::Global;
+
+/// Where a job goes on behind a hop.
+#[derive(Debug, Drop)]
+pub(crate) enum WayOn {
+    /// Nowhere, and this is the body of its page.
+    Ends(Hop, Vec<u8>),
+    /// To the page where its redirect leads.
+    Leads(Hop, PageUrl),
+    /// Nowhere: its redirect is not followed, as the second hop says.
+    Stops(Hop, Hop),
+}
+
+/// Where a job goes on behind the fetch of a page by the permit of this number, with so many
+/// redirects followed before it.
+pub(crate) fn way_on(
+    alloc: Global,
+    number: PermitNo,
+    reason: Reason,
+    followed: u64,
+    url: &PageUrl,
+    given: Result<HttpReply, WireFault>,
+) -> WayOn
+    ensures { GoesOn number reason followed url.now given result }
+{
+    let reply = match given {
+        Ok(reply) => reply,
+        Err(fault) => return WayOn::Ends(Hop::Fault { number, fault }, Vec::new(alloc)),
+    };
+    let page = Hop::Page {
+        number,
+        reason,
+        status: reply.status,
+        length: reply.body.len() as u64,
+        cut: reply.cut,
+    };
+    match class_of(reply.status) {
+        StatusClass::Redirect => follow(page, followed, url, &reply.location),
+        _ => WayOn::Ends(page, reply.body),
+    }
+}
+
+// Where a job goes on behind a page of a redirect status.
+fn follow(page: Hop, followed: u64, url: &PageUrl, location: &Option<String>) -> WayOn
+    ensures { LeadsOn followed
+        (redirect_target followed url.now (option_map string_bytes location.now)) page result }
+{
+    if followed >= MAX_REDIRECTS {
+        return WayOn::Stops(page, Hop::Stop(Stop::TooManyRedirects));
+    }
+    match redirect_target(followed, url, location) {
+        Ok(next) => WayOn::Leads(page, next),
+        Err(Nowhere::Stop(stop)) => WayOn::Stops(page, Hop::Stop(stop)),
+        Err(Nowhere::NoMemory) => WayOn::Stops(page, Hop::Refused(Refusal::NoMemory)),
+    }
+}

@@ -1,0 +1,197 @@
+//! The hops of a job, each with a refresh where no answer is in force, an ask, and a fetch by the permit.
+//! RFC 9309, sections 2.2, 2.3.1 and 2.4.
+ghost use Rattle.std.specs.Prelude.{◌≡◌, ◌≤◌, ◌∷◌, [], ℕ, List, vec_capacity};
+ghost use Rattle.path_normal.specs.PageText.{authority_of};
+ghost use Rattle.gate_lock.specs.Desks.{HasOut, KeepsOut};
+ghost use Rattle.gate_lock.specs.declared.mark.Deed.{Deed};
+ghost use Rattle.crawl_workers.specs.Limits.{max_hops};
+ghost use Rattle.crawl_workers.specs.Outcomes.{AfterRefresh, AreHops, MayRefresh};
+ghost use Rattle.crawl_workers.specs.WaysOn.{AddsDeeds, TellsWay, ask_hop};
+
+use crate::clock::Clock;
+use crate::fetcher::Fetcher;
+use crate::hop::{Hop, Refusal};
+use crate::job::Outcome;
+use crate::refreshing::refresh;
+use crate::way_on::{WayOn, way_on};
+use gate_core::{AskRefusal, BeginRefusal, Standing};
+use gate_lock::{Desk, Gate, Permit};
+use path_normal::{Authority, PageUrl};
+use robots_text::Token;
+use std::alloc::Global;
+use std::sync::Wait;
+
+/// The most octets that are taken of a page's body.
+pub(crate) const PAGE_LIMIT: usize = 1_048_576;
+
+/// What works on jobs.
+#[derive(Drop)]
+pub(crate) struct Worker<'a, F: Fetcher, C: Clock, R: Wait> {
+    pub(crate) rt: &'a R,
+    pub(crate) alloc: Global,
+    pub(crate) fetcher: &'a F,
+    pub(crate) clock: &'a C,
+}
+
+impl<F: Fetcher, C: Clock, R: Wait> Worker<'_, F, C, R> {
+    /// Makes the hops of a job, for which there is room.
+    pub(crate) fn hops_from<G: Gate>(
+        &self,
+        token: &Token,
+        url: PageUrl,
+        room: Vec<Hop>,
+        desk: &mut Desk<'_, G>,
+    ) -> Outcome
+        requires empty { room.items ≡ [] }
+        requires room { max_hops ≤ vec_capacity room }
+        ensures tells { AddsDeeds (AreHops (F.gives self.now.fetcher.now) token.now url
+            result.hops.items result.body.items) desk.old desk.new }
+        ensures no { desk.new.no ≡ desk.old.no }
+        ensures out { KeepsOut desk.old desk.new }
+    {
+        let mut hops = room;
+        let mut url = url;
+        loop {
+            match self.hop_at(token, url, hops.len() as u64, desk) {
+                WayOn::Ends(hop, body) => {
+                    hops.push_reserved(hop);
+                    return Outcome { hops, body };
+                }
+                WayOn::Leads(hop, next) => {
+                    hops.push_reserved(hop);
+                    url = next;
+                }
+                WayOn::Stops(hop, stop) => {
+                    hops.push_reserved(hop);
+                    hops.push_reserved(stop);
+                    let body = Vec::new(self.alloc);
+                    return Outcome { hops, body };
+                }
+            }
+        }
+    }
+
+    // Makes a hop at a page, with so many redirects followed before it.
+    fn hop_at<G: Gate>(
+        &self,
+        token: &Token,
+        url: PageUrl,
+        followed: u64,
+        desk: &mut Desk<'_, G>,
+    ) -> WayOn
+        ensures tells { AddsDeeds (AfterRefresh (F.gives self.now.fetcher.now) url
+            (TellsWay (F.gives self.now.fetcher.now) token.now url followed result)) desk.old desk.new }
+        ensures no { desk.new.no ≡ desk.old.no }
+        ensures out { KeepsOut desk.old desk.new }
+    {
+        if let Err(refusal) = self.see_to_answer(&url, desk) {
+            return WayOn::Ends(Hop::Refused(refusal), Vec::new(self.alloc));
+        }
+        match token.copy() {
+            Ok(token) => self.fetch_asked(token, url, followed, desk),
+            Err(_) => WayOn::Ends(Hop::Refused(Refusal::NoMemory), Vec::new(self.alloc)),
+        }
+    }
+
+    // Refreshes the answer of a page's authority where none is in force. Where another desk does so,
+    // its answer is waited for.
+    fn see_to_answer<G: Gate>(&self, url: &PageUrl, desk: &mut Desk<'_, G>) -> Result<(), Refusal>
+        ensures refreshed { AddsDeeds (MayRefresh (F.gives self.now.fetcher.now) (authority_of url.now))
+            desk.old desk.new }
+        ensures no { desk.new.no ≡ desk.old.no }
+        ensures out { KeepsOut desk.old desk.new }
+    {
+        let state = desk.state_of(self.rt, url.authority(), self.clock.now());
+        match state.standing {
+            Standing::Unknown | Standing::Expired => self.refresh_once(url, desk),
+            Standing::Closed | Standing::Open | Standing::Rules => Ok(()),
+        }
+    }
+
+    fn refresh_once<G: Gate>(&self, url: &PageUrl, desk: &mut Desk<'_, G>) -> Result<(), Refusal>
+        ensures refreshed { AddsDeeds (MayRefresh (F.gives self.now.fetcher.now) (authority_of url.now))
+            desk.old desk.new }
+        ensures no { desk.new.no ≡ desk.old.no }
+        ensures out { KeepsOut desk.old desk.new }
+    {
+        let Ok(authority) = Authority::of(url) else {
+            return Err(Refusal::NoMemory);
+        };
+        match refresh(
+            self.rt,
+            self.alloc,
+            &authority,
+            desk,
+            self.fetcher,
+            self.clock,
+        ) {
+            Ok(_) => Ok(()),
+            Err(BeginRefusal::InFlight) => {
+                desk.wait_answer(self.rt, url.authority(), self.clock.now());
+                Ok(())
+            }
+            Err(BeginRefusal::LogFull) => Err(Refusal::LogFull),
+            Err(BeginRefusal::AuthoritiesFull) => Err(Refusal::AuthoritiesFull),
+            Err(BeginRefusal::NoMemory) => Err(Refusal::NoMemory),
+        }
+    }
+
+    // Asks for a page, and fetches it where that is granted.
+    fn fetch_asked<G: Gate>(
+        &self,
+        token: Token,
+        url: PageUrl,
+        followed: u64,
+        desk: &mut Desk<'_, G>,
+    ) -> WayOn
+        ensures tells { AddsDeeds (TellsWay (F.gives self.now.fetcher.now) token url followed result)
+            desk.old desk.new }
+        ensures no { desk.new.no ≡ desk.old.no }
+        ensures out { KeepsOut desk.old desk.new }
+    {
+        match desk.ask(self.rt, token, url, self.clock.now()) {
+            Ok(permit) => self.fetch_granted(permit, followed, desk),
+            Err(refusal) => WayOn::Ends(ask_hop(refusal), Vec::new(self.alloc)),
+        }
+    }
+
+    // Starts the fetch of a permit, makes it and finishes it.
+    fn fetch_granted<G: Gate>(
+        &self,
+        permit: Permit<G>,
+        followed: u64,
+        desk: &mut Desk<'_, G>,
+    ) -> WayOn
+        requires { permit.desk ≡ desk.old.no }
+        ensures tells { AddsDeeds (λ (own : List Deed). (granted : ℕ) → TellsWay (F.gives self.now.fetcher.now)
+            permit.token permit.url followed result
+            (Deed.Granted granted permit.number (record { token = permit.token; url = permit.url }) ∷ own))
+            desk.old desk.new }
+        ensures no { desk.new.no ≡ desk.old.no }
+        ensures out { HasOut desk.old desk.new 0 1 0 0 0 0 }
+    {
+        let running = match desk.start(self.rt, permit, self.clock.now()) {
+            Ok(running) => running,
+            Err(denial) => return WayOn::Ends(Hop::No(denial), Vec::new(self.alloc)),
+        };
+        let number = running.number();
+        let reason = running.reason();
+        let (fetched, given) = self.fetcher.fetch_page(running, PAGE_LIMIT);
+        let way = way_on(self.alloc, number, reason, followed, fetched.url(), given);
+        desk.finish(self.rt, fetched);
+        way
+    }
+}
+
+// The hop of an ask that granted no permit.
+fn ask_hop(refusal: AskRefusal) -> Hop
+    ensures { result ≡ ask_hop refusal }
+{
+    match refusal {
+        AskRefusal::Denied(denial) => Hop::No(denial),
+        AskRefusal::LogFull => Hop::Refused(Refusal::LogFull),
+        AskRefusal::Busy => Hop::Refused(Refusal::Busy),
+        AskRefusal::PermitsFull => Hop::Refused(Refusal::PermitsFull),
+        AskRefusal::NoMemory => Hop::Refused(Refusal::NoMemory),
+    }
+}

@@ -1,0 +1,50 @@
+//! `work`: a job, page after page over redirects, each by a permit of its own.
+//! RFC 9309, sections 2.2 and 2.3.1; RFC 9110, section 15.4.
+ghost use Rattle.std.specs.Prelude.{◌≡◌, ◌+◌, IfOk, OnErr};
+ghost use Rattle.gate_lock.specs.Desks.{KeepsOut};
+ghost use Rattle.gate_lock.specs.Marks.{starts_in};
+ghost use Rattle.crawl_workers.specs.Outcomes.{Works, fetches_in};
+
+use crate::clock::Clock;
+use crate::fetcher::Fetcher;
+use crate::job::{Job, Outcome};
+use crate::worker::Worker;
+use gate_lock::{Desk, Gate};
+use std::alloc::{AllocError, Global};
+use std::sync::Wait;
+
+/// The most hops of a job: five redirects that are followed, the page behind them, and why that is
+/// not followed where it is a redirect too.
+pub(crate) const MAX_HOPS: usize = 7;
+
+/// Fetches the page of a job, and where redirects lead from it, five at most. Each page has an ask
+/// and a start of its own. Before the ask the robots answer of the page's authority is refreshed
+/// where none is in force; where another desk is refreshing it, that is waited for.
+///
+/// The room of the hops is taken first, and only that can be refused here. Later want of memory
+/// ends the list of hops.
+pub fn work<G: Gate, F: Fetcher, C: Clock, R: Wait>(
+    rt: &R,
+    alloc: Global,
+    job: Job,
+    desk: &mut Desk<'_, G>,
+    fetcher: &F,
+    clock: &C,
+) -> Result<Outcome, AllocError>
+    ensures no { desk.new.no ≡ desk.old.no }
+    ensures out { KeepsOut desk.old desk.new }
+    ensures ok { IfOk result (λ outcome. Works (F.gives fetcher.now) job outcome desk.old desk.new) }
+    ensures starts { IfOk result (λ outcome. starts_in desk.new.marks
+        ≡ starts_in desk.old.marks + fetches_in outcome.hops.items) }
+    ensures err { OnErr result (desk.new ≡ desk.old) }
+{
+    let worker = Worker {
+        rt,
+        alloc,
+        fetcher,
+        clock,
+    };
+    let room = Vec::with_capacity(alloc, MAX_HOPS)?;
+    let Job { token, url } = job;
+    Ok(worker.hops_from(&token, url, room, desk))
+}
