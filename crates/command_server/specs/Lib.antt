@@ -11,3 +11,5 @@ pub mod Answers
 pub mod Session
 pub mod Steps
 pub mod Replay
+pub mod HopText
+pub mod JobWords

@@ -54,12 +54,17 @@ cause_words causes.Expired = codes "expired" ∷ []
 cause_words causes.Closed = codes "closed" ∷ []
 cause_words (causes.Line number) = line_words number
 
+-- the word of a reason
+abbrev pub reason_word : Reason → List ℕ
+reason_word reasons.Open = codes "open"
+reason_word (reasons.Line number) = codes "line"
+reason_word reasons.NoRule = codes "norule"
+reason_word reasons.RobotsPath = codes "robots"
+
 -- the words of a reason
 abbrev pub reason_words : Reason → List (List ℕ)
-reason_words reasons.Open = codes "open" ∷ []
 reason_words (reasons.Line number) = line_words number
-reason_words reasons.NoRule = codes "norule" ∷ []
-reason_words reasons.RobotsPath = codes "robots" ∷ []
+reason_words reason = reason_word reason ∷ []
 
 -- the reply to an ask or a start that is denied
 abbrev pub denial_text : Denial → List ℕ

@@ -46,7 +46,7 @@ pub fn read_command(alloc: Global, line: &[u8]) -> Result<Command<'_>, LineFault
     read_timed(alloc, words)
 }
 
-fn plain_text(line: &[u8]) -> Option<&str>
+pub(crate) fn plain_text(line: &[u8]) -> Option<&str>
     ensures { MatchOption result (is_plain line.now ≡ false)
         (λ text. (is_plain line.now ≡ true) × (text.now ≡ line.now)) }
 {

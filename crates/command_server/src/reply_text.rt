@@ -4,7 +4,7 @@ ghost use Rattle.std.specs.Prelude.{◌≡◌};
 ghost use Rattle.command_server.specs.FaultText.{fault_text};
 ghost use Rattle.line_text.specs.Pieces.{pieces_text};
 ghost use Rattle.command_server.specs.ReplyText.{arrive_text, ask_text, back_text, begin_text};
-ghost use Rattle.command_server.specs.ReplyText.{bye_text, denial_text, finish_text, reply_text};
+ghost use Rattle.command_server.specs.ReplyText.{bye_text, denial_text, finish_text, reason_word, reply_text};
 ghost use Rattle.command_server.specs.ReplyText.{standing_word, start_text, started_text, state_text, sweep_text};
 
 use crate::fault::LineFault;
@@ -95,15 +95,24 @@ fn started_pieces(started: &Started) -> Pieces<'_>
     ensures { pieces_text result ≡ started_text started.now }
 {
     let number = Piece::Number(started.number.number());
-    let word = match started.reason {
+    match started.reason {
+        Reason::Line(line) => {
+            Pieces::four_words("GO", number, Piece::Text("line"), Piece::Number(line))
+        }
+        other => Pieces::three_words("GO", number, Piece::Text(reason_word(other))),
+    }
+}
+
+// The word of a reason, of which a line has a number behind it.
+pub(crate) fn reason_word(reason: Reason) -> &'static str
+    ensures { result.now ≡ reason_word reason }
+{
+    match reason {
         Reason::Open => "open",
+        Reason::Line(_) => "line",
         Reason::NoRule => "norule",
         Reason::RobotsPath => "robots",
-        Reason::Line(line) => {
-            return Pieces::four_words("GO", number, Piece::Text("line"), Piece::Number(line));
-        }
-    };
-    Pieces::three_words("GO", number, Piece::Text(word))
+    }
 }
 
 // The reply to BACK.
@@ -160,7 +169,7 @@ pub(crate) fn fault_pieces(fault: LineFault) -> Pieces<'static>
     Pieces::whole(fault.text())
 }
 
-fn denial_pieces(denial: &Denial) -> Pieces<'_>
+pub(crate) fn denial_pieces(denial: &Denial) -> Pieces<'_>
     ensures { pieces_text result ≡ denial_text denial.now }
 {
     let authority = Piece::Text(denial.authority());
