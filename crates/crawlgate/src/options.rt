@@ -3,11 +3,12 @@
 ghost use Rattle.std.specs.Prelude.{IfOk, IfSome, ◌≤◌};
 ghost use Rattle.permit_book.specs.Numbers.{last_generation};
 ghost use Rattle.gate_core.specs.Limits.{AreLimits};
-ghost use Rattle.crawlgate.specs.Options.{IsInRange};
+ghost use Rattle.crawlgate.specs.Options.{IsCrew, IsInRange};
 
 use clap::error::ErrorKind;
 use clap::{Arg, ArgAction, ArgMatches, Command, Error};
 use gate_core::{Limits, MAX_AUTHORITIES, MAX_LOG, MAX_PLACES};
+use job_line::MAX_WORKERS;
 use permit_book::{LAST_GENERATION, MAX_SLOTS};
 use std::alloc::{AllocError, Global};
 
@@ -23,6 +24,9 @@ pub enum Subcommand {
     Lines,
     /// Audits the text of a history on standard input.
     Audit,
+    /// Has so many workers do the jobs on standard input, over a book of these limits, and writes
+    /// what came of them to standard output.
+    Shift(u64, Limits),
 }
 
 /// Reads the program's words, of which the first is its own name. The error has what `clap`
@@ -39,6 +43,10 @@ pub fn options<'a>(alloc: Global, words: &'a [&'a str]) -> Result<Subcommand, Er
             // `clap` has refused such numbers.
             None => Err(program.error(ErrorKind::ValueValidation, "a number is out of its range")?),
         },
+        Some(("shift", shift)) => match shift_of(shift) {
+            Some((workers, limits)) => Ok(Subcommand::Shift(workers, limits)),
+            None => Err(program.error(ErrorKind::ValueValidation, "a number is out of its range")?),
+        },
         Some(("audit", _)) => Ok(Subcommand::Audit),
         // There is no other subcommand, and one is required.
         _ => Ok(Subcommand::Lines),
@@ -47,6 +55,7 @@ pub fn options<'a>(alloc: Global, words: &'a [&'a str]) -> Result<Subcommand, Er
 
 fn program<'a>(alloc: Global) -> Result<Command<'a>, AllocError> {
     let replay = replay_words(alloc)?;
+    let shift = shift_words(alloc)?;
     let lines = Command::new(alloc, "lines").about(
         "Writes what each line of the robots.txt on standard input says",
     );
@@ -57,6 +66,7 @@ fn program<'a>(alloc: Global) -> Result<Command<'a>, AllocError> {
         .about("A gate for web crawlers, under every site's robots.txt (RFC 9309)")
         .subcommand_required(true)
         .subcommand(replay)?
+        .subcommand(shift)?
         .subcommand(lines)?
         .subcommand(audit)
 }
@@ -102,6 +112,33 @@ fn replay_words<'a>(alloc: Global) -> Result<Command<'a>, AllocError> {
         )
 }
 
+// The words of `shift`.
+fn shift_words<'a>(alloc: Global) -> Result<Command<'a>, AllocError> {
+    Command::new(alloc, "shift")
+        .about("Fetches the pages of the jobs on standard input, and writes what came of them")
+        .arg(number(
+            alloc,
+            "workers",
+            "4",
+            MAX_WORKERS,
+            "Jobs that are done at a time",
+        ))?
+        .arg(number(
+            alloc,
+            "slots",
+            "1024",
+            MAX_SLOTS,
+            "Permits that may be out at a time",
+        ))?
+        .arg(number(
+            alloc,
+            "places",
+            "65536",
+            MAX_PLACES,
+            "Permits that may be out for an authority at a time",
+        ))
+}
+
 // An option with a number from 1 to `most`.
 fn number<'a>(
     alloc: Global,
@@ -132,6 +169,16 @@ fn limits_of(matches: &ArgMatches<'_>) -> Option<Limits>
         authority_limit: number_of(matches, "authorities", MAX_AUTHORITIES)?,
         places: number_of(matches, "places", MAX_PLACES)?,
     })
+}
+
+// The workers and the limits that the options of `shift` set, where each is in its range.
+fn shift_of(matches: &ArgMatches<'_>) -> Option<(u64, Limits)>
+    ensures { IfSome result (λ set. IsCrew set.0 × AreLimits set.1) }
+{
+    let mut limits = Limits::usual();
+    limits.slots = number_of(matches, "slots", MAX_SLOTS)?;
+    limits.places = number_of(matches, "places", MAX_PLACES)?;
+    Some((number_of(matches, "workers", MAX_WORKERS)?, limits))
 }
 
 // The number of an option, where it is from 1 to `most`.

@@ -12,11 +12,14 @@ use std::random::RandomSource;
 use std::test::Fail;
 
 mod calls;
+mod changes;
 mod faults;
 mod lines;
+mod loopback;
 mod options;
 mod rows;
 mod rules;
+mod shift;
 mod waiting;
 
 // Replays the input with reads of at most so many octets, and checks what was written and the end.

@@ -16,7 +16,7 @@ const USUAL: Limits = Limits {
 };
 
 // What the words are, the words behind the program's name, and what they come to.
-const ROWS: [(&str, &[&str], Result<Subcommand, ErrorKind>); 16] = [
+const ROWS: [(&str, &[&str], Result<Subcommand, ErrorKind>); 20] = [
     ("replay", &["replay"], Ok(Subcommand::Replay(USUAL))),
     (
         "replay with its export",
@@ -25,6 +25,29 @@ const ROWS: [(&str, &[&str], Result<Subcommand, ErrorKind>); 16] = [
     ),
     ("lines", &["lines"], Ok(Subcommand::Lines)),
     ("audit", &["audit"], Ok(Subcommand::Audit)),
+    ("shift", &["shift"], Ok(Subcommand::Shift(4, USUAL))),
+    (
+        "shift with its options",
+        &["shift", "--workers=16", "--slots=1", "--places=2"],
+        Ok(Subcommand::Shift(
+            16,
+            Limits {
+                slots: 1,
+                places: 2,
+                ..USUAL
+            },
+        )),
+    ),
+    (
+        "a worker too many",
+        &["shift", "--workers", "17"],
+        Err(ErrorKind::ValueValidation),
+    ),
+    (
+        "an option of replay",
+        &["shift", "--log", "1"],
+        Err(ErrorKind::UnknownArgument),
+    ),
     ("no word", &[], Err(ErrorKind::MissingSubcommand)),
     (
         "an unknown word",
