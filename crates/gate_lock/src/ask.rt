@@ -75,14 +75,11 @@ impl<'a, G: Gate> Desk<'a, G> {
             Ok((number, one)) => {
                 self.permits += 1;
                 let last = round.last();
-                self.marks.push_reserved(Mark {
-                    place: last.place,
-                    deed: Deed::Granted {
-                        moment: last.moment,
-                        number,
-                        fetch,
-                    },
-                });
+                self.marks.push_reserved(last.mark(Deed::Granted {
+                    moment: last.moment,
+                    number,
+                    fetch,
+                }));
                 Ok(Permit {
                     number,
                     token,
@@ -93,14 +90,11 @@ impl<'a, G: Gate> Desk<'a, G> {
             }
             Err(AskRefusal::Denied(denial)) => {
                 let last = round.last();
-                self.marks.push_reserved(Mark {
-                    place: last.place,
-                    deed: Deed::AskDenied {
-                        moment: last.moment,
-                        fetch,
-                        cause: denial.cause,
-                    },
-                });
+                self.marks.push_reserved(last.mark(Deed::AskDenied {
+                    moment: last.moment,
+                    fetch,
+                    cause: denial.cause,
+                }));
                 Err(AskRefusal::Denied(denial))
             }
             Err(refusal) => Err(refusal),

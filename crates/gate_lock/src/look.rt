@@ -9,7 +9,7 @@ ghost use Rattle.gate_lock.specs.Steps.{DeskReads, DeskSweeps, Somewhere};
 use crate::desk::Desk;
 use crate::ledgers::Gate;
 use crate::lock::Held;
-use crate::mark::{Deed, Mark};
+use crate::mark::Deed;
 use gate_core::{State, SweepRefusal};
 use std::sync::Wait;
 
@@ -44,13 +44,10 @@ impl<'a, G: Gate> Desk<'a, G> {
         match result {
             Ok(count) => {
                 let last = round.last();
-                self.marks.push_reserved(Mark {
-                    place: last.place,
-                    deed: Deed::Swept {
-                        moment: last.moment,
-                        count,
-                    },
-                });
+                self.marks.push_reserved(last.mark(Deed::Swept {
+                    moment: last.moment,
+                    count,
+                }));
                 Ok(count)
             }
             Err(refusal) => Err(refusal),

@@ -12,6 +12,7 @@ ghost use Rattle.gate_lock.specs.Balance.{nothing};
 ghost use Rattle.gate_lock.specs.Results.{IsLast, entries_of_ask, entries_of_ok, is_denial, reply_in};
 
 use crate::ledgers::{Gate, RunningLedger, TurnLedger, UnspentLedger};
+use crate::mark::{Deed, Mark};
 use crate::shares::{Mine, One};
 use crate::tally::{DesksFull, Tally};
 use authority_cache::TurnNo;
@@ -29,6 +30,18 @@ use std::marker::Model;
 pub(crate) struct Last {
     pub place: u64,
     pub moment: u64,
+}
+
+impl Last {
+    // What a desk keeps of it.
+    pub fn mark(self, deed: Deed) -> Mark
+        ensures { result ≡ record { place = self.place; deed = deed } }
+    {
+        Mark {
+            place: self.place,
+            deed,
+        }
+    }
 }
 
 // The book, and the ledgers by which its numbers are the sums of what desks and values have.

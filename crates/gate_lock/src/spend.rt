@@ -10,9 +10,9 @@ ghost use Rattle.gate_lock.specs.Steps.{DeskFinishes, DeskReturns, DeskStarts, S
 use crate::desk::Desk;
 use crate::ledgers::Gate;
 use crate::lock::Held;
-use crate::mark::{Deed, Mark};
+use crate::mark::Deed;
 use crate::tokens::{Fetched, Permit, Running};
-use gate_core::{Denial, Started};
+use gate_core::Denial;
 use std::sync::Wait;
 
 #[tactic(auto, using(std::proofs::lemmas::Grind::common_steps, crate::proofs::Starts::starts_in_push))]
@@ -91,37 +91,26 @@ impl<'a, G: Gate> Desk<'a, G> {
         let (started, one) = match result {
             Ok(both) => both,
             Err(denial) => {
-                self.marks.push_reserved(Mark {
-                    place: last.place,
-                    deed: Deed::StartDenied {
-                        moment: last.moment,
-                        number,
-                        cause: denial.cause,
-                    },
-                });
+                self.marks.push_reserved(last.mark(Deed::StartDenied {
+                    moment: last.moment,
+                    number,
+                    cause: denial.cause,
+                }));
                 return Err(denial);
             }
         };
-        let Started {
-            number: _,
-            url,
-            reason,
-        } = started;
         self.runs += 1;
-        self.marks.push_reserved(Mark {
-            place: last.place,
-            deed: Deed::Started {
-                moment: last.moment,
-                number,
-                reason,
-            },
-        });
+        self.marks.push_reserved(last.mark(Deed::Started {
+            moment: last.moment,
+            number,
+            reason: started.reason,
+        }));
         Ok(Running {
             number,
             token,
-            url,
+            url: started.url,
             desk,
-            reason,
+            reason: started.reason,
             one,
         })
     }
@@ -144,10 +133,8 @@ impl<'a, G: Gate> Desk<'a, G> {
         self.seen = round.entry_count();
         self.permits -= 1;
         let last = round.last();
-        self.marks.push_reserved(Mark {
-            place: last.place,
-            deed: Deed::Returned { number },
-        });
+        self.marks
+            .push_reserved(last.mark(Deed::Returned { number }));
     }
 
     fn finish_in(&mut self, held: &mut Held<'_, G>, fetched: Fetched<G>)
@@ -168,9 +155,7 @@ impl<'a, G: Gate> Desk<'a, G> {
         self.seen = round.entry_count();
         self.runs -= 1;
         let last = round.last();
-        self.marks.push_reserved(Mark {
-            place: last.place,
-            deed: Deed::Finished { number },
-        });
+        self.marks
+            .push_reserved(last.mark(Deed::Finished { number }));
     }
 }

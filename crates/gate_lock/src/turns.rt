@@ -65,14 +65,11 @@ impl<'a, G: Gate> Desk<'a, G> {
             Ok((turn, one)) => {
                 self.turns += 1;
                 let last = round.last();
-                self.marks.push_reserved(Mark {
-                    place: last.place,
-                    deed: Deed::Begun {
-                        moment: last.moment,
-                        authority: named,
-                        turn,
-                    },
-                });
+                self.marks.push_reserved(last.mark(Deed::Begun {
+                    moment: last.moment,
+                    authority: named,
+                    turn,
+                }));
                 Ok(RobotsTurn {
                     authority: kept,
                     turn,
@@ -142,15 +139,12 @@ impl<'a, G: Gate> Desk<'a, G> {
         self.seen = round.entry_count();
         self.turns -= 1;
         let last = round.last();
-        self.marks.push_reserved(Mark {
-            place: last.place,
-            deed: Deed::Arrived {
-                moment: last.moment,
-                turn,
-                says,
-                life: kept,
-            },
-        });
+        self.marks.push_reserved(last.mark(Deed::Arrived {
+            moment: last.moment,
+            turn,
+            says,
+            life: kept,
+        }));
     }
 }
 
