@@ -22,6 +22,36 @@ mod rules;
 mod shift;
 mod waiting;
 
+// What a session came to: its end, what was written, and how many entries the history has then.
+#[derive(Drop)]
+struct Session {
+    end: Result<(), SessionFault>,
+    replies: FailAt,
+    entries: usize,
+}
+
+// A session over a new book.
+fn replayed<R: AllocGlobal + RandomSource>(
+    rt: &R,
+    limits: Limits,
+    input: FailAt,
+    output: FailAt,
+) -> Result<Session, Fail>
+    requires { AreLimits limits }
+{
+    let mut input = input;
+    let mut replies = output;
+    let keys = RandomState::new(rt)?;
+    let mut book = Book::new(rt.alloc(), Config { limits, keys })?;
+    let end = replay(rt.alloc(), &mut input, &mut replies, &mut book);
+    let entries = book.history().len();
+    Ok(Session {
+        end,
+        replies,
+        entries,
+    })
+}
+
 // Replays the input with reads of at most so many octets, and checks what was written and the end.
 fn check<R: Abort + AllocGlobal + RandomSource>(
     rt: &R,
@@ -33,12 +63,10 @@ fn check<R: Abort + AllocGlobal + RandomSource>(
     requires reads { 0 < per_read }
 {
     let (name, input, want, end) = row;
-    let keys = RandomState::new(rt)?;
-    let mut book = Book::new(rt.alloc(), Config { limits, keys })?;
-    let mut reader = FailAt::new(input.to_vec(rt.alloc())?, per_read, None);
-    let mut writer = FailAt::new(Vec::new(rt.alloc()), 65536, None);
-    let result = replay(rt.alloc(), &mut reader, &mut writer, &mut book);
-    assert!(rt; writer.bytes() == want, "{name}");
-    assert_eq!(rt; result, end, "{name}");
+    let input = FailAt::new(input.to_vec(rt.alloc())?, per_read, None);
+    let output = FailAt::new(Vec::new(rt.alloc()), 65536, None);
+    let given = replayed(rt, limits, input, output)?;
+    assert!(rt; given.replies.bytes() == want, "{name}");
+    assert_eq!(rt; given.end, end, "{name}");
     Ok(())
 }

@@ -3,15 +3,12 @@
 ghost use Rattle.std.specs.Prelude.{◌≡◌, []};
 ghost use Rattle.gate_history.specs.Base.{empty_base};
 
-use super::shift::book;
-use crate::shift::{NotShifted, shift_over};
-use counted_io::{Counted, FailAt};
+use super::shift::{Shifted, book, crawl_over, jobs_of, new_report};
+use counted_io::Counted;
 use crawl_workers::{Clock, Fetcher, PageLeave, RobotsLeave};
 use gate_core::Book;
-use gate_lock::Blanks;
 use http_wire::{HttpReply, WireFault, read_response};
-use std::alloc::Global;
-use std::marker::Brand;
+use std::alloc::{AllocError, Global};
 use std::sync::Wait;
 use std::sync::atomic::{AtomicU64, Ordering};
 use std::test::Fail;
@@ -63,9 +60,7 @@ fn crawl<R: Threads + Wait + Sync>(
     alloc: Global,
     book: Book,
     after_page: u64,
-    reader: &mut FailAt,
-    report: &mut FailAt,
-) -> Result<(), NotShifted>
+) -> Result<Shifted, AllocError>
     requires { (book.base ≡ empty_base) × (book.entries ≡ []) }
 {
     let now = AtomicU64::new(100);
@@ -75,48 +70,27 @@ fn crawl<R: Threads + Wait + Sync>(
         after_page,
         robots_fetches: AtomicU64::new(0),
     };
-    let blanks = Blanks::new();
-    shift_over::<Brand, _, _, _, _, _>(
-        rt,
-        alloc,
-        reader,
-        report,
-        1,
-        book,
-        blanks,
-        &site,
-        &Set(&now),
-    )
+    let jobs = jobs_of(alloc, JOBS)?;
+    let report = new_report(alloc);
+    Ok(crawl_over(rt, alloc, book, 1, jobs, report, &site, &Set(&now)))
 }
 
 #[test]
 fn within_a_day_the_first_file_decides(rt: HostRuntime) -> Result<(), Fail> {
-    let alloc = rt.alloc();
-    let mut reader = FailAt::new(JOBS.to_vec(alloc)?, 65_536, None);
-    let mut report = FailAt::new(Vec::new(alloc), 65_536, None);
-    let end = crawl(&rt, alloc, book(&rt)?, 86_400, &mut reader, &mut report);
-    assert_eq!(rt; end, Ok(()));
-    assert!(rt;
-        report.bytes()
-            == b"1 1 PAGE open 200 5 whole\n2 1 PAGE open 200 5 whole\n\
-        SHIFT jobs 2 hops 2 starts 2\n"
-                .as_slice()
-    );
+    let given = crawl(&rt, rt.alloc(), book(&rt)?, 86_400)?;
+    let want: &[u8] = b"1 1 PAGE open 200 5 whole\n2 1 PAGE open 200 5 whole\n\
+        SHIFT jobs 2 hops 2 starts 2\n";
+    assert_eq!(rt; given.end, Ok(()));
+    assert!(rt; given.report.bytes() == want);
     Ok(())
 }
 
 #[test]
 fn after_a_day_the_file_is_fetched_anew(rt: HostRuntime) -> Result<(), Fail> {
-    let alloc = rt.alloc();
-    let mut reader = FailAt::new(JOBS.to_vec(alloc)?, 65_536, None);
-    let mut report = FailAt::new(Vec::new(alloc), 65_536, None);
-    let end = crawl(&rt, alloc, book(&rt)?, 86_401, &mut reader, &mut report);
-    assert_eq!(rt; end, Ok(()));
-    assert!(rt;
-        report.bytes()
-            == b"1 1 PAGE open 200 5 whole\n2 1 NO a.example line 2\n\
-        SHIFT jobs 2 hops 2 starts 1\n"
-                .as_slice()
-    );
+    let given = crawl(&rt, rt.alloc(), book(&rt)?, 86_401)?;
+    let want: &[u8] = b"1 1 PAGE open 200 5 whole\n2 1 NO a.example line 2\n\
+        SHIFT jobs 2 hops 2 starts 1\n";
+    assert_eq!(rt; given.end, Ok(()));
+    assert!(rt; given.report.bytes() == want);
     Ok(())
 }

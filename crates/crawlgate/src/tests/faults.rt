@@ -1,10 +1,10 @@
 //! A read or a write that fails, at every call in turn.
 
-use command_server::{SessionFault, replay};
+use super::{Session, replayed};
+use command_server::SessionFault;
 use counted_io::FailAt;
-use gate_core::{Book, Config, Limits};
+use gate_core::Limits;
 use std::alloc::Global;
-use std::hash::RandomState;
 use std::test::Fail;
 
 const INPUT: &str = "\
@@ -30,46 +30,46 @@ fn replies(alloc: Global, lines: usize) -> Result<Vec<u8>, Fail> {
     Ok(text)
 }
 
+// A session whose read after so many octets fails.
+fn read_failing(rt: &HostRuntime, octets: u64) -> Result<Session, Fail> {
+    let input = FailAt::new(INPUT.as_bytes().to_vec(rt.alloc())?, 1, Some(octets));
+    let output = FailAt::new(Vec::new(rt.alloc()), 65536, None);
+    replayed(rt, Limits::usual(), input, output)
+}
+
 #[test]
 fn a_read_fails(rt: HostRuntime) -> Result<(), Fail> {
     for octets in 0..INPUT.len() {
-        let config = Config {
-            limits: Limits::usual(),
-            keys: RandomState::new(&rt)?,
-        };
-        let mut book = Book::new(rt.alloc(), config)?;
-        let fails_at = Some(octets as u64);
-        let mut reader = FailAt::new(INPUT.as_bytes().to_vec(rt.alloc())?, 1, fails_at);
-        let mut writer = FailAt::new(Vec::new(rt.alloc()), 65536, None);
-        let result = replay(rt.alloc(), &mut reader, &mut writer, &mut book);
+        let given = read_failing(&rt, octets as u64)?;
         let lines = INPUT.bytes().take(octets).filter(|b| *b == b'\n').count();
-        assert_eq!(rt; result, Err(SessionFault::Read), "after {octets} octets");
-        assert_eq!(rt;
-            writer.bytes(),
-            replies(rt.alloc(), lines)?.as_slice(),
+        assert_eq!(rt; given.end, Err(SessionFault::Read), "after {octets} octets");
+        let want = replies(rt.alloc(), lines)?;
+        assert!(rt;
+            given.replies.bytes() == want.as_slice(),
             "after {octets} octets"
         );
-        assert_eq!(rt; book.history().len(), lines, "after {octets} octets");
+        assert_eq!(rt; given.entries, lines, "after {octets} octets");
     }
     Ok(())
+}
+
+// A session whose write after so many octets fails.
+fn write_failing(rt: &HostRuntime, octets: u64) -> Result<Session, Fail> {
+    let input = FailAt::new(INPUT.as_bytes().to_vec(rt.alloc())?, 65536, None);
+    let output = FailAt::new(Vec::new(rt.alloc()), 1, Some(octets));
+    replayed(rt, Limits::usual(), input, output)
 }
 
 #[test]
 fn a_write_fails(rt: HostRuntime) -> Result<(), Fail> {
     let all = replies(rt.alloc(), REPLIES.len())?;
     for call in 0..all.len() as u64 {
-        let config = Config {
-            limits: Limits::usual(),
-            keys: RandomState::new(&rt)?,
-        };
-        let mut book = Book::new(rt.alloc(), config)?;
-        let mut reader = FailAt::new(INPUT.as_bytes().to_vec(rt.alloc())?, 65536, None);
-        let mut writer = FailAt::new(Vec::new(rt.alloc()), 1, Some(call));
-        let result = replay(rt.alloc(), &mut reader, &mut writer, &mut book);
-        assert_eq!(rt; result, Err(SessionFault::Write), "at write {call}");
-        assert!(rt; all.starts_with(writer.bytes()), "at write {call}");
-        assert_eq!(rt; writer.bytes().len() as u64, call, "at write {call}");
-        assert_eq!(rt; book.history().len(), 4, "at write {call}");
+        let given = write_failing(&rt, call)?;
+        let written = given.replies.bytes();
+        assert_eq!(rt; given.end, Err(SessionFault::Write), "at write {call}");
+        assert!(rt; all.starts_with(written), "at write {call}");
+        assert_eq!(rt; written.len() as u64, call, "at write {call}");
+        assert_eq!(rt; given.entries, 4, "at write {call}");
     }
     Ok(())
 }

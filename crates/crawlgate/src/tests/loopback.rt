@@ -4,15 +4,12 @@ ghost use Rattle.std.specs.Prelude.{◌≡◌, []};
 ghost use Rattle.gate_history.specs.Base.{empty_base};
 ghost use Rattle.crawlgate.specs.Options.{IsCrew};
 
-use super::shift::{Still, book};
-use crate::shift::{NotShifted, shift_over};
+use super::shift::{Shifted, Still, book, crawl_over, jobs_of, new_report};
 use counted_io::FailAt;
-use crawl_workers::{Fetcher, TcpFetcher, TimeLimits};
+use crawl_workers::{TcpFetcher, TimeLimits};
 use gate_core::Book;
-use gate_lock::Blanks;
-use std::alloc::Global;
+use std::alloc::{AllocError, Global};
 use std::io::{Read, Write};
-use std::marker::Brand;
 use std::net::{Ipv4Addr, Net, SocketAddr, TcpListener, TcpStream};
 use std::sync::Wait;
 use std::test::Fail;
@@ -62,6 +59,13 @@ const ANSWERS: [(&[u8], &str, Then); 8] = [
 fn serve(alloc: Global, listener: &TcpListener) -> io::Result<bool> {
     let (mut stream, _) = listener.accept()?;
     stream.set_read_timeout(Some(Duration::from_secs(10)))?;
+    let request = read_request(alloc, &mut stream)?;
+    let target = target_of(request.as_slice());
+    answer(&mut stream, target)?;
+    Ok(target != b"/robots.txt".as_slice())
+}
+
+fn read_request(alloc: Global, stream: &mut TcpStream) -> io::Result<Vec<u8>> {
     let mut request = Vec::new(alloc);
     for _ in 0..8_192 {
         let mut octet = [0];
@@ -71,12 +75,14 @@ fn serve(alloc: Global, listener: &TcpListener) -> io::Result<bool> {
             break;
         }
     }
-    let target = request
+    Ok(request)
+}
+
+fn target_of(request: &[u8]) -> &[u8] {
+    request
         .split(|octet| *octet == b' ')
         .nth(1)
-        .unwrap_or_default();
-    answer(&mut stream, target)?;
-    Ok(target != b"/robots.txt".as_slice())
+        .unwrap_or_default()
 }
 
 fn answer(stream: &mut TcpStream, target: &[u8]) -> io::Result<()> {
@@ -143,33 +149,32 @@ fn open_site<R>(rt: &R, alloc: Global, targets: &[&str]) -> Result<Site<R>, Fail
 where
     R: Net<Listener = TcpListener, Stream = TcpStream> + time::Clock + Copy + Drop,
 {
+    let fetcher = TcpFetcher::with_limits(alloc, *rt, b"crawlgate", hasty())?;
     let listener = TcpListener::bind(rt, SocketAddr::from((Ipv4Addr::LOCALHOST, 0)))?;
     let port = listener.local_addr()?.port();
-    let mut jobs = Vec::new(alloc);
+    let jobs = jobs_at(alloc, port, targets)?;
+    Ok(Site {
+        listener,
+        jobs: jobs_of(alloc, jobs.as_bytes())?,
+        fetcher,
+    })
+}
+
+fn jobs_at(alloc: Global, port: u16, targets: &[&str]) -> Result<String, AllocError> {
+    let mut jobs = String::new(alloc);
     for target in targets {
         let job = if target.starts_with('/') {
             format!(in alloc; "foobot http://127.0.0.1:{port}{target}\n")?
         } else {
             format!(in alloc; "foobot {target}\n")?
         };
-        jobs.extend_from_slice(job.as_bytes())?;
+        jobs.push_str(job.as_str())?;
     }
-    Ok(Site {
-        listener,
-        jobs: FailAt::new(jobs, 65_536, None),
-        fetcher: TcpFetcher::with_limits(alloc, *rt, b"crawlgate", hasty())?,
-    })
+    Ok(jobs)
 }
 
-// How many pages the server was asked for, the report, and the end.
-#[derive(Drop)]
-struct Visited {
-    pages: usize,
-    report: FailAt,
-    end: Result<(), NotShifted>,
-}
-
-// A shift of so many workers over a site that serves so many connections.
+// A shift of so many workers over a site that serves so many connections, and how many of these asked
+// for a page.
 fn visit<R>(
     rt: &R,
     alloc: Global,
@@ -177,7 +182,7 @@ fn visit<R>(
     site: Site<R>,
     workers: u64,
     connections: usize,
-) -> Visited
+) -> (usize, Shifted)
 where
     R: Threads
         + Wait
@@ -191,48 +196,28 @@ where
 {
     let Site {
         listener,
-        mut jobs,
+        jobs,
         fetcher,
     } = site;
-    let mut report = FailAt::new(Vec::new(alloc), 65_536, None);
-    let (pages, end) = thread::join(
+    let report = new_report(alloc);
+    thread::join(
         rt,
         || serve_all(rt, alloc, &listener, connections),
-        || -> Result<(), NotShifted>
+        || -> Shifted
             requires { IsCrew workers × (book.base ≡ empty_base) × (book.entries ≡ []) }
-        { crawl(rt, alloc, book, workers, &mut jobs, &mut report, &fetcher) },
-    );
-    Visited { pages, report, end }
-}
-
-// The shift, over a new gate.
-fn crawl<F: Fetcher + Sync, R: Threads + Wait + Sync>(
-    rt: &R,
-    alloc: Global,
-    book: Book,
-    workers: u64,
-    reader: &mut FailAt,
-    report: &mut FailAt,
-    fetcher: &F,
-) -> Result<(), NotShifted>
-    requires workers { IsCrew workers }
-    requires book { (book.base ≡ empty_base) × (book.entries ≡ []) }
-{
-    let blanks = Blanks::new();
-    shift_over::<Brand, _, _, _, _, _>(
-        rt, alloc, reader, report, workers, book, blanks, fetcher, &Still,
+        { crawl_over(rt, alloc, book, workers, jobs, report, &fetcher, &Still) },
     )
 }
 
 #[test]
 fn each_page_of_a_redirect_is_started(rt: HostRuntime) -> Result<(), Fail> {
     let site = open_site(&rt, rt.alloc(), &["/x", "/y"])?;
-    let visited = visit(&rt, rt.alloc(), book(&rt)?, site, 2, 4);
-    assert_eq!(rt; visited.end, Ok(()));
-    let report: &[u8] = b"1 1 PAGE open 302 0 whole\n1 2 PAGE open 200 5 whole\n\
+    let (pages, given) = visit(&rt, rt.alloc(), book(&rt)?, site, 2, 4);
+    let want: &[u8] = b"1 1 PAGE open 302 0 whole\n1 2 PAGE open 200 5 whole\n\
         2 1 PAGE open 200 5 whole\nSHIFT jobs 2 hops 3 starts 3\n";
-    assert!(rt; visited.report.bytes() == report);
-    assert_eq!(rt; visited.pages, 3);
+    assert_eq!(rt; given.end, Ok(()));
+    assert!(rt; given.report.bytes() == want);
+    assert_eq!(rt; pages, 3);
     Ok(())
 }
 
@@ -240,11 +225,11 @@ fn each_page_of_a_redirect_is_started(rt: HostRuntime) -> Result<(), Fail> {
 fn servers_that_misbehave_free_their_workers(rt: HostRuntime) -> Result<(), Fail> {
     let targets = ["/silent", "/half", "/early", "/chunk", "/endless", "/y"];
     let site = open_site(&rt, rt.alloc(), &targets)?;
-    let visited = visit(&rt, rt.alloc(), book(&rt)?, site, 2, 7);
-    assert_eq!(rt; visited.end, Ok(()));
-    let report: &[u8] = b"1 1 FAULT H8\n2 1 FAULT H8\n3 1 FAULT H1\n4 1 FAULT H6\n\
+    let (_, given) = visit(&rt, rt.alloc(), book(&rt)?, site, 2, 7);
+    let want: &[u8] = b"1 1 FAULT H8\n2 1 FAULT H8\n3 1 FAULT H1\n4 1 FAULT H6\n\
         5 1 FAULT H3\n6 1 PAGE open 200 5 whole\nSHIFT jobs 6 hops 6 starts 6\n";
-    assert!(rt; visited.report.bytes() == report);
+    assert_eq!(rt; given.end, Ok(()));
+    assert!(rt; given.report.bytes() == want);
     Ok(())
 }
 
@@ -253,10 +238,10 @@ fn servers_that_misbehave_free_their_workers(rt: HostRuntime) -> Result<(), Fail
 fn servers_that_are_not_there(rt: HostRuntime) -> Result<(), Fail> {
     let targets = ["http://127.0.0.1:1/", "http://a.invalid/", "/y"];
     let site = open_site(&rt, rt.alloc(), &targets)?;
-    let visited = visit(&rt, rt.alloc(), book(&rt)?, site, 3, 2);
-    assert_eq!(rt; visited.end, Ok(()));
-    let report: &[u8] = b"1 1 NO 127.0.0.1:1 closed\n2 1 NO a.invalid closed\n\
+    let (_, given) = visit(&rt, rt.alloc(), book(&rt)?, site, 3, 2);
+    let want: &[u8] = b"1 1 NO 127.0.0.1:1 closed\n2 1 NO a.invalid closed\n\
         3 1 PAGE open 200 5 whole\nSHIFT jobs 3 hops 3 starts 1\n";
-    assert!(rt; visited.report.bytes() == report);
+    assert_eq!(rt; given.end, Ok(()));
+    assert!(rt; given.report.bytes() == want);
     Ok(())
 }

@@ -6,7 +6,7 @@ ghost use Rattle.crawlgate.specs.Options.{IsCrew};
 
 use crate::shift::{NotShifted, shift_over};
 use counted_io::FailAt;
-use crawl_workers::{Clock, ScriptedPage, Sites};
+use crawl_workers::{Clock, Fetcher, ScriptedPage, Sites};
 use gate_core::{Book, Config, Limits};
 use gate_lock::Blanks;
 use std::alloc::{AllocError, Global};
@@ -158,15 +158,67 @@ pub(super) fn book(rt: &HostRuntime) -> Result<Book, Fail>
     Ok(Book::new(rt.alloc(), config)?)
 }
 
+/// How a shift ended, and what it wrote.
+#[derive(Drop)]
+pub(super) struct Shifted {
+    pub(super) end: Result<(), NotShifted>,
+    pub(super) report: FailAt,
+}
+
+/// A shift of so many workers over a new gate.
+pub(super) fn crawl_over<F: Fetcher + Sync, C: Clock + Sync, R: Threads + Wait + Sync>(
+    rt: &R,
+    alloc: Global,
+    book: Book,
+    workers: u64,
+    jobs: FailAt,
+    report: FailAt,
+    fetcher: &F,
+    clock: &C,
+) -> Shifted
+    requires workers { IsCrew workers }
+    requires book { (book.base ≡ empty_base) × (book.entries ≡ []) }
+{
+    let mut jobs = jobs;
+    let mut report = report;
+    let end = shift_over::<Brand, _, _, _, _, _>(
+        rt,
+        alloc,
+        &mut jobs,
+        &mut report,
+        workers,
+        book,
+        Blanks::new(),
+        fetcher,
+        clock,
+    );
+    Shifted { end, report }
+}
+
 // A shift of so many workers over the pages.
 fn crawl<R: Threads + Wait + Sync>(
     rt: &R,
     alloc: Global,
     book: Book,
     workers: u64,
-    reader: &mut FailAt,
-    writer: &mut FailAt,
-) -> Result<Result<(), NotShifted>, AllocError>
+    jobs: &[u8],
+) -> Result<Shifted, AllocError>
+    requires workers { IsCrew workers }
+    requires book { (book.base ≡ empty_base) × (book.entries ≡ []) }
+{
+    let jobs = jobs_of(alloc, jobs)?;
+    crawl_pages(rt, alloc, book, workers, jobs, new_report(alloc))
+}
+
+// The same, from a reader and to a writer that may fail.
+fn crawl_pages<R: Threads + Wait + Sync>(
+    rt: &R,
+    alloc: Global,
+    book: Book,
+    workers: u64,
+    jobs: FailAt,
+    report: FailAt,
+) -> Result<Shifted, AllocError>
     requires workers { IsCrew workers }
     requires book { (book.base ≡ empty_base) × (book.entries ≡ []) }
 {
@@ -175,37 +227,29 @@ fn crawl<R: Threads + Wait + Sync>(
         alloc,
         pages: pages.as_slice(),
     };
-    Ok(shift_over::<Brand, _, _, _, _, _>(
-        rt,
-        alloc,
-        reader,
-        writer,
-        workers,
-        book,
-        Blanks::new(),
-        &sites,
-        &Still,
-    ))
+    Ok(crawl_over(rt, alloc, book, workers, jobs, report, &sites, &Still))
 }
 
-fn input(alloc: Global, octets: &[u8], fails_at: Option<u64>) -> Result<FailAt, AllocError> {
-    Ok(FailAt::new(octets.to_vec(alloc)?, 65_536, fails_at))
+/// A reader of jobs.
+pub(super) fn jobs_of(alloc: Global, octets: &[u8]) -> Result<FailAt, AllocError> {
+    Ok(FailAt::new(octets.to_vec(alloc)?, 65_536, None))
 }
 
-fn output(alloc: Global, fails_at: Option<u64>) -> FailAt {
-    FailAt::new(Vec::new(alloc), 65_536, fails_at)
+/// A writer that takes a report.
+pub(super) fn new_report(alloc: Global) -> FailAt {
+    FailAt::new(Vec::new(alloc), 65_536, None)
 }
 
 #[test]
 fn reports_are_as_the_table_says(rt: HostRuntime) -> Result<(), Fail> {
-    let alloc = rt.alloc();
     for (name, jobs, want) in ROWS {
         for workers in 1..=3 {
-            let mut reader = input(alloc, jobs.as_bytes(), None)?;
-            let mut writer = output(alloc, None);
-            let end = crawl(&rt, alloc, book(&rt)?, workers, &mut reader, &mut writer)?;
-            assert!(rt; writer.bytes() == want.as_bytes(), "{name}, by {workers}");
-            assert_eq!(rt; end, Ok(()), "{name}, by {workers}");
+            let given = crawl(&rt, rt.alloc(), book(&rt)?, workers, jobs.as_bytes())?;
+            assert!(rt;
+                given.report.bytes() == want.as_bytes(),
+                "{name}, by {workers}"
+            );
+            assert_eq!(rt; given.end, Ok(()), "{name}, by {workers}");
         }
     }
     Ok(())
@@ -213,13 +257,10 @@ fn reports_are_as_the_table_says(rt: HostRuntime) -> Result<(), Fail> {
 
 #[test]
 fn bad_lines_are_told_and_nothing_is_fetched(rt: HostRuntime) -> Result<(), Fail> {
-    let alloc = rt.alloc();
     for (name, jobs, line) in BAD_LINES {
-        let mut reader = input(alloc, jobs, None)?;
-        let mut writer = output(alloc, None);
-        let end = crawl(&rt, alloc, book(&rt)?, 2, &mut reader, &mut writer)?;
-        assert_eq!(rt; end, Err(NotShifted::BadLine(line)), "{name}");
-        assert!(rt; writer.bytes().is_empty(), "{name}");
+        let given = crawl(&rt, rt.alloc(), book(&rt)?, 2, jobs)?;
+        assert_eq!(rt; given.end, Err(NotShifted::BadLine(line)), "{name}");
+        assert!(rt; given.report.bytes().is_empty(), "{name}");
     }
     Ok(())
 }
@@ -233,18 +274,10 @@ fn long_job(alloc: Global, octets: usize) -> Result<Vec<u8>, AllocError> {
 
 #[test]
 fn lines_over_the_limits(rt: HostRuntime) -> Result<(), Fail> {
-    let alloc = rt.alloc();
     for octets in [4_104, 8_192, 8_193] {
-        let mut reader = input(alloc, long_job(alloc, octets)?.as_slice(), None)?;
-        let end = crawl(
-            &rt,
-            alloc,
-            book(&rt)?,
-            1,
-            &mut reader,
-            &mut output(alloc, None),
-        )?;
-        assert_eq!(rt; end, Err(NotShifted::BadLine(1)), "{octets} octets");
+        let job = long_job(rt.alloc(), octets)?;
+        let given = crawl(&rt, rt.alloc(), book(&rt)?, 1, job.as_slice())?;
+        assert_eq!(rt; given.end, Err(NotShifted::BadLine(1)), "{octets} octets");
     }
     Ok(())
 }
@@ -260,23 +293,19 @@ fn many_jobs(alloc: Global, count: usize) -> Result<Vec<u8>, AllocError> {
 
 #[test]
 fn a_job_too_many(rt: HostRuntime) -> Result<(), Fail> {
-    let alloc = rt.alloc();
-    let mut reader = input(alloc, many_jobs(alloc, 4_097)?.as_slice(), None)?;
-    let mut writer = output(alloc, None);
-    let end = crawl(&rt, alloc, book(&rt)?, 2, &mut reader, &mut writer)?;
-    assert_eq!(rt; end, Err(NotShifted::BadLine(4_097)));
-    assert!(rt; writer.bytes().is_empty());
+    let jobs = many_jobs(rt.alloc(), 4_097)?;
+    let given = crawl(&rt, rt.alloc(), book(&rt)?, 2, jobs.as_slice())?;
+    assert_eq!(rt; given.end, Err(NotShifted::BadLine(4_097)));
+    assert!(rt; given.report.bytes().is_empty());
     Ok(())
 }
 
 #[test]
 fn as_many_jobs_as_may_be(rt: HostRuntime) -> Result<(), Fail> {
-    let alloc = rt.alloc();
-    let mut reader = input(alloc, many_jobs(alloc, 4_096)?.as_slice(), None)?;
-    let mut writer = output(alloc, None);
-    let end = crawl(&rt, alloc, book(&rt)?, 16, &mut reader, &mut writer)?;
-    assert_eq!(rt; end, Ok(()));
-    let text = writer.bytes();
+    let jobs = many_jobs(rt.alloc(), 4_096)?;
+    let given = crawl(&rt, rt.alloc(), book(&rt)?, 16, jobs.as_slice())?;
+    assert_eq!(rt; given.end, Ok(()));
+    let text = given.report.bytes();
     assert!(rt; text.starts_with(b"1 1 NO c.example closed\n2 1 NO c.example closed\n"));
     assert!(rt;
         text.ends_with(b"4096 1 NO c.example closed\nSHIFT jobs 4096 hops 4096 starts 0\n")
@@ -285,14 +314,15 @@ fn as_many_jobs_as_may_be(rt: HostRuntime) -> Result<(), Fail> {
     Ok(())
 }
 
+const LOOP: &[u8] = b"foobot http://b.example/loop\n";
+
 #[test]
 fn a_read_that_fails(rt: HostRuntime) -> Result<(), Fail> {
     let alloc = rt.alloc();
-    let mut reader = input(alloc, b"foobot http://b.example/loop\n", Some(0))?;
-    let mut writer = output(alloc, None);
-    let end = crawl(&rt, alloc, book(&rt)?, 2, &mut reader, &mut writer)?;
-    assert_eq!(rt; end, Err(NotShifted::Device));
-    assert!(rt; writer.bytes().is_empty());
+    let jobs = FailAt::new(LOOP.to_vec(alloc)?, 65_536, Some(0));
+    let given = crawl_pages(&rt, alloc, book(&rt)?, 2, jobs, new_report(alloc))?;
+    assert_eq!(rt; given.end, Err(NotShifted::Device));
+    assert!(rt; given.report.bytes().is_empty());
     Ok(())
 }
 
@@ -300,11 +330,10 @@ fn a_read_that_fails(rt: HostRuntime) -> Result<(), Fail> {
 fn a_write_that_fails(rt: HostRuntime) -> Result<(), Fail> {
     let alloc = rt.alloc();
     for call in 0..2 {
-        let mut reader = input(alloc, b"foobot http://b.example/loop\n", None)?;
-        let mut writer = output(alloc, Some(call));
-        let end = crawl(&rt, alloc, book(&rt)?, 1, &mut reader, &mut writer)?;
-        assert_eq!(rt; end, Err(NotShifted::Device), "write {call}");
-        assert_eq!(rt; writer.failures(), 1, "write {call}");
+        let report = FailAt::new(Vec::new(alloc), 65_536, Some(call));
+        let given = crawl_pages(&rt, alloc, book(&rt)?, 1, jobs_of(alloc, LOOP)?, report)?;
+        assert_eq!(rt; given.end, Err(NotShifted::Device), "write {call}");
+        assert_eq!(rt; given.report.failures(), 1, "write {call}");
     }
     Ok(())
 }
