@@ -1,8 +1,10 @@
 -- The least of what passes one test or another.
 -- Used by `Places`.
 use Rattle.std.proofs.Common.{◌≡◌, ◌⊎◌, ℕ, ◌≤◌, Bool, true, false, inl, inr, List, [], ◌∷◌, ◌++◌, Contains, refl, sym, ap, subst, arith}
-use Rattle.std.specs.Prelude.{Option, Some, None, unwrap_or, is_some}
-use Rattle.std.proofs.lemmas.Bool.{true≢false}
+use Rattle.std.specs.Prelude.{Option, Some, None, IfSome, not, unwrap_or, is_some}
+use Rattle.std.specs.Option.{option_eq}
+use Rattle.std.proofs.Math.Dec.{eqb}
+use Rattle.std.proofs.lemmas.Bool.{eqb-true, not-false, true≢false}
 use Rattle.std.proofs.lemmas.List.Elements.{Contains-append_left, Contains-push, Contains-push_cases}
 use Rattle.robots_verdict.specs.Index.{FindsLeast, IsHit}
 use Rattle.robots_verdict.specs.Placed.{Placed}
@@ -101,3 +103,30 @@ one_group_more rows groups group more path found result is before least = subst 
 
     complete : (place : ℕ) → IsHit rows (groups ++ group ∷ []) path place → Reaches result place
     complete place hit = of_group place hit (Contains-push_cases groups group (row_at rows place).group hit.governs)
+
+-- a group that was tried before adds nothing
+pub same_group_again : (rows : List Placed) (groups : List ℕ) (group : ℕ) (more path : List ℕ) (found : Option ℕ) → more ≡ groups ++ group ∷ [] → Contains groups group →
+    FindsLeast (IsHit rows groups path) found → FindsLeast (IsHit rows more path) found
+same_group_again rows groups group more path found is known before = subst (λ (gs : List ℕ). FindsLeast (IsHit rows gs path) found) (sym is) (least_by _ found sound complete)
+  where
+    sound : (place : ℕ) → found ≡ Some place → IsHit rows (groups ++ group ∷ []) path place
+    sound place tells =
+        let hit = passes _ found before place tells in
+        record { within = hit.within; governs = Contains-append_left groups (group ∷ []) (row_at rows place).group hit.governs; matches = hit.matches }
+
+    of_group : (place : ℕ) → IsHit rows (groups ++ group ∷ []) path place → Contains groups (row_at rows place).group ⊎ (group ≡ (row_at rows place).group) → Reaches found place
+    of_group place hit (inl old) = reaches _ found before place (record { within = hit.within; governs = old; matches = hit.matches })
+    of_group place hit (inr new) = reaches _ found before place (record { within = hit.within; governs = subst (Contains groups) new known; matches = hit.matches })
+
+    complete : (place : ℕ) → IsHit rows (groups ++ group ∷ []) path place → Reaches found place
+    complete place hit = of_group place hit (Contains-push_cases groups group (row_at rows place).group hit.governs)
+
+-- the last one that was tried, where it is this one, is among those that were
+pub tried_before : (last : Option ℕ) (group : ℕ) (groups : List ℕ) → IfSome last (Contains groups) → not (option_eq eqb last (Some group)) ≡ false → Contains groups group
+tried_before None group groups tried is = absurd (true≢false is)
+tried_before (Some other) group groups tried is = subst (Contains groups) (eqb-true other group (not-false (eqb other group) is)) tried
+
+-- and stays among them when another is tried
+pub still_tried : (last : Option ℕ) (groups : List ℕ) (group : ℕ) (more : List ℕ) → more ≡ groups ++ group ∷ [] → IfSome last (Contains groups) → IfSome last (Contains more)
+still_tried None groups group more is tried = tt
+still_tried (Some other) groups group more is tried = subst (λ (gs : List ℕ). Contains gs other) (sym is) (Contains-append_left groups (group ∷ []) other tried)

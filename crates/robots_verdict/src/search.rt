@@ -15,7 +15,7 @@ use std::alloc::{AllocError, Global};
 
 /// The places of the rows in two lists. A place is a rank: the smaller one is that of the stronger
 /// row.
-#[derive(Debug, Drop)]
+#[derive(Drop)]
 pub(crate) struct Places {
     plain: Plain,
     others: Others,
@@ -40,8 +40,13 @@ impl Places {
         ensures { FindsLeast (IsHit rows.now.rows groups.now path.now) result }
     {
         let mut found = None;
+        let mut last = None;
         for group in groups {
-            found = self.first_of(rows, *group, path, found);
+            // A group stands here once for each of its user-agent lines, one beside the other.
+            if last != Some(*group) {
+                found = self.first_of(rows, *group, path, found);
+                last = Some(*group);
+            }
         }
         found
     }
