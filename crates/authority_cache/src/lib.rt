@@ -22,6 +22,3 @@ pub use look::Look;
 pub use refusal::{BeginRefusal, Stale};
 pub use standing_answer::StandingAnswer;
 pub use turn::{Turn, TurnNo};
-
-#[cfg(test)]
-mod tests;

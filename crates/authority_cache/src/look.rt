@@ -9,7 +9,7 @@ use crate::site::Site;
 use robots_verdict::Answer;
 
 /// What is found of an authority's answer.
-#[derive(Clone, Copy, Debug)]
+#[derive(Clone, Copy)]
 pub enum Look<'a> {
     /// No answer stands.
     Unknown,

@@ -19,7 +19,7 @@ pub struct Flight {
 }
 
 /// An answer that stands.
-#[derive(Debug, Drop)]
+#[derive(Drop)]
 pub struct Standing {
     /// The turn that brought it.
     pub turn: TurnNo,
@@ -32,7 +32,7 @@ pub struct Standing {
 }
 
 /// What is known of an authority.
-#[derive(Debug, Drop)]
+#[derive(Drop)]
 pub struct Site {
     /// The answer that stands.
     pub standing: Option<Standing>,

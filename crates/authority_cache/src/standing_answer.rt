@@ -6,7 +6,7 @@ use path_normal::Authority;
 use robots_verdict::Said;
 
 /// An answer that stands for an authority.
-#[derive(Debug, Drop)]
+#[derive(Drop)]
 pub struct StandingAnswer {
     /// For whom it stands.
     pub authority: Authority,

@@ -38,7 +38,7 @@ impl TurnNo {
 }
 
 /// A turn in flight, as lists of turns have it: that of a history, or of a segment of one.
-#[derive(Debug, Drop)]
+#[derive(Drop)]
 pub struct Turn {
     /// Whose robots file is fetched.
     pub authority: Authority,

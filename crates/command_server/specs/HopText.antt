@@ -6,10 +6,10 @@ use Rattle.http_wire.specs.declared.fault.WireFault.{WireFault}
 use Rattle.http_wire.specs.declared.fault.WireFault.TheVariants as wire
 use Rattle.robots_fetch.specs.declared.redirect.Stop.{Stop}
 use Rattle.robots_fetch.specs.declared.redirect.Stop.TheVariants as stops
-use Rattle.crawl_workers.specs.declared.hop.Hop.{Hop}
-use Rattle.crawl_workers.specs.declared.hop.Hop.TheVariants as hops
-use Rattle.crawl_workers.specs.declared.hop.Refusal.{Refusal}
-use Rattle.crawl_workers.specs.declared.hop.Refusal.TheVariants as refusals
+use Rattle.crawl_job.specs.declared.hop.Hop.{Hop}
+use Rattle.crawl_job.specs.declared.hop.Hop.TheVariants as hops
+use Rattle.crawl_job.specs.declared.hop.Refusal.{Refusal}
+use Rattle.crawl_job.specs.declared.hop.Refusal.TheVariants as refusals
 use Rattle.line_text.specs.Pieces.{line_of}
 use Rattle.command_server.specs.ReplyText.{denial_text, error_of, reason_words}
 

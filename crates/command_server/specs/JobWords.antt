@@ -3,7 +3,7 @@
 use Rattle.std.specs.Prelude.{ℕ, List, [], ◌∷◌, Result, Ok, Err, if◌then◌else◌}
 use Rattle.path_normal.specs.Capacity.{Capacity}
 use Rattle.line_text.specs.Words.{words_of}
-use Rattle.crawl_workers.specs.declared.job.Job.{Job}
+use Rattle.crawl_job.specs.declared.job.Job.{Job}
 use Rattle.command_server.specs.declared.fault.LineFault.{LineFault}
 use Rattle.command_server.specs.declared.fault.LineFault.TheVariants as faults
 use Rattle.command_server.specs.Arguments.{page_word, read_on, token_word}

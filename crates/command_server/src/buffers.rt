@@ -16,7 +16,7 @@ use counted_io::{DeviceFault, LineReader, NextLine, Output, ReadLineFault, Sink,
 use std::alloc::{AllocError, Global};
 
 /// The octets read and not yet taken, the line in hand, and the replies not yet written.
-#[derive(Debug, Drop)]
+#[derive(Drop)]
 pub(crate) struct Buffers {
     reader: LineReader,
     line: Vec<u8>,

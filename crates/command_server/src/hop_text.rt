@@ -5,7 +5,7 @@ ghost use Rattle.command_server.specs.HopText.{end_word, fault_hop_text, hop_tex
 ghost use Rattle.command_server.specs.HopText.{refusal_text, stop_text};
 
 use crate::reply_text::{denial_pieces, reason_word};
-use crawl_workers::{Hop, Refusal};
+use crawl_job::{Hop, Refusal};
 use gate_history::Reason;
 use http_wire::WireFault;
 use line_text::{Piece, Pieces};

@@ -7,7 +7,7 @@ ghost use Rattle.line_text.specs.Words.{words_left};
 use crate::arguments::{read_page, read_token};
 use crate::command::plain_text;
 use crate::fault::LineFault;
-use crawl_workers::Job;
+use crawl_job::Job;
 use line_text::Words;
 use std::alloc::Global;
 

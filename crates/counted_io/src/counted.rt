@@ -10,7 +10,7 @@ use crate::source::Source;
 use std::io::{Read, Write};
 
 /// A reader or a writer of std. The octets that it holds or has left are those that std knows of it.
-#[derive(Debug, Drop)]
+#[derive(Drop)]
 pub struct Counted<D> {
     device: D,
     failures: u64,

@@ -11,7 +11,7 @@ use crate::source::Source;
 use std::marker::Model;
 
 /// Octets in memory, read from their front and written at their end.
-#[derive(Debug, Drop)]
+#[derive(Drop)]
 pub struct FailAt {
     bytes: Vec<u8>,
     at: usize,

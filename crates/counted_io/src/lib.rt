@@ -12,8 +12,6 @@ mod next_line;
 mod output;
 mod sink;
 mod source;
-#[cfg(test)]
-mod tests;
 
 pub use crate::counted::Counted;
 pub use crate::fail_at::FailAt;

@@ -5,7 +5,7 @@ ghost use Rattle.counted_io.specs.Lines.{IsPart};
 use memchr::memchr;
 
 /// Where a line stands after a part was added to it.
-#[derive(Clone, Copy, Debug, PartialEq, Eq)]
+#[derive(Clone, Copy, PartialEq, Eq)]
 pub(crate) enum LinePart {
     /// More of the line follows in the source, or its end.
     Open,

@@ -18,7 +18,7 @@ use std::marker::Model;
 pub const LINE_BUFFER: usize = 65536;
 
 /// The octets read from a source and not yet handed out. The source is passed to each call.
-#[derive(Debug, Drop)]
+#[derive(Drop)]
 pub struct LineReader {
     buffer: Vec<u8>,
     start: usize,

@@ -16,7 +16,7 @@ pub const OUTPUT_BUFFER: usize = 65536;
 
 /// The octets not yet written. The sink is passed to each call.
 /// After a fault none are pending, so none is written twice: those that were not written are lost.
-#[derive(Debug, Drop)]
+#[derive(Drop)]
 pub struct Output {
     buffer: Vec<u8>,
     len: usize,

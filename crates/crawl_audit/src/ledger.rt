@@ -25,7 +25,7 @@ use std::alloc::{AllocError, Global};
 use std::hash::RandomState;
 
 /// Why an entry was not entered.
-#[derive(Clone, Copy, Debug, PartialEq, Eq)]
+#[derive(Clone, Copy, PartialEq, Eq)]
 pub(crate) enum Unfit {
     /// It is not legal after the entries before it.
     Illegal,

@@ -25,6 +25,3 @@ pub use auditor::MAX_LINE;
 pub use export_text::export;
 pub use fault::{AuditFault, Audited};
 pub use version::Version;
-
-#[cfg(test)]
-mod tests;

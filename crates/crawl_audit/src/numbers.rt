@@ -10,7 +10,7 @@ use std::alloc::{AllocError, Global};
 use std::hash::RandomState;
 
 /// What became of a permit.
-#[derive(Debug, Drop)]
+#[derive(Drop)]
 pub(crate) enum Phase {
     /// No start has spent it.
     Unspent(Fetch),

@@ -3,7 +3,7 @@
 use std::alloc::AllocError;
 
 /// Why a line was not read as an entry.
-#[derive(Clone, Copy, Debug, PartialEq, Eq)]
+#[derive(Clone, Copy, PartialEq, Eq)]
 pub(crate) enum Unread {
     /// It is the spelling of no entry.
     NotOne,

@@ -6,7 +6,7 @@ use Rattle.gate_lock.specs.declared.mark.Deed.{Deed}
 use Rattle.http_wire.specs.declared.fault.WireFault.{WireFault}
 use Rattle.http_wire.specs.declared.response.HttpReply.{HttpReply}
 use Rattle.robots_fetch.specs.Redirects.{most_redirects}
-use Rattle.crawl_workers.specs.declared.hop.Hop.{Hop}
+use Rattle.crawl_job.specs.declared.hop.Hop.{Hop}
 use Rattle.crawl_workers.specs.declared.way_on.WayOn.TheVariants as ways
 use Rattle.crawl_workers.specs.Outcomes.{AfterRefresh, AreHops, Follows, IsFollowed, IsLast, IsStopped, deeds_of}
 use Rattle.crawl_workers.specs.WaysOn.{AddsDeeds, TellsWay}

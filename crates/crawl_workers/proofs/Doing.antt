@@ -3,7 +3,7 @@
 use Rattle.std.proofs.Common.{◌≡◌, ◌∙◌, List, [], ◌∷◌, ◌++◌, ap, sym, subst, refl, append-nil, append_assoc}
 use Rattle.gate_lock.specs.declared.mark.Deed.{Deed}
 use Rattle.crawl_workers.specs.declared.crew.Done.{Done}
-use Rattle.crawl_workers.specs.declared.job.Job.{Job}
+use Rattle.crawl_job.specs.declared.job.Job.{Job}
 use Rattle.crawl_workers.specs.Shifts.{AreDone, Gives, IsDone}
 
 -- a desk did these jobs, and then one more

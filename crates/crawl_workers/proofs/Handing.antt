@@ -9,7 +9,7 @@ use Rattle.std.proofs.lemmas.List.Elements.{All-cons, All-nil}
 use Rattle.gate_lock.specs.declared.mark.Mark.{Mark}
 use Rattle.job_line.specs.Covers.{SeatView}
 use Rattle.crawl_workers.specs.declared.crew.Done.{Done}
-use Rattle.crawl_workers.specs.declared.job.Job.{Job}
+use Rattle.crawl_job.specs.declared.job.Job.{Job}
 use Rattle.crawl_workers.specs.declared.report.ShiftFault.{ShiftFault}
 use Rattle.crawl_workers.specs.Crews.{AreAllDone, EachHasDone, Ends, HandoverView, HandsOver, HasDone, KeepsSeat, TakesIn, MemberView, hired}
 use Rattle.crawl_workers.specs.Shifts.{Gives}

@@ -23,9 +23,9 @@ use Rattle.http_wire.specs.declared.response.HttpReply.{HttpReply}
 use Rattle.robots_fetch.specs.declared.redirect.Stop.{Stop}
 use Rattle.robots_fetch.specs.declared.redirect.Stop.TheVariants as stops
 use Rattle.robots_fetch.specs.Redirects.{location_target, most_redirects, redirect_target}
-use Rattle.crawl_workers.specs.declared.hop.Hop.{Hop}
-use Rattle.crawl_workers.specs.declared.hop.Hop.TheVariants as hops
-use Rattle.crawl_workers.specs.declared.hop.Refusal.{Refusal}
+use Rattle.crawl_job.specs.declared.hop.Hop.{Hop}
+use Rattle.crawl_job.specs.declared.hop.Hop.TheVariants as hops
+use Rattle.crawl_job.specs.declared.hop.Refusal.{Refusal}
 use Rattle.crawl_workers.specs.declared.way_on.WayOn.{WayOn}
 use Rattle.crawl_workers.specs.declared.way_on.WayOn.TheVariants as ways
 use Rattle.crawl_workers.specs.Outcomes.{AfterRefresh, IsFetch, IsLast, IsRedirect, MayRefresh, body_of, deeds_of, hop_of, location_of}

@@ -12,7 +12,7 @@ use Rattle.gate_lock.specs.declared.settlement.Settled.{Settled}
 use Rattle.job_line.specs.Covers.{Covers, SeatView, has_ended, lists_of, parts_of}
 use Rattle.job_line.specs.Sums.{weigh_all, weigh_below}
 use Rattle.crawl_workers.specs.declared.crew.Done.{Done}
-use Rattle.crawl_workers.specs.declared.job.Job.{Job}
+use Rattle.crawl_job.specs.declared.job.Job.{Job}
 use Rattle.crawl_workers.specs.declared.report.Crawled.{Crawled}
 use Rattle.crawl_workers.specs.Crews.{AllPlaced, EachHasDone, KeepsSeat, all_numbers, one_below, one_for}
 use Rattle.crawl_workers.specs.Shifts.{Gives, IsShift, Worked, all_fetches}

@@ -10,11 +10,11 @@ use Rattle.gate_lock.specs.declared.mark.Mark.{Mark}
 use Rattle.http_wire.specs.declared.fault.WireFault.{WireFault}
 use Rattle.http_wire.specs.declared.response.HttpReply.{HttpReply}
 use Rattle.robots_fetch.specs.declared.redirect.Stop.{Stop}
-use Rattle.crawl_workers.specs.declared.hop.Hop.{Hop}
-use Rattle.crawl_workers.specs.declared.hop.Hop.TheVariants as hops
-use Rattle.crawl_workers.specs.declared.hop.Refusal.TheVariants as refusals
-use Rattle.crawl_workers.specs.declared.job.Job.{Job}
-use Rattle.crawl_workers.specs.declared.job.Outcome.{Outcome}
+use Rattle.crawl_job.specs.declared.hop.Hop.{Hop}
+use Rattle.crawl_job.specs.declared.hop.Hop.TheVariants as hops
+use Rattle.crawl_job.specs.declared.hop.Refusal.TheVariants as refusals
+use Rattle.crawl_job.specs.declared.job.Job.{Job}
+use Rattle.crawl_job.specs.declared.job.Outcome.{Outcome}
 use Rattle.crawl_workers.specs.OutcomeLaws.{FetchesAreCounted, FetchesAreStarted, numbers_fetched, numbers_started}
 use Rattle.crawl_workers.specs.Outcomes.{AfterRefresh, AreHops, Follows, IsEnd, IsFetch, IsFollowed, IsLast, IsStop, IsStopped, MayRefresh, Works, deeds_of, fetches_in, hop_of}
 

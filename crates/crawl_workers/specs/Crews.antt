@@ -9,7 +9,7 @@ use Rattle.gate_lock.specs.declared.mark.Deed.{Deed}
 use Rattle.gate_lock.specs.declared.mark.Mark.{Mark}
 use Rattle.job_line.specs.Covers.{SeatView}
 use Rattle.crawl_workers.specs.declared.crew.Done.{Done}
-use Rattle.crawl_workers.specs.declared.job.Job.{Job}
+use Rattle.crawl_job.specs.declared.job.Job.{Job}
 use Rattle.crawl_workers.specs.declared.report.Crawled.{Crawled}
 use Rattle.crawl_workers.specs.declared.report.ShiftFault.{ShiftFault}
 use Rattle.crawl_workers.specs.Outcomes.{deeds_of}

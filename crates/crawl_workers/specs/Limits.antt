@@ -1,24 +1,8 @@
--- How long a fetch may take, how much is taken of a page and of a robots file, and how many hops a job has.
+-- How much is taken of a page and of a robots file, and how many hops a job has.
 -- RFC 9309, sections 2.3.1.2 and 2.5.
-use Rattle.std.specs.Prelude.{ℕ, ◌+◌, ◌*◌}
+use Rattle.std.specs.Prelude.{ℕ, ◌+◌}
 use Rattle.robots_text.specs.Lines.{text_limit}
 use Rattle.robots_fetch.specs.Redirects.{most_redirects}
-
--- the nanoseconds of so many seconds
-abbrev of_seconds : ℕ → ℕ
-of_seconds seconds = seconds * 1_000_000_000
-
--- the longest that a connection to one address may take, in nanoseconds
-abbrev pub connect_time : ℕ
-connect_time = of_seconds 10
-
--- the longest that one read or one write may take
-abbrev pub step_time : ℕ
-step_time = of_seconds 30
-
--- the longest that a whole fetch may take
-abbrev pub whole_time : ℕ
-whole_time = of_seconds 300
 
 -- the octets that are kept of a robots file, and one that tells that there are more
 abbrev pub robots_limit : ℕ

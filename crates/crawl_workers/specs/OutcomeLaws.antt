@@ -5,10 +5,10 @@ use Rattle.gate_lock.specs.declared.mark.Deed.{Deed}
 use Rattle.gate_lock.specs.declared.mark.Deed.TheVariants as deeds
 use Rattle.http_wire.specs.declared.fault.WireFault.{WireFault}
 use Rattle.http_wire.specs.declared.response.HttpReply.{HttpReply}
-use Rattle.crawl_workers.specs.declared.hop.Hop.{Hop}
-use Rattle.crawl_workers.specs.declared.hop.Hop.TheVariants as hops
-use Rattle.crawl_workers.specs.declared.job.Job.{Job}
-use Rattle.crawl_workers.specs.declared.job.Outcome.{Outcome}
+use Rattle.crawl_job.specs.declared.hop.Hop.{Hop}
+use Rattle.crawl_job.specs.declared.hop.Hop.TheVariants as hops
+use Rattle.crawl_job.specs.declared.job.Job.{Job}
+use Rattle.crawl_job.specs.declared.job.Outcome.{Outcome}
 use Rattle.crawl_workers.specs.Outcomes.{IsOutcome, fetches_in}
 
 -- the numbers of the permits whose fetches were started, in order

@@ -16,11 +16,11 @@ use Rattle.robots_fetch.specs.declared.redirect.Stop.{Stop}
 use Rattle.robots_fetch.specs.Redirects.{location_target, most_redirects, redirect_target}
 use Rattle.robots_fetch.specs.Statuses.{class_of}
 use Rattle.robots_fetch.specs.declared.status.StatusClass.TheVariants as classes
-use Rattle.crawl_workers.specs.declared.hop.Hop.{Hop}
-use Rattle.crawl_workers.specs.declared.hop.Hop.TheVariants as hops
-use Rattle.crawl_workers.specs.declared.hop.Refusal.TheVariants as refusals
-use Rattle.crawl_workers.specs.declared.job.Job.{Job}
-use Rattle.crawl_workers.specs.declared.job.Outcome.{Outcome}
+use Rattle.crawl_job.specs.declared.hop.Hop.{Hop}
+use Rattle.crawl_job.specs.declared.hop.Hop.TheVariants as hops
+use Rattle.crawl_job.specs.declared.hop.Refusal.TheVariants as refusals
+use Rattle.crawl_job.specs.declared.job.Job.{Job}
+use Rattle.crawl_job.specs.declared.job.Outcome.{Outcome}
 use Rattle.crawl_workers.specs.Refreshes.{IsBrought}
 
 -- what the marks of a desk say

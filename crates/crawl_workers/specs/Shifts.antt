@@ -11,8 +11,8 @@ use Rattle.gate_lock.specs.declared.mark.Mark.{Mark}
 use Rattle.gate_lock.specs.declared.settlement.Settled.{Settled}
 use Rattle.job_line.specs.Sums.{weigh_all, weigh_below}
 use Rattle.crawl_workers.specs.declared.crew.Done.{Done}
-use Rattle.crawl_workers.specs.declared.job.Job.{Job}
-use Rattle.crawl_workers.specs.declared.job.Outcome.{Outcome}
+use Rattle.crawl_job.specs.declared.job.Job.{Job}
+use Rattle.crawl_job.specs.declared.job.Outcome.{Outcome}
 use Rattle.crawl_workers.specs.declared.report.Crawled.{Crawled}
 use Rattle.crawl_workers.specs.Outcomes.{IsOutcome, deeds_of, fetches_in}
 

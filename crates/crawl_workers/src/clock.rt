@@ -13,7 +13,7 @@ pub trait Clock {
 
 /// The system's clock: whole seconds since the beginning of 1970, in UTC. It tells 0 where it is set
 /// to an earlier time, or can't be read.
-#[derive(Debug, Drop)]
+#[derive(Drop)]
 pub struct SystemClock<R: time::Clock> {
     rt: R,
 }

@@ -7,9 +7,9 @@ ghost use Rattle.crawl_workers.specs.Crews.{DoesJob, Ends, HasDone, KeepsSeat};
 
 use crate::clock::Clock;
 use crate::fetcher::Fetcher;
-use crate::job::{Job, Outcome};
 use crate::report::{Crawled, ShiftFault, Watcher};
 use crate::working::work;
+use crawl_job::{Job, Outcome};
 use gate_lock::{Desk, Gate, GateLock, Receipts};
 use job_line::{JobLine, JobSeat};
 use std::alloc::{AllocError, Global};
@@ -27,7 +27,7 @@ pub(crate) struct Crew<'a, F, C, W> {
 }
 
 /// A job that was done: its number and what is kept of its outcome.
-#[derive(Debug, Drop)]
+#[derive(Drop)]
 pub(crate) struct Done {
     pub(crate) number: u64,
     pub(crate) crawled: Crawled,

@@ -9,7 +9,7 @@ use robots_text::Token;
 
 /// Leave to fetch a page once. `Fetcher::fetch_page` has it of a started permit, and nothing else
 /// makes one.
-#[derive(Debug, Drop)]
+#[derive(Drop)]
 pub struct PageLeave<'a> {
     pub(crate) token: &'a Token,
     pub(crate) url: &'a PageUrl,
@@ -33,7 +33,7 @@ impl PageLeave<'_> {
 
 /// Leave to fetch a robots file, or what a redirect led to from one, once.
 /// `Fetcher::fetch_robots` has it of a turn in flight, and nothing else makes one.
-#[derive(Debug, Drop)]
+#[derive(Drop)]
 pub struct RobotsLeave<'a> {
     pub(crate) url: &'a PageUrl,
 }

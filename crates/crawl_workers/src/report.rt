@@ -3,14 +3,13 @@
 ghost use Rattle.std.specs.Prelude.{◌≡◌, ◌≤◌, ◌∷◌, []};
 ghost use Rattle.crawl_workers.specs.Outcomes.{fetches_in};
 
-use crate::hop::Hop;
-use crate::job::{Job, Outcome};
+use crawl_job::{Hop, Job, Outcome};
 use gate_lock::{DesksFull, Gate, Receipts, SettleFault, Settled};
 use std::alloc::AllocError;
 use std::marker::Model;
 
 /// What is kept of an outcome: its hops in order. Its body is let go when the job is done.
-#[derive(Debug, Drop)]
+#[derive(Drop)]
 pub struct Crawled {
     pub hops: Vec<Hop>,
 }

@@ -11,7 +11,7 @@ use path_normal::PageUrl;
 use std::alloc::Global;
 
 /// A page of a site in memory: its URL as `PageUrl::text` gives it, and its response, heads and all.
-#[derive(Clone, Copy, Debug)]
+#[derive(Clone, Copy)]
 pub struct ScriptedPage<'a> {
     pub url: &'a str,
     pub response: &'a [u8],
@@ -19,7 +19,7 @@ pub struct ScriptedPage<'a> {
 
 /// What fetches from pages in memory. For a URL that none of them has it gives `Device`, as of a
 /// host that is not there.
-#[derive(Debug, Drop)]
+#[derive(Drop)]
 pub struct Sites<'a> {
     pub alloc: Global,
     /// Of two pages with one URL the first counts.

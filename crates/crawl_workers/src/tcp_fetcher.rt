@@ -2,18 +2,17 @@
 //! RFC 9309, section 2.2.1; RFC 9110, section 10.1.5.
 ghost use Rattle.std.specs.Prelude.{◌≡◌, IfOk, None};
 ghost use Rattle.http_wire.specs.Response.{Tells};
-ghost use Rattle.crawl_workers.specs.Agent.{IsAgent};
+ghost use Rattle.tcp_wire.specs.Agent.{IsAgent};
 ghost use Rattle.crawl_workers.specs.Limits.{robots_limit};
 
 use crate::fetcher::{Fetcher, PageLeave, RobotsLeave};
-use crate::tcp_client::TcpClient;
-use crate::time_limits::TimeLimits;
 use http_wire::{HttpReply, WireFault};
 use robots_text::MAX_TEXT;
 use std::alloc::{AllocError, Global};
 use std::marker::Model;
 use std::net::{Net, TcpStream};
 use std::time;
+use tcp_wire::{TcpClient, TimeLimits};
 
 /// The most octets that are taken of a robots file: those that are kept, and one that tells that
 /// there are more.
@@ -30,7 +29,7 @@ pub struct TcpFetcher<R: Net<Stream = TcpStream> + time::Clock> {
 
 impl<R: Net<Stream = TcpStream> + time::Clock> Model for TcpFetcher<R> {
     ghost use Rattle.std.specs.Prelude.{List, ℕ};
-    ghost use Rattle.crawl_workers.specs.Agent.{IsAgent};
+    ghost use Rattle.tcp_wire.specs.Agent.{IsAgent};
 
     ghost Value = { List ℕ };
 

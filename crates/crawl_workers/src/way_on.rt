@@ -5,7 +5,7 @@ ghost use Rattle.std.specs.Option.{option_map};
 ghost use Rattle.robots_fetch.specs.Redirects.{redirect_target};
 ghost use Rattle.crawl_workers.specs.WaysOn.{GoesOn, LeadsOn};
 
-use crate::hop::{Hop, Refusal};
+use crawl_job::{Hop, Refusal};
 use gate_history::Reason;
 use http_wire::{HttpReply, WireFault};
 use path_normal::PageUrl;
@@ -14,7 +14,7 @@ use robots_fetch::{MAX_REDIRECTS, Nowhere, StatusClass, Stop, class_of, redirect
 use std::alloc::Global;
 
 /// Where a job goes on behind a hop.
-#[derive(Debug, Drop)]
+#[derive(Drop)]
 pub(crate) enum WayOn {
     /// Nowhere, and this is the body of its page.
     Ends(Hop, Vec<u8>),

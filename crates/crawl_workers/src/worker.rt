@@ -10,10 +10,9 @@ ghost use Rattle.crawl_workers.specs.WaysOn.{AddsDeeds, TellsWay, ask_hop};
 
 use crate::clock::Clock;
 use crate::fetcher::Fetcher;
-use crate::hop::{Hop, Refusal};
-use crate::job::Outcome;
 use crate::refreshing::refresh;
 use crate::way_on::{WayOn, way_on};
+use crawl_job::{Hop, Outcome, Refusal};
 use gate_core::{AskRefusal, BeginRefusal, Standing};
 use gate_lock::{Desk, Gate, Permit};
 use path_normal::{Authority, PageUrl};

@@ -7,8 +7,8 @@ ghost use Rattle.crawl_workers.specs.Outcomes.{Works, fetches_in};
 
 use crate::clock::Clock;
 use crate::fetcher::Fetcher;
-use crate::job::{Job, Outcome};
 use crate::worker::Worker;
+use crawl_job::{Job, Outcome};
 use gate_lock::{Desk, Gate};
 use std::alloc::{AllocError, Global};
 use std::sync::Wait;

@@ -1,9 +1,3 @@
--- What contracts say of the program's words, of the text that `lines` writes, and of its ends.
+-- What contracts say of how the program goes on, and of how it ends.
 pub mod Endings
-pub mod JobLists
-pub mod LinesText
-pub mod NotShifted
-pub mod Prints
-pub mod ShiftText
-pub mod Options
 pub mod Ready

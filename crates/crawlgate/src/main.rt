@@ -5,36 +5,33 @@
 ghost use Rattle.std.specs.Prelude.{◌≡◌, [], IfOk};
 ghost use Rattle.gate_history.specs.Base.{empty_base};
 ghost use Rattle.gate_core.specs.Limits.{AreLimits};
+ghost use Rattle.job_line.specs.Limits.{IsCrew};
+ghost use Rattle.program_words.specs.Options.{IsInRange};
 ghost use Rattle.crawlgate.specs.Ready.{IsReady};
 
-mod body;
 mod ending;
-mod job_list;
-mod lines;
-mod lines_text;
 mod next;
-mod options;
-mod progress;
-mod report_text;
-mod shift;
-#[cfg(test)]
-mod tests;
+mod streams;
 
 use clap::error::ErrorKind;
 use command_server::replay;
-use counted_io::{Counted, Output};
+use counted_io::{Counted, Output, Sink};
 use crawl_audit::{AuditFault, Audited, audit, export};
-use crawl_workers::{SystemClock, TcpFetcher};
+use crawl_shift::{NotShifted, shift_over};
+use crawl_workers::{Clock, Fetcher, SystemClock, TcpFetcher};
 use ending::Ending;
 use gate_core::{Book, Config, Limits};
 use gate_lock::Blanks;
 use next::Next;
-use options::{Subcommand, options};
-use shift::{NotShifted, shift_over};
+use program_words::{Subcommand, options};
+use robots_lines::lines;
 use std::hash::RandomState;
 use std::marker::Brand;
 use std::process::ExitCode;
+use std::sync::Wait;
+use std::thread::Threads;
 use std::{env, io};
+use streams::are_open;
 
 // Robots files are fetched under this name, pages under the token of their job (RFC 9309, 2.2.1).
 const AGENT: &[u8] = b"crawlgate";
@@ -42,23 +39,10 @@ const AGENT: &[u8] = b"crawlgate";
 fn main(rt: HostRuntime) -> ExitCode {
     let ending = match run(&rt) {
         Ok(Next::Ends(ending)) => Ok(ending),
-        Ok(Next::Shift(workers, book)) => match TcpFetcher::new(rt.alloc(), rt, AGENT) {
+        Ok(Next::Shift(workers, limits)) => match TcpFetcher::new(rt.alloc(), rt, AGENT) {
             Ok(fetcher) => {
                 let clock = SystemClock::new(rt);
-                let mut reader = Counted::new(rt.stdin());
-                let mut writer = Counted::new(rt.stdout());
-                let end = shift_over::<Brand, _, _, _, _, _>(
-                    &rt,
-                    rt.alloc(),
-                    &mut reader,
-                    &mut writer,
-                    workers,
-                    book,
-                    Blanks::new(),
-                    &fetcher,
-                    &clock,
-                );
-                shift_ending(&rt, end)
+                shift_ending(&rt, shift_by(&rt, &rt, workers, limits, &fetcher, &clock))
             }
             Err(_) => Ok(Ending::NoMemory),
         },
@@ -85,22 +69,36 @@ fn told(rt: &HostRuntime, ending: io::Result<Ending>) -> Ending {
 fn run(rt: &HostRuntime) -> io::Result<Next>
     ensures { IfOk result IsReady }
 {
-    let given = match env::args(rt) {
-        Ok(given) => given,
-        Err(error) if error.kind() == io::ErrorKind::OutOfMemory => {
-            return Ok(Next::Ends(Ending::NoMemory));
-        }
-        Err(_) => {
-            eprintln!(rt; "crawlgate: an argument is not UTF-8")?;
-            return Ok(Next::Ends(Ending::BadWords));
-        }
-    };
     let mut owned = Vec::new(rt.alloc());
-    for word in given {
-        owned.push(word)?;
+    match take_words(rt, &mut owned)? {
+        None => run_owned(rt, owned.as_slice()),
+        Some(ending) => Ok(Next::Ends(ending)),
     }
+}
+
+// Takes the program's words, or tells how it ends without them.
+fn take_words(rt: &HostRuntime, owned: &mut Vec<String>) -> io::Result<Option<Ending>> {
+    match env::args(rt) {
+        Ok(given) => {
+            for word in given {
+                owned.push(word)?;
+            }
+            Ok(None)
+        }
+        Err(error) if error.kind() == io::ErrorKind::OutOfMemory => Ok(Some(Ending::NoMemory)),
+        Err(_) => {
+            // The words are bad, whether or not that can be told.
+            let _ = eprintln!(rt; "crawlgate: an argument is not UTF-8");
+            Ok(Some(Ending::BadWords))
+        }
+    }
+}
+
+fn run_owned(rt: &HostRuntime, owned: &[String]) -> io::Result<Next>
+    ensures { IfOk result IsReady }
+{
     let mut words = Vec::new(rt.alloc());
-    for word in &owned {
+    for word in owned {
         words.push(word.as_str())?;
     }
     run_words(rt, words.as_slice())
@@ -110,19 +108,28 @@ fn run_words(rt: &HostRuntime, words: &[&str]) -> io::Result<Next>
     ensures { IfOk result IsReady }
 {
     match options(rt.alloc(), words) {
-        Ok(Subcommand::Replay(limits)) => Ok(Next::Ends(replay_streams(rt, limits))),
-        Ok(Subcommand::Export(limits)) => Ok(Next::Ends(export_streams(rt, limits))),
-        Ok(Subcommand::Lines) => Ok(Next::Ends(lines_streams(rt))),
-        Ok(Subcommand::Audit) => Ok(Next::Ends(audit_streams(rt)?)),
-        Ok(Subcommand::Shift(workers, limits)) => match new_book(rt, limits) {
-            Ok(book) => Ok(Next::Shift(workers, book)),
-            Err(ending) => Ok(Next::Ends(ending)),
-        },
+        Ok(subcommand) => run_subcommand(rt, subcommand),
         Err(error) if error.kind() == ErrorKind::OutOfMemory => Ok(Next::Ends(Ending::NoMemory)),
         Err(error) => {
-            eprint!(rt; "{}", error.to_string(rt.alloc())?)?;
+            let _ = eprint!(rt; "{}", error.to_string(rt.alloc())?);
             Ok(Next::Ends(Ending::BadWords))
         }
+    }
+}
+
+fn run_subcommand(rt: &HostRuntime, subcommand: Subcommand) -> io::Result<Next>
+    requires { IsInRange subcommand }
+    ensures { IfOk result IsReady }
+{
+    if !are_open(rt) {
+        return Ok(Next::Ends(Ending::Device));
+    }
+    match subcommand {
+        Subcommand::Replay(limits) => Ok(Next::Ends(replay_streams(rt, limits))),
+        Subcommand::Export(limits) => Ok(Next::Ends(export_streams(rt, limits))),
+        Subcommand::Lines => Ok(Next::Ends(lines_streams(rt))),
+        Subcommand::Audit => Ok(Next::Ends(audit_streams(rt)?)),
+        Subcommand::Shift(workers, limits) => Ok(Next::Shift(workers, limits)),
     }
 }
 
@@ -144,13 +151,16 @@ fn new_book(rt: &HostRuntime, limits: Limits) -> Result<Book, Ending>
 fn replay_streams(rt: &HostRuntime, limits: Limits) -> Ending
     requires { AreLimits limits }
 {
-    let mut book = match new_book(rt, limits) {
-        Ok(book) => book,
-        Err(ending) => return ending,
-    };
+    match new_book(rt, limits) {
+        Ok(mut book) => replay_over(rt, &mut book, &mut Counted::new(rt.stdout())),
+        Err(ending) => ending,
+    }
+}
+
+// Replays standard input over a book, and writes the replies.
+fn replay_over<W: Sink>(rt: &HostRuntime, book: &mut Book, replies: &mut W) -> Ending {
     let mut reader = Counted::new(rt.stdin());
-    let mut writer = Counted::new(rt.stdout());
-    Ending::of(replay(rt.alloc(), &mut reader, &mut writer, &mut book))
+    Ending::of(replay(rt.alloc(), &mut reader, replies, book))
 }
 
 // Replays standard input, and writes the history at the end to standard output, where no device
@@ -158,20 +168,25 @@ fn replay_streams(rt: &HostRuntime, limits: Limits) -> Ending
 fn export_streams(rt: &HostRuntime, limits: Limits) -> Ending
     requires { AreLimits limits }
 {
-    let mut book = match new_book(rt, limits) {
-        Ok(book) => book,
-        Err(ending) => return ending,
-    };
-    // The room of the export's output is taken before a line is.
-    let Ok(mut output) = Output::new(rt.alloc()) else {
-        return Ending::NoMemory;
-    };
-    let mut reader = Counted::new(rt.stdin());
-    let mut replies = Counted::new(io::sink());
-    let ending = Ending::of(replay(rt.alloc(), &mut reader, &mut replies, &mut book));
+    match new_book(rt, limits) {
+        Ok(mut book) => export_over(rt, &mut book),
+        Err(ending) => ending,
+    }
+}
+
+// The room of the export's output is taken before a line is.
+fn export_over(rt: &HostRuntime, book: &mut Book) -> Ending {
+    match Output::new(rt.alloc()) {
+        Ok(mut output) => export_through(rt, book, &mut output),
+        Err(_) => Ending::NoMemory,
+    }
+}
+
+fn export_through(rt: &HostRuntime, book: &mut Book, output: &mut Output) -> Ending {
+    let ending = replay_over(rt, book, &mut Counted::new(io::sink()));
     match ending {
         Ending::NoMemory | Ending::Device => ending,
-        _ => match export(&book, &mut output, &mut Counted::new(rt.stdout())) {
+        _ => match export(book, output, &mut Counted::new(rt.stdout())) {
             Ok(()) => ending,
             Err(_) => Ending::Device,
         },
@@ -182,7 +197,7 @@ fn export_streams(rt: &HostRuntime, limits: Limits) -> Ending
 fn lines_streams(rt: &HostRuntime) -> Ending {
     let mut reader = Counted::new(rt.stdin());
     let mut writer = Counted::new(rt.stdout());
-    Ending::of(lines::lines(rt.alloc(), &mut reader, &mut writer))
+    Ending::of(lines(rt.alloc(), &mut reader, &mut writer))
 }
 
 // Audits standard input. The keys of the audit's tables are drawn anew.
@@ -201,6 +216,35 @@ fn audit_streams(rt: &HostRuntime) -> io::Result<Ending> {
         }
         Err(AuditFault::Read) => Ok(Ending::Device),
         Err(AuditFault::NoMemory) => Ok(Ending::NoMemory),
+    }
+}
+
+// Has so many workers do the jobs on standard input, over a new gate, and writes their report to
+// standard output. The first handle is for threads, the second for the streams.
+fn shift_by<F: Fetcher + Sync, C: Clock + Sync, R: Threads + Wait + Sync>(
+    rt: &R,
+    host: &HostRuntime,
+    workers: u64,
+    limits: Limits,
+    fetcher: &F,
+    clock: &C,
+) -> Result<(), NotShifted>
+    requires { IsCrew workers × AreLimits limits }
+{
+    match new_book(host, limits) {
+        Ok(book) => shift_over::<Brand, _, _, _, _, _>(
+            rt,
+            host.alloc(),
+            &mut Counted::new(host.stdin()),
+            &mut Counted::new(host.stdout()),
+            workers,
+            book,
+            Blanks::new(),
+            fetcher,
+            clock,
+        ),
+        Err(Ending::NoMemory) => Err(NotShifted::NoMemory),
+        Err(_) => Err(NotShifted::Device),
     }
 }
 

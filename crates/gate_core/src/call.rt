@@ -10,7 +10,7 @@ use robots_text::Token;
 use robots_verdict::Answer;
 
 /// A call of a book. Moments are seconds, any that a u64 has.
-#[derive(Debug, Drop)]
+#[derive(Drop)]
 pub enum Call {
     /// Begins a robots fetch.
     Begin {
@@ -54,7 +54,7 @@ pub enum Call {
 
 /// What a call was answered: the result of the call of the same name, and what of the call its
 /// reply names.
-#[derive(Debug, Drop)]
+#[derive(Drop)]
 pub enum Reply {
     /// To [`Call::Begin`].
     Begin {

@@ -28,6 +28,3 @@ pub use config::{Config, Limits, MAX_AUTHORITIES, MAX_LOG, MAX_PLACES, limits_ar
 pub use judged::Judged;
 pub use refusal::{AskRefusal, BeginRefusal, Denial, NoMemory, Started, SweepRefusal};
 pub use state::{Standing, State};
-
-#[cfg(test)]
-mod tests;

@@ -17,7 +17,7 @@ pub(crate) struct Places {
 }
 
 /// Where an authority stands in the counts, until they change, and how many permits are out for it.
-#[derive(Clone, Copy, Debug)]
+#[derive(Clone, Copy)]
 pub(crate) struct Held {
     pub index: Option<usize>,
     pub count: u64,

@@ -26,7 +26,7 @@ pub enum BeginRefusal {
 }
 
 /// Why no permit was granted. Nothing has changed, but after `Denied`, which is an entry.
-#[derive(Debug, Drop)]
+#[derive(Drop)]
 pub enum AskRefusal {
     /// The history has no room for the grant, its start and its end.
     LogFull,
@@ -50,7 +50,7 @@ pub enum SweepRefusal {
 }
 
 /// An ask or a start that is denied, with its URL.
-#[derive(Debug, Drop)]
+#[derive(Drop)]
 pub struct Denial {
     /// The URL that was asked for.
     pub url: PageUrl,
@@ -68,7 +68,7 @@ impl Denial {
 }
 
 /// A start that is allowed: the fetch may begin.
-#[derive(Debug, Drop)]
+#[derive(Drop)]
 pub struct Started {
     /// The permit, which is spent.
     pub number: PermitNo,

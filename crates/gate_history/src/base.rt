@@ -18,7 +18,7 @@ pub struct SlotGrant {
 }
 
 /// What a history goes on from, in the place of entries that were sealed.
-#[derive(Debug, Drop)]
+#[derive(Drop)]
 pub struct Base {
     standing: Vec<StandingAnswer>,
     in_flight: Vec<Turn>,

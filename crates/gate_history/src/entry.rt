@@ -9,7 +9,7 @@ use permit_book::PermitNo;
 use robots_verdict::Said;
 
 /// One event of the gate. Moments are seconds, and never fall along a history.
-#[derive(Debug, Drop)]
+#[derive(Drop)]
 pub enum Entry {
     /// A robots fetch of the authority began.
     Begun {

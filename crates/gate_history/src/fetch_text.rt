@@ -11,7 +11,7 @@ use std::marker::Model;
 
 /// The texts of one fetch's token and URL. They lie one after the other in one piece of memory,
 /// since a history has many of them. A clause sees it as the fetch.
-#[derive(Debug, Drop)]
+#[derive(Drop)]
 pub struct FetchText {
     octets: Vec<u8>,
     // Where the URL begins.

@@ -13,6 +13,3 @@ pub use base::{Base, SlotGrant};
 pub use entry::Entry;
 pub use fetch_text::FetchText;
 pub use outcome::{Cause, Reason};
-
-#[cfg(test)]
-mod tests;

@@ -32,6 +32,3 @@ pub use settlement::{SettleFault, Settled, settle};
 pub use tally::{DesksFull, MAX_DESKS};
 pub use tokens::{Fetched, Permit, RobotsTurn, Running};
 pub use visit::{Visit, with_gate};
-
-#[cfg(test)]
-mod tests;

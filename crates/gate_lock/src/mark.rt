@@ -8,7 +8,7 @@ use permit_book::PermitNo;
 use robots_verdict::Said;
 
 /// What an entry says, as the desk that made it keeps it. Moments are seconds.
-#[derive(Debug, Drop)]
+#[derive(Drop)]
 pub enum Deed {
     /// A robots fetch of the authority began.
     Begun {
@@ -63,7 +63,7 @@ pub enum Deed {
 }
 
 /// An entry that a desk made, and its place: how many entries were before it, from the first one ever.
-#[derive(Debug, Drop)]
+#[derive(Drop)]
 pub struct Mark {
     /// The place.
     pub place: u64,

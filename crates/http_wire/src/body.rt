@@ -14,7 +14,7 @@ use counted_io::Source;
 use std::alloc::Global;
 
 /// What was read of a body.
-#[derive(Debug, Drop)]
+#[derive(Drop)]
 pub(crate) struct Body {
     pub octets: Vec<u8>,
     /// Whether the body has more octets than that.

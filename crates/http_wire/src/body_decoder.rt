@@ -17,7 +17,7 @@ use crate::part::Part;
 use std::alloc::Global;
 
 /// A body by its framing, as far as it was decoded.
-#[derive(Debug, Drop)]
+#[derive(Drop)]
 enum Form {
     /// It has so many octets.
     Counted(u64),
@@ -28,7 +28,7 @@ enum Form {
 }
 
 /// What the octets of a body are.
-#[derive(Debug, Drop)]
+#[derive(Drop)]
 pub(crate) enum BodySeen {
     /// They give a body, whatever follows them.
     Given(Body),
@@ -39,7 +39,7 @@ pub(crate) enum BodySeen {
 }
 
 /// A decoder of one body. After an answer it is done.
-#[derive(Debug, Drop)]
+#[derive(Drop)]
 pub(crate) struct BodyDecoder {
     start: usize,
     limit: usize,

@@ -17,7 +17,7 @@ use std::mem;
 const FIRST_READ: usize = 16_384;
 
 /// What a read gave.
-#[derive(Clone, Copy, Debug, PartialEq, Eq)]
+#[derive(Clone, Copy, PartialEq, Eq)]
 pub(crate) enum Fill {
     /// More octets.
     More,
@@ -28,7 +28,7 @@ pub(crate) enum Fill {
 }
 
 /// The octets that have come, at most `MAX_RAW`. Behind them is room for the next read.
-#[derive(Debug, Drop)]
+#[derive(Drop)]
 pub(crate) struct Buffer {
     room: Vec<u8>,
     end: usize,

@@ -12,7 +12,7 @@ use std::alloc::{AllocError, Global};
 use std::mem;
 
 /// Where the decoding of a body stands.
-#[derive(Clone, Copy, Debug, PartialEq, Eq)]
+#[derive(Clone, Copy, PartialEq, Eq)]
 enum Place {
     /// Before a chunk line.
     Line,
@@ -23,7 +23,7 @@ enum Place {
 }
 
 /// What the octets after those of a chunk are.
-#[derive(Clone, Copy, Debug, PartialEq, Eq)]
+#[derive(Clone, Copy, PartialEq, Eq)]
 enum ChunkEnd {
     /// CR LF.
     Whole,
@@ -34,7 +34,7 @@ enum ChunkEnd {
 }
 
 /// A body in chunks, *chunk last-chunk trailer-section CRLF, as far as it was decoded. After an answer other than `More` it is done.
-#[derive(Debug, Drop)]
+#[derive(Drop)]
 pub(crate) struct ChunkDecoder {
     limit: usize,
     start: usize,
@@ -258,6 +258,3 @@ fn chunk_end(text: &[u8]) -> ChunkEnd
         _ => ChunkEnd::Bad,
     }
 }
-
-#[cfg(test)]
-mod tests;

@@ -12,7 +12,7 @@ use httparse::spans::HeaderSpan;
 use memchr::memchr;
 
 /// One field of a head.
-#[derive(Clone, Copy, Debug)]
+#[derive(Clone, Copy)]
 pub(crate) struct Field<'h> {
     name: &'h [u8],
     // Without the white space around it.

@@ -9,7 +9,7 @@ use crate::fields::{Field, Members, Values, is_same_word};
 use crate::numbers::number_in;
 
 /// What tells where a body ends.
-#[derive(Clone, Copy, Debug, PartialEq, Eq)]
+#[derive(Clone, Copy, PartialEq, Eq)]
 pub(crate) enum Framing {
     /// It has so many octets.
     Counted(u64),
@@ -20,7 +20,7 @@ pub(crate) enum Framing {
 }
 
 /// Why the fields of a head tell no framing.
-#[derive(Clone, Copy, Debug, PartialEq, Eq)]
+#[derive(Clone, Copy, PartialEq, Eq)]
 pub(crate) enum Unframed {
     /// The members of Content-Length are not all the same number below 2 to the 64.
     BadLength,

@@ -23,7 +23,7 @@ use httparse::{Error, Status};
 use std::alloc::{AllocError, Global};
 
 /// The final head of a response, as far as its reader needs it.
-#[derive(Debug, Drop)]
+#[derive(Drop)]
 pub(crate) struct FinalHead {
     pub status: u16,
     pub framing: Framing,
@@ -34,7 +34,7 @@ pub(crate) struct FinalHead {
 }
 
 /// What the parser tells of a text.
-#[derive(Clone, Copy, Debug)]
+#[derive(Clone, Copy)]
 pub(crate) enum Parsed {
     /// It begins with a head.
     Head(ResponseSpans),
@@ -47,7 +47,7 @@ pub(crate) enum Parsed {
 }
 
 /// What one look at the octets sees.
-#[derive(Debug, Drop)]
+#[derive(Drop)]
 pub(crate) enum Seen {
     /// The final head.
     Final(FinalHead),
@@ -58,7 +58,7 @@ pub(crate) enum Seen {
 }
 
 /// What a status makes of its head.
-#[derive(Clone, Copy, Debug, PartialEq, Eq)]
+#[derive(Clone, Copy, PartialEq, Eq)]
 pub(crate) enum Class {
     Interim,
     Final,
@@ -79,7 +79,7 @@ impl Class {
 }
 
 /// The place behind the interim heads that were passed over.
-#[derive(Clone, Copy, Debug)]
+#[derive(Clone, Copy)]
 pub(crate) struct HeadFinder {
     at: usize,
     passed: usize,

@@ -6,7 +6,7 @@ use crate::line_ends::{has_empty_line, has_line_end};
 use std::mem;
 
 /// Up to what part of a head a scan has come.
-#[derive(Clone, Copy, Debug, PartialEq, Eq)]
+#[derive(Clone, Copy, PartialEq, Eq)]
 enum Stage {
     /// Nothing but empty lines has come.
     Before,
@@ -19,7 +19,7 @@ enum Stage {
 }
 
 /// A scan for the ends of lines that a head may have. No answer rests on it.
-#[derive(Clone, Copy, Debug, PartialEq, Eq)]
+#[derive(Clone, Copy, PartialEq, Eq)]
 pub(crate) struct HeadScan {
     stage: Stage,
     seen: usize,

@@ -27,6 +27,3 @@ pub use limits::{
 };
 pub use request::write_get;
 pub use response::{HttpReply, read_response};
-
-#[cfg(test)]
-mod tests;

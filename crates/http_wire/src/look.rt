@@ -2,7 +2,7 @@
 //! Each part of a response is read by looks, with a read of the source between two of them.
 
 /// What the octets so far say of one part of a response.
-#[derive(Clone, Copy, Debug, PartialEq, Eq)]
+#[derive(Clone, Copy, PartialEq, Eq)]
 pub(crate) enum Look {
     /// The part is whole.
     Whole,

@@ -48,7 +48,7 @@ pub(crate) trait Part {
 }
 
 /// Where the reading of a part stops.
-#[derive(Debug, Drop)]
+#[derive(Drop)]
 pub(crate) enum Stop<T> {
     /// The part was found.
     Found(T),

@@ -16,7 +16,7 @@ use counted_io::Source;
 use std::alloc::Global;
 
 /// What a server answered.
-#[derive(Debug, Drop)]
+#[derive(Drop)]
 pub struct HttpReply {
     /// The status of the final head, 200 to 999.
     pub status: u16,

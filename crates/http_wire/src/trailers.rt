@@ -11,7 +11,7 @@ use httparse::spans::{EMPTY_HEADER_SPAN, parse_headers};
 use httparse::{Error, Status};
 
 /// What octets that trailers may have are.
-#[derive(Clone, Copy, Debug, PartialEq, Eq)]
+#[derive(Clone, Copy, PartialEq, Eq)]
 enum TrailerSection {
     /// Trailers, and what follows them.
     Whole,

@@ -8,6 +8,3 @@ mod seat;
 
 pub use line::{Drawn, JobLine, MAX_JOBS, MAX_WORKERS, constants_are_the_limits};
 pub use seat::JobSeat;
-
-#[cfg(test)]
-mod tests;

@@ -37,7 +37,7 @@ impl Model for JobLine {
 }
 
 /// What the seats drew, each seat's list in the order of its draws.
-#[derive(Debug, Drop)]
+#[derive(Drop)]
 pub struct Drawn {
     pub lists: Vec<Vec<u64>>,
 }

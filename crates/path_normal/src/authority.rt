@@ -15,7 +15,7 @@ use std::fmt;
 use std::marker::Model;
 
 /// The authority of a page's URL: the host in lower case, and `:` and the port where it is not 80.
-#[derive(Debug, Drop)]
+#[derive(Drop)]
 pub struct Authority {
     text: String,
 }

@@ -11,6 +11,3 @@ pub use authority::Authority;
 pub use fault::{AuthorityFault, Unread, UrlFault};
 pub use normal::{normal_path, normal_pattern, push_normal_pattern, split_anchor};
 pub use page_url::{MAX_AUTHORITY, MAX_URL, PageUrl};
-
-#[cfg(test)]
-mod tests;

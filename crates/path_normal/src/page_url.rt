@@ -31,7 +31,7 @@ const ROBOTS_PATH: &str = "/robots.txt";
 /// The URL of a page, as the URL Standard writes it: `http`, no user, no fragment.
 ///
 /// A clause sees it as its text, of which `authority_of` and `target_of` give the parts.
-#[derive(Debug, Drop)]
+#[derive(Drop)]
 pub struct PageUrl {
     text: String,
     authority_end: usize,

@@ -7,6 +7,3 @@ mod pattern;
 mod runs;
 
 pub use pattern::{Pattern, matches};
-
-#[cfg(test)]
-mod tests;

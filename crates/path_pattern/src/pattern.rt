@@ -14,7 +14,7 @@ use std::alloc::{AllocError, Global};
 use std::marker::Model;
 
 /// A pattern in normal form: `*` stands for any octets, also none, a last `$` for the end.
-#[derive(Debug, Drop)]
+#[derive(Drop)]
 pub struct Pattern {
     text: Vec<u8>,
     // To look for it again would cost each match a walk over the pattern.

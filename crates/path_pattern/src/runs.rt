@@ -9,7 +9,7 @@ use memchr::arch::all::{is_prefix, is_suffix};
 use memchr::{memchr, memmem};
 
 /// Where the first star of a pattern stands.
-#[derive(Clone, Copy, Debug)]
+#[derive(Clone, Copy)]
 pub(crate) enum Star {
     /// There is none.
     None,

@@ -6,7 +6,7 @@ use path_normal::PageUrl;
 use robots_text::Token;
 
 /// A permit for one fetch of a URL under a token, with its number.
-#[derive(Debug, Drop)]
+#[derive(Drop)]
 pub struct GrantedPermit {
     /// The permit's number.
     pub number: PermitNo,

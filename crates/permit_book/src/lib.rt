@@ -19,6 +19,3 @@ pub use number::{LAST_GENERATION, MAX_SLOTS, PermitNo, SLOTS_PER_GENERATION};
 pub use out::{Fetch, Out, Slot};
 pub use permits::Permits;
 pub use refusal::{NotOut, PermitsFull};
-
-#[cfg(test)]
-mod tests;

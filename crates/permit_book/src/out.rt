@@ -10,7 +10,7 @@ use robots_text::Token;
 use std::mem;
 
 /// One fetch of a URL under a product token.
-#[derive(Debug, Drop)]
+#[derive(Drop)]
 pub struct Fetch {
     /// The product token that may make it.
     pub token: Token,
@@ -19,7 +19,7 @@ pub struct Fetch {
 }
 
 /// What is out in a slot.
-#[derive(Debug, Drop)]
+#[derive(Drop)]
 pub enum Out {
     /// No permit: none was granted, or the last one has ended.
     Nothing,
@@ -30,7 +30,7 @@ pub enum Out {
 }
 
 /// A slot of the table.
-#[derive(Debug, Drop)]
+#[derive(Drop)]
 pub struct Slot {
     /// The generation of its last grant, 0 where none was.
     pub last: u64,

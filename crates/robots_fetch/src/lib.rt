@@ -12,6 +12,3 @@ pub use redirect::{MAX_REDIRECTS, Nowhere, Stop, redirect_target};
 pub use reply::RobotsReply;
 pub use status::{StatusClass, class_of};
 pub use walk::{Step, Walk};
-
-#[cfg(test)]
-mod tests;

@@ -2,7 +2,7 @@
 //! RFC 9309, section 2.3.1.
 
 /// What came of one request for a robots file.
-#[derive(Debug, Drop)]
+#[derive(Drop)]
 pub enum RobotsReply {
     /// A response.
     Status {

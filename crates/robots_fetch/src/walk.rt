@@ -20,14 +20,14 @@ use robots_verdict::{Answer, Closure, Opening};
 use std::alloc::{AllocError, Global};
 
 /// A robots fetch under way: the URL to fetch next, and how many redirects led to it, 5 at most.
-#[derive(Debug, Drop)]
+#[derive(Drop)]
 pub struct Walk {
     url: PageUrl,
     followed: u64,
 }
 
 /// What a reply makes of a walk.
-#[derive(Debug, Drop)]
+#[derive(Drop)]
 pub enum Step {
     /// It goes on: fetch its URL next.
     Go(Walk),

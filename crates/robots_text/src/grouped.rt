@@ -17,7 +17,7 @@ pub struct GroupedRecord<'a> {
 }
 
 /// The records that are still to come, one for each line. It takes no memory.
-#[derive(Debug, Drop)]
+#[derive(Drop)]
 pub struct GroupedRecords<'a> {
     records: Records<'a>,
     group: u64,

@@ -20,14 +20,14 @@ pub struct RuleLine<'a> {
 }
 
 // Whose rules are looked for.
-#[derive(Clone, Copy, Debug)]
+#[derive(Clone, Copy)]
 pub(crate) enum Whom<'a> {
     Token(&'a [u8]),
     Everybody,
 }
 
 // Where a walk over the lines stands.
-#[derive(Clone, Copy, Debug)]
+#[derive(Clone, Copy)]
 enum Group {
     // In no group, or in one for others.
     Foreign,
@@ -38,7 +38,7 @@ enum Group {
 }
 
 /// The rule lines for a token that are still to come. It takes no memory.
-#[derive(Debug, Drop)]
+#[derive(Drop)]
 pub struct RulesFor<'t, 'k> {
     records: Records<'t>,
     whom: Whom<'k>,

@@ -17,6 +17,3 @@ pub use record::{Agent, RecordKind, RecordLine, RuleKind};
 pub use records::Records;
 pub use text::{MAX_TEXT, RobotsText};
 pub use token::{MAX_TOKEN, Token, TokenFault};
-
-#[cfg(test)]
-mod tests;

@@ -6,7 +6,7 @@ use crate::line::cut_line;
 use crate::record::{RecordLine, record_of};
 
 /// The records that are still to come, one for each line. It takes no memory.
-#[derive(Debug, Drop)]
+#[derive(Drop)]
 pub struct Records<'a> {
     rest: &'a [u8],
     line: u64,

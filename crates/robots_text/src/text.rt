@@ -16,7 +16,7 @@ use std::marker::Model;
 pub const MAX_TEXT: usize = 512000;
 
 /// A robots text: the octets that are kept of it, its mark included.
-#[derive(Debug, Drop)]
+#[derive(Drop)]
 pub struct RobotsText {
     octets: Vec<u8>,
 }

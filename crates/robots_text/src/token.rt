@@ -15,7 +15,7 @@ use std::marker::Model;
 pub const MAX_TOKEN: usize = 64;
 
 /// A crawler's product token (RFC 9309, 2.2.1): 1 to 64 letters, `-` and `_`, kept in lower case.
-#[derive(Debug, Drop)]
+#[derive(Drop)]
 pub struct Token {
     text: String,
 }

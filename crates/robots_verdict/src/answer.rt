@@ -9,7 +9,7 @@ use robots_text::RobotsText;
 use std::alloc::{AllocError, Global};
 
 /// The answer of an authority's robots file. Answers are equal where they say the same.
-#[derive(Debug, Drop, PartialEq, Eq)]
+#[derive(Drop, PartialEq, Eq)]
 pub enum Answer {
     /// The rules of the robots file bind.
     Rules(Rules),

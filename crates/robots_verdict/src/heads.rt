@@ -15,21 +15,21 @@ use std::cmp::Ordering;
 use std::marker::Model;
 
 /// A name in lower case, and the number of a group that has it.
-#[derive(Debug, Drop)]
+#[derive(Drop)]
 pub(crate) struct Name {
     text: Vec<u8>,
     group: u32,
 }
 
 /// The names as they are read, and the groups of everybody.
-#[derive(Debug, Drop)]
+#[derive(Drop)]
 pub(crate) struct Names {
     names: Vec<Name>,
     everybody: Vec<u32>,
 }
 
 /// The names in order, and the groups of everybody.
-#[derive(Debug, Drop)]
+#[derive(Drop)]
 pub(crate) struct Heads {
     names: Vec<Name>,
     // The groups of the names, place by place.

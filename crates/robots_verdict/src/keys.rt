@@ -12,7 +12,7 @@ use std::cmp::Ordering;
 
 /// A place and its group, and the numbers that the first eight octets of its pattern spell and those
 /// behind them.
-#[derive(Clone, Copy, Debug)]
+#[derive(Clone, Copy)]
 pub(crate) struct Key {
     front: u64,
     next: u64,

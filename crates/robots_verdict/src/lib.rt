@@ -25,6 +25,3 @@ pub use decision::{Allowed, Verdict};
 pub use policy::Policy;
 pub use rules::Rules;
 pub use said::{PolicyHandle, Said};
-
-#[cfg(test)]
-mod tests;

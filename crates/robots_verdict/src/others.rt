@@ -13,7 +13,7 @@ use std::cmp::Ordering;
 
 /// The places of the rows that are not plain, in the order of their groups, of each group the
 /// strongest first.
-#[derive(Debug, Drop)]
+#[derive(Drop)]
 pub(crate) struct Others {
     places: Vec<u32>,
     // The groups of the places, index by index: a search looks at many, and seldom at their rows.

@@ -20,7 +20,7 @@ use std::alloc::{AllocError, Global};
 use std::cmp::Ordering;
 
 /// The places of the plain rows, in the order of their groups and texts.
-#[derive(Debug, Drop)]
+#[derive(Drop)]
 pub(crate) struct Plain {
     places: Vec<u32>,
     // The groups of the places, index by index: a search looks at many, and seldom at their rows.

@@ -19,7 +19,7 @@ use std::marker::Model;
 
 /// A robots text, its rule lines with the strongest first, where each is found, and the names of
 /// its groups.
-#[derive(Debug, Drop)]
+#[derive(Drop)]
 pub struct Policy {
     text: RobotsText,
     rows: Rows,

@@ -5,7 +5,7 @@ use robots_text::RuleKind;
 
 /// A rule line: where its pattern in normal form lies, its kind, and the numbers of its line and
 /// group.
-#[derive(Clone, Copy, Debug)]
+#[derive(Clone, Copy)]
 pub(crate) struct Row {
     pub start: u32,
     pub len: u32,

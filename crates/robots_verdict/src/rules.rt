@@ -16,7 +16,7 @@ use std::mem;
 use std::sync::Arc;
 
 // Handles of the same policy, kept since the clone of an `Arc` can be refused.
-#[derive(Debug, Drop)]
+#[derive(Drop)]
 enum Spares {
     None,
     One(Arc<Policy>),
@@ -24,7 +24,7 @@ enum Spares {
 }
 
 /// The policy of an answer, which is shared, and up to two spare handles of it.
-#[derive(Debug, Drop)]
+#[derive(Drop)]
 pub struct Rules {
     policy: Arc<Policy>,
     spares: Spares,

@@ -10,7 +10,7 @@ use std::marker::Model;
 use std::sync::Arc;
 
 /// What an answer says. It has no spares, so that no twin can be made of it.
-#[derive(Debug, Drop, PartialEq, Eq)]
+#[derive(Drop, PartialEq, Eq)]
 pub enum Said {
     /// The rules of the robots file bind.
     Rules(PolicyHandle),
@@ -21,7 +21,7 @@ pub enum Said {
 }
 
 /// A handle of a policy, which is shared. A clause sees it as the policy's text.
-#[derive(Debug, Drop)]
+#[derive(Drop)]
 pub struct PolicyHandle {
     pub(crate) policy: Arc<Policy>,
 }

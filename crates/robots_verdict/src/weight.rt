@@ -9,7 +9,7 @@ use std::cmp::Ordering;
 
 /// What makes a rule line stronger than another: the octets of its pattern in normal form, then its
 /// kind, then the number of its line.
-#[derive(Clone, Copy, Debug)]
+#[derive(Clone, Copy)]
 pub(crate) struct Weight {
     pub octets: usize,
     pub kind: RuleKind,

@@ -2,7 +2,7 @@
 -- Used by `Crew::do_job`.
 use Rattle.std.proofs.Common.{◌≡◌, get_or, refl, subst}
 use Rattle.std.proofs.lemmas.Option.{slice_get-get_or}
-use Rattle.crawl_workers.specs.declared.job.Job.{Job}
+use Rattle.crawl_job.specs.declared.job.Job.{Job}
 use Rattle.crawl_workers.specs.Outcomes.{IsOutcome}
 use Rattle.crawl_workers.proofs.crew.Crew.do_job.Goals as goal
 

@@ -1,6 +1,6 @@
 -- The ask is granted, or its refusal is the hop.
 use Rattle.std.proofs.Common.{sym, subst}
-use Rattle.crawl_workers.specs.declared.hop.Hop.{Hop}
+use Rattle.crawl_job.specs.declared.hop.Hop.{Hop}
 use Rattle.crawl_workers.specs.Outcomes.{IsLast}
 use Rattle.crawl_workers.specs.WaysOn.{AddsDeeds}
 use Rattle.crawl_workers.proofs.Hops.{ask_granted, ask_refused}

@@ -1,6 +1,6 @@
 -- Want of memory and a refused refresh end the list, behind what the refresh did.
-use Rattle.crawl_workers.specs.declared.hop.Hop.TheVariants as hops
-use Rattle.crawl_workers.specs.declared.hop.Refusal.TheVariants as refusals
+use Rattle.crawl_job.specs.declared.hop.Hop.TheVariants as hops
+use Rattle.crawl_job.specs.declared.hop.Refusal.TheVariants as refusals
 use Rattle.crawl_workers.specs.Outcomes.{IsLast}
 use Rattle.crawl_workers.proofs.Hops.{behind_refresh, refused}
 use Rattle.crawl_workers.proofs.worker.Worker.hop_at.Goals as goal

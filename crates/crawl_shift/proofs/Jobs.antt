@@ -1,0 +1,259 @@
+-- What the lines of a session come to where a list of jobs answers them.
+-- Used by the proof of `read_jobs`.
+use Rattle.std.proofs.Common.{◌≡◌, ◌≢◌, inl, inr, ◌+◌, ℕ, suc, Bool, true, false, List, [], ◌∷◌, ◌++◌, append_assoc, append-nil, length, Some, None, refl, sym, ap, ◌∙◌, subst, arith, rules}
+use Rattle.std.specs.Prelude.{Option, Result, Ok, Err, IfErr, IfOk, ◌⊎◌}
+use Rattle.std.proofs.lemmas.Option.{none-some}
+use Rattle.path_normal.specs.Capacity.{IsRead}
+use Rattle.crawl_job.specs.declared.job.Job.{Job}
+use Rattle.counted_io.specs.Lines.{IsDrained}
+use Rattle.command_server.specs.Answers.{Answers}
+use Rattle.command_server.specs.Input.{TakesLines}
+use Rattle.command_server.specs.JobWords.{job_of}
+use Rattle.command_server.specs.Session.{Meets, ResultsIn, Session, failures_after_reads}
+use Rattle.command_server.specs.declared.fault.LineFault.{LineFault}
+use Rattle.command_server.specs.declared.fault.LineFault.TheVariants as faults
+use Rattle.command_server.specs.declared.session_fault.SessionFault.{SessionFault}
+use Rattle.command_server.specs.declared.session_fault.SessionFault.TheVariants.{LongLine, Lines, Write}
+use Rattle.crawl_shift.specs.declared.job_list.JobList.{JobList}
+use Rattle.crawl_shift.specs.declared.job_list.Unread.{Unread}
+use Rattle.crawl_shift.specs.declared.job_list.Unread.TheVariants as unread
+use Rattle.crawl_shift.specs.JobLists.{AreAllJobs, AreJobs, EndsBadly, EndsWell, FailsToRead, IsBadJobLine, IsUnread, MayFail, TakesJob, job_line_limit, most_job_lines}
+
+-- each line added its job
+pub record Added (old new : JobList) (lines : List (List ℕ)) : Type 0 where
+  pub own : List Job
+  pub jobs_are : new.jobs.items ≡ old.jobs.items ++ own
+  pub read : AreJobs lines own
+  pub fault_is : new.fault ≡ old.fault
+
+-- each line but the last added its job, and the last has a fault
+pub record Stopped (old new : JobList) (lines : List (List ℕ)) : Type 0 where
+  pub front : List (List ℕ)
+  pub last : List ℕ
+  pub lines_are : lines ≡ front ++ last ∷ []
+  pub own : List Job
+  pub jobs_are : new.jobs.items ≡ old.jobs.items ++ own
+  pub read : AreJobs front own
+  pub fault : LineFault
+  pub fails : MayFail last fault
+  pub fault_is : new.fault ≡ Some fault
+
+never : false ≡ true → ⊥
+never e = search rules
+
+behind_one : (old mid new : List Job) (job : Job) (own : List Job) → mid ≡ old ++ job ∷ [] → new ≡ mid ++ own → new ≡ old ++ (job ∷ own)
+behind_one old mid new job own first later = later ∙ ap (λ (l : List Job). l ++ own) first ∙ append_assoc old (job ∷ []) own
+
+-- where no line ended the session
+pub added : (old new : JobList) (lines : List (List ℕ)) (text : List ℕ) → Answers TakesJob old lines text false new → Added old new lines
+added old new [] text answered = record {
+  own = [];
+  jobs_are = ap (λ (l : JobList). l.jobs.items) answered.2 ∙ sym (append-nil old.jobs.items);
+  read = tt;
+  fault_is = ap (λ (l : JobList). l.fault) answered.2;
+}
+added old new (line ∷ lines) text (inl ends) = absurd (never ends.ended_is)
+added old new (line ∷ lines) text (inr goes) =
+    let later = added goes.state new lines goes.rest goes.then in
+    let first = goes.answered.1 in
+    record {
+      own = first.0 ∷ later.own;
+      jobs_are = behind_one old.jobs.items goes.state.jobs.items new.jobs.items first.0 later.own first.1.1 later.jobs_are;
+      read = (first.1.0, later.read);
+      fault_is = later.fault_is ∙ first.1.2;
+    }
+
+-- where the last line did
+pub stopped : (old new : JobList) (lines : List (List ℕ)) (text : List ℕ) → Answers TakesJob old lines text true new → Stopped old new lines
+stopped old new [] text answered = absurd (never (sym answered.1))
+stopped old new (line ∷ lines) text (inl ends) =
+    let kept = ends.answered.1 in
+    record {
+      front = [];
+      last = line;
+      lines_are = ap (λ (l : List (List ℕ)). line ∷ l) ends.last;
+      own = [];
+      jobs_are = kept.1.1 ∙ sym (append-nil old.jobs.items);
+      read = tt;
+      fault = kept.0;
+      fails = kept.1.0;
+      fault_is = kept.1.2;
+    }
+stopped old new (line ∷ lines) text (inr goes) =
+    let later = stopped goes.state new lines goes.rest goes.then in
+    let first = goes.answered.1 in
+    record {
+      front = line ∷ later.front;
+      last = later.last;
+      lines_are = ap (λ (l : List (List ℕ)). line ∷ l) later.lines_are;
+      own = first.0 ∷ later.own;
+      jobs_are = behind_one old.jobs.items goes.state.jobs.items new.jobs.items first.0 later.own first.1.1 later.jobs_are;
+      read = (first.1.0, later.read);
+      fault = later.fault;
+      fails = later.fails;
+      fault_is = later.fault_is;
+    }
+
+-- as many jobs as lines
+pub one_each : (lines : List (List ℕ)) (jobs : List Job) → AreJobs lines jobs → length jobs ≡ length lines
+one_each [] [] read = refl
+one_each [] (job ∷ jobs) read = absurd read
+one_each (line ∷ lines) [] read = absurd read
+one_each (line ∷ lines) (job ∷ jobs) read = ap suc (one_each lines jobs read.1)
+
+-- the session of a new list
+abbrev pub Sessions : (old new : JobList) (input left written written_new : Option (List ℕ)) → Result (Unit {0}) SessionFault → Type 0
+Sessions old new input left written written_new result =
+    (old.jobs.items ≡ []) × (old.fault ≡ None)
+    × Session TakesJob job_line_limit most_job_lines old new input left written written_new result
+
+-- a list without a fault has the jobs of all lines that were taken
+goes_on : (ended : Bool) (old new : JobList) (lines : List (List ℕ)) (text : List ℕ) → new.fault ≡ None → Answers TakesJob old lines text ended new → Added old new lines
+goes_on false old new lines text clean answered = added old new lines text answered
+goes_on true old new lines text clean answered =
+    let end = stopped old new lines text answered in
+    absurd (none-some end.fault (sym clean ∙ end.fault_is))
+
+-- one with a fault has the jobs of all but the last
+ends : (ended : Bool) (old new : JobList) (lines : List (List ℕ)) (text : List ℕ) (fault : LineFault) → old.fault ≡ None → new.fault ≡ Some fault → Answers TakesJob old lines text ended new → Stopped old new lines
+ends true old new lines text fault clean bad answered = stopped old new lines text answered
+ends false old new lines text fault clean bad answered =
+    let all = added old new lines text answered in
+    absurd (none-some fault (sym clean ∙ sym all.fault_is ∙ bad))
+
+no_end : (ended : Bool) (old new : JobList) (lines : List (List ℕ)) (text : List ℕ) → new.fault ≡ None → Answers TakesJob old lines text ended new → ended ≡ false
+no_end false old new lines text clean answered = refl
+no_end true old new lines text clean answered =
+    let end = stopped old new lines text answered in
+    absurd (none-some end.fault (sym clean ∙ end.fault_is))
+
+met_ok : (met : Result (Unit {0}) SessionFault) → ResultsIn met (Ok tt) → met ≡ Ok tt
+met_ok met (inl same) = sym same
+met_ok met (inr other) = search rules
+
+met_fault : (met : Result (Unit {0}) SessionFault) (fault : SessionFault) → fault ≢ Write → ResultsIn met (Err fault) → met ≡ Err fault
+met_fault met fault other (inl same) = sym same
+met_fault met fault other (inr same) = search rules
+
+jobs_of : (old new : JobList) (own : List Job) → old.jobs.items ≡ [] → new.jobs.items ≡ old.jobs.items ++ own → new.jobs.items ≡ own
+jobs_of old new own empty all = all ∙ ap (λ (l : List Job). l ++ own) empty
+
+drained : (ended : Bool) (unread : List ℕ) (left : Option (List ℕ)) → ended ≡ false → (ended ≡ true) ⊎ IsDrained unread left → IsDrained unread left
+drained ended unread left goes (inl over) = absurd (never (sym goes ∙ over))
+drained ended unread left goes (inr none) = none
+
+-- a session that came to the end of its input took the lines of all jobs
+pub all_jobs : (old new : JobList) (input left written written_new : Option (List ℕ)) (result : Result (Unit {0}) SessionFault) → Sessions old new input left written written_new result →
+    new.fault ≡ None → result ≡ Ok tt → AreAllJobs input left new.jobs.items
+all_jobs old new input left written written_new result sessions clean well =
+    let s = sessions.2 in
+    let all = goes_on s.ended old new s.lines s.text clean s.answered in
+    let met = met_ok s.met (subst (ResultsIn s.met) well s.results) in
+    let stop = subst (Meets job_line_limit most_job_lines (length s.lines) s.ended s.behind s.unread left) met s.stopped in
+    record {
+      lines = s.lines;
+      behind = s.behind;
+      unread = s.unread;
+      took = s.took;
+      none = drained s.ended s.unread left (no_end s.ended old new s.lines s.text clean s.answered) stop.none;
+      read = subst (AreJobs s.lines) (sym (jobs_of old new all.own sessions.0 all.jobs_are)) all.read;
+      few = omega (arith, s.within, ap length (jobs_of old new all.own sessions.0 all.jobs_are), one_each s.lines all.own all.read);
+    }
+
+count_is : (lines : List (List ℕ)) (jobs own : List Job) (number : ℕ) → jobs ≡ own → AreJobs lines own → number ≡ length jobs + 1 → number ≡ length lines + 1
+count_is lines jobs own number same read is = is ∙ ap (λ (l : List Job). length l + 1) same ∙ ap (λ (n : ℕ). n + 1) (one_each lines own read)
+
+fault_same : (one other : LineFault) → Some one ≡ Some other → one ≡ other
+fault_same one other same = search rules
+
+read_fails : (line : List ℕ) (fault : LineFault) → fault ≢ faults.Memory → MayFail line fault → IsRead (Err fault) (job_of line)
+read_fails line fault other (inl fails) = fails
+read_fails line fault other (inr memory) = absurd (other memory)
+
+-- the last line that was taken has a fault
+pub bad_line : (old new : JobList) (input left written written_new : Option (List ℕ)) (result : Result (Unit {0}) SessionFault) (number : ℕ) (fault : LineFault) →
+    Sessions old new input left written written_new result → new.fault ≡ Some fault → fault ≢ faults.Memory → number ≡ length new.jobs.items + 1 → IsBadJobLine input left number
+bad_line old new input left written written_new result number fault sessions bad other is =
+    let s = sessions.2 in
+    let end = ends s.ended old new s.lines s.text fault sessions.1 bad s.answered in
+    let same : end.fault ≡ fault = fault_same end.fault fault (sym end.fault_is ∙ bad) in
+    let kept : fault ≢ faults.Memory = other in
+    record {
+      lines = end.front;
+      jobs = end.own;
+      read = end.read;
+      number_is = count_is end.front new.jobs.items end.own number (jobs_of old new end.own sessions.0 end.jobs_are) end.read is;
+      bad = inl (record {
+        line = end.last;
+        behind = s.behind;
+        fault = fault;
+        took = subst (TakesLines job_line_limit input s.behind) end.lines_are s.took;
+        fails = read_fails end.last fault other (subst (MayFail end.last) same end.fails);
+        no_memory = kept;
+      });
+    }
+
+-- the line behind those that were taken is too long
+pub too_long : (old new : JobList) (input left written written_new : Option (List ℕ)) (result : Result (Unit {0}) SessionFault) (number : ℕ) →
+    Sessions old new input left written written_new result → new.fault ≡ None → result ≡ Err LongLine → number ≡ length new.jobs.items + 1 → IsBadJobLine input left number
+too_long old new input left written written_new result number sessions clean long is =
+    let s = sessions.2 in
+    let all = goes_on s.ended old new s.lines s.text clean s.answered in
+    let met = met_fault s.met LongLine (search rules) (subst (ResultsIn s.met) long s.results) in
+    let stop = subst (Meets job_line_limit most_job_lines (length s.lines) s.ended s.behind s.unread left) met s.stopped in
+    record {
+      lines = s.lines;
+      jobs = all.own;
+      read = all.read;
+      number_is = count_is s.lines new.jobs.items all.own number (jobs_of old new all.own sessions.0 all.jobs_are) all.read is;
+      bad = inr (inl (record { behind = s.behind; unread = s.unread; took = s.took; found = stop.1 }));
+    }
+
+-- the line behind those that were taken is one too many
+pub too_many : (old new : JobList) (input left written written_new : Option (List ℕ)) (result : Result (Unit {0}) SessionFault) (number : ℕ) →
+    Sessions old new input left written written_new result → new.fault ≡ None → result ≡ Err Lines → number ≡ length new.jobs.items + 1 → IsBadJobLine input left number
+too_many old new input left written written_new result number sessions clean many is =
+    let s = sessions.2 in
+    let all = goes_on s.ended old new s.lines s.text clean s.answered in
+    let met = met_fault s.met Lines (search rules) (subst (ResultsIn s.met) many s.results) in
+    let stop = subst (Meets job_line_limit most_job_lines (length s.lines) s.ended s.behind s.unread left) met s.stopped in
+    record {
+      lines = s.lines;
+      jobs = all.own;
+      read = all.read;
+      number_is = count_is s.lines new.jobs.items all.own number (jobs_of old new all.own sessions.0 all.jobs_are) all.read is;
+      bad = inr (inr (record { behind = s.behind; unread = s.unread; took = s.took; all = stop.1; found = stop.2 }));
+    }
+
+-- the jobs of a list that ended well
+pub read_well : {X : Type 0} (told : Result X Unread) (items : X → List Job) (old new : JobList) (input left written written_new : Option (List ℕ)) (result : Result (Unit {0}) SessionFault) →
+    Sessions old new input left written written_new result →
+    IfOk told (λ jobs. EndsWell new result × (items jobs ≡ new.jobs.items)) → IfOk told (λ jobs. AreAllJobs input left (items jobs))
+read_well (Ok jobs) items old new input left written written_new result sessions well =
+    subst (AreAllJobs input left) (sym well.1) (all_jobs old new input left written written_new result sessions well.0.0 well.0.1)
+read_well (Err _) items old new input left written written_new result sessions well = tt
+
+-- why one ended badly
+pub read_badly : {X : Type 0} (told : Result X Unread) (old new : JobList) (input left written written_new : Option (List ℕ)) (result : Result (Unit {0}) SessionFault) →
+    Sessions old new input left written written_new result →
+    IfErr told (EndsBadly new result) → IfErr told (IsUnread input left)
+read_badly (Ok jobs) old new input left written written_new result sessions bad = tt
+read_badly (Err unread.Read) old new input left written written_new result sessions bad = tt
+read_badly (Err unread.NoMemory) old new input left written written_new result sessions bad = tt
+read_badly (Err (unread.BadLine number)) old new input left written written_new result sessions bad =
+    elim bad.1 [
+      | inl fault ↦ bad_line old new input left written written_new result number fault.0 sessions fault.1.0 fault.1.1 bad.0
+      | inr others ↦ elim others [
+        | inl long ↦ too_long old new input left written written_new result number sessions long.0 long.1 bad.0
+        | inr many ↦ too_many old new input left written written_new result number sessions many.0 many.1 bad.0
+      ]
+    ]
+
+-- a read failed where that is told
+pub read_failed : {X : Type 0} (told : Result X Unread) (new : JobList) (result : Result (Unit {0}) SessionFault) (failures failures' : ℕ) →
+    failures' ≡ failures_after_reads failures result →
+    IfErr told (EndsBadly new result) → IfErr told (FailsToRead failures failures')
+read_failed (Ok _) new result failures failures' count bad = tt
+read_failed (Err (unread.BadLine _)) new result failures failures' count bad = tt
+read_failed (Err unread.NoMemory) new result failures failures' count bad = tt
+read_failed (Err unread.Read) new result failures failures' count bad = count ∙ ap (failures_after_reads failures) bad

@@ -1,0 +1,129 @@
+//! The report of a shift, written while its workers work: each job's lines as soon as those of all jobs
+//! before it are written.
+use crate::report_text::{push_hops, sums};
+use counted_io::{Counted, DeviceFault, Output, Sink};
+use crawl_job::{Hop, Job, Outcome};
+use crawl_workers::{Crawled, Watcher};
+use std::alloc::{AllocError, Global};
+use std::sync::{Mutex, Wait};
+
+/// What workers tell of their jobs. It has a lock of its own, which is taken while a worker has no other.
+#[derive(Drop)]
+pub struct Progress<'a, W: Sink, R: Wait> {
+    rt: &'a R,
+    lines: Mutex<Lines<'a, W>>,
+}
+
+// The lines that are written, and those that wait for others.
+#[derive(Drop)]
+struct Lines<'a, W: Sink> {
+    sink: &'a mut W,
+    output: Output,
+    // How many jobs have their lines written, from the first on.
+    next: u64,
+    // The lines of jobs that are done before others in front of them, by the numbers of the jobs.
+    waiting: Vec<Option<Vec<u8>>>,
+    // Through this the lines that wait are spelled.
+    spelling: Output,
+    // Whether a write failed. Nothing is written then.
+    failed: bool,
+}
+
+impl<'a, W: Sink, R: Wait> Progress<'a, W, R> {
+    /// The report of so many jobs, of which none is done. All memory that the report needs is taken
+    /// here, but for lines that wait for others: without it they are written at the end.
+    pub fn new(
+        rt: &'a R,
+        alloc: Global,
+        sink: &'a mut W,
+        jobs: usize,
+    ) -> Result<Progress<'a, W, R>, AllocError> {
+        let mut waiting = Vec::with_capacity(alloc, jobs)?;
+        for _ in 0..jobs {
+            waiting.push(None)?;
+        }
+        let lines = Mutex::new(Lines {
+            sink,
+            output: Output::new(alloc)?,
+            next: 0,
+            waiting,
+            spelling: Output::new(alloc)?,
+            failed: false,
+        });
+        Ok(Progress { rt, lines })
+    }
+
+    /// Writes what is not written yet of the jobs, and the last line.
+    pub fn finish(self, outcomes: &[Crawled], starts: u64) -> Result<(), DeviceFault> {
+        self.lines.into_inner().finish(outcomes, starts)
+    }
+}
+
+impl<W: Sink, R: Wait> Watcher for Progress<'_, W, R> {
+    fn done(&self, number: u64, _job: &Job, outcome: &Outcome) {
+        let mut lines = self.lines.lock(self.rt);
+        lines.take(number, outcome.hops.as_slice());
+    }
+}
+
+impl<W: Sink> Lines<'_, W> {
+    // A job is done: its lines are written, or wait for those before them.
+    fn take(&mut self, number: u64, hops: &[Hop]) {
+        if self.failed {
+            return;
+        }
+        if number == self.next {
+            self.failed = self.write(hops).is_err();
+            return;
+        }
+        let text = self.spell(number, hops).ok();
+        if let Some(slot) = self.waiting.get_mut(number as usize) {
+            *slot = text;
+        }
+    }
+
+    // Writes the lines of the next job, and those that waited for it.
+    fn write(&mut self, hops: &[Hop]) -> Result<(), DeviceFault> {
+        let behind = self.next.saturating_add(1);
+        push_hops(behind, 1, hops, &mut self.output, self.sink)?;
+        self.next = behind;
+        for number in behind..self.waiting.len() as u64 {
+            let Some(text) = self.waiting[number as usize].take() else {
+                break;
+            };
+            self.output.push(self.sink, text.as_slice())?;
+            self.next = number + 1;
+        }
+        self.output.flush(self.sink)
+    }
+
+    // The lines of a job. A fault is one of memory.
+    fn spell(&mut self, number: u64, hops: &[Hop]) -> Result<Vec<u8>, DeviceFault> {
+        let mut text = Counted::new(Vec::new(*self.waiting.allocator()));
+        push_hops(
+            number.saturating_add(1),
+            1,
+            hops,
+            &mut self.spelling,
+            &mut text,
+        )?;
+        self.spelling.flush(&mut text)?;
+        Ok(text.into_inner())
+    }
+
+    fn finish(&mut self, outcomes: &[Crawled], starts: u64) -> Result<(), DeviceFault> {
+        if self.failed {
+            return Err(DeviceFault);
+        }
+        let mut hops: u64 = 0;
+        for (number, crawled) in outcomes.iter().enumerate() {
+            let own = crawled.hops.as_slice();
+            if self.next <= number as u64 {
+                push_hops(number as u64 + 1, 1, own, &mut self.output, self.sink)?;
+            }
+            hops = hops.saturating_add(own.len() as u64);
+        }
+        sums(outcomes.len() as u64, hops, starts).push(&mut self.output, self.sink)?;
+        self.output.flush(self.sink)
+    }
+}

@@ -1,0 +1,143 @@
+//! `shift`: jobs, a line for each, done by several workers, and the report of what came of them.
+//! `crawlgate shift` runs it over standard input and output.
+ghost use Rattle.std.specs.Prelude.{◌≡◌, []};
+ghost use Rattle.gate_history.specs.Base.{empty_base};
+ghost use Rattle.job_line.specs.Limits.{IsCrew};
+
+use crate::job_list::{Unread, read_jobs};
+use crate::progress::Progress;
+use counted_io::{DeviceFault, Sink, Source};
+use crawl_workers::{Clock, Fetcher, ShiftFault, run_shift};
+use gate_core::Book;
+use gate_lock::{Blanks, Gate, GateLock, SettleFault};
+use std::alloc::{AllocError, Global};
+use std::sync::Wait;
+use std::thread::Threads;
+
+/// Why a shift has no whole report.
+#[derive(Clone, Copy, Debug, PartialEq, Eq)]
+pub enum NotShifted {
+    /// The line of this number, from 1, can't be read as a job. Nothing was fetched.
+    BadLine(u64),
+    /// A growth of memory was refused.
+    NoMemory,
+    /// A read or a write failed, or the gate was not the shift's alone.
+    Device,
+}
+
+/// `shift` over a new gate.
+pub fn shift_over<
+    G: Gate + Send + Sync,
+    S: Source,
+    W: Sink + Send,
+    F: Fetcher + Sync,
+    C: Clock + Sync,
+    R: Threads + Wait + Sync,
+>(
+    rt: &R,
+    alloc: Global,
+    reader: &mut S,
+    writer: &mut W,
+    workers: u64,
+    book: Book,
+    blanks: Blanks,
+    fetcher: &F,
+    clock: &C,
+) -> Result<(), NotShifted>
+    requires workers { IsCrew workers }
+    requires book { (book.base ≡ empty_base) × (book.entries ≡ []) }
+    requires blanks { blanks ≡ G.ledgers }
+{
+    let gate: GateLock<G> = GateLock::new(book, blanks);
+    shift(rt, alloc, reader, writer, workers, &gate, fetcher, clock)
+}
+
+/// Reads the jobs to the end of the input, has so many workers do them over the gate, and writes the
+/// report.
+pub fn shift<
+    S: Source,
+    W: Sink + Send,
+    G: Gate + Send + Sync,
+    F: Fetcher + Sync,
+    C: Clock + Sync,
+    R: Threads + Wait + Sync,
+>(
+    rt: &R,
+    alloc: Global,
+    reader: &mut S,
+    writer: &mut W,
+    workers: u64,
+    gate: &GateLock<G>,
+    fetcher: &F,
+    clock: &C,
+) -> Result<(), NotShifted>
+    requires { IsCrew workers }
+{
+    let jobs = read_jobs(alloc, reader)?;
+    let progress = Progress::new(rt, alloc, writer, jobs.len())?;
+    let report = run_shift(
+        rt,
+        alloc,
+        jobs.as_slice(),
+        workers,
+        gate,
+        fetcher,
+        clock,
+        &progress,
+    )?;
+    progress.finish(report.outcomes.as_slice(), report.settled.starts)?;
+    Ok(())
+}
+
+impl From<Unread> for NotShifted {
+    ghost use Rattle.std.specs.Prelude.{◌≡◌};
+    ghost use Rattle.crawl_shift.specs.NotShifted.{by_jobs};
+
+    ghost from_gives = { λ unread told. told ≡ by_jobs unread };
+
+    fn from(unread: Unread) -> NotShifted {
+        match unread {
+            Unread::BadLine(number) => NotShifted::BadLine(number),
+            Unread::Read => NotShifted::Device,
+            Unread::NoMemory => NotShifted::NoMemory,
+        }
+    }
+}
+
+impl From<AllocError> for NotShifted {
+    ghost use Rattle.std.specs.Prelude.{◌≡◌};
+    ghost use Rattle.crawl_shift.specs.declared.shifting.NotShifted.TheVariants.{NoMemory};
+
+    ghost from_gives = { λ _ told. told ≡ NoMemory };
+
+    fn from(_: AllocError) -> NotShifted {
+        NotShifted::NoMemory
+    }
+}
+
+impl From<DeviceFault> for NotShifted {
+    ghost use Rattle.std.specs.Prelude.{◌≡◌};
+    ghost use Rattle.crawl_shift.specs.declared.shifting.NotShifted.TheVariants.{Device};
+
+    ghost from_gives = { λ _ told. told ≡ Device };
+
+    fn from(_: DeviceFault) -> NotShifted {
+        NotShifted::Device
+    }
+}
+
+impl From<ShiftFault> for NotShifted {
+    ghost use Rattle.std.specs.Prelude.{◌≡◌};
+    ghost use Rattle.crawl_shift.specs.NotShifted.{by_workers};
+
+    ghost from_gives = { λ fault told. told ≡ by_workers fault };
+
+    fn from(fault: ShiftFault) -> NotShifted {
+        match fault {
+            ShiftFault::NoMemory | ShiftFault::Unsettled(SettleFault::NoMemory) => {
+                NotShifted::NoMemory
+            }
+            ShiftFault::DesksFull | ShiftFault::Unsettled(_) => NotShifted::Device,
+        }
+    }
+}

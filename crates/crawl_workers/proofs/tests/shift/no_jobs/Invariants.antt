@@ -1,5 +1,0 @@
--- The gate's ledgers are the new ones.
-use Rattle.crawl_workers.proofs.tests.shift.no_jobs.Given as goal
-
-abbrev pub ghosts-shift : goal.ghosts-shift
-ghosts-shift g a = record { ledgers = a.blanks }

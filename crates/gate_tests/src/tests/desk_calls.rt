@@ -1,0 +1,272 @@
+//! Calls of desks as the rows make them, in both forms.
+//! RFC 9309, sections 2.2 to 2.4.
+ghost use Rattle.std.specs.Prelude.{◌≡◌, IfNone, IfSome, OnErr, IfOk};
+ghost use Rattle.gate_lock.specs.Desks.{HasOut, KeepsOut, out_of};
+
+use super::gates::PAGE;
+use gate_core::{AskRefusal, BeginRefusal, Judged, State, SweepRefusal};
+use gate_history::Cause;
+use gate_lock::{
+    Desk, DesksFull, Gate, GateLock, Permit, Receipts, RobotsTurn, SettleFault, Settled, settle,
+};
+use path_normal::{Authority, PageUrl};
+use robots_text::Token;
+use robots_verdict::{Answer, Opening};
+use std::alloc::Global;
+use std::sync::Wait;
+use std::test::Fail;
+
+// How the calls that have both forms are made.
+#[derive(Clone, Copy)]
+pub(super) enum Form {
+    Plain,
+    Held,
+}
+
+// Begins a turn of the authority, where that is not refused, brings that there is no robots file, and
+// tells the turn's number.
+pub(super) fn fetch<G: Gate, R: Wait>(
+    rt: &R,
+    desk: &mut Desk<'_, G>,
+    form: Form,
+    site: &Authority,
+    moment: u64,
+) -> Result<u64, BeginRefusal>
+    ensures no { desk.new.no ≡ desk.old.no }
+    ensures out { KeepsOut desk.old desk.new }
+{
+    let turn = begin(rt, desk, form, site, moment)?;
+    let number = turn.number().number();
+    desk.arrive(rt, turn, Answer::Open(Opening::Unavailable), 86_400, moment);
+    Ok(number)
+}
+
+pub(super) fn begin<G: Gate, R: Wait>(
+    rt: &R,
+    desk: &mut Desk<'_, G>,
+    form: Form,
+    site: &Authority,
+    moment: u64,
+) -> Result<RobotsTurn<G>, BeginRefusal>
+    ensures no { desk.new.no ≡ desk.old.no }
+    ensures ok { IfOk result (λ t. (t.desk ≡ desk.old.no) × HasOut desk.old desk.new 0 0 0 0 1 0) }
+    ensures err { OnErr result (KeepsOut desk.old desk.new) }
+{
+    match form {
+        Form::Plain => desk.begin(rt, site, moment),
+        Form::Held => {
+            let mut held = desk.lend(rt);
+            desk.begin_in(&mut held, site, moment)
+        }
+    }
+}
+
+// Asks for a page with foobot at 110.
+pub(super) fn granted<G: Gate, R: Wait>(
+    rt: &R,
+    alloc: Global,
+    desk: &mut Desk<'_, G>,
+    form: Form,
+    page: &str,
+) -> Option<Permit<G>>
+    ensures no { desk.new.no ≡ desk.old.no }
+    ensures some { IfSome result (λ p. (p.desk ≡ desk.old.no) × HasOut desk.old desk.new 1 0 0 0 0 0) }
+    ensures none { IfNone result (KeepsOut desk.old desk.new) }
+{
+    let token = Token::new(alloc, b"foobot").ok()?;
+    let url = PageUrl::parse(alloc, page).ok()?;
+    asked(rt, desk, form, token, url).ok()
+}
+
+pub(super) fn asked<G: Gate, R: Wait>(
+    rt: &R,
+    desk: &mut Desk<'_, G>,
+    form: Form,
+    token: Token,
+    url: PageUrl,
+) -> Result<Permit<G>, AskRefusal>
+    ensures no { desk.new.no ≡ desk.old.no }
+    ensures ok { IfOk result (λ p. (p.desk ≡ desk.old.no) × HasOut desk.old desk.new 1 0 0 0 0 0) }
+    ensures err { OnErr result (KeepsOut desk.old desk.new) }
+{
+    match form {
+        Form::Plain => desk.ask(rt, token, url, 110),
+        Form::Held => {
+            let mut held = desk.lend(rt);
+            desk.ask_in(&mut held, Judged::new(None, token, url), 110)
+        }
+    }
+}
+
+// A desk that brings the answer of a.example, and is closed: its receipts are added.
+pub(super) fn bring<G: Gate, R: Wait>(
+    rt: &R,
+    alloc: Global,
+    gate: &GateLock<G>,
+    form: Form,
+    all: &mut Vec<Receipts<G>>,
+) -> Result<(), Fail> {
+    let site = Authority::new(alloc, "a.example")?;
+    bring_for(rt, alloc, gate, form, &site, all)
+}
+
+fn bring_for<G: Gate, R: Wait>(
+    rt: &R,
+    alloc: Global,
+    gate: &GateLock<G>,
+    form: Form,
+    site: &Authority,
+    all: &mut Vec<Receipts<G>>,
+) -> Result<(), Fail> {
+    let mut desk = gate.desk(rt, alloc)?;
+    let turn = fetch(rt, &mut desk, form, site, 100);
+    all.push(desk.close())?;
+    turn?;
+    Ok(())
+}
+
+// What a settlement comes to before a permit is given back, and after it.
+type Settlements = [Result<Settled, SettleFault>; 2];
+
+// A desk that asks for the page, gives the permit back, and is closed: its receipts are added. It tells
+// what a settlement without them comes to.
+pub(super) fn give_back<G: Gate, R: Wait>(
+    rt: &R,
+    alloc: Global,
+    gate: &GateLock<G>,
+    form: Form,
+    page: &str,
+    all: &mut Vec<Receipts<G>>,
+) -> Result<Settlements, Fail> {
+    let mut desk = gate.desk(rt, alloc)?;
+    let found = settlements(rt, alloc, gate, form, page, &mut desk, all.as_slice());
+    all.push(desk.close())?;
+    match found {
+        Some(found) => Ok(found),
+        None => Err(Fail::new("no permit")),
+    }
+}
+
+fn settlements<G: Gate, R: Wait>(
+    rt: &R,
+    alloc: Global,
+    gate: &GateLock<G>,
+    form: Form,
+    page: &str,
+    desk: &mut Desk<'_, G>,
+    others: &[Receipts<G>],
+) -> Option<Settlements>
+    ensures { KeepsOut desk.old desk.new }
+{
+    let permit = granted(rt, alloc, desk, form, page)?;
+    let before = settle(rt, alloc, gate, others);
+    desk.back(rt, permit);
+    let after = settle(rt, alloc, gate, others);
+    Some([before, after])
+}
+
+// A round of a fetch that is allowed: whether each step of it is.
+pub(super) fn round<G: Gate, R: Wait>(rt: &R, alloc: Global, desk: &mut Desk<'_, G>) -> bool
+    ensures no { desk.new.no ≡ desk.old.no }
+    ensures out { KeepsOut desk.old desk.new }
+{
+    let Some(permit) = granted(rt, alloc, desk, Form::Plain, PAGE) else {
+        return false;
+    };
+    let Ok(run) = desk.start(rt, permit, 110) else {
+        return false;
+    };
+    desk.finish(rt, run.spend());
+    true
+}
+
+// A hundred rounds of a desk.
+pub(super) fn rounds<G: Gate, R: Wait>(rt: &R, alloc: Global, desk: &mut Desk<'_, G>)
+    requires { out_of desk.old ≡ 0 }
+    ensures { out_of desk.new ≡ 0 }
+{
+    for _ in 0..100 {
+        if !round(rt, alloc, desk) {
+            break;
+        }
+    }
+}
+
+// A desk that is closed after a hundred rounds.
+pub(super) fn worked<G: Gate, R: Wait>(
+    rt: &R,
+    alloc: Global,
+    gate: &GateLock<G>,
+) -> Result<Receipts<G>, DesksFull> {
+    let mut desk = gate.desk(rt, alloc)?;
+    rounds(rt, alloc, &mut desk);
+    Ok(desk.close())
+}
+
+pub(super) fn sweep<G: Gate, R: Wait>(
+    rt: &R,
+    desk: &mut Desk<'_, G>,
+    form: Form,
+    moment: u64,
+) -> Result<u64, SweepRefusal>
+    ensures out { KeepsOut desk.old desk.new }
+{
+    match form {
+        Form::Plain => desk.sweep(rt, moment),
+        Form::Held => {
+            let mut held = desk.lend(rt);
+            desk.sweep_in(&mut held, moment)
+        }
+    }
+}
+
+pub(super) fn state<G: Gate, R: Wait>(
+    rt: &R,
+    desk: &mut Desk<'_, G>,
+    form: Form,
+    name: &str,
+    moment: u64,
+) -> State
+    ensures out { KeepsOut desk.old desk.new }
+{
+    match form {
+        Form::Plain => desk.state_of(rt, name, moment),
+        Form::Held => {
+            let mut held = desk.lend(rt);
+            desk.state_in(&mut held, name, moment)
+        }
+    }
+}
+
+// Why an ask of foobot for the page is denied, if it is; a permit is given back.
+pub(super) fn denial<G: Gate, R: Wait>(
+    rt: &R,
+    alloc: Global,
+    desk: &mut Desk<'_, G>,
+    moment: u64,
+) -> Result<Option<Cause>, Fail>
+    ensures out { KeepsOut desk.old desk.new }
+{
+    let token = Token::new(alloc, b"foobot")?;
+    let url = PageUrl::parse(alloc, PAGE)?;
+    Ok(denied(rt, desk, token, url, moment))
+}
+
+fn denied<G: Gate, R: Wait>(
+    rt: &R,
+    desk: &mut Desk<'_, G>,
+    token: Token,
+    url: PageUrl,
+    moment: u64,
+) -> Option<Cause>
+    ensures out { KeepsOut desk.old desk.new }
+{
+    match desk.ask(rt, token, url, moment) {
+        Ok(permit) => {
+            desk.back(rt, permit);
+            None
+        }
+        Err(AskRefusal::Denied(denial)) => Some(denial.cause),
+        Err(_) => None,
+    }
+}

@@ -1,0 +1,206 @@
+//! Rows over a gate that several desks share: its settlement, and the marks of its own entries.
+//! RFC 9309, sections 2.2 to 2.4.
+ghost use Rattle.std.specs.Prelude.{◌≡◌, ◌≤◌, [], IfOk};
+ghost use Rattle.gate_history.specs.Base.{empty_base};
+
+use super::desk_calls::{Form, bring, give_back};
+use authority_cache::{LIFE, TurnNo};
+use gate_core::{Book, Config, Limits, NoMemory};
+use gate_history::{Entry, FetchText};
+use gate_lock::{
+    Gate, GateLock, Receipts, SettleFault, Settled, Visit, marks_fit, settle, with_gate,
+};
+use path_normal::{Authority, PageUrl};
+use permit_book::PermitNo;
+use robots_text::Token;
+use robots_verdict::{Opening, Said};
+use std::alloc::Global;
+use std::hash::RandomState;
+use std::sync::Wait;
+use std::test::Fail;
+
+pub(super) const PAGE: &str = "http://a.example/x";
+
+const OTHER_PAGE: &str = "http://a.example/y";
+
+// A book with the usual limits, but these.
+pub(super) fn book(
+    alloc: Global,
+    keys: RandomState,
+    slots: u64,
+    authorities: u64,
+) -> Result<Book, NoMemory>
+    requires slots { (1 ≤ slots) × (slots ≤ 65536) }
+    requires authorities { (1 ≤ authorities) × (authorities ≤ 65536) }
+    ensures { IfOk result (λ book. (book.base ≡ empty_base) × (book.entries ≡ [])) }
+{
+    let mut limits = Limits::usual();
+    limits.slots = slots;
+    limits.authority_limit = authorities;
+    Book::new(alloc, Config { limits, keys })
+}
+
+// What settlements come to: with a permit out, without the last desk's receipts, and with all.
+type Settlements = [Result<Settled, SettleFault>; 3];
+
+// Settles a gate twice too early, and then by the receipts of both its desks.
+#[derive(Drop)]
+struct SettleRow<'r, R: Wait> {
+    rt: &'r R,
+    alloc: Global,
+    form: Form,
+}
+
+impl<R: Wait> Visit for SettleRow<'_, R> {
+    type Out = Result<Settlements, Fail>;
+
+    fn visit<G: Gate>(self, gate: &GateLock<G>) -> Self::Out {
+        settle_both(self.rt, self.alloc, gate, self.form)
+    }
+}
+
+fn settle_both<G: Gate, R: Wait>(
+    rt: &R,
+    alloc: Global,
+    gate: &GateLock<G>,
+    form: Form,
+) -> Result<Settlements, Fail> {
+    let mut all = Vec::new(alloc);
+    settle_with(rt, alloc, gate, form, &mut all)
+}
+
+fn settle_with<G: Gate, R: Wait>(
+    rt: &R,
+    alloc: Global,
+    gate: &GateLock<G>,
+    form: Form,
+    all: &mut Vec<Receipts<G>>,
+) -> Result<Settlements, Fail> {
+    bring(rt, alloc, gate, form, all)?;
+    let [before, after] = give_back(rt, alloc, gate, form, PAGE, all)?;
+    let both = settle(rt, alloc, gate, all.as_slice());
+    Ok([before, after, both])
+}
+
+fn begun(alloc: Global) -> Result<Entry, Fail> {
+    Ok(Entry::Begun {
+        moment: 100,
+        authority: Authority::new(alloc, "a.example")?,
+        turn: TurnNo::new(1),
+    })
+}
+
+fn arrived(alloc: Global) -> Result<Entry, Fail> {
+    Ok(Entry::Arrived {
+        moment: 100,
+        authority: Authority::new(alloc, "a.example")?,
+        turn: TurnNo::new(1),
+        says: Said::Open(Opening::Unavailable),
+        life: LIFE,
+    })
+}
+
+fn granted(alloc: Global, page: &str) -> Result<Entry, Fail> {
+    let token = Token::new(alloc, b"foobot")?;
+    let url = PageUrl::parse(alloc, page)?;
+    Ok(Entry::Granted {
+        moment: 110,
+        number: PermitNo::new(65_536),
+        fetch: FetchText::of(alloc, &token, &url)?,
+    })
+}
+
+// The entries of a gate at which one desk brings an answer, and another asks for the page and gives its
+// permit back.
+fn add_entries(alloc: Global, page: &str, entries: &mut Vec<Entry>) -> Result<(), Fail> {
+    entries.push(begun(alloc)?)?;
+    entries.push(arrived(alloc)?)?;
+    entries.push(granted(alloc, page)?)?;
+    entries.push(Entry::Returned {
+        number: PermitNo::new(65_536),
+    })?;
+    Ok(())
+}
+
+// Whether the receipts are those of a gate at which the page was asked for.
+fn is_fit<G: Gate>(alloc: Global, page: &str, all: &[Receipts<G>]) -> Result<bool, Fail> {
+    let mut entries = Vec::new(alloc);
+    is_fit_with(alloc, page, &mut entries, all)
+}
+
+fn is_fit_with<G: Gate>(
+    alloc: Global,
+    page: &str,
+    entries: &mut Vec<Entry>,
+    all: &[Receipts<G>],
+) -> Result<bool, Fail> {
+    add_entries(alloc, page, entries)?;
+    if entries.len() != 4 {
+        return Err(Fail::new("four entries"));
+    }
+    Ok(marks_fit(alloc, 0, entries.as_slice(), all)?)
+}
+
+// Whether the receipts of a gate fit its own entries, and those of another gate.
+#[derive(Drop)]
+struct FitRow<'r, R: Wait> {
+    rt: &'r R,
+    alloc: Global,
+}
+
+impl<R: Wait> Visit for FitRow<'_, R> {
+    type Out = Result<[bool; 2], Fail>;
+
+    fn visit<G: Gate>(self, gate: &GateLock<G>) -> Self::Out {
+        let mut all = Vec::new(self.alloc);
+        fit_own(self.rt, self.alloc, gate, &mut all)
+    }
+}
+
+fn fit_own<G: Gate, R: Wait>(
+    rt: &R,
+    alloc: Global,
+    gate: &GateLock<G>,
+    all: &mut Vec<Receipts<G>>,
+) -> Result<[bool; 2], Fail> {
+    bring(rt, alloc, gate, Form::Plain, all)?;
+    let _early = give_back(rt, alloc, gate, Form::Plain, PAGE, all)?;
+    let own = is_fit(alloc, PAGE, all.as_slice())?;
+    let other = is_fit(alloc, OTHER_PAGE, all.as_slice())?;
+    Ok([own, other])
+}
+
+#[test]
+fn a_gate_is_settled_by_all_receipts(rt: HostRuntime) -> Result<(), Fail> {
+    let keys = RandomState::new(&rt)?;
+    let want = [
+        Err(SettleFault::StillOut),
+        Err(SettleFault::Mismatch),
+        Ok(Settled {
+            events: 4,
+            starts: 0,
+        }),
+    ];
+    for form in [Form::Plain, Form::Held] {
+        let row = SettleRow {
+            rt: &rt,
+            alloc: rt.alloc(),
+            form,
+        };
+        let got = with_gate(book(rt.alloc(), keys, 1_024, 65_536)?, row)?;
+        assert_eq!(rt; got, want, "settled");
+    }
+    Ok(())
+}
+
+#[test]
+fn marks_fit_the_entries_of_their_own_gate(rt: HostRuntime) -> Result<(), Fail> {
+    let keys = RandomState::new(&rt)?;
+    let row = FitRow {
+        rt: &rt,
+        alloc: rt.alloc(),
+    };
+    let got = with_gate(book(rt.alloc(), keys, 1_024, 65_536)?, row)?;
+    assert_eq!(rt; got, [true, false], "own, and another's");
+    Ok(())
+}

@@ -1,0 +1,162 @@
+//! Rows over an ask that was judged before the lock was taken: the answer in force under it decides.
+//! RFC 9309, section 2.2.2.
+ghost use Rattle.std.specs.Prelude.{◌≡◌};
+ghost use Rattle.gate_lock.specs.Desks.{KeepsOut};
+
+use super::gates::book;
+use gate_core::{AskRefusal, Judged};
+use gate_history::Cause;
+use gate_lock::{Desk, Gate, GateLock, Visit, with_gate};
+use path_normal::{Authority, PageUrl};
+use robots_text::{RobotsText, Token};
+use robots_verdict::{Answer, Opening};
+use std::alloc::Global;
+use std::hash::RandomState;
+use std::sync::Wait;
+use std::test::Fail;
+
+const PAGE: &str = "http://a.example/example/page.html";
+
+const RULES: &str = "User-agent: foobot\nDisallow: /\nAllow: /example/page.html\n";
+
+const CLOSED: &str = "User-agent:*\nDisallow:/";
+
+// What stood when the ask was judged, what was brought after it, the moment of the ask, and what it is
+// answered: the number, or the cause.
+const ROWS: &[(&str, Option<&str>, Option<&str>, u64, Result<u64, Cause>)] = &[
+    (
+        "other rules",
+        Some(RULES),
+        Some(CLOSED),
+        120,
+        Err(Cause::Line(2)),
+    ),
+    ("equal rules", Some(RULES), Some(RULES), 120, Ok(65_536)),
+    (
+        "rules that are too old",
+        Some(RULES),
+        None,
+        86_501,
+        Err(Cause::Expired),
+    ),
+    ("no file, and no policy", None, None, 120, Ok(65_536)),
+];
+
+#[derive(Drop)]
+struct JudgedRow<'r, 't, R: Wait> {
+    rt: &'r R,
+    alloc: Global,
+    before: Option<&'t str>,
+    after: Option<&'t str>,
+    moment: u64,
+}
+
+impl<R: Wait> Visit for JudgedRow<'_, '_, R> {
+    type Out = Result<Result<u64, Cause>, Fail>;
+
+    fn visit<G: Gate>(self, gate: &GateLock<G>) -> Self::Out {
+        let rt = self.rt;
+        let site = Authority::new(self.alloc, "a.example")?;
+        let mut desk = gate.desk(rt, self.alloc)?;
+        let judged = judged_ask(rt, self.alloc, &mut desk, &site, self.before, self.after);
+        let answer = ask(rt, &mut desk, judged, self.moment);
+        desk.close();
+        answer
+    }
+}
+
+// Judges by the one text, and brings the other.
+fn judged_ask<G: Gate, R: Wait>(
+    rt: &R,
+    alloc: Global,
+    desk: &mut Desk<'_, G>,
+    site: &Authority,
+    before: Option<&str>,
+    after: Option<&str>,
+) -> Result<Judged, Fail>
+    ensures { KeepsOut desk.old desk.new }
+{
+    load(rt, alloc, desk, site, before)?;
+    let judged = judge(rt, alloc, desk)?;
+    if after.is_some() {
+        load(rt, alloc, desk, site, after)?;
+    }
+    Ok(judged)
+}
+
+// Begins a turn at 100 and brings its answer at 105: the rules of the text, or that there is none.
+fn load<G: Gate, R: Wait>(
+    rt: &R,
+    alloc: Global,
+    desk: &mut Desk<'_, G>,
+    site: &Authority,
+    text: Option<&str>,
+) -> Result<(), Fail>
+    ensures { KeepsOut desk.old desk.new }
+{
+    let answer = match text {
+        Some(text) => Answer::rules(alloc, RobotsText::read(alloc, text.as_bytes())?)?,
+        None => Answer::Open(Opening::Unavailable),
+    };
+    if answer.spares() < 2 {
+        return Err(Fail::new("an answer without two spares"));
+    }
+    let Ok(turn) = desk.begin(rt, site, 100) else {
+        return Err(Fail::new("no turn"));
+    };
+    desk.arrive(rt, turn, answer, 86_400, 105);
+    Ok(())
+}
+
+// The ask as it is judged by the policy in force, if there is one.
+fn judge<G: Gate, R: Wait>(rt: &R, alloc: Global, desk: &Desk<'_, G>) -> Result<Judged, Fail> {
+    let token = Token::new(alloc, b"FooBot")?;
+    let url = PageUrl::parse(alloc, PAGE)?;
+    let policy = {
+        let held = desk.lend(rt);
+        held.book().hint("a.example", 110)
+    };
+    Ok(Judged::new(policy, token, url))
+}
+
+// The number that the ask is granted, which is given back, or the cause of its denial.
+fn ask<G: Gate, R: Wait>(
+    rt: &R,
+    desk: &mut Desk<'_, G>,
+    judged: Result<Judged, Fail>,
+    moment: u64,
+) -> Result<Result<u64, Cause>, Fail>
+    ensures { KeepsOut desk.old desk.new }
+{
+    let judged = judged?;
+    let answer = {
+        let mut held = desk.lend(rt);
+        desk.ask_in(&mut held, judged, moment)
+    };
+    match answer {
+        Ok(permit) => {
+            let number = permit.number().number();
+            desk.back(rt, permit);
+            Ok(Ok(number))
+        }
+        Err(AskRefusal::Denied(denial)) => Ok(Err(denial.cause)),
+        Err(_) => Err(Fail::new("another refusal")),
+    }
+}
+
+#[test]
+fn the_answer_under_the_lock_decides(rt: HostRuntime) -> Result<(), Fail> {
+    let keys = RandomState::new(&rt)?;
+    for (name, before, after, moment, want) in ROWS {
+        let row = JudgedRow {
+            rt: &rt,
+            alloc: rt.alloc(),
+            before: *before,
+            after: *after,
+            moment: *moment,
+        };
+        let got = with_gate(book(rt.alloc(), keys, 1_024, 65_536)?, row)?;
+        assert_eq!(rt; got, *want, "{name}");
+    }
+    Ok(())
+}

@@ -1,0 +1,66 @@
+//! Sessions, shifts and lines over memory and the loopback.
+//! Each value has one owner, which makes one call: its check is short then.
+ghost use Rattle.std.specs.Prelude.{◌≡◌, ◌<◌, [], IfOk};
+ghost use Rattle.gate_history.specs.Base.{empty_base};
+
+mod calls;
+mod changes;
+mod faults;
+mod lines;
+mod loopback;
+mod sessions;
+mod shifts;
+mod sites;
+mod waiting;
+mod words;
+
+use command_server::{SessionFault, replay};
+use counted_io::FailAt;
+use gate_core::{Book, Config, Limits};
+use std::alloc::{AllocError, Global};
+use std::hash::RandomState;
+use std::random::RandomSource;
+use std::test::Fail;
+
+// A book with the usual limits.
+fn new_book<R: AllocGlobal + RandomSource>(rt: &R) -> Result<Book, Fail>
+    ensures { IfOk result (λ book. (book.base ≡ empty_base) × (book.entries ≡ [])) }
+{
+    let config = Config {
+        limits: Limits::usual(),
+        keys: RandomState::new(rt)?,
+    };
+    Ok(Book::new(rt.alloc(), config)?)
+}
+
+// A reader of these octets, at most so many a read.
+fn reader_of(alloc: Global, octets: &[u8], per_read: usize) -> Result<FailAt, AllocError>
+    requires { 0 < per_read }
+{
+    Ok(FailAt::new(octets.to_vec(alloc)?, per_read, None))
+}
+
+// A writer that takes all.
+fn new_writer(alloc: Global) -> FailAt {
+    FailAt::new(Vec::new(alloc), 65_536, None)
+}
+
+// Holds where the row of this name is as it must be.
+fn demand(holds: bool, name: &str, at: usize) -> Result<(), Fail> {
+    if holds {
+        Ok(())
+    } else {
+        Err(Fail::new(format_args!("{name}, at {at}")))
+    }
+}
+
+// A session over a new book: its end, and how many entries the history has then.
+fn session(
+    rt: &HostRuntime,
+    input: &mut FailAt,
+    output: &mut FailAt,
+) -> Result<(Result<(), SessionFault>, usize), Fail> {
+    let mut book = new_book(rt)?;
+    let end = replay(rt.alloc(), input, output, &mut book);
+    Ok((end, book.history().len()))
+}

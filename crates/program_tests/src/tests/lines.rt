@@ -1,0 +1,72 @@
+//! `lines` over memory: how much it reads, and a fault at every read and write.
+
+use super::{demand, new_writer, reader_of};
+use command_server::SessionFault;
+use counted_io::FailAt;
+use robots_lines::lines;
+use std::test::Fail;
+
+const TEXT: &[u8] = b"# c\nUser-agent: FooBot\r\nAllow: /a b\rDisallow:";
+
+const OUTPUT: &[u8] = b"1 other\n2 agent name foobot\n3 allow /a%20b\n4 disallow\n";
+
+// A first line, a comment that passes the limit by an octet, and a line behind it that ends past the limit.
+fn long_text(rt: &HostRuntime) -> Result<Vec<u8>, Fail> {
+    let mut text = b"User-agent: *\n".to_vec(rt.alloc())?;
+    text.resize(14 + 511_978, b'#')?;
+    text.extend_from_slice(b"\nAllow: /more than is read")?;
+    Ok(text)
+}
+
+#[test]
+fn reads_one_octet_past_the_limit(rt: HostRuntime) -> Result<(), Fail> {
+    let text = long_text(&rt)?;
+    check_long(&rt, &mut FailAt::new(text, 65_536, None))
+}
+
+fn check_long(rt: &HostRuntime, reader: &mut FailAt) -> Result<(), Fail> {
+    let mut writer = new_writer(rt.alloc());
+    let result = lines(rt.alloc(), reader, &mut writer);
+    let is_left = reader.unread() == b"more than is read".as_slice();
+    let is_written = writer.bytes() == b"1 agent all\n2 other\n".as_slice();
+    demand(
+        result == Ok(()) && is_left && is_written,
+        "a text past the limit",
+        0,
+    )
+}
+
+#[test]
+fn a_read_fails(rt: HostRuntime) -> Result<(), Fail> {
+    // The last read finds the end.
+    for octets in 0..TEXT.len() + 1 {
+        let text = TEXT.to_vec(rt.alloc())?;
+        check_read(&rt, &mut FailAt::new(text, 1, Some(octets as u64)), octets)?;
+    }
+    Ok(())
+}
+
+fn check_read(rt: &HostRuntime, reader: &mut FailAt, octets: usize) -> Result<(), Fail> {
+    let mut writer = new_writer(rt.alloc());
+    let result = lines(rt.alloc(), reader, &mut writer);
+    let is_told = result == Err(SessionFault::Read) && reader.failures() == 1;
+    demand(is_told && writer.bytes().is_empty(), "a read", octets)
+}
+
+#[test]
+fn a_write_fails(rt: HostRuntime) -> Result<(), Fail> {
+    for call in 0..OUTPUT.len() {
+        let mut reader = reader_of(rt.alloc(), TEXT, 65_536)?;
+        check_write(&rt, &mut reader, call)?;
+    }
+    Ok(())
+}
+
+fn check_write(rt: &HostRuntime, reader: &mut FailAt, call: usize) -> Result<(), Fail> {
+    let mut writer = FailAt::new(Vec::new(rt.alloc()), 1, Some(call as u64));
+    let result = lines(rt.alloc(), reader, &mut writer);
+    let is_told = result == Err(SessionFault::Write) && writer.failures() == 1;
+    let written = writer.bytes();
+    let is_front = OUTPUT.starts_with(written) && written.len() == call;
+    demand(is_told && is_front, "a write", call)
+}

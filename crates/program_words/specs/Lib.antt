@@ -1,0 +1,2 @@
+-- What contracts say of the program's words.
+pub mod Options

@@ -1,0 +1,223 @@
+//! The words of the program's command line, read by `clap`.
+//! Nothing below sees `clap`.
+ghost use Rattle.std.specs.Prelude.{IfOk, IfSome, ◌≤◌};
+ghost use Rattle.permit_book.specs.Numbers.{last_generation};
+ghost use Rattle.gate_core.specs.Limits.{AreLimits};
+ghost use Rattle.program_words.specs.Options.{IsInRange};
+ghost use Rattle.job_line.specs.Limits.{IsCrew};
+
+use clap::error::ErrorKind;
+use clap::{Arg, ArgAction, ArgMatches, Command, Error};
+use gate_core::{Limits, MAX_AUTHORITIES, MAX_LOG, MAX_PLACES};
+use job_line::MAX_WORKERS;
+use permit_book::{LAST_GENERATION, MAX_SLOTS};
+use std::alloc::{AllocError, Global};
+
+/// What the program is asked to do.
+#[derive(Clone, Copy, Debug, PartialEq, Eq)]
+pub enum Subcommand {
+    /// Reads replay lines from standard input, on a book of these limits, and writes their replies
+    /// to standard output.
+    Replay(Limits),
+    /// The same, but what is written is the text of the book's history at the end.
+    Export(Limits),
+    /// Reads a robots text from standard input, and writes what each of its lines says.
+    Lines,
+    /// Audits the text of a history on standard input.
+    Audit,
+    /// Has so many workers do the jobs on standard input, over a book of these limits, and writes
+    /// what came of them to standard output.
+    Shift(u64, Limits),
+}
+
+/// Reads the program's words, of which the first is its own name. The error has what `clap`
+/// answers in their place: its help, or why it refuses them.
+pub fn options<'a>(alloc: Global, words: &'a [&'a str]) -> Result<Subcommand, Error>
+    ensures { IfOk result IsInRange }
+{
+    let mut program = program(alloc)?;
+    read_words(&mut program, words)
+}
+
+// (`clap`'s own values are large: each has one owner, which makes one call.)
+fn read_words<'a>(program: &mut Command<'a>, words: &'a [&'a str]) -> Result<Subcommand, Error>
+    ensures { IfOk result IsInRange }
+{
+    match chosen_by(program, words)? {
+        Some(subcommand) => Ok(subcommand),
+        // `clap` has refused such numbers.
+        None => Err(program.error(ErrorKind::ValueValidation, "a number is out of its range")?),
+    }
+}
+
+// The subcommand of the words, where each option is in its range.
+fn chosen_by<'a>(
+    program: &mut Command<'a>,
+    words: &'a [&'a str],
+) -> Result<Option<Subcommand>, Error>
+    ensures { IfOk result (λ chosen. IfSome chosen IsInRange) }
+{
+    let matches = program.try_get_matches_from_mut(words)?;
+    Ok(subcommand_of(&matches))
+}
+
+fn subcommand_of(matches: &ArgMatches<'_>) -> Option<Subcommand>
+    ensures { IfSome result IsInRange }
+{
+    match matches.subcommand() {
+        Some(("replay", replay)) => replay_of(replay),
+        Some(("shift", shift)) => shift_of(shift),
+        Some(("audit", _)) => Some(Subcommand::Audit),
+        // There is no other subcommand, and one is required.
+        _ => Some(Subcommand::Lines),
+    }
+}
+
+fn replay_of(matches: &ArgMatches<'_>) -> Option<Subcommand>
+    ensures { IfSome result IsInRange }
+{
+    let limits = limits_of(matches)?;
+    if matches.get_flag("export") {
+        Some(Subcommand::Export(limits))
+    } else {
+        Some(Subcommand::Replay(limits))
+    }
+}
+
+fn program<'a>(alloc: Global) -> Result<Command<'a>, AllocError> {
+    let replay = replay_words(alloc)?;
+    let shift = shift_words(alloc)?;
+    let lines = Command::new(alloc, "lines").about(
+        "Writes what each line of the robots.txt on standard input says",
+    );
+    let audit = Command::new(alloc, "audit").about(
+        "Checks every decision in the history on standard input, as replay --export writes it",
+    );
+    Command::new(alloc, "crawlgate")
+        .about("A gate for web crawlers, under every site's robots.txt (RFC 9309)")
+        .subcommand_required(true)
+        .subcommand(replay)?
+        .subcommand(shift)?
+        .subcommand(lines)?
+        .subcommand(audit)
+}
+
+// The words of `replay`.
+fn replay_words<'a>(alloc: Global) -> Result<Command<'a>, AllocError> {
+    Command::new(alloc, "replay")
+        .about("Answers the lines of standard input, one reply a line")
+        .arg(number(
+            alloc,
+            "slots",
+            "1024",
+            MAX_SLOTS,
+            "Permits that may be out at a time",
+        ))?
+        .arg(number(
+            alloc,
+            "generation",
+            "1",
+            LAST_GENERATION,
+            "Generation of the first permit of each slot",
+        ))?
+        .arg(number(alloc, "log", "1000000", MAX_LOG, "Entries of the history"))?
+        .arg(number(
+            alloc,
+            "authorities",
+            "65536",
+            MAX_AUTHORITIES,
+            "Authorities that are known at a time",
+        ))?
+        .arg(number(
+            alloc,
+            "places",
+            "65536",
+            MAX_PLACES,
+            "Permits that may be out for an authority at a time",
+        ))?
+        .arg(
+            Arg::new(alloc, "export")
+                .long("export")
+                .action(ArgAction::SetTrue)
+                .help("Writes the history at the end, and no replies"),
+        )
+}
+
+// The words of `shift`.
+fn shift_words<'a>(alloc: Global) -> Result<Command<'a>, AllocError> {
+    Command::new(alloc, "shift")
+        .about("Fetches the pages of the jobs on standard input, and writes what came of them")
+        .arg(number(
+            alloc,
+            "workers",
+            "4",
+            MAX_WORKERS,
+            "Jobs that are done at a time",
+        ))?
+        .arg(number(
+            alloc,
+            "slots",
+            "1024",
+            MAX_SLOTS,
+            "Permits that may be out at a time",
+        ))?
+        .arg(number(
+            alloc,
+            "places",
+            "65536",
+            MAX_PLACES,
+            "Permits that may be out for an authority at a time",
+        ))
+}
+
+// An option with a number from 1 to `most`.
+fn number<'a>(
+    alloc: Global,
+    name: &'static str,
+    usual: &'static str,
+    most: u64,
+    about: &'static str,
+) -> Arg<'a>
+    requires { most ≤ last_generation }
+{
+    Arg::new(alloc, name)
+        .long(name)
+        .value_name("N")
+        .action(ArgAction::Set)
+        .default_value(usual)
+        .value_parser(clap::value_parser!(u64).range(1..=most as i64))
+        .help(about)
+}
+
+// The limits that the options set, where each is in its range.
+fn limits_of(matches: &ArgMatches<'_>) -> Option<Limits>
+    ensures { IfSome result AreLimits }
+{
+    Some(Limits {
+        slots: number_of(matches, "slots", MAX_SLOTS)?,
+        first_generation: number_of(matches, "generation", LAST_GENERATION)?,
+        log_limit: number_of(matches, "log", MAX_LOG)?,
+        authority_limit: number_of(matches, "authorities", MAX_AUTHORITIES)?,
+        places: number_of(matches, "places", MAX_PLACES)?,
+    })
+}
+
+// The workers and the limits that the options of `shift` set, where each is in its range.
+fn shift_of(matches: &ArgMatches<'_>) -> Option<Subcommand>
+    ensures { IfSome result IsInRange }
+{
+    let mut limits = Limits::usual();
+    limits.slots = number_of(matches, "slots", MAX_SLOTS)?;
+    limits.places = number_of(matches, "places", MAX_PLACES)?;
+    Some(Subcommand::Shift(number_of(matches, "workers", MAX_WORKERS)?, limits))
+}
+
+// The number of an option, where it is from 1 to `most`.
+fn number_of(matches: &ArgMatches<'_>, name: &str, most: u64) -> Option<u64>
+    ensures least { IfSome result (λ number. 1 ≤ number) }
+    ensures most { IfSome result (λ number. number ≤ most) }
+{
+    matches
+        .get_one::<u64>(name)
+        .filter(|number| 1 <= *number && *number <= most)
+}

@@ -1,0 +1,10 @@
+//! The records of a robots text, a line for each, from any reader to any writer.
+//! docs/FORMATS.md has the lines; RFC 9309, section 2.2.
+#![tactic(auto)]
+
+mod body;
+mod lines_text;
+mod writing;
+
+pub use body::MAX_BODY;
+pub use writing::lines;

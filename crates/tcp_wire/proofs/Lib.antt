@@ -1,0 +1,4 @@
+-- The lemmas of this crate's proofs.
+mod Exchanges
+mod PageServers
+mod Servers

@@ -1,0 +1,17 @@
+//! Pages fetched over TCP in bounded time, each over a connection of its own.
+//! RFC 9110, section 4.2.1; RFC 9112, sections 2 and 3.
+#![tactic(auto)]
+
+mod deadline;
+mod http_exchange;
+mod server;
+mod tcp_client;
+mod time_limits;
+mod timed_stream;
+
+pub use deadline::Deadline;
+pub use http_exchange::exchange;
+pub use server::{Server, server_of};
+pub use tcp_client::TcpClient;
+pub use time_limits::TimeLimits;
+pub use timed_stream::{TimedStream, Waits};

@@ -1,0 +1,45 @@
+//! How long a fetch may take.
+//! The one place of these limits.
+ghost use Rattle.std.specs.Prelude.{◌≡◌};
+ghost use Rattle.std.specs.Duration.{as_nanos};
+ghost use Rattle.tcp_wire.specs.TimeLimits.{connect_time, step_time, whole_time};
+
+use std::time::Duration;
+
+/// The most seconds for a connection to one address. A host that answers at all does so after
+/// seconds; one that is down may not answer ever.
+const CONNECT_SECONDS: u64 = 10;
+
+/// The most seconds that one read or one write waits. A server may have to look for a page, but it
+/// may not hold a worker.
+const STEP_SECONDS: u64 = 30;
+
+/// The most seconds for a whole fetch. A server that sends an octet a second would hold a worker
+/// for 97 days, by the octets that a response may have.
+const WHOLE_SECONDS: u64 = 300;
+
+/// How long a fetch, and each step of it, may take. Past a limit the step fails.
+#[derive(Clone, Copy, Debug, PartialEq, Eq)]
+pub struct TimeLimits {
+    /// For a connection to one of the host's addresses.
+    pub connect: Duration,
+    /// For one read or one write.
+    pub step: Duration,
+    /// For the whole fetch.
+    pub whole: Duration,
+}
+
+impl TimeLimits {
+    /// The limits of crawlers: 10 seconds, 30 seconds and 300 seconds.
+    pub fn standard() -> TimeLimits
+        ensures connect { as_nanos result.connect ≡ connect_time }
+        ensures step { as_nanos result.step ≡ step_time }
+        ensures whole { as_nanos result.whole ≡ whole_time }
+    {
+        TimeLimits {
+            connect: Duration::from_secs(CONNECT_SECONDS),
+            step: Duration::from_secs(STEP_SECONDS),
+            whole: Duration::from_secs(WHOLE_SECONDS),
+        }
+    }
+}

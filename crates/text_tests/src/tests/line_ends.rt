@@ -1,0 +1,210 @@
+//! The ends of lines: what a line reader gives, whatever each read takes.
+//! They say what the definitions of `counted_io` mean on real octets.
+ghost use Rattle.std.specs.Prelude.{◌<◌};
+
+use counted_io::{FailAt, LINE_BUFFER, LineEnd, LineReader, NextLine, ReadLineFault};
+use std::process::Abort;
+
+struct Row {
+    name: &'static str,
+    input: &'static [u8],
+    limit: usize,
+    lines: &'static [(NextLine, &'static [u8])],
+}
+
+const ROWS: [Row; 12] = [
+    Row {
+        name: "line feeds",
+        input: b"ab\n\nc\n",
+        limit: 2,
+        lines: &[
+            (NextLine::Line, b"ab"),
+            (NextLine::Line, b""),
+            (NextLine::Line, b"c"),
+            (NextLine::End, b""),
+        ],
+    },
+    Row {
+        name: "carriage return and line feed",
+        input: b"ab\r\n\r\n",
+        limit: 2,
+        lines: &[
+            (NextLine::Line, b"ab"),
+            (NextLine::Line, b""),
+            (NextLine::End, b""),
+        ],
+    },
+    Row {
+        name: "only one carriage return belongs to the end",
+        input: b"a\r\r\n",
+        limit: 2,
+        lines: &[(NextLine::Line, b"a\r"), (NextLine::End, b"")],
+    },
+    Row {
+        name: "a lone carriage return is no end",
+        input: b"a\rb\n",
+        limit: 3,
+        lines: &[(NextLine::Line, b"a\rb"), (NextLine::End, b"")],
+    },
+    Row {
+        name: "no end at the end",
+        input: b"a\nbc",
+        limit: 2,
+        lines: &[
+            (NextLine::Line, b"a"),
+            (NextLine::Last, b"bc"),
+            (NextLine::End, b""),
+        ],
+    },
+    Row {
+        name: "a carriage return at the end stays",
+        input: b"a\r",
+        limit: 2,
+        lines: &[(NextLine::Last, b"a\r"), (NextLine::End, b"")],
+    },
+    Row {
+        name: "nothing",
+        input: b"",
+        limit: 0,
+        lines: &[(NextLine::End, b""), (NextLine::End, b"")],
+    },
+    Row {
+        name: "as long as the limit",
+        input: b"abc\r\nabc\nabc",
+        limit: 3,
+        lines: &[
+            (NextLine::Line, b"abc"),
+            (NextLine::Line, b"abc"),
+            (NextLine::Last, b"abc"),
+        ],
+    },
+    Row {
+        name: "one more, with a line feed",
+        input: b"abcd\n",
+        limit: 3,
+        lines: &[(NextLine::TooLong, b"")],
+    },
+    Row {
+        name: "one more, with a carriage return",
+        input: b"abcd\r\n",
+        limit: 3,
+        lines: &[(NextLine::TooLong, b"")],
+    },
+    Row {
+        name: "one more at the end",
+        input: b"abcd",
+        limit: 3,
+        lines: &[(NextLine::TooLong, b"")],
+    },
+    Row {
+        name: "the carriage return at the end is one more",
+        input: b"abc\r",
+        limit: 3,
+        lines: &[(NextLine::TooLong, b"")],
+    },
+];
+
+// The same where LF alone ends a line.
+const LF_ROWS: [Row; 4] = [
+    Row {
+        name: "a carriage return before the line feed stays",
+        input: b"ab\r\n\r\n",
+        limit: 3,
+        lines: &[
+            (NextLine::Line, b"ab\r"),
+            (NextLine::Line, b"\r"),
+            (NextLine::End, b""),
+        ],
+    },
+    Row {
+        name: "no carriage return",
+        input: b"ab\n\nc",
+        limit: 2,
+        lines: &[
+            (NextLine::Line, b"ab"),
+            (NextLine::Line, b""),
+            (NextLine::Last, b"c"),
+            (NextLine::End, b""),
+        ],
+    },
+    Row {
+        name: "as long as the limit, with a carriage return",
+        input: b"ab\r\n",
+        limit: 3,
+        lines: &[(NextLine::Line, b"ab\r"), (NextLine::End, b"")],
+    },
+    Row {
+        name: "the carriage return is one more",
+        input: b"abc\r\n",
+        limit: 3,
+        lines: &[(NextLine::TooLong, b"")],
+    },
+];
+
+#[test]
+fn reads_lines(rt: HostRuntime) -> Result<(), ReadLineFault> {
+    for row in &ROWS {
+        at_each_size(&rt, row, LineEnd::LfOrCrLf)?;
+    }
+    Ok(())
+}
+
+#[test]
+fn keeps_carriage_returns_where_told(rt: HostRuntime) -> Result<(), ReadLineFault> {
+    for row in &LF_ROWS {
+        at_each_size(&rt, row, LineEnd::Lf)?;
+    }
+    Ok(())
+}
+
+// The row, with as many octets a read as are named.
+fn at_each_size(
+    rt: &(impl Abort + AllocGlobal),
+    row: &Row,
+    end: LineEnd,
+) -> Result<(), ReadLineFault> {
+    for per_call in 1..8 {
+        check_row(rt, row, end, per_call)?;
+    }
+    check_row(rt, row, end, LINE_BUFFER)
+}
+
+fn check_row(
+    rt: &(impl Abort + AllocGlobal),
+    row: &Row,
+    end: LineEnd,
+    per_call: usize,
+) -> Result<(), ReadLineFault>
+    requires { 0 < per_call }
+{
+    let input = Vec::from_slice(rt.alloc(), row.input)?;
+    check_source(rt, row, end, &mut FailAt::new(input, per_call, None))
+}
+
+fn check_source(
+    rt: &(impl Abort + AllocGlobal),
+    row: &Row,
+    end: LineEnd,
+    source: &mut FailAt,
+) -> Result<(), ReadLineFault> {
+    let mut reader = LineReader::new(rt.alloc())?;
+    check_lines(rt, row, end, source, &mut reader)
+}
+
+fn check_lines(
+    rt: &(impl Abort + AllocGlobal),
+    row: &Row,
+    end: LineEnd,
+    source: &mut FailAt,
+    reader: &mut LineReader,
+) -> Result<(), ReadLineFault> {
+    let mut line = Vec::new(rt.alloc());
+    for (want, text) in row.lines {
+        let next = reader.next_line_to(source, end, row.limit, &mut line)?;
+        assert_eq!(rt; next, *want, "{}", row.name);
+        if next != NextLine::TooLong {
+            assert_eq!(rt; line.as_slice(), *text, "{}", row.name);
+        }
+    }
+    Ok(())
+}

@@ -1,0 +1,18 @@
+//! A robots text and its policy, for the tests of verdicts and answers. Which line decides is shown by rows of the
+//! built program, and by `agreement`, where three readings must agree.
+
+use robots_text::RobotsText;
+use robots_verdict::Policy;
+use std::alloc::{AllocError, Global};
+
+/// The example of RFC 9309, section 5.1.
+pub const EXAMPLE: &str =
+    "User-Agent: *\nDisallow: *.gif$\nDisallow: /example/\nAllow: /publications/\n\n\
+    User-Agent: foobot\nDisallow:/\nAllow:/example/page.html\nAllow:/example/allowed.gif\n\n\
+    User-Agent: barbot\nUser-Agent: bazbot\nDisallow: /example/page.html\n\n\
+    User-Agent: quxbot\n\n";
+
+/// The policy of a text.
+pub fn policy_of(alloc: Global, text: &[u8]) -> Result<Policy, AllocError> {
+    Policy::new(alloc, RobotsText::read(alloc, text)?)
+}

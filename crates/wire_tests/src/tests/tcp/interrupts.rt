@@ -1,0 +1,106 @@
+//! Reads and writes that a signal interrupts, and those whose time is over.
+
+use std::io::{ErrorKind, Read, Write};
+use std::test::Fail;
+use std::time::{Duration, Instant};
+use std::{io, time};
+use tcp_wire::{Deadline, TimedStream, Waits};
+
+// A connection whose first calls a signal interrupts. Then it gives and takes one octet a call.
+#[derive(Drop)]
+struct Interrupted(u32);
+
+impl Interrupted {
+    fn call(&mut self) -> io::Result<()> {
+        match self.0.checked_sub(1) {
+            Some(left) => {
+                self.0 = left;
+                Err(io::Error::from(ErrorKind::Interrupted))
+            }
+            None => Ok(()),
+        }
+    }
+}
+
+impl Read for Interrupted {
+    fn read(&mut self, buf: &mut [u8]) -> io::Result<usize> {
+        self.call()?;
+        match buf.first_mut() {
+            Some(octet) => {
+                *octet = b'x';
+                Ok(1)
+            }
+            None => Ok(0),
+        }
+    }
+}
+
+impl Write for Interrupted {
+    fn write(&mut self, buf: &[u8]) -> io::Result<usize> {
+        self.call()?;
+        Ok(buf.len().min(1))
+    }
+
+    fn flush(&mut self) -> io::Result<()> {
+        Ok(())
+    }
+}
+
+impl Waits for Interrupted {
+    fn limit_reads(&self, _most: Duration) -> io::Result<()> {
+        Ok(())
+    }
+
+    fn limit_writes(&self, _most: Duration) -> io::Result<()> {
+        Ok(())
+    }
+}
+
+// A stream that a signal interrupts so many times, with so many seconds for the whole.
+fn stream_of<R: time::Clock>(
+    rt: &R,
+    times: u32,
+    whole: u64,
+) -> io::Result<TimedStream<'_, R, Interrupted>> {
+    Ok(TimedStream {
+        rt,
+        stream: Interrupted(times),
+        deadline: Deadline {
+            begun: Instant::now(rt)?,
+            whole: Duration::from_secs(whole),
+        },
+        step: Duration::from_secs(30),
+    })
+}
+
+// Whether a read of such a stream succeeds.
+fn reads(rt: &impl time::Clock, times: u32, whole: u64) -> io::Result<bool> {
+    let mut stream = stream_of(rt, times, whole)?;
+    Ok(stream.read(&mut [0, 0]).is_ok())
+}
+
+// Whether a write to such a stream succeeds.
+fn writes(rt: &impl time::Clock, times: u32, whole: u64) -> io::Result<bool> {
+    let mut stream = stream_of(rt, times, whole)?;
+    Ok(stream.write(b"ab").is_ok())
+}
+
+#[test]
+fn interruptions(rt: HostRuntime) -> Result<(), Fail> {
+    for (times, want) in [(0, true), (3, true), (999, true), (1_000, false)] {
+        assert_eq!(rt; reads(&rt, times, 60)?, want, "after {times} interruptions");
+        assert_eq!(rt;
+            writes(&rt, times, 60)?,
+            want,
+            "after {times} interruptions"
+        );
+    }
+    Ok(())
+}
+
+#[test]
+fn a_time_that_is_over(rt: HostRuntime) -> Result<(), Fail> {
+    assert!(rt; !reads(&rt, 0, 0)?);
+    assert!(rt; !writes(&rt, 0, 0)?);
+    Ok(())
+}

@@ -1,0 +1,14 @@
+//! Jobs of workers: over sites in memory, and over TCP on the loopback.
+
+mod clocks;
+mod gates;
+mod jobs;
+mod leaves;
+mod overlap;
+mod pages;
+mod refreshes;
+mod requests;
+mod scripts;
+mod shift;
+mod waits;
+mod words;

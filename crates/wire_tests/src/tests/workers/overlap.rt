@@ -1,0 +1,200 @@
+//! Workers that fetch at the same time, and robots files that are fetched for all of them.
+
+use super::pages::{job, jobs_of};
+use super::shift::given_of;
+use crawl_workers::{Fetcher, Job, PageLeave, RobotsLeave};
+use http_wire::{HttpReply, WireFault};
+use path_normal::PageUrl;
+use std::alloc::{AllocError, Global};
+use std::process::Abort;
+use std::random::RandomSource;
+use std::sync::Wait;
+use std::sync::atomic::{AtomicU64, Ordering};
+use std::test::Fail;
+use std::thread::Threads;
+use std::time::Duration;
+use std::{thread, time};
+
+fn reply(alloc: Global, status: u16) -> HttpReply {
+    HttpReply {
+        status,
+        location: None,
+        max_age: None,
+        body: Vec::new(alloc),
+        cut: false,
+    }
+}
+
+// Answers a page only once the fetch of another has begun, or after ten seconds with a fault.
+#[derive(Drop)]
+struct Together<'r, R: time::Clock> {
+    rt: &'r R,
+    alloc: Global,
+    begun: AtomicU64,
+}
+
+impl<R: time::Clock> Fetcher for Together<'_, R> {
+    ghost gives = { λ _ _ _. Unit {0} };
+
+    fn load_page(&self, _leave: &PageLeave<'_>, _limit: usize) -> Result<HttpReply, WireFault> {
+        self.begun.fetch_add(1, Ordering::SeqCst);
+        for _ in 0..10_000 {
+            if self.begun.load(Ordering::SeqCst) >= 2 {
+                return Ok(reply(self.alloc, 200));
+            }
+            thread::sleep(self.rt, Duration::from_millis(1));
+        }
+        Err(WireFault::Device)
+    }
+
+    fn load_robots(&self, _leave: &RobotsLeave<'_>) -> Result<HttpReply, WireFault> {
+        Ok(reply(self.alloc, 404))
+    }
+}
+
+// Two pages of one site.
+const PAIR: [(&str, &str); 2] = [
+    ("foobot", "http://a.example/x"),
+    ("foobot", "http://a.example/y"),
+];
+
+#[test]
+fn two_fetches_overlap(rt: HostRuntime) -> Result<(), Fail> {
+    let jobs = jobs_of(rt.alloc(), &PAIR)?;
+    check_overlaps(&rt, rt.alloc(), jobs.as_slice())
+}
+
+fn check_overlaps<R: Threads + Wait + RandomSource + time::Clock + Abort + Sync>(
+    rt: &R,
+    alloc: Global,
+    jobs: &[Job],
+) -> Result<(), Fail> {
+    for _ in 0..1_000 {
+        check_overlap(rt, alloc, jobs)?;
+    }
+    Ok(())
+}
+
+fn check_overlap<R: Threads + Wait + RandomSource + time::Clock + Abort + Sync>(
+    rt: &R,
+    alloc: Global,
+    jobs: &[Job],
+) -> Result<(), Fail> {
+    let sites = Together {
+        rt,
+        alloc,
+        begun: AtomicU64::new(0),
+    };
+    let given = given_of(rt, alloc, jobs, 2, &sites)?;
+    assert_eq!(rt; given.as_str(), "Open 200 0; Open 200 0; 2");
+    Ok(())
+}
+
+// How many sites there are, how many jobs, and how many workers.
+const SITES: usize = 8;
+
+const JOBS: usize = 64;
+
+const WORKERS: u64 = 16;
+
+// Counts the robots files, for each site, and the pages that it is asked for.
+#[derive(Drop)]
+struct Counting {
+    alloc: Global,
+    robots: Vec<AtomicU64>,
+    pages: AtomicU64,
+}
+
+impl Fetcher for Counting {
+    ghost gives = { λ _ _ _. Unit {0} };
+
+    fn load_page(&self, _leave: &PageLeave<'_>, _limit: usize) -> Result<HttpReply, WireFault> {
+        self.pages.fetch_add(1, Ordering::SeqCst);
+        Ok(reply(self.alloc, 200))
+    }
+
+    fn load_robots(&self, leave: &RobotsLeave<'_>) -> Result<HttpReply, WireFault> {
+        if let Some(count) = self.robots.get(site_of(leave.url())) {
+            count.fetch_add(1, Ordering::SeqCst);
+        }
+        Ok(reply(self.alloc, 404))
+    }
+}
+
+// The number of a site, which is the digit in its name.
+fn site_of(url: &PageUrl) -> usize {
+    match url.authority().as_bytes() {
+        [b's', digit, ..] => (*digit as usize).wrapping_sub(48),
+        _ => SITES,
+    }
+}
+
+// No site has been asked for yet.
+fn no_counts(alloc: Global) -> Result<Vec<AtomicU64>, AllocError> {
+    let mut counts = Vec::new(alloc);
+    push_counts(&mut counts)?;
+    Ok(counts)
+}
+
+fn push_counts(counts: &mut Vec<AtomicU64>) -> Result<(), AllocError> {
+    for _ in 0..SITES {
+        counts.push(AtomicU64::new(0))?;
+    }
+    Ok(())
+}
+
+fn push_jobs(alloc: Global, jobs: &mut Vec<Job>) -> Result<(), Fail> {
+    for number in 0..JOBS {
+        jobs.push(numbered(alloc, number)?)?;
+    }
+    Ok(())
+}
+
+fn numbered(alloc: Global, number: usize) -> Result<Job, Fail> {
+    let url = format!(in alloc; "http://s{}.example/{number}", number % SITES)?;
+    job(alloc, "foobot", url.as_str())
+}
+
+// A worker asks for a site's file once at most, since the answer that it brought stands. Two workers may
+// both ask for it: the state is read and the turn begun under two holds of the lock, and between them the
+// answer of another may come.
+#[test]
+fn each_robots_file_is_fetched(rt: HostRuntime) -> Result<(), Fail> {
+    let mut jobs = Vec::new(rt.alloc());
+    push_jobs(rt.alloc(), &mut jobs)?;
+    check_counts(&rt, rt.alloc(), jobs.as_slice())
+}
+
+fn check_counts<R: Threads + Wait + RandomSource + Abort + Sync>(
+    rt: &R,
+    alloc: Global,
+    jobs: &[Job],
+) -> Result<(), Fail> {
+    let sites = Counting {
+        alloc,
+        robots: no_counts(alloc)?,
+        pages: AtomicU64::new(0),
+    };
+    check_counts_of(rt, alloc, jobs, &sites)
+}
+
+fn check_counts_of<R: Threads + Wait + RandomSource + Abort + Sync>(
+    rt: &R,
+    alloc: Global,
+    jobs: &[Job],
+    sites: &Counting,
+) -> Result<(), Fail> {
+    let given = given_of(rt, alloc, jobs, WORKERS, sites)?;
+    assert!(rt; given.ends_with("; 64"));
+    assert_eq!(rt; sites.pages.load(Ordering::SeqCst), 64);
+    check_robots(rt, sites.robots.as_slice());
+    Ok(())
+}
+
+fn check_robots(rt: &impl Abort, robots: &[AtomicU64]) {
+    assert_eq!(rt; robots.len(), SITES);
+    for count in robots {
+        let count = count.load(Ordering::SeqCst);
+        assert!(rt; (1..=WORKERS).contains(&count), "{count} fetches");
+    }
+}

@@ -1,0 +1,92 @@
+//! Hops and deeds in words.
+//! In a text of deeds `B`, `A`, `G`, `S` and `F` are begun, arrived, granted, started and finished, and
+//! `D` is a denied ask.
+
+use crawl_workers::Hop;
+use gate_lock::{Deed, Mark};
+use std::alloc::{AllocError, Global};
+
+/// Adds the hops, one behind another.
+pub(super) fn push_hops(alloc: Global, text: &mut String, hops: &[Hop]) -> Result<(), AllocError> {
+    let mut between = "";
+    for hop in hops {
+        text.push_str(between)?;
+        push_hop(alloc, text, hop)?;
+        between = ", ";
+    }
+    Ok(())
+}
+
+/// Adds the same, each behind the number of its permit where it has one.
+pub(super) fn push_numbered(
+    alloc: Global,
+    text: &mut String,
+    hops: &[Hop],
+) -> Result<(), AllocError> {
+    let mut between = "";
+    for hop in hops {
+        text.push_str(between)?;
+        push_number(alloc, text, hop)?;
+        push_hop(alloc, text, hop)?;
+        between = ", ";
+    }
+    Ok(())
+}
+
+fn push_number(alloc: Global, text: &mut String, hop: &Hop) -> Result<(), AllocError> {
+    match hop {
+        Hop::Page { number, .. } | Hop::Fault { number, .. } => {
+            let number = number.number();
+            push_words(text, format!(in alloc; "{number} "))
+        }
+        Hop::No(_) | Hop::Refused(_) | Hop::Stop(_) => Ok(()),
+    }
+}
+
+fn push_hop(alloc: Global, text: &mut String, hop: &Hop) -> Result<(), AllocError> {
+    push_words(text, hop_text(alloc, hop))
+}
+
+fn push_words(text: &mut String, words: Result<String, AllocError>) -> Result<(), AllocError> {
+    let words = words?;
+    text.push_str(words.as_str())
+}
+
+fn hop_text(alloc: Global, hop: &Hop) -> Result<String, AllocError> {
+    match hop {
+        Hop::Page {
+            reason,
+            status,
+            length,
+            cut,
+            ..
+        } => {
+            let cut = if *cut { " cut" } else { "" };
+            format!(in alloc; "{reason:?} {status} {length}{cut}")
+        }
+        Hop::No(denial) => { format!(in alloc; "no {} {:?}", denial.authority(), denial.cause) }
+        Hop::Fault { fault, .. } => format!(in alloc; "{fault:?}"),
+        Hop::Refused(refusal) => format!(in alloc; "{refusal:?}"),
+        Hop::Stop(stop) => format!(in alloc; "{stop:?}"),
+    }
+}
+
+/// Adds the deeds of the marks, a letter each.
+pub(super) fn push_deeds(text: &mut String, marks: &[Mark]) -> Result<(), AllocError> {
+    for mark in marks {
+        text.push_str(deed_letter(&mark.deed))?;
+    }
+    Ok(())
+}
+
+fn deed_letter(deed: &Deed) -> &'static str {
+    match deed {
+        Deed::Begun { .. } => "B",
+        Deed::Arrived { .. } => "A",
+        Deed::Granted { .. } => "G",
+        Deed::AskDenied { .. } => "D",
+        Deed::Started { .. } => "S",
+        Deed::Finished { .. } => "F",
+        Deed::StartDenied { .. } | Deed::Returned { .. } | Deed::Swept { .. } => "?",
+    }
+}
