@@ -1,5 +1,5 @@
 //! Why a line was not read as an entry.
-//! Used by `words` and `read`.
+//! Used by `auditor`, `fields` and `read`.
 use std::alloc::AllocError;
 
 /// Why a line was not read as an entry.

@@ -6,6 +6,7 @@ mod job_list;
 mod progress;
 mod report_text;
 mod shifting;
+mod told_fetcher;
 
 pub use job_list::{MAX_JOB_LINE, Unread, read_jobs};
 pub use shifting::{NotShifted, shift, shift_over};

@@ -53,6 +53,11 @@ impl<'a, W: Sink, R: Wait> Progress<'a, W, R> {
         Ok(Progress { rt, lines })
     }
 
+    /// Whether a write of the report has failed. Nothing more is written then.
+    pub fn has_failed(&self) -> bool {
+        self.lines.lock(self.rt).failed
+    }
+
     /// Writes what is not written yet of the jobs, and the last line.
     pub fn finish(self, outcomes: &[Crawled], starts: u64) -> Result<(), DeviceFault> {
         self.lines.into_inner().finish(outcomes, starts)

@@ -1,13 +1,15 @@
 //! `shift`: jobs, a line for each, done by several workers, and the report of what came of them.
 //! `crawlgate shift` runs it over standard input and output.
-ghost use Rattle.std.specs.Prelude.{◌≡◌, []};
+ghost use Rattle.std.specs.Prelude.{◌≡◌, ◌≤◌, [], length};
 ghost use Rattle.gate_history.specs.Base.{empty_base};
-ghost use Rattle.job_line.specs.Limits.{IsCrew};
+ghost use Rattle.job_line.specs.Limits.{IsCrew, max_jobs};
 
 use crate::job_list::{Unread, read_jobs};
 use crate::progress::Progress;
+use crate::told_fetcher::ToldFetcher;
 use counted_io::{DeviceFault, Sink, Source};
-use crawl_workers::{Clock, Fetcher, ShiftFault, run_shift};
+use crawl_job::Job;
+use crawl_workers::{Clock, Fetcher, Report, ShiftFault, run_shift};
 use gate_core::Book;
 use gate_lock::{Blanks, Gate, GateLock, SettleFault};
 use std::alloc::{AllocError, Global};
@@ -53,7 +55,7 @@ pub fn shift_over<
 }
 
 /// Reads the jobs to the end of the input, has so many workers do them over the gate, and writes the
-/// report.
+/// report. Once a write of it has failed nothing more is fetched.
 pub fn shift<
     S: Source,
     W: Sink + Send,
@@ -75,18 +77,36 @@ pub fn shift<
 {
     let jobs = read_jobs(alloc, reader)?;
     let progress = Progress::new(rt, alloc, writer, jobs.len())?;
-    let report = run_shift(
-        rt,
-        alloc,
-        jobs.as_slice(),
-        workers,
-        gate,
-        fetcher,
-        clock,
-        &progress,
-    )?;
+    let jobs = jobs.as_slice();
+    let report = run_told(rt, alloc, jobs, workers, gate, fetcher, clock, &progress)?;
     progress.finish(report.outcomes.as_slice(), report.settled.starts)?;
     Ok(())
+}
+
+// Does the jobs and tells of them, as long as that can be written.
+fn run_told<
+    't,
+    'a,
+    W: Sink + Send,
+    G: Gate + Send + Sync,
+    F: Fetcher + Sync,
+    C: Clock + Sync,
+    R: Threads + Wait + Sync,
+>(
+    rt: &R,
+    alloc: Global,
+    jobs: &[Job],
+    workers: u64,
+    gate: &GateLock<G>,
+    fetcher: &'t F,
+    clock: &C,
+    progress: &'t Progress<'a, W, R>,
+) -> Result<Report<G>, ShiftFault>
+    requires jobs { length jobs.now ≤ max_jobs }
+    requires workers { IsCrew workers }
+{
+    let fetcher = ToldFetcher { fetcher, progress };
+    run_shift(rt, alloc, jobs, workers, gate, &fetcher, clock, progress)
 }
 
 impl From<Unread> for NotShifted {

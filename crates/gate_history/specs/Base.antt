@@ -72,7 +72,7 @@ pub record AreTurns (standing : List StandingAnswer) (in_flight : List Turn) (be
   pub answers_begun : list_all (λ s. nat_le s.begun moment) standing ≡ true
   pub lives : list_all has_its_life standing ≡ true
 
--- a base is one that a legal history may lead to; no entry is both a begin and a start
+-- a base is at least one that a legal history may lead to; no entry is both a begin and a start
 pub record IsBase (b : Base) : Type 0 where
   pub permits : ArePermits b.unspent b.running b.grants
   pub turns : AreTurns b.standing b.in_flight b.begins b.moment

@@ -1,4 +1,4 @@
-//! Sessions, shifts and lines over memory and the loopback.
+//! Sessions, shifts and lines over memory.
 //! Each value has one owner, which makes one call: its check is short then.
 ghost use Rattle.std.specs.Prelude.{◌≡◌, ◌<◌, [], IfOk};
 ghost use Rattle.gate_history.specs.Base.{empty_base};
@@ -7,12 +7,8 @@ mod calls;
 mod changes;
 mod faults;
 mod lines;
-mod loopback;
-mod sessions;
-mod shifts;
 mod sites;
 mod waiting;
-mod words;
 
 use command_server::{SessionFault, replay};
 use counted_io::FailAt;

@@ -14,7 +14,7 @@ use permit_book::{LAST_GENERATION, MAX_SLOTS};
 use std::alloc::{AllocError, Global};
 
 /// What the program is asked to do.
-#[derive(Clone, Copy, Debug, PartialEq, Eq)]
+#[derive(Clone, Copy)]
 pub enum Subcommand {
     /// Reads replay lines from standard input, on a book of these limits, and writes their replies
     /// to standard output.
@@ -45,12 +45,15 @@ fn read_words<'a>(program: &mut Command<'a>, words: &'a [&'a str]) -> Result<Sub
 {
     match chosen_by(program, words)? {
         Some(subcommand) => Ok(subcommand),
-        // `clap` has refused such numbers.
-        None => Err(program.error(ErrorKind::ValueValidation, "a number is out of its range")?),
+        // `clap` has refused such numbers, but for those with a sign.
+        None => Err(program.error(
+            ErrorKind::ValueValidation,
+            "a number is written in digits alone",
+        )?),
     }
 }
 
-// The subcommand of the words, where each option is in its range.
+// The subcommand of the words, where each option is in its range and no number has a sign.
 fn chosen_by<'a>(
     program: &mut Command<'a>,
     words: &'a [&'a str],
@@ -58,7 +61,21 @@ fn chosen_by<'a>(
     ensures { IfOk result (λ chosen. IfSome chosen IsInRange) }
 {
     let matches = program.try_get_matches_from_mut(words)?;
+    if has_sign(words) {
+        return Ok(None);
+    }
     Ok(subcommand_of(&matches))
+}
+
+// Whether a word, or what stands behind its `=`, begins with a plus sign. (Rust reads `+5` as a number.)
+fn has_sign(words: &[&str]) -> bool {
+    for word in words {
+        let value = word.split_once('=').map_or(*word, |(_, value)| value);
+        if value.starts_with('+') {
+            return true;
+        }
+    }
+    false
 }
 
 fn subcommand_of(matches: &ArgMatches<'_>) -> Option<Subcommand>

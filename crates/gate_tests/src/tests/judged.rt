@@ -31,6 +31,14 @@ const ROWS: &[(&str, Option<&str>, Option<&str>, u64, Result<u64, Cause>)] = &[
         120,
         Err(Cause::Line(2)),
     ),
+    (
+        "other rules of as many octets",
+        Some("User-agent: *\nAllow: /example/"),
+        Some("User-agent: *\nDisallow:/exampl"),
+        120,
+        Err(Cause::Line(2)),
+    ),
+    ("the same rules", Some(RULES), None, 120, Ok(65_536)),
     ("equal rules", Some(RULES), Some(RULES), 120, Ok(65_536)),
     (
         "rules that are too old",

@@ -7,7 +7,6 @@ mod leaves;
 mod overlap;
 mod pages;
 mod refreshes;
-mod requests;
 mod scripts;
 mod shift;
 mod waits;

@@ -1,23 +1,19 @@
-//! Responses and what is read of them, in reads of several sizes, as docs/FORMATS.md says.
-//! In the text of a row `|` stands for CR LF.
+//! Responses and what is read of them, as docs/FORMATS.md says.
+//! RFC 9112, sections 2.2, 6.3 and 7.1; RFC 9110, sections 8.6 and 15.2.
 
-use super::reads::{Want, check_octets, check_read, octets_of};
+use super::reads::{Row, Want};
 use Want::{Cut, Fault, Whole};
 use WireFault::{BadChunk, BadHead, BadLength, Coding, EarlyEnd, TooManyInterim};
-use counted_io::FailAt;
 use http_wire::WireFault;
-use std::alloc::{AllocError, Global};
-use std::process::Abort;
-use std::test::Fail;
 
-const COUNTED: &str = "HTTP/1.1 200 OK|Content-Length: 5||hello";
+pub(super) const COUNTED: &str = "HTTP/1.1 200 OK|Content-Length: 5||hello";
 
-const CHUNKED: &str = "HTTP/1.1 200 OK|Transfer-Encoding: chunked||5|hello|0||";
+pub(super) const CHUNKED: &str = "HTTP/1.1 200 OK|Transfer-Encoding: chunked||5|hello|0||";
 
-const NO_CONTENT: &str = "HTTP/1.1 100 Continue||HTTP/1.1 204 No Content||";
+pub(super) const NO_CONTENT: &str = "HTTP/1.1 100 Continue||HTTP/1.1 204 No Content||";
 
-// A name, the text, the limit, and what is given.
-const ROWS: [(&str, &str, usize, Want); 53] = [
+/// Whole responses.
+pub(super) const ROWS: [Row; 53] = [
     ("counted", COUNTED, 9, Whole(200, "hello")),
     ("counted, over the limit", COUNTED, 3, Cut(200, "hel")),
     (
@@ -291,88 +287,3 @@ HTTP/1.1 100 a||x",
     ),
     ("status 099", "HTTP/1.1 099 OK||", 9, Fault(BadHead)),
 ];
-
-#[test]
-fn gives_each_row_whatever_the_reads(rt: HostRuntime) -> Result<(), Fail> {
-    Ok(check_rows(&rt, rt.alloc(), &ROWS)?)
-}
-
-fn check_rows(
-    rt: &impl Abort,
-    alloc: Global,
-    rows: &[(&str, &str, usize, Want)],
-) -> Result<(), AllocError> {
-    for (name, text, limit, want) in rows {
-        check_steps(rt, alloc, name, text, *limit, *want)?;
-    }
-    Ok(())
-}
-
-// A response, in reads of several sizes.
-fn check_steps(
-    rt: &impl Abort,
-    alloc: Global,
-    name: &str,
-    text: &str,
-    limit: usize,
-    want: Want,
-) -> Result<(), AllocError> {
-    for step in [1, 2, 7, 1_000] {
-        check_octets(rt, alloc, name, octets_of(alloc, text)?, step, limit, want);
-    }
-    Ok(())
-}
-
-#[test]
-fn ends_early_in_each_prefix(rt: HostRuntime) -> Result<(), Fail> {
-    for text in [COUNTED, CHUNKED, NO_CONTENT] {
-        check_prefixes(&rt, rt.alloc(), text)?;
-    }
-    Ok(())
-}
-
-fn check_prefixes(rt: &impl Abort, alloc: Global, text: &str) -> Result<(), AllocError> {
-    let octets = octets_of(alloc, text)?;
-    check_prefixes_of(rt, alloc, text, &octets)
-}
-
-fn check_prefixes_of(
-    rt: &impl Abort,
-    alloc: Global,
-    text: &str,
-    octets: &[u8],
-) -> Result<(), AllocError> {
-    for end in 0..octets.len() {
-        let prefix = Vec::from_slice(alloc, &octets[..end])?;
-        check_octets(rt, alloc, text, prefix, 7, 9, Fault(EarlyEnd));
-    }
-    Ok(())
-}
-
-#[test]
-fn tells_each_failed_read(rt: HostRuntime) -> Result<(), Fail> {
-    for text in [COUNTED, CHUNKED, NO_CONTENT] {
-        check_failures(&rt, rt.alloc(), text)?;
-    }
-    Ok(())
-}
-
-fn check_failures(rt: &impl Abort, alloc: Global, text: &str) -> Result<(), AllocError> {
-    let octets = octets_of(alloc, text)?;
-    check_failures_of(rt, alloc, text, &octets)
-}
-
-fn check_failures_of(
-    rt: &impl Abort,
-    alloc: Global,
-    text: &str,
-    octets: &[u8],
-) -> Result<(), AllocError> {
-    for fails_at in 0..octets.len() {
-        let copy = Vec::from_slice(alloc, octets)?;
-        let mut source = FailAt::new(copy, 1, Some(fails_at as u64));
-        check_read(rt, alloc, text, &mut source, 9, Fault(WireFault::Device));
-        assert_eq!(rt; source.failures(), 1, "{text} at {fails_at}");
-    }
-    Ok(())
-}

@@ -1,17 +1,13 @@
-//! Where reading stops: at the last octet that tells, and not behind it.
-//! In the text of a row `|` stands for CR LF.
+//! Texts that end with the last octet that tells: what is read of them is read with no octet more.
+//! RFC 9112, section 6.3.
 
-use super::reads::{Want, check_read, octets_of};
+use super::reads::{Row, Want};
 use Want::{Cut, Fault, Whole};
 use WireFault::{BadChunk, BadHead, BadLength, Coding, TooManyInterim};
-use counted_io::{DeviceFault, FailAt, Source};
 use http_wire::WireFault;
-use std::alloc::{AllocError, Global};
-use std::process::Abort;
-use std::test::Fail;
 
-// A name, the text up to the last octet that is needed, the limit, and what is given.
-const STOPS: [(&str, &str, usize, Want); 26] = [
+/// Each text up to the last octet that is needed.
+pub(super) const STOPS: [Row; 26] = [
     (
         "counted",
         "HTTP/1.1 200 OK|Content-Length: 5||hello",
@@ -151,101 +147,3 @@ HTTP/1.1 100 a||",
         Fault(TooManyInterim),
     ),
 ];
-
-// The source gives one octet a read, and fails behind the last.
-#[test]
-fn reads_no_octet_more_than_it_needs(rt: HostRuntime) -> Result<(), Fail> {
-    Ok(check_all_reads(&rt, rt.alloc(), &STOPS)?)
-}
-
-fn check_all_reads(
-    rt: &impl Abort,
-    alloc: Global,
-    rows: &[(&str, &str, usize, Want)],
-) -> Result<(), AllocError> {
-    for (name, text, limit, want) in rows {
-        check_reads(rt, alloc, name, octets_of(alloc, text)?, *limit, *want);
-    }
-    Ok(())
-}
-
-fn check_reads(
-    rt: &impl Abort,
-    alloc: Global,
-    name: &str,
-    octets: Vec<u8>,
-    limit: usize,
-    want: Want,
-) {
-    let reads = octets.len() as u64;
-    let mut source = FailAt::new(octets, 1, Some(reads));
-    check_read(rt, alloc, name, &mut source, limit, want);
-    assert_eq!(rt; source.failures(), 0, "{name}");
-    assert_eq!(rt; source.unread().len(), 0, "{name}");
-}
-
-/// A source whose reads end at a place and at the end.
-#[derive(Drop)]
-struct CutAt {
-    octets: Vec<u8>,
-    at: usize,
-    cut: usize,
-}
-
-impl Source for CutAt {
-    ghost use Rattle.std.specs.Prelude.{None};
-
-    ghost left = { λ _. None };
-
-    ghost failures = { λ _. 0 };
-
-    fn read(&mut self, buffer: &mut [u8]) -> Result<usize, DeviceFault> {
-        let end = if self.at < self.cut {
-            self.cut
-        } else {
-            self.octets.len()
-        };
-        let rest = self.octets.as_slice().get(self.at..end).unwrap_or(&[]);
-        let count = rest.len().min(buffer.len());
-        buffer[..count].copy_from_slice(&rest[..count]);
-        self.at = self.at.saturating_add(count);
-        Ok(count)
-    }
-}
-
-#[test]
-fn gives_the_same_at_every_cut(rt: HostRuntime) -> Result<(), Fail> {
-    Ok(check_all_cuts(&rt, rt.alloc(), &STOPS)?)
-}
-
-fn check_all_cuts(
-    rt: &impl Abort,
-    alloc: Global,
-    rows: &[(&str, &str, usize, Want)],
-) -> Result<(), AllocError> {
-    for (name, text, limit, want) in rows {
-        check_cuts(rt, alloc, name, octets_of(alloc, text)?, *limit, *want);
-    }
-    Ok(())
-}
-
-fn check_cuts(
-    rt: &impl Abort,
-    alloc: Global,
-    name: &str,
-    octets: Vec<u8>,
-    limit: usize,
-    want: Want,
-) {
-    let count = octets.len();
-    let mut source = CutAt {
-        octets,
-        at: 0,
-        cut: 0,
-    };
-    for cut in 0..count {
-        source.at = 0;
-        source.cut = cut;
-        check_read(rt, alloc, name, &mut source, limit, want);
-    }
-}

@@ -50,7 +50,7 @@ pub(super) struct Timed {
 }
 
 /// Limits that no test of a server that answers passes.
-pub(crate) fn patient() -> TimeLimits {
+pub(super) fn patient() -> TimeLimits {
     TimeLimits {
         connect: Duration::from_secs(20),
         step: Duration::from_secs(20),
@@ -68,14 +68,14 @@ pub(super) fn hasty(step: u64, whole: u64) -> TimeLimits {
 }
 
 /// A listener on a port of the loopback that was free.
-pub(crate) fn listen(
+pub(super) fn listen(
     rt: &impl Net<Listener = TcpListener, Stream = TcpStream>,
 ) -> io::Result<TcpListener> {
     TcpListener::bind(rt, SocketAddr::from((Ipv4Addr::LOCALHOST, 0)))
 }
 
 /// The URL of a page of the listener.
-pub(crate) fn page_of(alloc: Global, listener: &TcpListener) -> Result<PageUrl, Fail> {
+pub(super) fn page_of(alloc: Global, listener: &TcpListener) -> Result<PageUrl, Fail> {
     let port = listener.local_addr()?.port();
     let text = format!(in alloc; "http://127.0.0.1:{port}/x?q")?;
     Ok(PageUrl::parse(alloc, text.as_str())?)
@@ -160,18 +160,6 @@ where
 fn both(served: io::Result<()>, fetched: io::Result<Timed>) -> Result<Timed, Fail> {
     served?;
     Ok(fetched?)
-}
-
-/// Accepts one connection, reads the head of a request, and answers it.
-pub(crate) fn answer(alloc: Global, listener: &TcpListener, reply: &str) -> io::Result<Vec<u8>> {
-    let mut stream = accept(listener)?;
-    answer_on(alloc, &mut stream, reply)
-}
-
-fn answer_on(alloc: Global, stream: &mut TcpStream, reply: &str) -> io::Result<Vec<u8>> {
-    let mut request = Vec::new(alloc);
-    read_and_send(stream, &mut request, reply)?;
-    Ok(request)
 }
 
 fn read_and_send(stream: &mut TcpStream, request: &mut Vec<u8>, reply: &str) -> io::Result<()> {

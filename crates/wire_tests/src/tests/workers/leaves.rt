@@ -1,4 +1,4 @@
-//! Single fetches of a fetcher: a page by a permit of its own, and a robots file in a turn.
+//! Single fetches of a page, each by a permit of its own.
 ghost use Rattle.gate_lock.specs.Desks.{KeepsOut};
 
 use crate::tests::tcp::test_server::told;
@@ -90,52 +90,6 @@ fn fetch_page<G: Gate, F: Fetcher, R: Wait>(
     };
     let (fetched, reply) = fetcher.fetch_page(running, limit);
     desk.finish(rt, fetched);
-    Some(reply)
-}
-
-/// What came of the fetch of a file in a turn of its authority, in words.
-pub(super) fn robots_text<G: Gate, F: Fetcher, R: Wait>(
-    rt: &R,
-    alloc: Global,
-    gate: &GateLock<G>,
-    fetcher: &F,
-    url: &PageUrl,
-) -> Result<String, AllocError> {
-    let site = Authority::of(url)?;
-    let given = robots_given(rt, alloc, gate, fetcher, &site, url);
-    given_text(alloc, &given)
-}
-
-fn robots_given<G: Gate, F: Fetcher, R: Wait>(
-    rt: &R,
-    alloc: Global,
-    gate: &GateLock<G>,
-    fetcher: &F,
-    site: &Authority,
-    url: &PageUrl,
-) -> Given {
-    let Ok(mut desk) = gate.desk(rt, alloc) else {
-        return None;
-    };
-    let given = fetch_robots(rt, &mut desk, fetcher, site, url);
-    desk.close();
-    given
-}
-
-fn fetch_robots<G: Gate, F: Fetcher, R: Wait>(
-    rt: &R,
-    desk: &mut Desk<'_, G>,
-    fetcher: &F,
-    site: &Authority,
-    url: &PageUrl,
-) -> Given
-    ensures { KeepsOut desk.old desk.new }
-{
-    let Ok(turn) = desk.begin(rt, site, 100) else {
-        return None;
-    };
-    let reply = fetcher.fetch_robots(&turn, url);
-    desk.arrive(rt, turn, Answer::Open(Opening::Unavailable), 86_400, 100);
     Some(reply)
 }
 
