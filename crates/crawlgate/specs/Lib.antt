@@ -1,3 +1,4 @@
--- What contracts say of how the program goes on, and of how it ends.
+-- What contracts say of how the program goes on, of what it tells, and of how it ends.
 pub mod Endings
+pub mod Found
 pub mod Ready

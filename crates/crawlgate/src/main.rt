@@ -2,24 +2,28 @@
 //! docs/crawlgate.1.md is its manual page.
 #![tactic(auto)]
 
-ghost use Rattle.std.specs.Prelude.{◌≡◌, [], IfOk};
+ghost use Rattle.std.specs.Prelude.{◌≡◌, [], IfOk, OnOk};
+ghost use Rattle.std.specs.Io.KnownBytes.{Appends};
 ghost use Rattle.gate_history.specs.Base.{empty_base};
 ghost use Rattle.gate_core.specs.Limits.{AreLimits};
 ghost use Rattle.job_line.specs.Limits.{IsCrew};
 ghost use Rattle.program_words.specs.Options.{IsInRange};
+ghost use Rattle.crawlgate.specs.Found.{found_text};
 ghost use Rattle.crawlgate.specs.Ready.{IsReady};
 
 mod ending;
+mod found;
 mod next;
 mod streams;
 
 use clap::error::ErrorKind;
 use command_server::replay;
-use counted_io::{Counted, Output, Sink};
+use counted_io::{Counted, DeviceFault, Output, Sink};
 use crawl_audit::{AuditFault, Audited, audit, export};
 use crawl_shift::{NotShifted, shift_over};
 use crawl_workers::{Clock, Fetcher, SystemClock, TcpFetcher};
 use ending::Ending;
+use found::Found;
 use gate_core::{Book, Config, Limits};
 use gate_lock::Blanks;
 use next::Next;
@@ -42,7 +46,8 @@ fn main(rt: HostRuntime) -> ExitCode {
         Ok(Next::Shift(workers, limits)) => match TcpFetcher::new(rt.alloc(), rt, AGENT) {
             Ok(fetcher) => {
                 let clock = SystemClock::new(rt);
-                shift_ending(&rt, shift_by(&rt, &rt, workers, limits, &fetcher, &clock))
+                let end = shift_by(&rt, &rt, workers, limits, &fetcher, &clock);
+                Ok(shift_ending(&rt, end))
             }
             Err(_) => Ok(Ending::NoMemory),
         },
@@ -128,7 +133,7 @@ fn run_subcommand(rt: &HostRuntime, subcommand: Subcommand) -> io::Result<Next>
         Subcommand::Replay(limits) => Ok(Next::Ends(replay_streams(rt, limits))),
         Subcommand::Export(limits) => Ok(Next::Ends(export_streams(rt, limits))),
         Subcommand::Lines => Ok(Next::Ends(lines_streams(rt))),
-        Subcommand::Audit => Ok(Next::Ends(audit_streams(rt)?)),
+        Subcommand::Audit => Ok(Next::Ends(audit_streams(rt))),
         Subcommand::Shift(workers, limits) => Ok(Next::Shift(workers, limits)),
     }
 }
@@ -201,22 +206,41 @@ fn lines_streams(rt: &HostRuntime) -> Ending {
 }
 
 // Audits standard input. The keys of the audit's tables are drawn anew.
-fn audit_streams(rt: &HostRuntime) -> io::Result<Ending> {
+fn audit_streams(rt: &HostRuntime) -> Ending {
     let Ok(keys) = RandomState::new(rt) else {
-        return Ok(Ending::Device);
+        return Ending::Device;
     };
     match audit(rt.alloc(), keys, &mut Counted::new(rt.stdin())) {
-        Ok(Audited { events, starts }) => {
-            println!(rt; "OK events {events} starts {starts}")?;
-            Ok(Ending::Done)
-        }
-        Err(AuditFault::BadLine(line)) => {
-            println!(rt; "BAD line {line}")?;
-            Ok(Ending::BadLine)
-        }
-        Err(AuditFault::Read) => Ok(Ending::Device),
-        Err(AuditFault::NoMemory) => Ok(Ending::NoMemory),
+        Ok(Audited { events, starts }) => tell(rt, Found::Right { events, starts }, Ending::Done),
+        Err(AuditFault::BadLine(line)) => tell(rt, Found::BadLine(line), Ending::BadLine),
+        Err(AuditFault::Read) => Ending::Device,
+        Err(AuditFault::NoMemory) => Ending::NoMemory,
     }
+}
+
+// Writes what was found to standard output, with which the program ends so.
+fn tell(rt: &HostRuntime, found: Found, ending: Ending) -> Ending {
+    match Output::new(rt.alloc()) {
+        Ok(mut output) => tell_through(rt, &mut output, found, ending),
+        Err(_) => Ending::NoMemory,
+    }
+}
+
+fn tell_through(rt: &HostRuntime, output: &mut Output, found: Found, ending: Ending) -> Ending
+    requires { output.old ≡ [] }
+{
+    match write_found(found, output, &mut Counted::new(rt.stdout())) {
+        Ok(()) => ending,
+        Err(_) => Ending::Device,
+    }
+}
+
+fn write_found<W: Sink>(found: Found, output: &mut Output, sink: &mut W) -> Result<(), DeviceFault>
+    requires { output.old ≡ [] }
+    ensures { OnOk result (Appends (W.written sink.old) (W.written sink.new) (found_text found)) }
+{
+    found.pieces().push(output, sink)?;
+    output.flush(sink)
 }
 
 // Has so many workers do the jobs on standard input, over a new gate, and writes their report to
@@ -249,14 +273,11 @@ fn shift_by<F: Fetcher + Sync, C: Clock + Sync, R: Threads + Wait + Sync>(
 }
 
 // Tells the line at which the jobs of a shift could not be read.
-fn shift_ending(rt: &HostRuntime, end: Result<(), NotShifted>) -> io::Result<Ending> {
+fn shift_ending(rt: &HostRuntime, end: Result<(), NotShifted>) -> Ending {
     match end {
-        Ok(()) => Ok(Ending::Done),
-        Err(NotShifted::BadLine(line)) => {
-            println!(rt; "BAD line {line}")?;
-            Ok(Ending::BadLine)
-        }
-        Err(NotShifted::NoMemory) => Ok(Ending::NoMemory),
-        Err(NotShifted::Device) => Ok(Ending::Device),
+        Ok(()) => Ending::Done,
+        Err(NotShifted::BadLine(line)) => tell(rt, Found::BadLine(line), Ending::BadLine),
+        Err(NotShifted::NoMemory) => Ending::NoMemory,
+        Err(NotShifted::Device) => Ending::Device,
     }
 }

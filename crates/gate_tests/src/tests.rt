@@ -9,4 +9,5 @@ mod judged;
 mod limits;
 mod sessions;
 mod threads;
+mod verdicts;
 mod wakes;

@@ -85,7 +85,7 @@ fn judged_ask<G: Gate, R: Wait>(
     ensures { KeepsOut desk.old desk.new }
 {
     load(rt, alloc, desk, site, before)?;
-    let judged = judge(rt, alloc, desk)?;
+    let judged = judge(rt, alloc, desk, before.is_some())?;
     if after.is_some() {
         load(rt, alloc, desk, site, after)?;
     }
@@ -116,14 +116,22 @@ fn load<G: Gate, R: Wait>(
     Ok(())
 }
 
-// The ask as it is judged by the policy in force, if there is one.
-fn judge<G: Gate, R: Wait>(rt: &R, alloc: Global, desk: &Desk<'_, G>) -> Result<Judged, Fail> {
+// The ask as it is judged by the policy in force, which there is exactly where there are rules.
+fn judge<G: Gate, R: Wait>(
+    rt: &R,
+    alloc: Global,
+    desk: &Desk<'_, G>,
+    has_rules: bool,
+) -> Result<Judged, Fail> {
     let token = Token::new(alloc, b"FooBot")?;
     let url = PageUrl::parse(alloc, PAGE)?;
     let policy = {
         let held = desk.lend(rt);
         held.book().hint("a.example", 110)
     };
+    if policy.is_some() != has_rules {
+        return Err(Fail::new("a policy where there are no rules, or none where there are"));
+    }
     Ok(Judged::new(policy, token, url))
 }
 

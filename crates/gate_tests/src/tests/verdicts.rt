@@ -1,0 +1,80 @@
+//! How much faster an ask is that was judged before the book is at hand, in one run.
+//! That it is answered like any other is proved. That it makes no verdict of its own is seen here alone.
+
+use super::gates::book;
+use gate_core::{Book, Judged};
+use path_normal::{Authority, PageUrl};
+use robots_text::{RobotsText, Token};
+use robots_verdict::{Answer, Policy};
+use std::alloc::{AllocError, Global};
+use std::hash::RandomState;
+use std::sync::Arc;
+use std::test::Fail;
+use std::time::Instant;
+
+// How many rules the text has, all of which are tried.
+const RULES: u64 = 10_000;
+
+// How many times as long an ask must take that wasn't judged before. It takes hundreds.
+const TIMES: u128 = 8;
+
+#[test]
+fn a_judged_ask_makes_no_verdict(rt: HostRuntime) -> Result<(), Fail> {
+    let keys = RandomState::new(&rt)?;
+    let mut book = book(rt.alloc(), keys, 1_024, 65_536)?;
+    compares(&rt, &mut book)
+}
+
+fn compares(rt: &HostRuntime, book: &mut Book) -> Result<(), Fail> {
+    load(rt.alloc(), book)?;
+    let Some(policy) = book.hint("a.example", 110) else {
+        return Err(Fail::new("no policy"));
+    };
+    let judged = nanos(rt, book, Some(policy))?;
+    let other = nanos(rt, book, None)?;
+    if judged.saturating_mul(TIMES) < other {
+        Ok(())
+    } else {
+        Err(Fail::new(format_args!("{judged} ns where it was judged before, {other} where not")))
+    }
+}
+
+// Begins a turn and brings its rules.
+fn load(alloc: Global, book: &mut Book) -> Result<(), Fail> {
+    let text = repeated(alloc, "User-agent: *\n", "Disallow: *bba*q\n", RULES)?;
+    let answer = Answer::rules(alloc, RobotsText::read(alloc, text.as_bytes())?)?;
+    if answer.spares() < 1 {
+        return Err(Fail::new("an answer without spares"));
+    }
+    let site = Authority::new(alloc, "a.example")?;
+    let Ok(turn) = book.begin(&site, 100) else {
+        return Err(Fail::new("no turn"));
+    };
+    match book.arrive(&site, turn, answer, 86_400, 105) {
+        Ok(()) => Ok(()),
+        Err(_) => Err(Fail::new("a stale turn")),
+    }
+}
+
+// How long an ask takes of a page of 4,000 octets, for whose verdict the policy is at hand or not.
+fn nanos(rt: &HostRuntime, book: &mut Book, policy: Option<Arc<Policy>>) -> Result<u128, Fail> {
+    let token = Token::new(rt.alloc(), b"foobot")?;
+    let page = repeated(rt.alloc(), "http://a.example/", "ab", 2_000)?;
+    let judged = Judged::new(policy, token, PageUrl::parse(rt.alloc(), page.as_str())?);
+    let begun = Instant::now(rt)?;
+    let answer = book.ask_judged(judged, 120);
+    let nanos = begun.elapsed(rt)?.as_nanos();
+    match answer {
+        Ok(_) => Ok(nanos),
+        Err(_) => Err(Fail::new("a refusal")),
+    }
+}
+
+fn repeated(alloc: Global, first: &str, other: &str, times: u64) -> Result<String, AllocError> {
+    let mut text = String::new(alloc);
+    text.push_str(first)?;
+    for _ in 0..times {
+        text.push_str(other)?;
+    }
+    Ok(text)
+}
