@@ -4,6 +4,7 @@
 
 ghost use Rattle.std.specs.Prelude.{◌≡◌, [], IfOk, OnOk};
 ghost use Rattle.std.specs.Io.KnownBytes.{Appends};
+ghost use Rattle.counted_io.specs.Device.{failures_after};
 ghost use Rattle.gate_history.specs.Base.{empty_base};
 ghost use Rattle.gate_core.specs.Limits.{AreLimits};
 ghost use Rattle.job_line.specs.Limits.{IsCrew};
@@ -235,9 +236,11 @@ fn tell_through(rt: &HostRuntime, output: &mut Output, found: Found, ending: End
     }
 }
 
+// Writes its line, or fails where a write fails.
 fn write_found<W: Sink>(found: Found, output: &mut Output, sink: &mut W) -> Result<(), DeviceFault>
     requires { output.old ≡ [] }
-    ensures { OnOk result (Appends (W.written sink.old) (W.written sink.new) (found_text found)) }
+    ensures ok { OnOk result (Appends (W.written sink.old) (W.written sink.new) (found_text found)) }
+    ensures count { W.failures sink.new ≡ failures_after (W.failures sink.old) result }
 {
     found.pieces().push(output, sink)?;
     output.flush(sink)
