@@ -1,9 +1,16 @@
--- Entries of maps: look-ups, counts and tests of all, after an entry was written or added.
+-- Entries of maps: look-ups, counts and tests of all, after an entry was written, added or taken away.
 -- Cited by `SiteLaws`, which says it of what is known of authorities.
-use Rattle.std.proofs.Common.{◌≡◌, ◌+◌, ◌≤◌, Bool, true, false, cond, ◌&&◌, List, [], ◌∷◌, ◌++◌, length, filter, map, Some, None, refl, sym, ap, true≢false, arith}
-use Rattle.std.specs.List.{list_all}
-use Rattle.std.specs.Map.{lookup, set_value}
+use Rattle.std.proofs.Common.{◌≡◌, ◌≢◌, ℕ, ◌+◌, ◌-◌, ◌<◌, ◌≤◌, ◌==◌, ◌⊎◌, zero, suc, Bool, true, false, cond, ◌&&◌, List, [], ◌∷◌, ◌++◌, length, filter, map, get_or, set, Some, None, is_some, unwrap_or, inl, inr, refl, sym, ap, ◌∙◌, true≢false, arith}
+use Rattle.std.specs.Prelude.{slice_get, swap_remove}
+use Rattle.std.specs.List.{list_all, sum_by}
+use Rattle.std.specs.Map.{keys_of, lookup, set_value, values_of}
 use Rattle.std.specs.Option.{option_map}
+use Rattle.std.proofs.lemmas.Bool.{eqb-true, eqb-false}
+use Rattle.std.proofs.lemmas.List.{get_or-set_other, get_or-set_same, get_or-take, length-set, length-take-le}
+use Rattle.std.proofs.lemmas.List.Sorted.{IsPermutation-swap_remove, sum_by_popped}
+use Rattle.std.proofs.lemmas.List.Sums.{sum_by-cons}
+use Rattle.std.proofs.lemmas.Option.{slice_get-get_or}
+use Rattle.indexmap.specs.IndexMap.{set_value_at}
 use Rattle.authority_cache.specs.Calls.{one_if}
 
 -- a count of what passes a test, from the first element on
@@ -40,15 +47,6 @@ count-all test (x ∷ xs) all = by (test x) (count-all test xs) all
         length (cond b (x ∷ filter test xs) (filter test xs)) ≡ length (x ∷ xs)
     by true rest all = let same = rest all in omega arith
     by false rest all = absurd (true≢false (sym all))
-
--- what a filter keeps passes its test
-pub all-filtered : {X : Type 0} (test : X → Bool) (xs : List X) → list_all test (filter test xs) ≡ true
-all-filtered test [] = refl
-all-filtered test (x ∷ xs) = by (test x) refl (all-filtered test xs)
-  where
-    by : (b : Bool) → test x ≡ b → list_all test (filter test xs) ≡ true → list_all test (cond b (x ∷ filter test xs) (filter test xs)) ≡ true
-    by true passes rest = rw passes rest
-    by false passes rest = rest
 
 module _ {K X : Type 0} where
   -- where all values pass a test, the one that is found does
@@ -165,3 +163,137 @@ all-push test (y ∷ xs) x all passes = by (test y) refl (λ rest. all-push test
         list_all test (y ∷ (xs ++ x ∷ [])) ≡ true
     by true is rest all = rw is (rest all)
     by false is rest all = absurd (true≢false (sym all))
+
+-- where all pass a test, the one at an index does
+pub all-at : {X : Type 0} (test : X → Bool) (xs : List X) (i : ℕ) (x : X) → list_all test xs ≡ true → slice_get xs i ≡ Some x → test x ≡ true
+all-at test [] i x all at = absurd (true≢false (ap is_some (sym at)))
+all-at test (y ∷ xs) zero x all at = by (test y) refl all
+  where
+    by : (b : Bool) → test y ≡ b → (b && list_all test xs) ≡ true → test x ≡ true
+    by true is all = ap test (sym (ap (λ o. unwrap_or o y) at)) ∙ is
+    by false is all = absurd (true≢false (sym all))
+all-at test (y ∷ xs) (suc i) x all at = by (test y) all (λ rest. all-at test xs i x rest at)
+  where
+    by : (b : Bool) → (b && list_all test xs) ≡ true → (list_all test xs ≡ true → test x ≡ true) → test x ≡ true
+    by true all rest = rest all
+    by false all rest = absurd (true≢false (sym all))
+
+-- all pass a test where the one at each index does
+pub all-from : {X : Type 0} (test : X → Bool) (xs : List X) → ((i : ℕ) (x : X) → slice_get xs i ≡ Some x → test x ≡ true) → list_all test xs ≡ true
+all-from test [] each = refl
+all-from test (x ∷ xs) each = rw (each 0 x refl) (all-from test xs (λ i y at. each (suc i) y at))
+
+-- two tests that agree on all count alike
+pub count-alike : {X : Type 0} (ok test other : X → Bool) → ((x : X) → ok x ≡ true → test x ≡ other x) → (xs : List X) → list_all ok xs ≡ true →
+    length (filter test xs) ≡ length (filter other xs)
+count-alike ok test other same [] all = refl
+count-alike ok test other same (x ∷ xs) all = by (ok x) refl all (λ later. count-alike ok test other same xs later)
+  where
+    by : (b : Bool) → ok x ≡ b → (b && list_all ok xs) ≡ true → (list_all ok xs ≡ true → length (filter test xs) ≡ length (filter other xs)) →
+        length (filter test (x ∷ xs)) ≡ length (filter other (x ∷ xs))
+    by true is all later =
+        let here : one_if (test x) ≡ one_if (other x) = ap one_if (same x is) in
+        omega (arith, here, later all, count-cons test x xs, count-cons other x xs)
+    by false is all later = absurd (true≢false (sym all))
+
+-- none pass a test that nothing passes
+pub count-none : {X : Type 0} (xs : List X) → length (filter (λ (x : X). false) xs) ≡ 0
+count-none [] = refl
+count-none (x ∷ xs) = count-none xs
+
+-- an index at which something stands is one of the list's
+pub at-within : {X : Type 0} (xs : List X) (i : ℕ) (x : X) → slice_get xs i ≡ Some x → (i < length xs) × (get_or xs i x ≡ x)
+at-within [] i x at = absurd (true≢false (ap is_some (sym at)))
+at-within (y ∷ xs) zero x at = (omega arith, ap (λ o. unwrap_or o y) at)
+at-within (y ∷ xs) (suc i) x at = let rest = at-within xs i x at in (omega (arith, rest.0), rest.1)
+
+-- an entry stands at each index of a list
+pub entry-at : {X : Type 0} (xs : List X) (i : ℕ) → i < length xs → (x : X) × (slice_get xs i ≡ Some x)
+entry-at [] i low = absurd (omega (arith, low))
+entry-at (x ∷ xs) zero low = (x, refl)
+entry-at (x ∷ xs) (suc i) low = entry-at xs i (omega (arith, low))
+
+-- what stands at an index of a list
+at-from : {X : Type 0} (xs : List X) (i : ℕ) (d x : X) → i < length xs → get_or xs i d ≡ x → slice_get xs i ≡ Some x
+at-from xs i d x low is = slice_get-get_or xs i d low ∙ ap Some is
+
+module _ {K X : Type 0} where
+  -- what stands at another index than that of a value that was written
+  pub at-written_other : (es : List (K × X)) (i j : ℕ) (w : X) → j ≢ i → slice_get (set_value_at es i w) j ≡ slice_get es j
+  at-written_other [] i j w other = refl
+  at-written_other (e ∷ es) zero zero w other = absurd (other refl)
+  at-written_other (e ∷ es) zero (suc j) w other = refl
+  at-written_other (e ∷ es) (suc i) zero w other = refl
+  at-written_other (e ∷ es) (suc i) (suc j) w other = at-written_other es i j w (λ same. other (ap suc same))
+
+  -- what was written as it was
+  pub written-same : (es : List (K × X)) (i : ℕ) (v : X) → slice_get (values_of es) i ≡ Some v → set_value_at es i v ≡ es
+  written-same [] i v at = refl
+  written-same (e ∷ es) zero v at = ap (λ o. (e.0, unwrap_or o v) ∷ es) (sym at)
+  written-same (e ∷ es) (suc i) v at = ap (λ later. e ∷ later) (written-same es i v at)
+
+  -- the keys stay
+  pub keys-written : (es : List (K × X)) (i : ℕ) (w : X) → keys_of (set_value_at es i w) ≡ keys_of es
+  keys-written [] i w = refl
+  keys-written (e ∷ es) zero w = refl
+  keys-written (e ∷ es) (suc i) w = ap (λ ks. e.0 ∷ ks) (keys-written es i w)
+
+  -- and at its own
+  pub at-written : (es : List (K × X)) (i : ℕ) (e : K × X) (w : X) → slice_get es i ≡ Some e → slice_get (set_value_at es i w) i ≡ Some (e.0, w)
+  at-written [] i e w at = absurd (true≢false (ap is_some (sym at)))
+  at-written (f ∷ es) zero e w at = ap (λ o. Some ((unwrap_or o f).0, w)) at
+  at-written (f ∷ es) (suc i) e w at = at-written es i e w at
+
+-- what stands at an index of a list with one element more
+pub at-push : {X : Type 0} (xs : List X) (x y : X) (i : ℕ) → slice_get (xs ++ x ∷ []) i ≡ Some y → (slice_get xs i ≡ Some y) ⊎ (x ≡ y)
+at-push [] x y zero at = inr (ap (λ o. unwrap_or o x) at)
+at-push [] x y (suc i) at = absurd (true≢false (ap is_some (sym at)))
+at-push (z ∷ xs) x y zero at = inl at
+at-push (z ∷ xs) x y (suc i) at = at-push xs x y i at
+
+-- what stands at an index after one was taken away and the last came into its place: it stood there, or
+-- elsewhere than the one that was taken
+pub at-swapped : {X : Type 0} (xs : List X) (i j : ℕ) (d x : X) → i < length xs → slice_get (swap_remove xs i d) j ≡ Some x →
+    (j ≢ i → slice_get xs j ≡ Some x) × ((k : ℕ) × (k ≢ i) × (slice_get xs k ≡ Some x))
+at-swapped {X = X} xs i j d x low at = by (j == i) refl
+  where
+    last : X
+    last = get_or xs (length xs - 1) d
+
+    there : (j < length (swap_remove xs i d)) × (get_or (swap_remove xs i d) j x ≡ x)
+    there = at-within (swap_remove xs i d) j x at
+
+    few : length (swap_remove xs i d) ≡ length xs - 1
+    few = length-take-le (length xs - 1) (set xs i last) (omega (arith, length-set xs i last))
+
+    is : get_or (set xs i last) j x ≡ x
+    is = sym (get_or-take (length xs - 1) (set xs i last) j x (omega (arith, few, there.0))) ∙ there.1
+
+    by : (b : Bool) → (j == i) ≡ b → (j ≢ i → slice_get xs j ≡ Some x) × ((k : ℕ) × (k ≢ i) × (slice_get xs k ≡ Some x))
+    by true same =
+        let here : j ≡ i = eqb-true j i same in
+        let moved : last ≡ x = sym (get_or-set_same xs i last x low) ∙ (ap (λ k. get_or (set xs i last) k x) (sym here) ∙ is) in
+        (λ other. absurd (other here), (length xs - 1, (λ same. omega (arith, same, here, few, there.0)), at-from xs (length xs - 1) d x (omega (arith, low)) moved))
+    by false other =
+        let apart : j ≢ i = eqb-false j i other in
+        let stays : slice_get xs j ≡ Some x = at-from xs j x x (omega (arith, few, there.0)) (sym (get_or-set_other xs i j last x apart) ∙ is) in
+        (λ o. stays, (j, apart, stays))
+
+-- a list without the one that was taken is shorter by one
+pub length-swapped : {X : Type 0} (xs : List X) (i : ℕ) (d : X) → i < length xs → length (swap_remove xs i d) + 1 ≡ length xs
+length-swapped xs i d low =
+    let few = length-take-le (length xs - 1) (set xs i (get_or xs (length xs - 1) d)) (omega (arith, length-set xs i (get_or xs (length xs - 1) d))) in
+    omega (arith, few, low)
+
+-- a count is a sum
+count-sum : {X : Type 0} (test : X → Bool) (xs : List X) → length (filter test xs) ≡ sum_by (λ x. one_if (test x)) xs
+count-sum test [] = refl
+count-sum test (x ∷ xs) = omega (arith, count-sum test xs, count-cons test x xs, sum_by-cons (λ x. one_if (test x)) x xs)
+
+-- a count, without the one that was taken
+pub count-swapped : {X : Type 0} (test : X → Bool) (xs : List X) (i : ℕ) (x : X) → slice_get xs i ≡ Some x →
+    length (filter test (swap_remove xs i x)) + one_if (test x) ≡ length (filter test xs)
+count-swapped test xs i x at =
+    let there = at-within xs i x at in
+    let total = sum_by_popped (λ y. one_if (test y)) x xs (swap_remove xs i x) (IsPermutation-swap_remove xs i x there.0 (sym there.1)) in
+    omega (arith, total, count-sum test xs, count-sum test (swap_remove xs i x))

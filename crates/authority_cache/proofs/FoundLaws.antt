@@ -1,8 +1,9 @@
 -- An authority that was found stands where it was found.
 -- Cited by the proofs of `find.rt`, `look.rt` and `begin.rt`.
-use Rattle.std.proofs.Common.{◌≡◌, ℕ, ◌<◌, ◌∷◌, [], Bool, true, false, cond, zero, suc, List, length, map, Option, Some, None, IfSome, IfNone, is_some, unwrap_or, string_bytes, refl, sym, ap, subst, ◌∙◌, true≢false, arith}
+use Rattle.std.proofs.Common.{◌≡◌, ℕ, ◌<◌, ◌∷◌, [], Bool, true, false, cond, zero, suc, List, length, Option, Some, None, IfSome, IfNone, is_some, unwrap_or, string_bytes, refl, sym, ap, subst, ◌∙◌, true≢false, arith}
 use Rattle.std.specs.Prelude.{option_and_then, slice_get}
 use Rattle.std.specs.declared.string.String.{String}
+use Rattle.std.specs.List.{list_all}
 use Rattle.std.specs.Map.{lookup, lookup_key, set_value, values_of}
 use Rattle.std.specs.Option.{option_map}
 use Rattle.std.specs.Str.{bytes_eq}
@@ -11,8 +12,9 @@ use Rattle.indexmap.specs.IndexMap.{set_value_at}
 use Rattle.authority_cache.specs.declared.find.Found.{Found}
 use Rattle.authority_cache.specs.declared.site.Site.{Site}
 use Rattle.authority_cache.specs.Calls.{IsFound, state_at}
-use Rattle.authority_cache.specs.Kept.{known_in, said_entries, said_entry}
-use Rattle.authority_cache.specs.Sites.{AreApart, Known, State, nothing, said_site, site_of}
+use Rattle.authority_cache.specs.Kept.{AllKnown, known_in, said_entries, said_entry}
+use Rattle.authority_cache.specs.Sites.{AreApart, Known, State, is_known, nothing, said_site, site_of}
+use Rattle.authority_cache.proofs.EntryLaws.{all-at, all-map}
 use Rattle.authority_cache.proofs.SiteLaws.{found-said, is_named, same_text}
 
 -- what is known of an authority that was found
@@ -144,3 +146,26 @@ module _ {Y : Type 0} where
 pub no_index : (o : Option ℕ) → ((i : ℕ) → o ≡ Some i → ⊥) → o ≡ None
 no_index None none = refl
 no_index (Some i) none = absurd (none i refl)
+
+-- nor is it where there is none
+pub empty_index : (o : Option ℕ) → is_some o ≡ false → o ≡ None
+empty_index None none = refl
+empty_index (Some i) none = absurd (true≢false none)
+
+module _ {Y : Type 0} where
+  -- an authority that stands somewhere is known
+  pub found_known : (limit : ℕ) (a : List ℕ) (es : List (String Y × Site)) (found : Found) → AllKnown es → IsFound (known_in limit es) a found →
+      is_some found.index ≡ true → is_known (site_of (known_in limit es) a) ≡ true
+  found_known limit a es found all is some = by found.index is.some some
+    where
+      known : list_all (λ (p : List ℕ × State). is_known p.1) (said_entries es) ≡ true
+      known = all-map string_bytes said_site is_known es ∙ all
+
+      by : (o : Option ℕ) → IfSome o (λ i. slice_get (said_entries es) i ≡ Some (a, site_of (known_in limit es) a)) → is_some o ≡ true →
+          is_known (site_of (known_in limit es) a) ≡ true
+      by None at some = absurd (true≢false (sym some))
+      by (Some i) at some = all-at (λ (p : List ℕ × State). is_known p.1) (said_entries es) i (a, site_of (known_in limit es) a) known at
+
+-- an authority stands where it was found
+pub found_index : (k : Known) (a : List ℕ) (found : Found) (i : ℕ) → IsFound k a found → found.index ≡ Some i → slice_get k.sites i ≡ Some (a, site_of k a)
+found_index k a found i is at = subst (λ (o : Option ℕ). IfSome o (λ i. slice_get k.sites i ≡ Some (a, site_of k a))) at is.some

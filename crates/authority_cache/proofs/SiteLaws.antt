@@ -1,25 +1,21 @@
 -- What is known of authorities, after an entry of the map was written or added.
 -- Cited by the proofs of `cache.rt`, `look.rt`, `begin.rt` and `arrive.rt`.
-use Rattle.std.proofs.Common.{◌≡◌, ℕ, ◌+◌, ◌<◌, ◌≤◌, ◌==◌, ◌&&◌, ◌||◌, ◌↔◌, Bool, true, false, cond, not, nat_le, List, [], ◌∷◌, ◌++◌, length, filter, Option, Some, None, unwrap_or, Result, Ok, Err, IsOk, IsSome, IfErr, OnErr, OnOk, is_some, string_bytes, refl, sym, ap, subst, ◌∙◌, true≢false, arith}
+use Rattle.std.proofs.Common.{◌≡◌, ℕ, ◌+◌, ◌<◌, ◌≤◌, ◌==◌, ◌&&◌, ◌||◌, ◌↔◌, Bool, true, false, cond, not, nat_le, List, [], ◌∷◌, ◌++◌, length, filter, Option, Some, None, unwrap_or, Result, Ok, Err, IsErr, IsOk, OnErr, OnOk, is_some, string_bytes, refl, sym, ap, subst, ◌∙◌, true≢false, arith}
 use Rattle.std.specs.declared.string.String.{String}
-use Rattle.std.specs.HashMap.{HashMap, UpdatesBy, get_by_text}
 use Rattle.std.specs.List.{list_all}
-use Rattle.std.specs.String.{string_eq}
-use Rattle.std.proofs.lemmas.Map.Text.{hash_map_updates_text}
 use Rattle.std.specs.Map.{lookup, set_value}
 use Rattle.std.specs.Option.{option_map, option_map_or}
 use Rattle.std.specs.Str.{bytes_eq}
-use Rattle.std.proofs.lemmas.Bool.{le-leb, lt-leb}
+use Rattle.std.proofs.lemmas.Bool.{and_right, le-leb, lt-leb}
 use Rattle.std.proofs.lemmas.Slice.Eq.{bytes_eq-Decides}
 use Rattle.robots_verdict.specs.declared.said.Said.{Said}
 use Rattle.authority_cache.specs.declared.refusal.BeginRefusal.{BeginRefusal}
-use Rattle.authority_cache.specs.declared.refusal.BeginRefusal.TheVariants.{InFlight, NoMemory}
 use Rattle.authority_cache.specs.declared.refusal.Stale.{Stale}
 use Rattle.authority_cache.specs.declared.site.Flight.{Flight}
 use Rattle.authority_cache.specs.declared.site.Site.{Site}
 use Rattle.authority_cache.specs.Lives.{life_of}
-use Rattle.authority_cache.specs.Sites.{Answered, State, arrived, count_of, flight_count, has_turn, is_flying, is_known, known_count, nothing, said_site, site_of, with_flight}
-use Rattle.authority_cache.specs.Calls.{Arrives, Begins, Changes, cannot_know, one_if}
+use Rattle.authority_cache.specs.Sites.{Answered, Known, State, arrived, count_of, flight_count, has_turn, is_flying, is_known, known_count, nothing, said_site, site_of, with_flight}
+use Rattle.authority_cache.specs.Calls.{Arrives, Changes, cannot_know, one_if}
 use Rattle.authority_cache.specs.Kept.{AllKnown, known_in, said_entries}
 use Rattle.authority_cache.proofs.EntryLaws.{all-lookup, all-map, all-push, all-set_value, count-all, count-bound, count-map, count-push, count-set_value, lookup-map, lookup-push, lookup-push_other, set_value-same}
 
@@ -39,6 +35,31 @@ other_text a b apart = by (bytes_eq b a) refl
 pub or_true : (b : Bool) → (b || true) ≡ true
 or_true true = refl
 or_true false = refl
+
+-- a turn of a number that is in flight is in flight
+turn_flies : (turn : ℕ) (state : State) → has_turn turn state ≡ true → is_flying state ≡ true
+turn_flies turn state has = by state.in_flight has
+  where
+    by : (o : Option Flight) → option_map_or (λ flight. flight.turn == turn) o false ≡ true → is_some o ≡ true
+    by None has = absurd (true≢false (sym has))
+    by (Some flight) has = refl
+
+-- one turn less is in flight where an answer arrived
+pub arrived_fewer : (old new : Known) (a : List ℕ) (turn life : ℕ) (says : Said) → has_turn turn (site_of old a) ≡ true →
+    Changes old a (arrived turn says life (site_of old a)) new → flight_count new + 1 ≡ flight_count old
+arrived_fewer old new a turn life says has changes =
+    let was : one_if (is_flying (site_of old a)) ≡ 1 = ap one_if (turn_flies turn (site_of old a) has) in
+    omega (arith, was, changes.counts is_flying refl)
+
+-- an answer that was refused left all as it was
+pub refused : (old new : Known) (a : List ℕ) (turn life : ℕ) (says : Said) (r : Result Unit Stale) → IsErr r →
+    (has_turn turn (site_of old a) ≡ false) × (new ≡ old) → Arrives old a turn says life r new
+refused old new a turn life says (Ok done) is both = absurd (true≢false (sym is))
+refused old new a turn life says (Err stale) is both = both
+
+-- a turn in flight makes an authority known
+pub flying-known : (flight : Flight) (v w : Site) → said_site w ≡ with_flight flight (said_site v) → is_known (said_site w) ≡ true
+flying-known flight v w now = ap is_known now ∙ or_true (is_some (said_site v).standing)
 
 module _ {Y : Type 0} where
   -- the test of a key by an authority's text
@@ -101,38 +122,14 @@ module _ {Y : Type 0} where
   known-written a es es' w all written known =
       rw written (all-set_value (λ s. is_known (said_site s)) (is_named a) es w all known)
 
-  -- a known authority needs no further place
-  pub knows : (limit : ℕ) (a : List ℕ) (es : List (String Y × Site)) (v : Site) → AllKnown es → lookup (is_named a) es ≡ Some v →
-      cannot_know (known_in limit es) a ≡ false
-  knows limit a es v all found =
-      let known = all-lookup (λ s. is_known (said_site s)) (is_named a) es v all found in
-      ap (λ b. not b && nat_le limit (known_count (known_in limit es))) (ap is_known (state-some limit a es v found) ∙ known)
-
-  -- a turn was begun, or refused, at an authority that is known
-  pub begun-known : (limit : ℕ) (a : List ℕ) (flight : Flight) (es es' : List (String Y × Site)) (v w : Site) (r : Result Unit BeginRefusal) →
-      AllKnown es → lookup (is_named a) es ≡ Some v → es' ≡ set_value (is_named a) es w →
-      ((b : List ℕ) → lookup (is_named b) es' ≡ cond (bytes_eq a b) (Some w) (lookup (is_named b) es)) →
-      OnOk r (said_site w ≡ with_flight flight (said_site v)) → OnOk r (is_flying (said_site v) ≡ false) →
-      IfErr r (λ refusal. refusal ≡ InFlight) → OnErr r (is_flying (said_site v) ≡ true) → OnErr r (w ≡ v) →
-      Begins (known_in limit es) a flight r (known_in limit es') × AllKnown es'
-  begun-known limit a flight es es' v w (Ok done) all found written others now free err flying same =
-      let state = state-some limit a es v found in
-      let changes = Changes-written limit a es es' v w found written others in (
-        (
-          ap is_flying state ∙ free,
-          knows limit a es v all found,
-          subst (λ s. Changes (known_in limit es) a (with_flight flight s) (known_in limit es')) (sym state)
-              (subst (λ s. Changes (known_in limit es) a s (known_in limit es')) now changes),
-        ),
-        known-written a es es' w all written (ap is_known now ∙ or_true (is_some (said_site v).standing)),
-      )
-  begun-known limit a flight es es' v w (Err refusal) all found written others now free err flying same =
-      let state = state-some limit a es v found in
-      let unchanged = unchanged-written limit a es es' v w found written same in
-      let was_known = all-lookup (λ s. is_known (said_site s)) (is_named a) es v all found in (
-        subst (λ e. Begins (known_in limit es) a flight (Err e) (known_in limit es')) (sym err) (ap is_flying state ∙ flying, unchanged),
-        known-written a es es' w all written (subst (λ s. is_known (said_site s) ≡ true) (sym same) was_known),
-      )
+  -- a turn was begun at an authority that is known
+  pub begun-known : (limit : ℕ) (a : List ℕ) (flight : Flight) (es es' : List (String Y × Site)) (v w : Site) → lookup (is_named a) es ≡ Some v →
+      es' ≡ set_value (is_named a) es w → ((b : List ℕ) → lookup (is_named b) es' ≡ cond (bytes_eq a b) (Some w) (lookup (is_named b) es)) →
+      said_site w ≡ with_flight flight (said_site v) →
+      Changes (known_in limit es) a (with_flight flight (site_of (known_in limit es) a)) (known_in limit es')
+  begun-known limit a flight es es' v w found written others now =
+      subst (λ s. Changes (known_in limit es) a (with_flight flight s) (known_in limit es')) (sym (state-some limit a es v found))
+      (subst (λ s. Changes (known_in limit es) a s (known_in limit es')) now (Changes-written limit a es es' v w found written others))
 
   -- an answer arrived, or was refused, at an authority that is known
   pub arrived-known : (limit : ℕ) (a : List ℕ) (turn life : ℕ) (says : Said) (es es' : List (String Y × Site)) (v w : Site) (r : Result Unit Stale) →
@@ -187,12 +184,17 @@ Changes-added limit a state sites none = record {
     by b false is = rw (is, lookup-push_other (bytes_eq b) sites a state (other_text a b is)) refl
 
 module _ {Y : Type 0} where
-  -- there is a place for one more
-  may_know : (limit : ℕ) (a : List ℕ) (es : List (String Y × Site)) → AllKnown es → lookup (is_named a) es ≡ None → length es < limit →
+  -- a known authority needs no further place
+  pub knows : (limit : ℕ) (a : List ℕ) (es : List (String Y × Site)) → is_known (site_of (known_in limit es) a) ≡ true →
       cannot_know (known_in limit es) a ≡ false
-  may_know limit a es all none room =
-      ap (λ b. not b && nat_le limit (known_count (known_in limit es))) (ap is_known (state-none limit a es none))
-      ∙ (ap (nat_le limit) (known_many limit es all) ∙ lt-leb limit (length es) room)
+  knows limit a es known = ap (λ b. not b && nat_le limit (known_count (known_in limit es))) known
+
+  -- there is a place for one more
+  pub may_know : (limit : ℕ) (a : List ℕ) (es : List (String Y × Site)) → AllKnown es → length es < limit →
+      cannot_know (known_in limit es) a ≡ false
+  may_know limit a es all room =
+      ap (λ b. not (is_known (site_of (known_in limit es) a)) && b) (ap (nat_le limit) (known_many limit es all) ∙ lt-leb limit (length es) room)
+      ∙ and_right (not (is_known (site_of (known_in limit es) a))) false refl
 
   -- there is none
   pub full : (limit : ℕ) (a : List ℕ) (es : List (String Y × Site)) → AllKnown es → lookup (is_named a) es ≡ None → limit ≤ length es →
@@ -201,24 +203,15 @@ module _ {Y : Type 0} where
       ap (λ b. not b && nat_le limit (known_count (known_in limit es))) (ap is_known (state-none limit a es none))
       ∙ (ap (nat_le limit) (known_many limit es all) ∙ le-leb limit (length es) over)
 
-  -- a turn was begun at an authority that is new, or memory was wanting
-  pub begun-new : (limit : ℕ) (a : List ℕ) (flight : Flight) (es es' : List (String Y × Site)) (r : Result Unit BeginRefusal) →
-      AllKnown es → lookup (is_named a) es ≡ None → length es < limit →
-      OnOk r (said_entries es' ≡ said_entries es ++ (a, with_flight flight nothing) ∷ []) →
-      IfErr r (λ refusal. refusal ≡ NoMemory) → OnErr r (es' ≡ es) →
-      Begins (known_in limit es) a flight r (known_in limit es')
-  begun-new limit a flight es es' (Ok done) all none room added err same =
-      let state = state-none limit a es none in
-      let unsaid : lookup (bytes_eq a) (said_entries es) ≡ None = found-said a es ∙ ap (option_map said_site) none in (
-        ap is_flying state,
-        may_know limit a es all none room,
-        subst (λ s. Changes (known_in limit es) a (with_flight flight s) (known_in limit es')) (sym state)
-            (subst (λ sites. Changes (known_in limit es) a (with_flight flight nothing) (record { limit = limit; sites = sites })) (sym added)
-            (Changes-added limit a (with_flight flight nothing) (said_entries es) unsaid)),
-      )
-  begun-new limit a flight es es' (Err refusal) all none room added err same =
-      subst (λ e. Begins (known_in limit es) a flight (Err e) (known_in limit es')) (sym err)
-      (ap is_flying (state-none limit a es none), may_know limit a es all none room, ap (known_in limit) same)
+  -- a turn was begun at an authority that is new
+  pub begun-new : (limit : ℕ) (a : List ℕ) (flight : Flight) (es es' : List (String Y × Site)) → lookup (is_named a) es ≡ None →
+      said_entries es' ≡ said_entries es ++ (a, with_flight flight nothing) ∷ [] →
+      Changes (known_in limit es) a (with_flight flight (site_of (known_in limit es) a)) (known_in limit es')
+  begun-new limit a flight es es' none added =
+      let unsaid : lookup (bytes_eq a) (said_entries es) ≡ None = found-said a es ∙ ap (option_map said_site) none in
+      subst (λ s. Changes (known_in limit es) a (with_flight flight s) (known_in limit es')) (sym (state-none limit a es none))
+      (subst (λ sites. Changes (known_in limit es) a (with_flight flight nothing) (record { limit = limit; sites = sites })) (sym added)
+      (Changes-added limit a (with_flight flight nothing) (said_entries es) unsaid))
 
   -- all are known still, with the one that was added
   pub known-new : (a : List ℕ) (flight : Flight) (es es' : List (String Y × Site)) (r : Result Unit BeginRefusal) → AllKnown es →
@@ -233,9 +226,3 @@ module _ {Y : Type 0} where
   -- no more turns are in flight than there are entries
   pub flights_bound : (limit : ℕ) (es : List (String Y × Site)) → flight_count (known_in limit es) ≤ length es
   flights_bound limit es = rw (counted is_flying limit es) (count-bound (λ (e : String Y × Site). is_flying (said_site e.1)) es)
-
-  -- what is found after a value was written
-  pub written : {S : Type 0} (a : List ℕ) (m n : HashMap (String Y) Site S) (v w : Site) → get_by_text m a ≡ Some v →
-      (IsSome (get_by_text m a) → UpdatesBy string_eq (is_named a) m n (Some w)) → (b : List ℕ) →
-      lookup (is_named b) n.entries ≡ cond (bytes_eq a b) (Some w) (lookup (is_named b) m.entries)
-  written a m n v w found updates b = hash_map_updates_text a m n (Some w) (updates (rw found refl)) b

@@ -1,84 +1,76 @@
 -- What a sweep leaves of what is known: each state without an answer that is past, and no authority
--- of which nothing is known any more. Cited by the proof of `sweep.rt`.
-use Rattle.std.proofs.Common.{◌≡◌, ℕ, Bool, true, false, cond, ◌||◌, List, [], ◌∷◌, length, filter, map, Option, Some, None, is_some, unwrap_or, string_bytes, refl, sym, ap, subst, ◌∙◌, true≢false, arith}
+-- of which nothing is known any more. Cited by the proofs of `sweep.rt`.
+use Rattle.std.proofs.Common.{◌≡◌, ℕ, ◌+◌, ◌<◌, ◌≤◌, ◌==◌, ◌⊎◌, zero, suc, Bool, true, false, cond, not, if◌then◌else◌, List, [], ◌∷◌, ◌++◌, length, filter, inl, inr, Option, Some, None, IfSome, is_some, unwrap_or, string_bytes, refl, sym, ap, subst, ◌∙◌, true≢false, arith}
+use Rattle.std.specs.Prelude.{slice_get, swap_remove}
 use Rattle.std.specs.declared.string.String.{String}
 use Rattle.std.specs.List.{AllByRecursion, IsDistinct, list_all}
-use Rattle.std.specs.Map.{keys_of, lookup}
-use Rattle.std.specs.Map.Calls.{RetainsPairs}
+use Rattle.std.specs.Map.{keys_of, lookup, values_of}
+use Rattle.std.specs.Option.{option_map}
 use Rattle.std.specs.Str.{bytes_eq}
 use Rattle.std.specs.String.{string_eq}
+use Rattle.std.proofs.lemmas.Bool.{eqb-true, eqb-false, not-true}
 use Rattle.std.proofs.lemmas.Slice.Eq.{bytes_eq-Decides}
+use Rattle.indexmap.specs.IndexMap.{set_value_at}
+use Rattle.indexmap.specs.Layout.{length-set_value_at}
 use Rattle.authority_cache.specs.declared.site.Flight.{Flight}
 use Rattle.authority_cache.specs.declared.site.Site.{Site}
-use Rattle.authority_cache.specs.Sites.{Answered, AreApart, State, flight_count, is_flying, is_known, nothing, past_count, said_site, swept}
-use Rattle.authority_cache.specs.Calls.{Sweeps, one_if}
+use Rattle.authority_cache.specs.Sites.{Answered, AreApart, Known, State, count_of, flight_count, has_past, is_flying, is_known, nothing, past_count, said_site, site_of, swept}
+use Rattle.authority_cache.specs.Calls.{Changes, Sweeps, one_if}
+use Rattle.authority_cache.specs.Ends.{Covers, CoversBut, DropsAnswer, KeptEnds, Removes, SaysPastAt, SweepsPart, has_end, last_moment}
 use Rattle.authority_cache.specs.Kept.{AllKnown, known_in, said_entries}
-use Rattle.authority_cache.proofs.EntryLaws.{all-filtered, all-map, count-cons}
+use Rattle.authority_cache.proofs.EntryLaws.{all-at, all-from, all-lookup, at-push, at-swapped, at-written, at-written_other, count-alike, count-bound, count-none, count-swapped, entry-at, keys-written, length-swapped}
+use Rattle.authority_cache.proofs.EndLaws.{covers_all}
+use Rattle.authority_cache.proofs.FoundLaws.{found_at, others_at, said_at, written_at}
+use Rattle.authority_cache.proofs.SiteLaws.{Changes-written, counted, found-said, is_named, state-none, state-some}
 
--- the states after a sweep, those of which nothing is known left out
-abbrev pub left_of : ℕ → List (List ℕ × State) → List (List ℕ × State)
-left_of moment sites = filter (λ e. is_known e.1) (map (λ e. (e.0, swept moment e.1)) sites)
+-- more was dropped
+pub part_more : (old between new : Known) (moment count more : ℕ) → SweepsPart old moment count between → SweepsPart between moment more new →
+    SweepsPart old moment (count + more) new
+part_more old between new moment count more first later = record {
+  limit = later.limit ∙ first.limit;
+  sites = λ a. later.sites a ∙ first.sites a;
+  dropped = omega (arith, first.dropped, later.dropped);
+  counts = λ test fails. later.counts test fails ∙ first.counts test fails;
+}
 
--- nothing is known of a state that is not known
-unknown : (state : State) → is_known state ≡ false → state ≡ nothing
-unknown state not_known = by state.standing state.in_flight not_known
+-- a state as a sweep leaves it
+abbrev left_by : Bool → State → State
+left_by past state = record { standing = if past then None else state.standing; in_flight = state.in_flight }
+
+-- a sweep leaves a state whose answer is not past
+swept_young : (moment : ℕ) (state : State) → has_past moment state ≡ false → swept moment state ≡ state
+swept_young moment state young = ap (λ past. left_by past state) young
+
+-- and takes the answer away that is
+swept_past : (moment : ℕ) (state : State) → has_past moment state ≡ true → swept moment state ≡ left_by true state
+swept_past moment state past = ap (λ past. left_by past state) past
+
+-- an authority's state changed to one of which a sweep leaves the same, and no answer in it is past
+part_changed : (old new : Known) (moment : ℕ) (a : List ℕ) (state : State) → Changes old a state new →
+    swept moment state ≡ swept moment (site_of old a) → has_past moment state ≡ false →
+    SweepsPart old moment (one_if (has_past moment (site_of old a))) new
+part_changed old new moment a state changes same young = record {
+  limit = changes.limit;
+  sites = λ b. ap (swept moment) (changes.sites b) ∙ by b (bytes_eq a b) refl;
+  dropped =
+      let now : one_if (has_past moment state) ≡ 0 = ap one_if young in
+      omega (arith, changes.counts (has_past moment) refl, now);
+  counts = λ test fails.
+      let here : one_if (test (swept moment state)) ≡ one_if (test (swept moment (site_of old a))) = ap (λ s. one_if (test s)) same in
+      omega (arith, changes.counts (λ s. test (swept moment s)) fails, here);
+}
   where
-    by : (s : Option Answered) (f : Option Flight) → (is_some s || is_some f) ≡ false →
-        (let is : State = record { standing = s; in_flight = f } in is) ≡ nothing
-    by None None is = refl
-    by None (Some f) is = absurd (true≢false is)
-    by (Some s) f is = absurd (true≢false is)
+    by : (b : List ℕ) (t : Bool) → bytes_eq a b ≡ t → swept moment (cond t state (site_of old b)) ≡ swept moment (site_of old b)
+    by b true is = same ∙ ap (λ c. swept moment (site_of old c)) ((bytes_eq-Decides a b).0 is)
+    by b false is = refl
 
--- one that is not found is not found after a sweep
-none_left : (moment : ℕ) (a : List ℕ) (sites : List (List ℕ × State)) → lookup (bytes_eq a) sites ≡ None →
-    lookup (bytes_eq a) (left_of moment sites) ≡ None
-none_left moment a [] none = refl
-none_left moment a (e ∷ sites) none = by (bytes_eq a e.0) (is_known (swept moment e.1)) refl (none_left moment a sites) none
+-- nothing is known of an authority without an answer and a turn
+unknown : (state : State) → false ≡ is_flying state → left_by true state ≡ nothing
+unknown state still = by state.in_flight still
   where
-    by : (b c : Bool) → bytes_eq a e.0 ≡ b → (lookup (bytes_eq a) sites ≡ None → lookup (bytes_eq a) (left_of moment sites) ≡ None) →
-        cond b (Some e.1) (lookup (bytes_eq a) sites) ≡ None →
-        lookup (bytes_eq a) (cond c ((e.0, swept moment e.1) ∷ left_of moment sites) (left_of moment sites)) ≡ None
-    by true c is rest none = cc
-    by false true is rest none = rw is (rest none)
-    by false false is rest none = rest none
-
--- what is found of an authority after a sweep
-found_left : (moment : ℕ) (a : List ℕ) (sites : List (List ℕ × State)) → AreApart sites →
-    unwrap_or (lookup (bytes_eq a) (left_of moment sites)) nothing ≡ swept moment (unwrap_or (lookup (bytes_eq a) sites) nothing)
-found_left moment a [] apart = refl
-found_left moment a (e ∷ sites) apart = by (bytes_eq a e.0) (is_known (swept moment e.1)) refl refl (found_left moment a sites apart.1)
-  where
-    gone : bytes_eq a e.0 ≡ true → lookup (bytes_eq a) (left_of moment sites) ≡ None
-    gone is = none_left moment a sites (subst (λ b. lookup (bytes_eq b) sites ≡ None) (sym ((bytes_eq-Decides a e.0).0 is)) apart.0)
-
-    by : (b c : Bool) → bytes_eq a e.0 ≡ b → is_known (swept moment e.1) ≡ c →
-        unwrap_or (lookup (bytes_eq a) (left_of moment sites)) nothing ≡ swept moment (unwrap_or (lookup (bytes_eq a) sites) nothing) →
-        unwrap_or (lookup (bytes_eq a) (cond c ((e.0, swept moment e.1) ∷ left_of moment sites) (left_of moment sites))) nothing
-        ≡ swept moment (unwrap_or (cond b (Some e.1) (lookup (bytes_eq a) sites)) nothing)
-    by true true is known rest = rw is refl
-    by true false is known rest = ap (λ o. unwrap_or o nothing) (gone is) ∙ sym (unknown (swept moment e.1) known)
-    by false true is known rest = rw is rest
-    by false false is known rest = rest
-
--- a count of what passes a test that unknown states fail
-count_left : (moment : ℕ) (test : State → Bool) → test nothing ≡ false → (sites : List (List ℕ × State)) →
-    length (filter (λ (e : List ℕ × State). test e.1) (left_of moment sites)) ≡ length (filter (λ e. test (swept moment e.1)) sites)
-count_left moment test fails [] = refl
-count_left moment test fails (e ∷ sites) = by (is_known (swept moment e.1)) refl (count_left moment test fails sites)
-  where
-    by : (c : Bool) → is_known (swept moment e.1) ≡ c →
-        length (filter (λ (e : List ℕ × State). test e.1) (left_of moment sites)) ≡ length (filter (λ e. test (swept moment e.1)) sites) →
-        length (filter (λ (e : List ℕ × State). test e.1) (cond c ((e.0, swept moment e.1) ∷ left_of moment sites) (left_of moment sites)))
-        ≡ length (filter (λ e. test (swept moment e.1)) (e ∷ sites))
-    by true known rest =
-        omega (
-          arith,
-          count-cons (λ (p : List ℕ × State). test p.1) (e.0, swept moment e.1) (left_of moment sites),
-          count-cons (λ (p : List ℕ × State). test (swept moment p.1)) e sites,
-        )
-    by false known rest =
-        let here : one_if (test (swept moment e.1)) ≡ 0 = ap (λ s. one_if (test s)) (unknown (swept moment e.1) known) ∙ ap one_if fails in
-        omega (arith, count-cons (λ (p : List ℕ × State). test (swept moment p.1)) e sites)
+    by : (o : Option Flight) → false ≡ is_some o → (let is : State = record { standing = None; in_flight = o } in is) ≡ nothing
+    by None still = refl
+    by (Some f) still = absurd (true≢false (sym still))
 
 module _ {Y : Type 0} where
   -- distinct keys are of authorities that do not stand twice
@@ -92,48 +84,229 @@ module _ {Y : Type 0} where
       absent [] all = refl
       absent (l ∷ later) all = rw all.0 (absent later all.1)
 
-  -- what `retain` leaves, where its closure sweeps a state and keeps those that are known
-  module _ {F : Type 0} (T : F → String Y → Site → Bool → Site → F → Type 0) (moment : ℕ) (f : F)
-      (says : (k : String Y) (v : Site) (b : Bool) (w : Site) (g : F) → T f k v b w g →
-      (b ≡ is_known (said_site w)) × (said_site w ≡ swept moment (said_site v)) × (g ≡ f)) where
-    pub retained : (es kept : List (String Y × Site)) → RetainsPairs T f es kept → said_entries kept ≡ left_of moment (said_entries es)
-    retained [] kept h = ap said_entries h
-    retained (e ∷ es) kept h =
-        let s = says e.0 e.1 h.0 h.1 h.2 h.4 in
-        let rest = retained es h.3 (subst (λ g. RetainsPairs T g es h.3) s.2 h.5) in
-        let known : h.0 ≡ is_known (swept moment (said_site e.1)) = s.0 ∙ ap is_known s.1 in
-        ap said_entries h.6 ∙ by h.0 (is_known (swept moment (said_site e.1))) known h.1 s.1 h.3 rest
-      where
-        by : (b c : Bool) → b ≡ c → (w : Site) → said_site w ≡ swept moment (said_site e.1) → (later : List (String Y × Site)) →
-            said_entries later ≡ left_of moment (said_entries es) →
-            said_entries (cond b ((e.0, w) ∷ later) later)
-            ≡ cond c ((string_bytes e.0, swept moment (said_site e.1)) ∷ left_of moment (said_entries es)) (left_of moment (said_entries es))
-        by true true same w swept_w later rest = λ i. (string_bytes e.0, swept_w i) ∷ rest i
-        by false false same w swept_w later rest = rest
-        by true false same w swept_w later rest = absurd (true≢false same)
-        by false true same w swept_w later rest = absurd (true≢false (sym same))
-
-  -- a sweep
-  pub sweeps : (limit moment count : ℕ) (es kept : List (String Y × Site)) → IsDistinct string_eq (keys_of es) →
-      said_entries kept ≡ left_of moment (said_entries es) → count ≡ past_count moment (known_in limit es) →
-      Sweeps (known_in limit es) moment count (known_in limit kept)
-  sweeps limit moment count es kept distinct left counted = record {
+  -- a whole sweep: parts of it, after which no answer is past
+  pub sweeps : (limit moment count : ℕ) (old es : List (String Y × Site)) → SweepsPart (known_in 0 old) moment count (known_in 0 es) →
+      ((i : ℕ) (e : String Y × Site) → slice_get es i ≡ Some e → has_past moment (said_site e.1) ≡ false) →
+      Sweeps (known_in limit old) moment count (known_in limit es)
+  sweeps limit moment count old es part young = record {
     limit = refl;
-    sites = λ a. ap (λ sites. unwrap_or (lookup (bytes_eq a) sites) nothing) left ∙ found_left moment a (said_entries es) (apart_from es distinct);
-    dropped = counted;
-    counts = λ test fails.
-        ap (λ sites. length (filter (λ (e : List ℕ × State). test e.1) sites)) left ∙ count_left moment test fails (said_entries es);
+    sites = λ a. sym (stays a (lookup (is_named a) es) refl) ∙ part.sites a;
+    dropped = omega (arith, part.dropped, none);
+    counts = λ test fails. sym (same test) ∙ part.counts test fails;
   }
+    where
+      is_young : String Y × Site → Bool
+      is_young e = not (has_past moment (said_site e.1))
 
-  -- all are known that a sweep leaves
-  pub known_left : (moment : ℕ) (es kept : List (String Y × Site)) → said_entries kept ≡ left_of moment (said_entries es) → AllKnown kept
-  known_left moment es kept left =
-      sym (all-map string_bytes said_site is_known kept)
-      ∙ (ap (list_all (λ (e : List ℕ × State). is_known e.1)) left
-      ∙ all-filtered (λ (e : List ℕ × State). is_known e.1) (map (λ e. (e.0, swept moment e.1)) (said_entries es)))
+      all_young : list_all is_young es ≡ true
+      all_young = all-from is_young es (λ i e at. ap not (young i e at))
 
-  -- as many turns are in flight
-  pub flights_left : (limit moment : ℕ) (es kept : List (String Y × Site)) → said_entries kept ≡ left_of moment (said_entries es) →
-      flight_count (known_in limit kept) ≡ flight_count (known_in limit es)
-  flights_left limit moment es kept left =
-      ap (λ sites. length (filter (λ (e : List ℕ × State). is_flying e.1) sites)) left ∙ count_left moment is_flying refl (said_entries es)
+      past_not : (e : String Y × Site) → is_young e ≡ true → has_past moment (said_site e.1) ≡ false
+      past_not e is = not-true (has_past moment (said_site e.1)) is
+
+      stays : (a : List ℕ) (o : Option Site) → lookup (is_named a) es ≡ o → swept moment (site_of (known_in limit es) a) ≡ site_of (known_in limit es) a
+      stays a None is = rw (state-none limit a es is) refl
+      stays a (Some v) is =
+          let past : has_past moment (said_site v) ≡ false =
+          not-true (has_past moment (said_site v)) (all-lookup (λ s. not (has_past moment (said_site s))) (is_named a) es v all_young is) in
+          rw (state-some limit a es v is) (swept_young moment (said_site v) past)
+
+      none : past_count moment (known_in limit es) ≡ 0
+      none = counted (has_past moment) limit es ∙ (count-alike is_young (λ e. has_past moment (said_site e.1)) (λ e. false) past_not es all_young ∙ count-none es)
+
+      same : (test : State → Bool) → count_of (λ s. test (swept moment s)) (known_in limit es) ≡ count_of test (known_in limit es)
+      same test =
+          counted (λ s. test (swept moment s)) limit es
+          ∙ (count-alike is_young (λ e. test (swept moment (said_site e.1))) (λ e. test (said_site e.1)) (λ e is. ap test (swept_young moment (said_site e.1) (past_not e is))) es all_young
+          ∙ sym (counted test limit es))
+
+  -- the value of an entry
+  value_at : (es : List (String Y × Site)) (i : ℕ) (e : String Y × Site) → slice_get es i ≡ Some e → slice_get (values_of es) i ≡ Some e.1
+  value_at [] i e at = absurd (true≢false (ap is_some (sym at)))
+  value_at (f ∷ es) zero e at = ap (λ o. Some (unwrap_or o f).1) at
+  value_at (f ∷ es) (suc i) e at = value_at es i e at
+
+  -- the entry at an index is of an authority that is found
+  found_of : (es : List (String Y × Site)) (i : ℕ) (e : String Y × Site) → AreApart (said_entries es) → slice_get es i ≡ Some e →
+      lookup (is_named (string_bytes e.0)) es ≡ Some e.1
+  found_of es i e apart at = found_at (string_bytes e.0) es i (said_site e.1) e.1 apart (said_at es i e at) (value_at es i e at)
+
+  -- an answer that was past was dropped
+  part_dropped : (limit moment : ℕ) (es es' : List (String Y × Site)) (i : ℕ) (e : String Y × Site) (w : Site) → AreApart (said_entries es) →
+      slice_get es i ≡ Some e → has_past moment (said_site e.1) ≡ true → said_site w ≡ left_by true (said_site e.1) → es' ≡ set_value_at es i w →
+      SweepsPart (known_in limit es) moment 1 (known_in limit es')
+  part_dropped limit moment es es' i e w apart at past left wrote =
+      let a = string_bytes e.0 in
+      let found = found_of es i e apart at in
+      let written = wrote ∙ written_at a es i (said_site e.1) w apart (said_at es i e at) in
+      let state = state-some limit a es e.1 found in
+      let changes = Changes-written limit a es es' e.1 w found written (λ b. ap (lookup (is_named b)) written ∙ others_at a b es e.1 w found) in
+      let same : swept moment (said_site w) ≡ swept moment (site_of (known_in limit es) a) =
+      ap (swept moment) left ∙ sym (ap (swept moment) state ∙ swept_past moment (said_site e.1) past) in
+      subst (λ n. SweepsPart (known_in limit es) moment n (known_in limit es')) (ap one_if (ap (has_past moment) state ∙ past))
+      (part_changed (known_in limit es) (known_in limit es') moment a (said_site w) changes same (ap (has_past moment) left))
+
+  -- an authority of which nothing is known any more was taken away
+  part_removed : (limit moment : ℕ) (es es' : List (String Y × Site)) (i : ℕ) (e : String Y × Site) → AreApart (said_entries es) →
+      slice_get es i ≡ Some e → said_site e.1 ≡ nothing → es' ≡ swap_remove es i e →
+      ((b : List ℕ) → lookup (is_named b) es' ≡ cond (bytes_eq (string_bytes e.0) b) None (lookup (is_named b) es)) →
+      SweepsPart (known_in limit es) moment 0 (known_in limit es')
+  part_removed limit moment es es' i e apart at gone taken others =
+      subst (λ n. SweepsPart (known_in limit es) moment n (known_in limit es')) (ap (λ s. one_if (has_past moment s)) state)
+      (part_changed (known_in limit es) (known_in limit es') moment (string_bytes e.0) nothing changes (ap (swept moment) (sym state)) refl)
+    where
+      state : site_of (known_in limit es) (string_bytes e.0) ≡ nothing
+      state = state-some limit (string_bytes e.0) es e.1 (found_of es i e apart at) ∙ gone
+
+      by : (b : List ℕ) (t : Bool) → unwrap_or (option_map said_site (cond t None (lookup (is_named b) es))) nothing
+          ≡ cond t nothing (site_of (known_in limit es) b)
+      by b true = refl
+      by b false = sym (ap (λ o. unwrap_or o nothing) (found-said b es))
+
+      fewer : (test : State → Bool) → test nothing ≡ false → count_of test (known_in limit es') ≡ count_of test (known_in limit es)
+      fewer test fails =
+          let none : one_if (test (said_site e.1)) ≡ 0 = ap (λ s. one_if (test s)) gone ∙ ap one_if fails in
+          let more : length (filter (λ e. test (said_site e.1)) es') + one_if (test (said_site e.1)) ≡ length (filter (λ e. test (said_site e.1)) es) =
+          rw taken (count-swapped (λ e. test (said_site e.1)) es i e at) in
+          omega (arith, counted test limit es, counted test limit es', none, more)
+
+      changes : Changes (known_in limit es) (string_bytes e.0) nothing (known_in limit es')
+      changes = record {
+        limit = refl;
+        sites = λ b. ap (λ o. unwrap_or o nothing) (found-said b es' ∙ ap (option_map said_site) (others b)) ∙ by b (bytes_eq (string_bytes e.0) b);
+        counts = λ test fails.
+            let was : one_if (test (site_of (known_in limit es) (string_bytes e.0))) ≡ one_if (test nothing) = ap (λ s. one_if (test s)) state in
+            omega (arith, fewer test fails, was);
+      }
+
+  -- all are known still where a turn is in flight at the one whose answer was dropped
+  known_dropped : (es es' : List (String Y × Site)) (i : ℕ) (e : String Y × Site) (w : Site) → AllKnown es → slice_get es i ≡ Some e →
+      is_known (said_site w) ≡ true → es' ≡ set_value_at es i w → AllKnown es'
+  known_dropped es es' i e w all at known wrote = all-from (λ e. is_known (said_site e.1)) es' each
+    where
+      each : (j : ℕ) (x : String Y × Site) → slice_get es' j ≡ Some x → is_known (said_site x.1) ≡ true
+      each j x is = by (j == i) refl
+        where
+          there : slice_get (set_value_at es i w) j ≡ Some x
+          there = subst (λ es. slice_get es j ≡ Some x) wrote is
+
+          by : (b : Bool) → (j == i) ≡ b → is_known (said_site x.1) ≡ true
+          by true same =
+              let here : Some (e.0, w) ≡ Some x = sym (at-written es i e w at) ∙ subst (λ j. slice_get (set_value_at es i w) j ≡ Some x) (eqb-true j i same) there in
+              ap (λ o. is_known (said_site (unwrap_or o x).1)) (sym here) ∙ known
+          by false other =
+              all-at (λ e. is_known (said_site e.1)) es j x all (sym (at-written_other es i j w (eqb-false j i other)) ∙ there)
+
+  -- and where the one was taken away of which nothing is known
+  known_removed : (es es' : List (String Y × Site)) (i : ℕ) (d : String Y × Site) (w : Site) → AllKnown es → i < length es →
+      es' ≡ swap_remove (set_value_at es i w) i d → AllKnown es'
+  known_removed es es' i d w all low taken = all-from (λ e. is_known (said_site e.1)) es' each
+    where
+      each : (j : ℕ) (x : String Y × Site) → slice_get es' j ≡ Some x → is_known (said_site x.1) ≡ true
+      each j x is =
+          let there : slice_get (swap_remove (set_value_at es i w) i d) j ≡ Some x = subst (λ es. slice_get es j ≡ Some x) taken is in
+          let was = (at-swapped (set_value_at es i w) i j d x (rw (length-set_value_at es i w) low) there).1 in
+          all-at (λ e. is_known (said_site e.1)) es was.0 x all (sym (at-written_other es i was.0 w was.1) ∙ was.2)
+
+  -- the others are covered still where one was written
+  pub but_written : (es es' : List (String Y × Site)) (i : ℕ) (w : Site) (kept : KeptEnds) → es' ≡ set_value_at es i w → CoversBut i kept es → CoversBut i kept es'
+  but_written es es' i w kept wrote others j x other is =
+      others j x other (sym (at-written_other es i j w other) ∙ subst (λ es. slice_get es j ≡ Some x) wrote is)
+
+  -- and where one was taken away
+  pub but_removed : (es es' : List (String Y × Site)) (i : ℕ) (d : String Y × Site) (kept : KeptEnds) → i < length es → es' ≡ swap_remove es i d →
+      CoversBut i kept es → CoversBut i kept es'
+  but_removed es es' i d kept low taken others j x other is =
+      others j x other ((at-swapped es i j d x low (subst (λ es. slice_get es j ≡ Some x) taken is)).0 other)
+
+  -- all are covered where the one that was written has no answer
+  covers_dropped : (es es' : List (String Y × Site)) (i : ℕ) (e : String Y × Site) (w : Site) (kept : KeptEnds) → slice_get es i ≡ Some e →
+      (said_site w).standing ≡ None → es' ≡ set_value_at es i w → CoversBut i kept es → Covers kept es'
+  covers_dropped es es' i e w kept at none wrote others =
+      covers_all i es' kept (but_written es es' i w kept wrote others) (λ x is.
+      let here : Some (e.0, w) ≡ Some x = sym (at-written es i e w at) ∙ subst (λ es. slice_get es i ≡ Some x) wrote is in
+      let gone : (said_site x.1).standing ≡ None = ap (λ o. (said_site (unwrap_or o x).1).standing) (sym here) ∙ none in
+      subst (λ (o : Option Answered). IfSome o (λ s. has_end kept (last_moment s, i) ≡ true)) (sym gone) tt)
+
+  -- what is true once an answer that was past was dropped, and a turn is in flight at its authority
+  pub dropped : (moment i : ℕ) (es es' : List (String Y × Site)) (kept : KeptEnds) → IsDistinct string_eq (keys_of es) → AllKnown es →
+      CoversBut i kept es → i < length es → SaysPastAt moment es i true → DropsAnswer es i true es' →
+      SweepsPart (known_in 0 es) moment 1 (known_in 0 es') × AllKnown es' × Covers kept es' × (length es' ≡ length es)
+  dropped moment i es es' kept distinct all others low says drops =
+      let there = entry-at es i low in
+      let e = there.0 in
+      let at = there.1 in
+      let d = drops e at in
+      let w = d.1.0 in
+      let wrote = d.1.2 in
+      let none : (said_site w).standing ≡ None = ap (λ (s : State). s.standing) d.1.1 in
+      let flies : is_known (said_site w) ≡ true = ap is_known d.1.1 ∙ sym d.0 in (
+        part_dropped 0 moment es es' i e w (apart_from es distinct) at (sym (says e at)) d.1.1 wrote,
+        known_dropped es es' i e w all at flies wrote,
+        covers_dropped es es' i e w kept at none wrote others,
+        ap length wrote ∙ length-set_value_at es i w,
+      )
+
+  -- the others are covered still once it was dropped
+  pub dropped_others : (i : ℕ) (is_fetching : Bool) (es es' : List (String Y × Site)) (kept : KeptEnds) → CoversBut i kept es → i < length es →
+      DropsAnswer es i is_fetching es' → (i < length es') × CoversBut i kept es'
+  dropped_others i is_fetching es es' kept others low drops =
+      let there = entry-at es i low in
+      let d = drops there.0 there.1 in (
+        omega (arith, low, ap length d.1.2, length-set_value_at es i d.1.0),
+        but_written es es' i d.1.0 kept d.1.2 others,
+      )
+
+  -- what is true once its authority was taken away, at which no turn is in flight
+  pub removed : (moment i : ℕ) (es es1 es2 : List (String Y × Site)) → IsDistinct string_eq (keys_of es) → AllKnown es →
+      i < length es → SaysPastAt moment es i true → DropsAnswer es i false es1 → Removes es1 i es2 →
+      SweepsPart (known_in 0 es) moment 1 (known_in 0 es2) × AllKnown es2 × (length es2 + 1 ≡ length es)
+  removed moment i es es1 es2 distinct all low says drops removes =
+      let there = entry-at es i low in
+      let e = there.0 in
+      let at = there.1 in
+      let d = drops e at in
+      let w = d.1.0 in
+      let wrote = d.1.2 in
+      let at1 : slice_get es1 i ≡ Some (e.0, w) = subst (λ es. slice_get es i ≡ Some (e.0, w)) (sym wrote) (at-written es i e w at) in
+      let distinct1 : IsDistinct string_eq (keys_of es1) = subst (λ ks. IsDistinct string_eq ks) (sym (ap keys_of wrote ∙ keys-written es i w)) distinct in
+      let low1 : i < length es1 = omega (arith, low, ap length wrote, length-set_value_at es i w) in
+      let r = removes (e.0, w) at1 in (
+        part_more (known_in 0 es) (known_in 0 es1) (known_in 0 es2) moment 1 0
+            (part_dropped 0 moment es es1 i e w (apart_from es distinct) at (sym (says e at)) d.1.1 wrote)
+            (part_removed 0 moment es1 es2 i (e.0, w) (apart_from es1 distinct1) at1 (d.1.1 ∙ unknown (said_site e.1) d.0) r.0 r.1),
+        known_removed es es2 i (e.0, w) w all low (r.0 ∙ ap (λ es. swap_remove es i (e.0, w)) wrote),
+        (let few = length-swapped es1 i (e.0, w) low1 in omega (arith, few, ap length r.0, ap length wrote, length-set_value_at es i w)),
+      )
+
+  -- as many turns are in flight after a part of a sweep
+  pub flights_part : (moment count : ℕ) (es es' : List (String Y × Site)) → SweepsPart (known_in 0 es) moment count (known_in 0 es') →
+      flight_count (known_in 0 es') ≡ flight_count (known_in 0 es)
+  flights_part moment count es es' part = part.counts is_flying refl
+
+  -- no more answers are past than there are entries
+  pub past_bound : (limit moment : ℕ) (es : List (String Y × Site)) → past_count moment (known_in limit es) ≤ length es
+  past_bound limit moment es = rw (counted (has_past moment) limit es) (count-bound (λ (e : String Y × Site). has_past moment (said_site e.1)) es)
+
+  -- all are covered where one was written whose answer stays
+  pub covers_written : (es : List (String Y × Site)) (i : ℕ) (v w : Site) (kept : KeptEnds) → i < length es → slice_get (values_of es) i ≡ Some v →
+      (said_site w).standing ≡ (said_site v).standing → Covers kept es → Covers kept (set_value_at es i w)
+  covers_written es i v w kept low value stays covered =
+      let there = entry-at es i low in
+      let e = there.0 in
+      let same : e.1 ≡ v = ap (λ o. unwrap_or o v) (sym (value_at es i e there.1) ∙ value) in
+      let here : IfSome (said_site w).standing (λ s. has_end kept (last_moment s, i) ≡ true) =
+      subst (λ (o : Option Answered). IfSome o (λ s. has_end kept (last_moment s, i) ≡ true)) (ap (λ s. (said_site s).standing) same ∙ sym stays) (covered i e there.1) in
+      covers_all i (set_value_at es i w) kept (but_written es (set_value_at es i w) i w kept refl (λ j x other at. covered j x at)) (λ x at.
+      let is : w ≡ x.1 = ap (λ o. (unwrap_or o x).1) (sym (at-written es i e w there.1) ∙ at) in
+      subst (λ (s : Site). IfSome (said_site s).standing (λ s. has_end kept (last_moment s, i) ≡ true)) is here)
+
+  -- all are covered where one was added that has no answer
+  pub covers_added : (es : List (String Y × Site)) (e : String Y × Site) (kept : KeptEnds) → (said_site e.1).standing ≡ None → Covers kept es →
+      Covers kept (es ++ e ∷ [])
+  covers_added es e kept none covered i x at = by (at-push es e x i at)
+    where
+      by : (slice_get es i ≡ Some x) ⊎ (e ≡ x) → IfSome (said_site x.1).standing (λ s. has_end kept (last_moment s, i) ≡ true)
+      by (inl was) = covered i x was
+      by (inr new) =
+          subst (λ (o : Option Answered). IfSome o (λ s. has_end kept (last_moment s, i) ≡ true)) (sym none ∙ ap (λ (y : String Y × Site). (said_site y.1).standing) new) tt

@@ -42,6 +42,13 @@ pub record IsFound (k : Known) (authority : List ℕ) (found : Found) : Type 0 w
 abbrev pub cannot_know : Known → List ℕ → Bool
 cannot_know k authority = not (is_known (site_of k authority)) && nat_le k.limit (known_count k)
 
+-- whether a turn may begin: InFlight; AuthoritiesFull
+abbrev pub MayBegin : Known → List ℕ → Result Unit BeginRefusal → Type 0
+MayBegin k authority (Ok _) = (is_flying (site_of k authority) ≡ false) × (cannot_know k authority ≡ false)
+MayBegin k authority (Err refusals.InFlight) = is_flying (site_of k authority) ≡ true
+MayBegin k authority (Err refusals.AuthoritiesFull) = (is_flying (site_of k authority) ≡ false) × (cannot_know k authority ≡ true)
+MayBegin k authority (Err refusals.NoMemory) = ⊥
+
 -- begin: InFlight; AuthoritiesFull; NoMemory where neither holds
 abbrev pub Begins : Known → List ℕ → Flight → Result Unit BeginRefusal → Known → Type 0
 Begins old authority flight (Ok _) new =

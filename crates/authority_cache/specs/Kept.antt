@@ -1,10 +1,12 @@
--- What is true of every cache: each site is known, and its count of turns is that of the sites.
+-- What is true of every cache: each site is known, its count of turns is that of the sites, and the end
+-- of each answer that stands is kept, with room for those of the turns in flight.
 -- The invariant of `cache.rt`.
 use Rattle.std.specs.Prelude.{◌≡◌, ℕ, true, List, map, string_bytes}
 use Rattle.std.specs.List.{list_all}
 use Rattle.std.specs.declared.string.String.{String}
 use Rattle.authority_cache.specs.declared.cache.Cache.TheInside.{Inside}
 use Rattle.authority_cache.specs.declared.site.Site.{Site}
+use Rattle.authority_cache.specs.Ends.{Covers, HasRoom}
 use Rattle.authority_cache.specs.Sites.{Known, State, flight_count, is_known, said_site}
 
 -- an entry of the map, by what is known
@@ -31,3 +33,5 @@ known_of c = known_in c.limit c.sites.entries
 pub record IsSound (c : Inside) : Type 0 where
   pub known : AllKnown c.sites.entries
   pub flights : c.flights ≡ flight_count (known_of c)
+  pub covered : Covers c.ends c.sites.entries
+  pub room : HasRoom c.ends c.flights

@@ -4,6 +4,7 @@ pub mod Lives
 pub mod Messages
 pub mod Sites
 pub mod Calls
+pub mod Ends
 pub mod Kept
 pub mod Lists
 pub mod Laws

@@ -1,11 +1,14 @@
 //! The arrival of the answer to a turn.
 //! RFC 9309, section 2.3.1.
-ghost use Rattle.std.specs.Prelude.{◌≡◌};
+ghost use Rattle.std.specs.Prelude.{◌≡◌, ℕ, ◌<◌, List, Some, OnErr, length, slice_get};
 ghost use Rattle.robots_verdict.specs.Answer.{said};
 ghost use Rattle.authority_cache.specs.Calls.{Arrives};
-ghost use Rattle.authority_cache.specs.Kept.{AllKnown, known_in};
+ghost use Rattle.authority_cache.specs.Ends.{Covers, CoversBut, KeptEnds};
+ghost use Rattle.authority_cache.specs.Kept.{AllKnown, known_in, said_entries};
+ghost use Rattle.authority_cache.specs.Sites.{State};
 
 use crate::cache::{Cache, Sites};
+use crate::ends::keep_end;
 use crate::refusal::Stale;
 use crate::turn::TurnNo;
 use path_normal::Authority;
@@ -23,26 +26,33 @@ impl Cache {
     ) -> Result<(), Stale>
         ensures { Arrives self.old authority.now turn (said answer) life result self.new }
     {
-        close(&mut self.sites, authority.text(), turn, answer, life)?;
+        let Some(index) = self.find(authority.text()).index else {
+            return Err(Stale);
+        };
+        close(&mut self.sites, index, turn, answer, life)?;
+        keep_end(&self.sites, &mut self.ends, index);
         self.flights -= 1;
         Ok(())
     }
 }
 
-// Ends a turn, and lets its answer stand.
+// Ends a turn at the site of this index, and lets its answer stand.
 fn close(
     sites: &mut Sites,
-    authority: &str,
+    index: usize,
     turn: TurnNo,
     answer: Answer,
     life: u64,
 ) -> Result<(), Stale>
-    requires { AllKnown sites.old.entries }
-    ensures reply { Arrives (known_in 0 sites.old.entries) authority.now turn (said answer) life result
-        (known_in 0 sites.new.entries) }
+    requires all { AllKnown sites.old.entries }
+    requires within { index < length sites.old.entries }
+    ensures reply { (limit : ℕ) (e : List ℕ × State) → slice_get (said_entries sites.old.entries) index ≡ Some e →
+        Arrives (known_in limit sites.old.entries) e.0 turn (said answer) life result (known_in limit sites.new.entries) }
+    ensures same { OnErr result (sites.new.entries ≡ sites.old.entries) }
     ensures known { AllKnown sites.new.entries }
+    ensures others { (kept : KeptEnds) → Covers kept sites.old.entries → CoversBut index kept sites.new.entries }
 {
-    match sites.get_mut(authority) {
+    match sites.get_index_mut(index) {
         Some(site) => site.arrive(turn, answer, life),
         None => Err(Stale),
     }

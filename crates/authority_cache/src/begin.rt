@@ -1,17 +1,20 @@
 //! The begin of a turn to fetch an authority's robots file.
 //! RFC 9309, section 2.3.
-ghost use Rattle.std.specs.Prelude.{◌≡◌, ◌^◌, ◌<◌, ◌∷◌, ◌++◌, [], None, IfErr, OnErr, OnOk, length};
+ghost use Rattle.std.specs.Prelude.{◌≡◌, ℕ, ◌+◌, ◌^◌, ◌<◌, ◌≤◌, List, ◌∷◌, ◌++◌, [], None, IfErr, OnErr, OnOk, length};
 ghost use Rattle.std.specs.HashMap.{get_by_text};
-ghost use Rattle.authority_cache.specs.Sites.{IsApart, nothing, with_flight};
-ghost use Rattle.authority_cache.specs.Calls.{Begins, IsFound};
+ghost use Rattle.authority_cache.specs.Sites.{IsApart, nothing, site_of, with_flight};
+ghost use Rattle.authority_cache.specs.Calls.{Begins, Changes, IsFound, MayBegin};
+ghost use Rattle.authority_cache.specs.Ends.{Covers, HasRoom, KeptEnds};
 ghost use Rattle.authority_cache.specs.Kept.{AllKnown, known_in, said_entries};
 
 use crate::cache::{Cache, Sites};
+use crate::ends::{Ends, keep_end};
 use crate::find::Found;
 use crate::refusal::BeginRefusal;
 use crate::site::{Flight, Site};
 use crate::turn::TurnNo;
 use path_normal::Authority;
+use std::alloc::AllocError;
 
 impl Cache {
     /// Begins a turn at this moment, in seconds. Room is made for its arrival.
@@ -41,43 +44,89 @@ impl Cache {
             self.new }
         ensures apart { IsApart self.old }
     {
+        may_begin(&self.sites, self.limit, found)?;
+        make_room(&self.sites, &mut self.ends, self.flights)?;
         let flight = Flight {
             turn,
             begun: moment,
         };
-        open(&mut self.sites, self.limit, found, authority.text(), flight)?;
+        open(&mut self.sites, found, authority.text(), flight)?;
         self.flights += 1;
         Ok(())
     }
 }
 
-// Begins a turn, where a site that is new is not one too many.
+// Whether a turn may begin: none is in flight, and a site that is new is not one too many.
+fn may_begin(sites: &Sites, limit: u64, found: Found) -> Result<(), BeginRefusal>
+    requires all { AllKnown sites.now.entries }
+    ensures may { (authority : List ℕ) → IsFound (known_in limit sites.now.entries) authority found
+        → MayBegin (known_in limit sites.now.entries) authority result }
+    ensures apart { IsApart (known_in limit sites.now.entries) }
+    ensures few { length sites.now.entries < 2 ^ 63 }
+{
+    let is_full = sites.len() as u64 >= limit;
+    if found.is_fetching {
+        return Err(BeginRefusal::InFlight);
+    }
+    if found.index.is_none() && is_full {
+        return Err(BeginRefusal::AuthoritiesFull);
+    }
+    Ok(())
+}
+
+// Makes room for the end of one turn more than are in flight. Where more than half of the ends say
+// nothing any more, they are kept anew first, so that they stay at most about twice the sites.
+fn make_room(sites: &Sites, ends: &mut Ends, flights: u64) -> Result<(), AllocError>
+    requires covered { Covers ends.old sites.now.entries }
+    requires room { HasRoom ends.old flights }
+    requires flights { flights ≤ length sites.now.entries }
+    ensures covered { Covers ends.new sites.now.entries }
+    ensures room { HasRoom ends.new flights }
+    ensures ok { OnOk result (HasRoom ends.new (flights + 1)) }
+{
+    if ends.len() / 2 > sites.len() {
+        renew(sites, ends);
+    }
+    ends.reserve(flights as usize + 1)
+}
+
+// Keeps the ends of the answers that stand, and no others.
+fn renew(sites: &Sites, ends: &mut Ends)
+    requires { length sites.now.entries ≤ ends.old.room }
+    ensures covered { Covers ends.new sites.now.entries }
+    ensures many { length ends.new.ends ≤ length sites.now.entries }
+    ensures room { ends.old.room ≤ ends.new.room }
+{
+    ends.clear();
+    for index in 0..sites.len() {
+        keep_end(sites, ends, index);
+    }
+}
+
+// Begins a turn that may begin.
 fn open(
     sites: &mut Sites,
-    limit: u64,
     found: Found,
     authority: &str,
     flight: Flight,
 ) -> Result<(), BeginRefusal>
     requires all { AllKnown sites.old.entries }
-    requires found { IsFound (known_in limit sites.old.entries) authority.now found }
-    ensures reply { Begins (known_in limit sites.old.entries) authority.now flight result
-        (known_in limit sites.new.entries) }
+    requires found { IsFound (known_in 0 sites.old.entries) authority.now found }
+    ensures opened { OnOk result ((limit : ℕ) → Changes (known_in limit sites.old.entries) authority.now
+        (with_flight flight (site_of (known_in limit sites.old.entries) authority.now)) (known_in limit sites.new.entries)) }
+    ensures err { IfErr result (λ refusal. refusal ≡ BeginRefusal.NoMemory) }
+    ensures same { OnErr result (sites.new.entries ≡ sites.old.entries) }
     ensures known { AllKnown sites.new.entries }
-    ensures few { length sites.old.entries < 2 ^ 63 }
-    ensures apart { IsApart (known_in limit sites.old.entries) }
+    ensures covered { (kept : KeptEnds) → Covers kept sites.old.entries → Covers kept sites.new.entries }
 {
-    let is_full = sites.len() as u64 >= limit;
     let Some(index) = found.index else {
-        if is_full {
-            return Err(BeginRefusal::AuthoritiesFull);
-        }
         return add(sites, authority, flight);
     };
     match sites.get_index_mut(index) {
         Some(site) => site.begin(flight),
         None => unreachable!(),
     }
+    Ok(())
 }
 
 // A site that is new.
@@ -87,6 +136,7 @@ fn add(sites: &mut Sites, authority: &str, flight: Flight) -> Result<(), BeginRe
         ++ (authority.now, with_flight flight nothing) ∷ []) }
     ensures err { IfErr result (λ refusal. refusal ≡ BeginRefusal.NoMemory) }
     ensures same { OnErr result (sites.new.entries ≡ sites.old.entries) }
+    ensures covered { (kept : KeptEnds) → Covers kept sites.old.entries → Covers kept sites.new.entries }
 {
     let name = String::from_str(*sites.allocator(), authority)?;
     let site = Site {

@@ -3,6 +3,7 @@
 ghost use Rattle.std.specs.Prelude.{◌≡◌, []};
 ghost use Rattle.authority_cache.specs.Sites.{IsApart, flight_count, has_turn, is_flying, known_count, site_of};
 
+use crate::ends::Ends;
 use crate::site::Site;
 use crate::turn::TurnNo;
 use indexmap::IndexMap;
@@ -20,6 +21,8 @@ pub struct Cache {
     pub(crate) sites: Sites,
     // How many turns are in flight.
     pub(crate) flights: u64,
+    // When the answers that stand end, with room for those of the turns in flight.
+    pub(crate) ends: Ends,
 }
 
 impl Model for Cache {
@@ -44,6 +47,7 @@ impl Cache {
             limit,
             sites: IndexMap::with_hasher(alloc, keys),
             flights: 0,
+            ends: Ends::new(alloc),
         }
     }
 

@@ -5,6 +5,7 @@
 mod arrive;
 mod begin;
 mod cache;
+mod ends;
 mod find;
 pub mod laws;
 mod life;

@@ -1,11 +1,12 @@
 //! What is known of one authority.
 //! RFC 9309, sections 2.3.1 and 2.4.
-ghost use Rattle.std.specs.Prelude.{◌≡◌, ◌↔◌, true, false, IfErr, IsOk, OnErr, OnOk};
+ghost use Rattle.std.specs.Prelude.{◌≡◌, ◌↔◌, true, IsOk, OnErr, OnOk};
 ghost use Rattle.robots_verdict.specs.Answer.{said};
-ghost use Rattle.authority_cache.specs.Sites.{arrived, has_past, has_turn, is_flying, is_known, is_past, said_site, said_standing, swept, with_flight};
+ghost use Rattle.authority_cache.specs.Ends.{last_moment};
+ghost use Rattle.authority_cache.specs.Sites.{arrived, has_past, has_turn, is_known, is_past, said_site, said_standing, with_flight};
 
 use crate::life::life_of;
-use crate::refusal::{BeginRefusal, Stale};
+use crate::refusal::Stale;
 use crate::turn::TurnNo;
 use robots_verdict::Answer;
 
@@ -47,6 +48,13 @@ impl Standing {
     {
         moment.saturating_sub(self.begun) > self.life
     }
+
+    /// The last moment at which it is in force.
+    pub fn last_moment(&self) -> u64
+        ensures { result ≡ last_moment (said_standing self.now) }
+    {
+        self.begun.saturating_add(self.life)
+    }
 }
 
 impl Site {
@@ -77,19 +85,11 @@ impl Site {
         }
     }
 
-    /// Begins a turn, unless one is in flight.
-    pub fn begin(&mut self, flight: Flight) -> Result<(), BeginRefusal>
-        ensures ok { OnOk result (said_site self.new ≡ with_flight flight (said_site self.old)) }
-        ensures free { OnOk result (is_flying (said_site self.old) ≡ false) }
-        ensures err { IfErr result (λ refusal. refusal ≡ BeginRefusal.InFlight) }
-        ensures flying { OnErr result (is_flying (said_site self.old) ≡ true) }
-        ensures same { OnErr result (self.new ≡ self.old) }
+    /// Begins a turn.
+    pub fn begin(&mut self, flight: Flight)
+        ensures { said_site self.new ≡ with_flight flight (said_site self.old) }
     {
-        if self.in_flight.is_some() {
-            return Err(BeginRefusal::InFlight);
-        }
         self.in_flight = Some(flight);
-        Ok(())
     }
 
     /// Ends the turn of that number, and lets its answer stand.
@@ -112,15 +112,6 @@ impl Site {
                 Ok(())
             }
             _ => Err(Stale),
-        }
-    }
-
-    /// Drops the answer that stands, where it is older than its life.
-    pub fn sweep(&mut self, moment: u64)
-        ensures { said_site self.new ≡ swept moment (said_site self.old) }
-    {
-        if self.has_past(moment) {
-            self.standing = None;
         }
     }
 }

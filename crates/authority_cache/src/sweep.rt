@@ -1,46 +1,119 @@
 //! The sweep: answers that are older than their lives are dropped.
 //! RFC 9309, section 2.4.
-ghost use Rattle.std.specs.Prelude.{◌≡◌};
-ghost use Rattle.authority_cache.specs.Sites.{IsApart, is_known, past_count, said_site, swept};
-ghost use Rattle.authority_cache.specs.Calls.{Sweeps};
-ghost use Rattle.authority_cache.specs.Kept.{known_in};
+ghost use Rattle.std.specs.Prelude.{◌≡◌, ℕ, ◌+◌, ◌*◌, ◌^◌, ◌<◌, ◌≤◌, true, length};
 ghost use Rattle.std.specs.HashMap.{IsUnique};
 ghost use Rattle.std.specs.String.{string_eq};
+ghost use Rattle.authority_cache.specs.Sites.{IsApart, flight_count};
+ghost use Rattle.authority_cache.specs.Calls.{Sweeps, one_if};
+ghost use Rattle.authority_cache.specs.Ends.{Covers, CoversBut, CoversYoung, DropsAnswer, HasRoom, KeepsEnd, Removes, SaysPastAt, SweepsPart};
+ghost use Rattle.authority_cache.specs.Kept.{AllKnown, known_in};
 
 use crate::cache::{Cache, Sites};
-use crate::site::Site;
+use crate::ends::{Ends, keep_end};
 
 impl Cache {
     /// Drops the answers that are older than their lives at this moment, in seconds, and tells how
-    /// many they were. Turns stay in flight. It takes no memory.
+    /// many they were. Turns stay in flight. It takes no memory, and walks over no other answers.
     pub fn sweep(&mut self, moment: u64) -> u64
         ensures swept { Sweeps self.old moment result self.new }
         ensures apart { IsApart self.old }
     {
-        let dropped = count_past(&self.sites, moment);
-        self.sites.retain(
-            |_authority: &String, site: &mut Site| -> bool
-                ensures { (result ≡ is_known (said_site site.new))
-                    × (said_site site.new ≡ swept moment (said_site site.old)) }
-            {
-                site.sweep(moment);
-                site.is_known()
-            },
-        );
-        dropped
+        // The map's length says that its keys are apart.
+        let _ = self.sites.len();
+        drop_past(&mut self.sites, &mut self.ends, moment)
     }
 }
 
-// How many answers are older than their lives.
-fn count_past(sites: &Sites, moment: u64) -> u64
-    ensures count { result ≡ past_count moment (known_in 0 sites.now.entries) }
-    ensures unique { IsUnique string_eq sites.now }
+// Drops the answers whose ends lie before this moment, and tells how many they were.
+fn drop_past(sites: &mut Sites, ends: &mut Ends, moment: u64) -> u64
+    requires known { AllKnown sites.old.entries }
+    requires covered { Covers ends.old sites.old.entries }
+    requires room { HasRoom ends.old (flight_count (known_in 0 sites.old.entries)) }
+    requires few { length sites.old.entries < 2 ^ 63 }
+    ensures swept { (limit : ℕ) → Sweeps (known_in limit sites.old.entries) moment result
+        (known_in limit sites.new.entries) }
+    ensures known { AllKnown sites.new.entries }
+    ensures covered { Covers ends.new sites.new.entries }
+    ensures room { HasRoom ends.new (flight_count (known_in 0 sites.new.entries)) }
 {
-    let mut count = 0;
-    for (_authority, site) in sites.iter() {
-        if site.has_past(moment) {
-            count += 1;
+    let mut dropped = 0;
+    while let Some(index) = ends.pop_before(moment) {
+        if drop_at(sites, ends, index, moment) {
+            dropped += 1;
         }
     }
-    count
+    dropped
+}
+
+// Drops the answer of the site at this index, where it is older than its life, and tells whether it was.
+fn drop_at(sites: &mut Sites, ends: &mut Ends, index: usize, moment: u64) -> bool
+    requires known { AllKnown sites.old.entries }
+    requires others { CoversBut index ends.old sites.old.entries }
+    requires young { CoversYoung moment index ends.old sites.old.entries }
+    requires room { HasRoom ends.old (flight_count (known_in 0 sites.old.entries) + 1) }
+    ensures part { SweepsPart (known_in 0 sites.old.entries) moment (one_if result)
+        (known_in 0 sites.new.entries) }
+    ensures known { AllKnown sites.new.entries }
+    ensures covered { Covers ends.new sites.new.entries }
+    ensures room { HasRoom ends.new (flight_count (known_in 0 sites.new.entries)) }
+    ensures fewer { length sites.new.entries * 2 + length ends.new.ends
+        ≤ length sites.old.entries * 2 + length ends.old.ends }
+{
+    if !has_past_at(sites, index, moment) {
+        return false;
+    }
+    if drop_answer(sites, index) {
+        return true;
+    }
+    remove(sites, ends, index);
+    true
+}
+
+// Whether an answer that is older than its life stands at this index.
+fn has_past_at(sites: &Sites, index: usize, moment: u64) -> bool
+    ensures value { SaysPastAt moment sites.now.entries index result }
+    ensures within { result ≡ true → index < length sites.now.entries }
+{
+    match sites.get_index(index) {
+        Some((_authority, site)) => site.has_past(moment),
+        None => false,
+    }
+}
+
+// Drops the answer of the site at this index, and tells whether a turn is in flight there.
+fn drop_answer(sites: &mut Sites, index: usize) -> bool
+    requires { index < length sites.old.entries }
+    ensures drops { DropsAnswer sites.old.entries index result sites.new.entries }
+    ensures unique { IsUnique string_eq sites.old }
+{
+    match sites.get_index_mut(index) {
+        Some(site) => {
+            site.standing = None;
+            site.in_flight.is_some()
+        }
+        None => unreachable!(),
+    }
+}
+
+// Takes the site at this index away, of which nothing is known any more. The last site comes into its
+// place, and so does its end.
+fn remove(sites: &mut Sites, ends: &mut Ends, index: usize)
+    requires within { index < length sites.old.entries }
+    requires others { CoversBut index ends.old sites.old.entries }
+    requires room { length ends.old.ends < ends.old.room }
+    ensures removed { Removes sites.old.entries index sites.new.entries }
+    ensures covered { Covers ends.new sites.new.entries }
+    ensures many { length ends.new.ends ≤ length ends.old.ends + 1 }
+    ensures room { ends.old.room ≤ ends.new.room }
+{
+    take_site(sites, index);
+    keep_end(sites, ends, index);
+}
+
+// Takes the site at this index away.
+fn take_site(sites: &mut Sites, index: usize)
+    requires { index < length sites.old.entries }
+    ensures { Removes sites.old.entries index sites.new.entries }
+{
+    let _ = sites.swap_remove_index(index);
 }

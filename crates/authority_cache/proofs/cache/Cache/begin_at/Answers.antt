@@ -1,7 +1,39 @@
--- No more turns are in flight than there are entries.
-use Rattle.std.proofs.Common.{arith}
+-- No more turns are in flight than there are entries, and one more is where one was begun.
+use Rattle.std.proofs.Common.{Ok, sym, ap, refl, subst, arith}
+use Rattle.authority_cache.specs.declared.site.Flight.{Flight}
+use Rattle.authority_cache.specs.Calls.{Begins, Changes, IsFound, one_if}
+use Rattle.authority_cache.specs.Kept.{known_in, known_of}
+use Rattle.authority_cache.specs.Sites.{Known, is_flying, site_of, with_flight}
 use Rattle.authority_cache.proofs.SiteLaws.{flights_bound}
 use Rattle.authority_cache.proofs.cache.Cache.begin_at.Goals as goal
 
 pub overflow_add-self : goal.overflow_add-self
-overflow_add-self c = omega (arith, flights_bound c.self.inside.limit c.self.inside.sites.entries)
+overflow_add-self c = omega (arith, flights_bound c.self.inside.limit c.self.inside.sites.entries, c.in_ok-may_begin.ensures.few, c.self.invariant.flights)
+
+pub make_room-requires-clause-flights : goal.make_room-requires-clause-flights
+make_room-requires-clause-flights c = omega (arith, flights_bound c.self.inside.limit c.self.inside.sites.entries, c.self.invariant.flights)
+
+pub invariant_of-self-2 : goal.invariant_of-self-2
+invariant_of-self-2 c =
+    let p = c.self.inside in
+    let t = c.text.result.now in
+    let found = subst (λ (k : Known). IsFound k c.args.authority.now c.args.found) (sym c.self.view_is) c.requires in
+    let may = c.in_ok-may_begin.ensures.may t (subst (λ a. IsFound (known_of p) a c.args.found) (sym c.text.ensures.value) found) in
+    let changes = c.in_ok-open.ensures.opened p.limit in
+    let was = ap one_if may.0 in
+    record {
+      known = c.in_ok-open.ensures.known;
+      flights = omega (arith, c.self.invariant.flights, was, changes.counts is_flying refl);
+      covered = c.in_ok-open.ensures.covered c.make_room.new.ends c.in_ok-make_room.ensures.covered;
+      room = c.in_ok-make_room.ensures.ok;
+    }
+
+pub returns-clause-reply : goal.returns-clause-reply
+returns-clause-reply c =
+    let p = c.self.inside in
+    let flight : Flight = record { turn = c.args.turn; begun = c.args.moment } in
+    let new = known_in p.limit c.open.new.sites.entries in
+    let found = subst (λ (k : Known). IsFound k c.args.authority.now c.args.found) (sym c.self.view_is) c.requires in
+    let may = c.in_ok-may_begin.ensures.may c.args.authority.now found in
+    let changes = subst (λ a. Changes (known_of p) a (with_flight flight (site_of (known_of p) a)) new) c.text.ensures.value (c.in_ok-open.ensures.opened p.limit) in
+    subst (λ (k : Known). Begins k c.args.authority.now flight (Ok tt) new) c.self.view_is (may.0, may.1, changes)

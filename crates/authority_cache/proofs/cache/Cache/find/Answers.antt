@@ -1,12 +1,8 @@
 -- The entry that is found is what is known.
-use Rattle.std.proofs.Common.{◌≡◌, List, ℕ, None, Some, false, sym, ap, refl, ◌∙◌, subst, string_bytes}
-use Rattle.std.specs.Prelude.{slice_get}
+use Rattle.std.proofs.Common.{◌≡◌, None, Some, false, sym, ap, ◌∙◌, subst, string_bytes}
 use Rattle.std.specs.Option.{option_map}
-use Rattle.std.specs.Str.{bytes_eq}
 use Rattle.std.proofs.lemmas.Slice.Eq.{bytes_eq-Decides}
-use Rattle.authority_cache.specs.declared.find.Found.{Found}
 use Rattle.authority_cache.specs.Calls.{IsFound}
-use Rattle.authority_cache.specs.Kept.{said_entries}
 use Rattle.authority_cache.specs.Sites.{Known, is_flying, said_site}
 use Rattle.authority_cache.proofs.FoundLaws.{key_passes, said_at}
 use Rattle.authority_cache.proofs.SiteLaws.{found-said, is_named, state-none, state-some}

@@ -1,11 +1,11 @@
 -- The entry at the index is what is known.
-use Rattle.std.proofs.Common.{ℕ, List, Option, Some, None, sym, ap, refl, ◌∙◌, subst}
-use Rattle.std.specs.Prelude.{option_and_then, slice_get, unwrap_or}
+use Rattle.std.proofs.Common.{ℕ, List, Option, sym, ap, ◌∙◌, subst}
+use Rattle.std.specs.Prelude.{unwrap_or}
 use Rattle.std.specs.Option.{option_map}
 use Rattle.authority_cache.specs.Calls.{LooksAt, state_at}
 use Rattle.authority_cache.specs.declared.look.Look.TheVariants.{Unknown}
-use Rattle.authority_cache.specs.Kept.{known_in, said_entry}
-use Rattle.authority_cache.specs.Sites.{Known, State, nothing, said_site}
+use Rattle.authority_cache.specs.Kept.{known_in}
+use Rattle.authority_cache.specs.Sites.{Known, State, nothing}
 use Rattle.authority_cache.proofs.FoundLaws.{not_at, said_at}
 use Rattle.authority_cache.proofs.cache.Cache.look_at.Goals as goal
 

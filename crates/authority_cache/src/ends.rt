@@ -1,0 +1,101 @@
+//! When answers end: a heap, from which a sweep takes what is past, the first end first.
+//! RFC 9309, section 2.4.
+ghost use Rattle.std.specs.Prelude.{◌≡◌, ◌+◌, ◌<◌, ◌≤◌, [], IfNone, IfSome, OnErr, OnOk, length};
+ghost use Rattle.authority_cache.specs.Ends.{Adds, KeepsEnd, NoneBefore, Takes};
+
+use crate::cache::Sites;
+use std::alloc::{AllocError, Global};
+use std::cmp::Reverse;
+use std::collections::BinaryHeap;
+use std::marker::Model;
+
+// Of each answer that stands the last moment at which it is in force, in seconds, and the index of its
+// site. What is kept of an answer that was replaced, or of a site that has moved, says nothing any more.
+#[derive(Drop)]
+pub struct Ends {
+    heap: BinaryHeap<Reverse<(u64, usize)>>,
+}
+
+impl Model for Ends {
+    ghost use Rattle.authority_cache.specs.Ends.{KeptEnds};
+
+    ghost Value = { KeptEnds };
+
+    ghost use Rattle.authority_cache.specs.Ends.{IsOrdered, kept_of};
+
+    ghost view = { kept_of };
+
+    ghost invariant = { IsOrdered };
+}
+
+impl Ends {
+    // No ends.
+    pub fn new(alloc: Global) -> Ends
+        ensures { result.ends ≡ [] }
+    {
+        Ends {
+            heap: BinaryHeap::new(alloc),
+        }
+    }
+
+    // How many are kept.
+    pub fn len(&self) -> usize
+        ensures { result ≡ length self.now.ends }
+    {
+        self.heap.len()
+    }
+
+    // Makes room for so many more.
+    pub fn reserve(&mut self, more: usize) -> Result<(), AllocError>
+        ensures ends { self.new.ends ≡ self.old.ends }
+        ensures room { self.old.room ≤ self.new.room }
+        ensures ok { OnOk result (length self.new.ends + more ≤ self.new.room) }
+    {
+        self.heap.reserve(more)
+    }
+
+    // Keeps the end of the site's answer. It takes no memory.
+    pub fn push(&mut self, last: u64, site: usize)
+        requires { length self.old.ends < self.old.room }
+        ensures { Adds self.old (last, site) self.new }
+    {
+        let _ = self.heap.push(Reverse((last, site)));
+    }
+
+    // Takes an end that lies before this moment, and tells its site, unless there is none.
+    pub fn pop_before(&mut self, moment: u64) -> Option<usize>
+        ensures some { IfSome result (λ site. Takes moment self.old site self.new) }
+        ensures none { IfNone result (NoneBefore moment self.old) }
+        ensures same { IfNone result (self.new ≡ self.old) }
+    {
+        match self.heap.peek() {
+            Some(Reverse((last, _site))) if *last < moment => {}
+            _ => return None,
+        }
+        match self.heap.pop() {
+            Some(Reverse((_last, site))) => Some(site),
+            None => None,
+        }
+    }
+
+    // Keeps no end any more, and the room.
+    pub fn clear(&mut self)
+        ensures ends { self.new.ends ≡ [] }
+        ensures room { self.new.room ≡ self.old.room }
+    {
+        self.heap.clear();
+    }
+}
+
+// Keeps the end of the answer of the site at this index, where there is one. It takes no memory.
+pub fn keep_end(sites: &Sites, ends: &mut Ends, index: usize)
+    requires { length ends.old.ends < ends.old.room }
+    ensures { KeepsEnd sites.now.entries index ends.old ends.new }
+{
+    let Some((_authority, site)) = sites.get_index(index) else {
+        return;
+    };
+    if let Some(standing) = &site.standing {
+        ends.push(standing.last_moment(), index);
+    }
+}
