@@ -1,6 +1,6 @@
 //! The begin of a turn to fetch an authority's robots file.
 //! RFC 9309, section 2.3.
-ghost use Rattle.std.specs.Prelude.{◌≡◌, ℕ, ◌+◌, ◌^◌, ◌<◌, ◌≤◌, List, ◌∷◌, ◌++◌, [], None, IfErr, OnErr, OnOk, length};
+ghost use Rattle.std.specs.Prelude.{◌≡◌, ℕ, ◌+◌, ◌*◌, ◌^◌, ◌<◌, ◌≤◌, List, ◌∷◌, ◌++◌, [], None, IfErr, OnErr, OnOk, length};
 ghost use Rattle.std.specs.HashMap.{get_by_text};
 ghost use Rattle.authority_cache.specs.Sites.{IsApart, nothing, site_of, with_flight};
 ghost use Rattle.authority_cache.specs.Calls.{Begins, Changes, IsFound, MayBegin};
@@ -83,6 +83,7 @@ fn make_room(sites: &Sites, ends: &mut Ends, flights: u64) -> Result<(), AllocEr
     ensures covered { Covers ends.new sites.now.entries }
     ensures room { HasRoom ends.new flights }
     ensures ok { OnOk result (HasRoom ends.new (flights + 1)) }
+    ensures few { length ends.new.ends ≤ length sites.now.entries * 2 + 1 }
 {
     if ends.len() / 2 > sites.len() {
         renew(sites, ends);

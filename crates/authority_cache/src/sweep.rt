@@ -13,7 +13,7 @@ use crate::ends::{Ends, keep_end};
 
 impl Cache {
     /// Drops the answers that are older than their lives at this moment, in seconds, and tells how
-    /// many they were. Turns stay in flight. It takes no memory, and walks over no other answers.
+    /// many they were. Turns stay in flight. It takes no memory, and doesn't walk over the sites.
     pub fn sweep(&mut self, moment: u64) -> u64
         ensures swept { Sweeps self.old moment result self.new }
         ensures apart { IsApart self.old }
