@@ -19,7 +19,7 @@ use Rattle.gate_core.specs.declared.refusal.BeginRefusal.TheVariants as begin
 use Rattle.gate_core.specs.Gate.{Adds, Gate, HasRoom, history, Stays}
 use Rattle.gate_core.specs.Kept.{gate_of, IsKept}
 use Rattle.gate_core.specs.Opened.{Grants, OpensTurn}
-use Rattle.gate_core.specs.Replies.{Asks, Begins, HasPlace, IsAllowed, moment_at, Starts}
+use Rattle.gate_core.specs.Replies.{Asks, Begins, IsAllowed, moment_at, Starts}
 use Rattle.gate_core.proofs.Keeping.{reads, told}
 use Rattle.gate_core.proofs.Looking.{fetching_is}
 

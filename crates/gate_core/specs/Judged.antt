@@ -1,4 +1,4 @@
--- An ask whose verdict was found before the book is at hand.
+-- A verdict that was found before the book is at hand, for an ask or a start.
 -- RFC 9309, section 2.2.2; the value of `judged.rt`.
 use Rattle.std.specs.Prelude.{ℕ, List}
 use Rattle.std.specs.Arc.{arc_value}

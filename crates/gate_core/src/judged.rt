@@ -1,7 +1,7 @@
-//! An ask whose verdict is found before the book is at hand: matching a path takes time, and another
+//! A verdict that is found before the book is at hand, for an ask or a start: matching a path takes time, and another
 //! caller may have the book meanwhile. RFC 9309, section 2.2.2.
-ghost use Rattle.std.specs.Prelude.{◌≡◌, IfOk};
-ghost use Rattle.gate_history.specs.Cause.{IsVerdictOn};
+ghost use Rattle.std.specs.Prelude.{◌≡◌, IfSome};
+ghost use Rattle.gate_core.specs.Judged.{IsRuling};
 
 use path_normal::PageUrl;
 use robots_text::Token;
@@ -9,15 +9,29 @@ use robots_verdict::{Policy, Verdict};
 use std::marker::Model;
 use std::sync::Arc;
 
-/// The verdict of a policy.
+/// The verdict of a policy on a fetch. It counts only where the text in force then is that policy's.
 #[derive(Drop)]
-pub(crate) struct Ruling {
-    pub policy: Arc<Policy>,
-    pub verdict: Verdict,
+pub struct Ruling {
+    pub(crate) policy: Arc<Policy>,
+    pub(crate) verdict: Verdict,
 }
 
-/// A token and a URL to ask for, with the verdict of the policy that was thought to be in force. The
-/// verdict counts only where the text in force then is that policy's.
+impl Ruling {
+    /// Judges by the policy, if there is one. It takes no memory.
+    pub fn of(policy: Option<Arc<Policy>>, token: &Token, url: &PageUrl) -> Option<Ruling>
+        ensures { IfSome result (IsRuling token.now url.now) }
+    {
+        match policy {
+            Some(policy) => {
+                let verdict = policy.verdict(token, url.path_to_match());
+                Some(Ruling { policy, verdict })
+            }
+            None => None,
+        }
+    }
+}
+
+/// A token and a URL to ask for, with the verdict of the policy that was thought to be in force.
 #[derive(Drop)]
 pub struct Judged {
     pub(crate) token: Token,
@@ -44,13 +58,7 @@ impl Judged {
     pub fn new(policy: Option<Arc<Policy>>, token: Token, url: PageUrl) -> Judged
         ensures { result ≡ record { token = token; url = url } }
     {
-        let ruling = match policy {
-            Some(policy) => {
-                let verdict = policy.verdict(&token, url.path_to_match());
-                Some(Ruling { policy, verdict })
-            }
-            None => None,
-        };
+        let ruling = Ruling::of(policy, &token, &url);
         Judged { token, url, ruling }
     }
 

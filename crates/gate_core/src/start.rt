@@ -1,13 +1,15 @@
-//! `Book::start`: a permit is spent, and its fetch begins or is denied.
+//! `Book::start` and `Book::start_ruled`: a permit is spent, and its fetch begins or is denied.
 //! RFC 9309, section 2.4.
-ghost use Rattle.std.specs.Prelude.{◌≡◌, ◌≤◌, Err, Ok};
+ghost use Rattle.std.specs.Prelude.{◌≡◌, ◌≤◌, Err, IfSome, Ok};
 ghost use Rattle.gate_history.specs.declared.entry.Entry.TheVariants.{StartDenied, Started as Allowed};
 ghost use Rattle.gate_history.specs.History.{now};
 ghost use Rattle.gate_history.specs.Legal.{SpendsAs};
 ghost use Rattle.gate_core.specs.Gate.{Adds, history};
+ghost use Rattle.gate_core.specs.Judged.{IsRuling};
 ghost use Rattle.gate_core.specs.Replies.{Starts};
 
 use crate::book::Book;
+use crate::judged::Ruling;
 use crate::refusal::{Denial, Started};
 use gate_history::{Cause, Entry, Reason};
 use path_normal::PageUrl;
@@ -27,6 +29,22 @@ impl Book {
     ) -> Result<Started, Denial>
         ensures { Starts self.old number token.now url moment result self.new }
     {
+        self.start_ruled(number, token, url, None, moment)
+    }
+
+    /// The same, where the verdict may be at hand. It counts only where the answer then in force has
+    /// the text of the policy that was judged by.
+    pub fn start_ruled(
+        &mut self,
+        number: PermitNo,
+        token: &Token,
+        url: PageUrl,
+        ruling: Option<&Ruling>,
+        moment: u64,
+    ) -> Result<Started, Denial>
+        requires { IfSome ruling (λ ruling. IsRuling token.now url ruling.now) }
+        ensures { Starts self.old number token.now url moment result self.new }
+    {
         if !self.permits.stands(number, token, &url) {
             return Err(Denial {
                 url,
@@ -34,7 +52,7 @@ impl Book {
             });
         }
         let moment = self.moment_of_call(moment);
-        match self.decide(token, &url, None, moment) {
+        match self.decide(token, &url, ruling, moment) {
             Ok(reason) => {
                 self.enter_start(number, reason, moment);
                 Ok(Started {

@@ -1,12 +1,13 @@
 //! What lies under the lock: the book, and the ledgers that count what is out.
 //! Each change is one call of the book with the shares that it moves; RFC 9309, sections 2.3.1 and 2.4.
-ghost use Rattle.std.specs.Prelude.{◌≡◌, ◌+◌, ◌<◌, ◌≤◌, ◌↔◌, [], Err, IfOk, IsTrue, Ok, true, false};
+ghost use Rattle.std.specs.Prelude.{◌≡◌, ◌+◌, ◌<◌, ◌≤◌, ◌↔◌, [], Err, IfOk, IfSome, IsTrue, Ok, true, false};
 ghost use Rattle.robots_verdict.specs.Answer.{said, spares_of};
 ghost use Rattle.gate_history.specs.Base.{empty_base};
 ghost use Rattle.gate_history.specs.History.{entry_count, moment_of};
 ghost use Rattle.gate_history.specs.Outstanding.{is_running, is_unspent, stands};
 ghost use Rattle.gate_history.specs.Standing.{has_turn};
 ghost use Rattle.gate_core.specs.Gate.{HasRoom, history};
+ghost use Rattle.gate_core.specs.Judged.{IsRuling};
 ghost use Rattle.gate_core.specs.Replies.{Arrives, Asks, Begins, Finishes, Returns, Starts, Sweeps};
 ghost use Rattle.gate_lock.specs.Balance.{nothing};
 ghost use Rattle.gate_lock.specs.Results.{IsLast, entries_of_ask, entries_of_ok, is_denial, reply_in};
@@ -16,7 +17,7 @@ use crate::mark::{Deed, Mark};
 use crate::shares::{Mine, One};
 use crate::tally::{DesksFull, Tally};
 use authority_cache::TurnNo;
-use gate_core::{AskRefusal, BeginRefusal, Book, Denial, Judged, Started, SweepRefusal};
+use gate_core::{AskRefusal, BeginRefusal, Book, Denial, Judged, Ruling, Started, SweepRefusal};
 use gate_history::Entry;
 use gate_history::laws::{each_entry_counts, no_later_entry_closes};
 use path_normal::{Authority, PageUrl};
@@ -124,11 +125,13 @@ impl<G: Gate> Round<G> {
         number: PermitNo,
         token: &Token,
         url: PageUrl,
+        ruling: Option<&Ruling>,
         one: One<UnspentLedger<G>>,
         moment: u64,
         mine: &mut Mine<G>,
     ) -> Result<(Started, One<RunningLedger<G>>), Denial>
-        requires { stands (history self.old) number token.now url ≡ true }
+        requires stands { stands (history self.old) number token.now url ≡ true }
+        requires ruled { IfSome ruling (λ ruling. IsRuling token.now url ruling.now) }
         ensures reply { Starts self.old number token.now url moment (reply_in result) self.new }
         ensures share { mine.new ≡ record {
           entries = mine.old.entries + 1;
@@ -140,7 +143,7 @@ impl<G: Gate> Round<G> {
         each_entry_counts();
         let _legal = self.book.history();
         let _limits = self.book.limits();
-        let result = self.book.start(number, token, url, moment);
+        let result = self.book.start_ruled(number, token, url, ruling, moment);
         self.tally.enter(mine);
         self.tally.spend(one);
         match result {

@@ -1,9 +1,10 @@
 //! `Desk::start`, `back` and `finish`: how a permit and a fetch are spent. None takes memory or is refused.
 //! RFC 9309, section 2.4.
-ghost use Rattle.std.specs.Prelude.{◌≡◌, ◌<◌, ◌≤◌, IfOk, OnErr, true};
+ghost use Rattle.std.specs.Prelude.{◌≡◌, ◌<◌, ◌≤◌, IfOk, IfSome, OnErr, true};
 ghost use Rattle.gate_history.specs.History.{entry_count};
 ghost use Rattle.gate_history.specs.Outstanding.{is_running, is_unspent, stands};
 ghost use Rattle.gate_core.specs.Gate.{history};
+ghost use Rattle.gate_core.specs.Judged.{IsRuling};
 ghost use Rattle.gate_lock.specs.Desks.{HasOut};
 ghost use Rattle.gate_lock.specs.Steps.{DeskFinishes, DeskReturns, DeskStarts, Somewhere};
 
@@ -12,13 +13,14 @@ use crate::ledgers::Gate;
 use crate::lock::Held;
 use crate::mark::Deed;
 use crate::tokens::{Fetched, Permit, Running};
-use gate_core::Denial;
+use gate_core::{Denial, Ruling};
 use std::sync::Wait;
 
 #[tactic(auto, using(std::proofs::lemmas::Grind::common_steps, crate::proofs::Starts::starts_in_push))]
 impl<'a, G: Gate> Desk<'a, G> {
     /// Starts the fetch of a permit of this desk. The answer in force at this start decides, and a denied
-    /// start spends the permit too. Its cause is never `Spent`.
+    /// start spends the permit too. Its cause is never `Spent`. As for an ask, the verdict is found with no
+    /// lock taken, and counts only where the answer in force under the lock has the same text.
     pub fn start<R: Wait>(
         &mut self,
         rt: &R,
@@ -32,8 +34,10 @@ impl<'a, G: Gate> Desk<'a, G> {
         ensures err { OnErr result (HasOut self.old self.new 0 1 0 0 0 0) }
     {
         let gate = self.gate;
+        let policy = gate.hint(rt, permit.url.authority(), moment);
+        let ruling = Ruling::of(policy, &permit.token, &permit.url);
         let mut held = gate.lend_permit(rt, self.seen, self.permits, &permit);
-        let result = self.start_in(&mut held, permit, moment);
+        let result = self.start_in(&mut held, permit, ruling.as_ref(), moment);
         gate.tell();
         result
     }
@@ -68,12 +72,14 @@ impl<'a, G: Gate> Desk<'a, G> {
         &mut self,
         held: &mut Held<'_, G>,
         permit: Permit<G>,
+        ruling: Option<&Ruling>,
         moment: u64,
     ) -> Result<Running<G>, Denial>
         requires seen { self.old.seen ≤ entry_count (history held.old) }
         requires some { 0 < self.old.permits }
         requires stands { stands (history held.old) permit.number permit.token permit.url ≡ true }
         requires own { permit.desk ≡ self.old.no }
+        requires ruled { IfSome ruling (λ ruling. IsRuling permit.token permit.url ruling.now) }
         ensures { DeskStarts self.old held.old permit moment result held.new self.new }
     {
         let round = &mut *held.guard;
@@ -84,7 +90,7 @@ impl<'a, G: Gate> Desk<'a, G> {
             desk,
             one,
         } = permit;
-        let result = round.start(number, &token, url, one, moment, &mut self.mine);
+        let result = round.start(number, &token, url, ruling, one, moment, &mut self.mine);
         self.seen = round.entry_count();
         self.permits -= 1;
         let last = round.last();

@@ -1,6 +1,6 @@
 -- An ask is what the answer in force, the places and the grant say.
 -- The lemma `asks_by` of `Calling` says so.
-use Rattle.std.proofs.Common.{◌∙◌, ℕ, Ok, sym, subst}
+use Rattle.std.proofs.Common.{ℕ, Ok, subst}
 use Rattle.gate_history.specs.Cause.{Decides}
 use Rattle.gate_core.specs.Gate.{history}
 use Rattle.gate_core.specs.Judged.{Asked}

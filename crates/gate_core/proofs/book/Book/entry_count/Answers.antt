@@ -1,6 +1,6 @@
 -- The base and the entries since are counted.
 -- The lemma `entries_many` of `Keeping` says so.
-use Rattle.std.proofs.Common.{sym, ap, ◌∙◌, arith}
+use Rattle.std.proofs.Common.{ap, arith}
 use Rattle.gate_history.specs.History.{entry_count}
 use Rattle.gate_core.specs.Gate.{Gate, history}
 use Rattle.gate_core.proofs.Keeping.{entries_many}

@@ -1,5 +1,5 @@
 -- What is found is counted for the authority.
-use Rattle.std.proofs.Common.{Some, sym, ap, ◌∙◌, string_bytes}
+use Rattle.std.proofs.Common.{sym, ap, string_bytes}
 use Rattle.std.specs.Prelude.{unwrap_or}
 use Rattle.std.specs.Str.{bytes_eq}
 use Rattle.std.proofs.lemmas.Slice.Eq.{bytes_eq-Decides}

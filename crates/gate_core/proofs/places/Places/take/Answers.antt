@@ -1,7 +1,7 @@
 -- One less is counted at the authority's index, and the others stay.
 -- The lemmas `takes_one` and `takes_at` of `Counting` say so.
-use Rattle.std.proofs.Common.{◌≡◌, ◌-◌, ℕ, List, Bool, Option, Some, None, IfSome, String, Global, is_some, sym, ap, ◌∙◌, subst, arith, string_bytes, true≢false}
-use Rattle.std.specs.Prelude.{slice_get, unwrap_or}
+use Rattle.std.proofs.Common.{◌≡◌, ◌-◌, ℕ, List, Option, Some, None, IfSome, String, Global, is_some, sym, ap, ◌∙◌, subst, arith, string_bytes, true≢false}
+use Rattle.std.specs.Prelude.{slice_get}
 use Rattle.std.specs.HashMap.{UpdatesBy}
 use Rattle.std.specs.Str.{bytes_eq}
 use Rattle.std.specs.String.{string_eq}

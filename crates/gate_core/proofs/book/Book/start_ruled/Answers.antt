@@ -5,7 +5,7 @@ use Rattle.gate_history.specs.declared.entry.Entry.TheVariants.{StartDenied, Sta
 use Rattle.gate_history.specs.Cause.{Decides}
 use Rattle.gate_core.specs.Gate.{Adds, history}
 use Rattle.gate_core.proofs.Calling.{stands_as, start_denied, start_spent}
-use Rattle.gate_core.proofs.book.Book.start.Goals as goal
+use Rattle.gate_core.proofs.book.Book.start_ruled.Goals as goal
 
 pub returns-then-not-stands : goal.returns-then-not-stands
 returns-then-not-stands c =
