@@ -9,4 +9,4 @@ mod shifting;
 mod told_fetcher;
 
 pub use job_list::{MAX_JOB_LINE, Unread, read_jobs};
-pub use shifting::{NotShifted, shift, shift_over};
+pub use shifting::{NotShifted, history_over, shift, shift_history, shift_over};

@@ -1,13 +1,15 @@
 //! `shift`: jobs, a line for each, done by several workers, and the report of what came of them.
 //! `crawlgate shift` runs it over standard input and output.
-ghost use Rattle.std.specs.Prelude.{◌≡◌, ◌≤◌, [], length};
+ghost use Rattle.std.specs.Prelude.{◌≡◌, ◌≤◌, [], OnOk, length};
 ghost use Rattle.gate_history.specs.Base.{empty_base};
 ghost use Rattle.job_line.specs.Limits.{IsCrew, max_jobs};
+ghost use Rattle.crawl_shift.specs.Histories.{WritesHistory};
 
 use crate::job_list::{Unread, read_jobs};
 use crate::progress::Progress;
 use crate::told_fetcher::ToldFetcher;
-use counted_io::{DeviceFault, Sink, Source};
+use counted_io::{DeviceFault, Output, Sink, Source};
+use crawl_audit::export;
 use crawl_job::Job;
 use crawl_workers::{Clock, Fetcher, Report, ShiftFault, run_shift};
 use gate_core::Book;
@@ -80,6 +82,73 @@ pub fn shift<
     let jobs = jobs.as_slice();
     let report = run_told(rt, alloc, jobs, workers, gate, fetcher, clock, &progress)?;
     progress.finish(report.outcomes.as_slice(), report.settled.starts)?;
+    Ok(())
+}
+
+/// `shift_history` over a new gate.
+pub fn history_over<
+    G: Gate + Send + Sync,
+    S: Source,
+    W: Sink,
+    F: Fetcher + Sync,
+    C: Clock + Sync,
+    R: Threads + Wait + Sync,
+>(
+    rt: &R,
+    alloc: Global,
+    reader: &mut S,
+    writer: &mut W,
+    workers: u64,
+    book: Book,
+    blanks: Blanks,
+    fetcher: &F,
+    clock: &C,
+) -> Result<(), NotShifted>
+    requires workers { IsCrew workers }
+    requires book { (book.base ≡ empty_base) × (book.entries ≡ []) }
+    requires blanks { blanks ≡ G.ledgers }
+    ensures { OnOk result (WritesHistory (W.written writer.old) (W.written writer.new)) }
+{
+    let gate: GateLock<G> = GateLock::new(book, blanks);
+    shift_history(rt, alloc, reader, writer, workers, &gate, fetcher, clock)
+}
+
+/// Reads the jobs to the end of the input, has so many workers do them over the gate, and writes the
+/// history of the gate, which an audit takes: that each page was allowed when its fetch began. Nothing
+/// is written where the jobs were not all done.
+pub fn shift_history<
+    S: Source,
+    W: Sink,
+    G: Gate + Send + Sync,
+    F: Fetcher + Sync,
+    C: Clock + Sync,
+    R: Threads + Wait + Sync,
+>(
+    rt: &R,
+    alloc: Global,
+    reader: &mut S,
+    writer: &mut W,
+    workers: u64,
+    gate: &GateLock<G>,
+    fetcher: &F,
+    clock: &C,
+) -> Result<(), NotShifted>
+    requires { IsCrew workers }
+    ensures { OnOk result (WritesHistory (W.written writer.old) (W.written writer.new)) }
+{
+    let jobs = read_jobs(alloc, reader)?;
+    let mut output = Output::new(alloc)?;
+    run_shift(
+        rt,
+        alloc,
+        jobs.as_slice(),
+        workers,
+        gate,
+        fetcher,
+        clock,
+        &(),
+    )?;
+    export(gate.lend(rt).book(), &mut output, writer)?;
     Ok(())
 }
 

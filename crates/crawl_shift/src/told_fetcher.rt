@@ -4,7 +4,7 @@ ghost use Rattle.crawl_workers.specs.Leaves.{page_of, robots_page_of};
 
 use crate::progress::Progress;
 use counted_io::Sink;
-use crawl_workers::{Fetcher, PageLeave, RobotsLeave};
+use crawl_workers::{Deadline, Fetcher, PageLeave, RobotsLeave};
 use http_wire::{HttpReply, WireFault};
 use std::sync::Wait;
 
@@ -20,7 +20,11 @@ impl<F: Fetcher, W: Sink, R: Wait> Fetcher for ToldFetcher<'_, '_, F, W, R> {
     ghost use Rattle.std.specs.Prelude.{◌≡◌, ◌⊎◌, Err};
     ghost use Rattle.http_wire.specs.declared.fault.WireFault.TheVariants.{Device};
 
-    ghost gives = { λ told url result. (F.gives told.fetcher.now url result) ⊎ (result ≡ Err Device) };
+    ghost gives = { λ told limit url result. (F.gives told.fetcher.now limit url result) ⊎ (result ≡ Err Device) };
+
+    fn begin_walk(&self) -> Option<Deadline> {
+        self.fetcher.begin_walk()
+    }
 
     fn load_page(&self, leave: &PageLeave<'_>, limit: usize) -> Result<HttpReply, WireFault> {
         if self.progress.has_failed() {
@@ -29,10 +33,14 @@ impl<F: Fetcher, W: Sink, R: Wait> Fetcher for ToldFetcher<'_, '_, F, W, R> {
         self.fetcher.load_page(leave, limit)
     }
 
-    fn load_robots(&self, leave: &RobotsLeave<'_>) -> Result<HttpReply, WireFault> {
+    fn load_robots(
+        &self,
+        leave: &RobotsLeave<'_>,
+        time: Option<Deadline>,
+    ) -> Result<HttpReply, WireFault> {
         if self.progress.has_failed() {
             return Err(WireFault::Device);
         }
-        self.fetcher.load_robots(leave)
+        self.fetcher.load_robots(leave, time)
     }
 }

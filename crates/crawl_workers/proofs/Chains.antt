@@ -1,15 +1,15 @@
 -- The hops of a job, one redirect after another.
 -- Used by the loop of `Worker::hops_from`.
-use Rattle.std.proofs.Common.{◌≡◌, ◌≤◌, ◌++◌, ◌∷◌, [], ℕ, List, Result, length, refl, sym, ap, ◌∙◌, subst, arith, append_assoc, append-nil, length-append}
+use Rattle.std.proofs.Common.{◌≡◌, ◌≤◌, ◌++◌, ◌∷◌, [], ℕ, List, length, refl, sym, ap, ◌∙◌, subst, arith, append_assoc, append-nil, length-append}
 use Rattle.gate_lock.specs.Desks.{DeskView}
 use Rattle.gate_lock.specs.declared.mark.Deed.{Deed}
-use Rattle.http_wire.specs.declared.fault.WireFault.{WireFault}
-use Rattle.http_wire.specs.declared.response.HttpReply.{HttpReply}
 use Rattle.robots_fetch.specs.Redirects.{most_redirects}
 use Rattle.crawl_job.specs.declared.hop.Hop.{Hop}
 use Rattle.crawl_workers.specs.declared.way_on.WayOn.TheVariants as ways
-use Rattle.crawl_workers.specs.Outcomes.{AfterRefresh, AreHops, Follows, IsFollowed, IsLast, IsStopped, deeds_of}
+use Rattle.crawl_workers.specs.Outcomes.{AfterRefresh, AreHops, Follows, IsFollowed, IsLast, IsStopped}
+use Rattle.crawl_workers.specs.Refreshes.{deeds_of}
 use Rattle.crawl_workers.specs.WaysOn.{AddsDeeds, TellsWay}
+use Rattle.crawl_workers.specs.World.{World}
 use Rattle.crawl_workers.proofs.Deeds.{appended}
 
 -- nothing in front and nothing behind
@@ -17,25 +17,25 @@ empty_front : (own : List Deed) → [] ++ own ≡ own ++ []
 empty_front own = sym (append-nil own)
 
 -- one redirect more is followed
-follows_more : (gives : List ℕ → Result HttpReply WireFault → Type 0) (token url mid next : List ℕ) (way : List Hop)
-    (hop : Hop) (front own : List Deed) → Follows gives token url way mid front →
-    AfterRefresh gives mid (IsFollowed gives token mid hop next) own →
-    Follows gives token url (way ++ hop ∷ []) next (front ++ own)
-follows_more gives token url mid next [] hop front own follows after = (
+follows_more : (world : World) (token url mid next : List ℕ) (way : List Hop)
+    (hop : Hop) (front own : List Deed) → Follows world token url way mid front →
+    AfterRefresh world mid (IsFollowed world token mid hop next) own →
+    Follows world token url (way ++ hop ∷ []) next (front ++ own)
+follows_more world token url mid next [] hop front own follows after = (
   next,
   (
     own,
     (
       [],
       (
-        subst (λ u. AfterRefresh gives u (IsFollowed gives token u hop next) own) (sym follows.0) after,
+        subst (λ u. AfterRefresh world u (IsFollowed world token u hop next) own) (sym follows.0) after,
         (refl, refl),
         ap (λ (ds : List Deed). ds ++ own) follows.1 ∙ empty_front own,
       ),
     ),
   ),
 )
-follows_more gives token url mid next (one ∷ way) hop front own follows after =
+follows_more world token url mid next (one ∷ way) hop front own follows after =
     let first = follows.1.0 in
     let rest = follows.1.1.0 in (
       follows.0,
@@ -45,7 +45,7 @@ follows_more gives token url mid next (one ∷ way) hop front own follows after 
           rest ++ own,
           (
             follows.1.1.1.0,
-            follows_more gives token follows.0 mid next way hop rest own follows.1.1.1.1 after,
+            follows_more world token follows.0 mid next way hop rest own follows.1.1.1.1 after,
             ap (λ (ds : List Deed). ds ++ own) follows.1.1.1.2 ∙ append_assoc first rest own,
           ),
         ),
@@ -54,43 +54,43 @@ follows_more gives token url mid next (one ∷ way) hop front own follows after 
 
 -- a desk has followed redirects, at most five
 pub record HasCome
-    (gives : List ℕ → Result HttpReply WireFault → Type 0) (token url : List ℕ) (way : List Hop) (end : List ℕ)
+    (world : World) (token url : List ℕ) (way : List Hop) (end : List ℕ)
     (old now : DeskView)
     : Type 0 where
   pub own : List Deed
   pub adds : deeds_of now.marks ≡ deeds_of old.marks ++ own
-  pub follows : Follows gives token url way end own
+  pub follows : Follows world token url way end own
   pub few : length way ≤ most_redirects
 
 -- it begins
-pub begin_chain : (gives : List ℕ → Result HttpReply WireFault → Type 0) (token url : List ℕ) (way : List Hop) (desk : DeskView) →
-    way ≡ [] → HasCome gives token url way url desk desk
-begin_chain gives token url way desk empty =
-    subst (λ (hs : List Hop). HasCome gives token url hs url desk desk) (sym empty)
+pub begin_chain : (world : World) (token url : List ℕ) (way : List Hop) (desk : DeskView) →
+    way ≡ [] → HasCome world token url way url desk desk
+begin_chain world token url way desk empty =
+    subst (λ (hs : List Hop). HasCome world token url hs url desk desk) (sym empty)
     (record { own = []; adds = sym (append-nil (deeds_of desk.marks)); follows = (refl, refl); few = omega arith })
 
 -- it goes on
-pub come_on : (gives : List ℕ → Result HttpReply WireFault → Type 0) (token url mid next : List ℕ) (way all : List Hop)
+pub come_on : (world : World) (token url mid next : List ℕ) (way all : List Hop)
     (hop : Hop) (followed : ℕ) (old now new : DeskView) → followed ≡ length way → all ≡ way ++ hop ∷ [] →
-    HasCome gives token url way mid old now →
-    AddsDeeds (AfterRefresh gives mid (TellsWay gives token mid followed (ways.Leads hop next))) now new →
-    HasCome gives token url all next old new
-come_on gives token url mid next way all hop followed old now new count is come added =
-    let after : AfterRefresh gives mid (IsFollowed gives token mid hop next) added.own =
+    HasCome world token url way mid old now →
+    AddsDeeds (AfterRefresh world mid (TellsWay world token mid followed (ways.Leads hop next))) now new →
+    HasCome world token url all next old new
+come_on world token url mid next way all hop followed old now new count is come added =
+    let after : AfterRefresh world mid (IsFollowed world token mid hop next) added.own =
     record { before = added.tells.before; behind = added.tells.behind; may_refresh = added.tells.may_refresh; tells = added.tells.tells.0; own_is = added.tells.own_is } in
-    subst (λ (hs : List Hop). HasCome gives token url hs next old new) (sym is) (record {
+    subst (λ (hs : List Hop). HasCome world token url hs next old new) (sym is) (record {
       own = come.own ++ added.own;
       adds = appended (deeds_of old.marks) (deeds_of now.marks) (deeds_of new.marks) come.own added.own come.adds added.adds;
-      follows = follows_more gives token url mid next way hop come.own added.own come.follows after;
+      follows = follows_more world token url mid next way hop come.own added.own come.follows after;
       few = omega (arith, length-append way (hop ∷ []), added.tells.tells.1, count);
     })
 
 -- it ends with one hop
-pub come_to_end : (gives : List ℕ → Result HttpReply WireFault → Type 0) (token url mid : List ℕ) (way : List Hop)
-    (hop : Hop) (body : List ℕ) (old now new : DeskView) → HasCome gives token url way mid old now →
-    AddsDeeds (AfterRefresh gives mid (IsLast gives token mid hop body)) now new →
-    AddsDeeds (AreHops gives token url (way ++ hop ∷ []) body) old new
-come_to_end gives token url mid way hop body old now new come added = record {
+pub come_to_end : (world : World) (token url mid : List ℕ) (way : List Hop)
+    (hop : Hop) (body : List ℕ) (old now new : DeskView) → HasCome world token url way mid old now →
+    AddsDeeds (AfterRefresh world mid (IsLast world token mid hop body)) now new →
+    AddsDeeds (AreHops world token url (way ++ hop ∷ []) body) old new
+come_to_end world token url mid way hop body old now new come added = record {
   own = come.own ++ added.own;
   adds = appended (deeds_of old.marks) (deeds_of now.marks) (deeds_of new.marks) come.own added.own come.adds added.adds;
   tells = record {
@@ -108,16 +108,16 @@ come_to_end gives token url mid way hop body old now new come added = record {
 }
 
 -- it ends with a redirect that is not followed, and why
-pub come_to_stop : (gives : List ℕ → Result HttpReply WireFault → Type 0) (token url mid : List ℕ) (way more all : List Hop)
+pub come_to_stop : (world : World) (token url mid : List ℕ) (way more all : List Hop)
     (hop stop : Hop) (body : List ℕ) (followed : ℕ) (old now new : DeskView) → followed ≡ length way →
-    more ≡ way ++ hop ∷ [] → all ≡ more ++ stop ∷ [] → body ≡ [] → HasCome gives token url way mid old now →
-    AddsDeeds (AfterRefresh gives mid (TellsWay gives token mid followed (ways.Stops hop stop))) now new →
-    AddsDeeds (AreHops gives token url all body) old new
-come_to_stop gives token url mid way more all hop stop body followed old now new count one other empty come added =
-    let behind : AddsDeeds (AfterRefresh gives mid (TellsWay gives token mid (length way) (ways.Stops hop stop))) now new =
-    subst (λ n. AddsDeeds (AfterRefresh gives mid (TellsWay gives token mid n (ways.Stops hop stop))) now new) count added in
-    let ends : AfterRefresh gives mid (IsStopped gives token mid (length way) hop stop body) behind.own =
-    subst (λ (octets : List ℕ). AfterRefresh gives mid (IsStopped gives token mid (length way) hop stop octets) behind.own) (sym empty) behind.tells in
+    more ≡ way ++ hop ∷ [] → all ≡ more ++ stop ∷ [] → body ≡ [] → HasCome world token url way mid old now →
+    AddsDeeds (AfterRefresh world mid (TellsWay world token mid followed (ways.Stops hop stop))) now new →
+    AddsDeeds (AreHops world token url all body) old new
+come_to_stop world token url mid way more all hop stop body followed old now new count one other empty come added =
+    let behind : AddsDeeds (AfterRefresh world mid (TellsWay world token mid (length way) (ways.Stops hop stop))) now new =
+    subst (λ n. AddsDeeds (AfterRefresh world mid (TellsWay world token mid n (ways.Stops hop stop))) now new) count added in
+    let ends : AfterRefresh world mid (IsStopped world token mid (length way) hop stop body) behind.own =
+    subst (λ (octets : List ℕ). AfterRefresh world mid (IsStopped world token mid (length way) hop stop octets) behind.own) (sym empty) behind.tells in
     record {
       own = come.own ++ behind.own;
       adds = appended (deeds_of old.marks) (deeds_of now.marks) (deeds_of new.marks) come.own behind.own come.adds behind.adds;

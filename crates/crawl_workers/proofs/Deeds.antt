@@ -9,7 +9,7 @@ use Rattle.gate_lock.specs.Desks.{DeskView, Looks, Makes}
 use Rattle.gate_lock.specs.Marks.{deed_of, mark_at}
 use Rattle.gate_lock.specs.declared.mark.Deed.{Deed}
 use Rattle.gate_lock.specs.declared.mark.Mark.{Mark}
-use Rattle.crawl_workers.specs.Outcomes.{deeds_of}
+use Rattle.crawl_workers.specs.Refreshes.{deeds_of}
 
 -- deeds behind deeds
 pub appended : (xs ys zs own more : List Deed) → ys ≡ xs ++ own → zs ≡ ys ++ more → zs ≡ xs ++ (own ++ more)

@@ -1,6 +1,6 @@
 -- The deeds of one hop, from those of the desk's steps.
 -- Used by the answers of `Worker`.
-use Rattle.std.proofs.Common.{◌≡◌, ◌<◌, ◌++◌, ◌∷◌, [], ℕ, Bool, true, false, List, Result, Ok, Err, Option, refl, sym, ap, ◌∙◌, subst, inl, inr, append-nil, nat_lt}
+use Rattle.std.proofs.Common.{◌≡◌, ◌<◌, ◌++◌, ◌∷◌, [], ℕ, Bool, true, false, List, Result, Ok, Err, Option, refl, sym, ap, ◌∙◌, subst, arith, inl, inr, append-nil, nat_lt}
 use Rattle.std.specs.Prelude.{if◌then◌else◌}
 use Rattle.std.proofs.lemmas.Bool.{ltb-true}
 use Rattle.path_normal.specs.PageText.{authority_of}
@@ -8,14 +8,12 @@ use Rattle.gate_history.specs.declared.entry.Entry.TheVariants as entries
 use Rattle.gate_history.specs.declared.outcome.Reason.{Reason}
 use Rattle.gate_core.specs.declared.refusal.AskRefusal.{AskRefusal}
 use Rattle.gate_core.specs.declared.refusal.AskRefusal.TheVariants as asks
-use Rattle.gate_core.specs.declared.refusal.BeginRefusal.{BeginRefusal}
 use Rattle.gate_core.specs.declared.refusal.Denial.{Denial}
 use Rattle.gate_core.specs.declared.state.Standing.{Standing}
-use Rattle.gate_core.specs.declared.state.State.{State}
 use Rattle.gate_core.specs.Gate.{Gate}
 use Rattle.gate_core.specs.Replies.{moment_at}
 use Rattle.gate_lock.specs.Desks.{DeskView, Errand, Pass, Run}
-use Rattle.gate_lock.specs.Steps.{DeskAsks, DeskBegins, DeskFinishes, DeskReads, DeskStarts, Somewhere}
+use Rattle.gate_lock.specs.Steps.{DeskAsks, DeskFinishes, DeskStarts, Somewhere}
 use Rattle.gate_lock.specs.declared.mark.Deed.{Deed}
 use Rattle.gate_lock.specs.declared.mark.Deed.TheVariants as deeds
 use Rattle.http_wire.specs.declared.fault.WireFault.{WireFault}
@@ -28,130 +26,107 @@ use Rattle.crawl_job.specs.declared.hop.Hop.TheVariants as hops
 use Rattle.crawl_job.specs.declared.hop.Refusal.{Refusal}
 use Rattle.crawl_workers.specs.declared.way_on.WayOn.{WayOn}
 use Rattle.crawl_workers.specs.declared.way_on.WayOn.TheVariants as ways
-use Rattle.crawl_workers.specs.Outcomes.{AfterRefresh, IsFetch, IsLast, IsRedirect, MayRefresh, body_of, deeds_of, hop_of, location_of}
-use Rattle.crawl_workers.specs.Refreshes.{IsNotBegun, IsRefreshed}
+use Rattle.crawl_workers.specs.Outcomes.{AfterRefresh, IsFetch, IsLast, IsRedirect, MayRefresh, body_of, hop_of, location_of}
+use Rattle.crawl_workers.specs.Limits.{page_limit, robots_limit}
+use Rattle.crawl_workers.specs.Refreshes.{BeginsStale, Brings, DoesNothing, IsBrought, deeds_of}
 use Rattle.crawl_workers.specs.WaysOn.{AddsDeeds, GoesOn, TellsWay, ask_hop}
+use Rattle.crawl_workers.specs.World.{IsSinceRead, World}
 use Rattle.crawl_workers.proofs.Deeds.{appended, looked, made}
 use Rattle.crawl_workers.proofs.Fetching.{brought_life}
 
 -- no deed, and so no turn
-nothing_made : (gives : List ℕ → Result HttpReply WireFault → Type 0) (authority : List ℕ) (old new : DeskView) →
-    deeds_of new.marks ≡ deeds_of old.marks ++ [] → AddsDeeds (MayRefresh gives authority) old new
-nothing_made gives authority old new is = record { own = []; adds = is; tells = inl refl }
+nothing_made : (world : World) (authority : List ℕ) (old new : DeskView) →
+    deeds_of new.marks ≡ deeds_of old.marks ++ [] → AddsDeeds (MayRefresh world authority) old new
+nothing_made world authority old new is = record { own = []; adds = is; tells = inl refl }
 
--- a look is no turn
-pub read_only : (gives : List ℕ → Result HttpReply WireFault → Type 0) (authority named : List ℕ) (m : ℕ) (state : State)
-    (old new : DeskView) → Somewhere old (λ g g2. DeskReads old g named m state g2 new) →
-    AddsDeeds (MayRefresh gives authority) old new
-read_only gives authority named m state old new step =
-    nothing_made gives authority old new (looked old step.0 new step.1.1.2.2)
+-- a desk that did nothing made no turn
+pub did_nothing : (world : World) (authority : List ℕ) (old new : DeskView) → DoesNothing old new → AddsDeeds (MayRefresh world authority) old new
+did_nothing world authority old new is =
+    nothing_made world authority old new (is.deeds_stay ∙ sym (append-nil (deeds_of old.marks)))
 
--- a begin that is refused is no turn
-pub not_begun : (gives : List ℕ → Result HttpReply WireFault → Type 0) (authority named : List ℕ) (refusal : BeginRefusal)
-    (old new : DeskView) → IsNotBegun named refusal old new → AddsDeeds (MayRefresh gives authority) old new
-not_begun gives authority named refusal old new is =
-    nothing_made gives authority old new (looked old is.1.0 new is.1.1.1.2.1)
+-- a moment of an entry is the one handed in, or behind it
+pub since : (world : World) (g : Gate) (m : ℕ) → world.reads m → IsSinceRead world (moment_at g m)
+since world g m reads = (m, (reads, omega arith))
 
--- a look behind what is no turn or one
-pub then_read : (gives : List ℕ → Result HttpReply WireFault → Type 0) (authority named : List ℕ) (m : ℕ) (state : State)
-    (old mid new : DeskView) → AddsDeeds (MayRefresh gives authority) old mid →
-    Somewhere mid (λ g g2. DeskReads mid g named m state g2 new) → AddsDeeds (MayRefresh gives authority) old new
-then_read gives authority named m state old mid new before step = record {
-  own = before.own;
-  adds =
-      appended (deeds_of old.marks) (deeds_of mid.marks) (deeds_of new.marks) before.own [] before.adds (looked mid step.0 new step.1.1.2.2)
-      ∙ ap (λ (ds : List Deed). deeds_of old.marks ++ ds) (append-nil before.own);
-  tells = before.tells;
-}
-
--- what is no turn or one, behind a look
-pub read_then : (gives : List ℕ → Result HttpReply WireFault → Type 0) (authority named : List ℕ) (m : ℕ) (state : State)
-    (old mid new : DeskView) → Somewhere old (λ g g2. DeskReads old g named m state g2 mid) →
-    AddsDeeds (MayRefresh gives authority) mid new → AddsDeeds (MayRefresh gives authority) old new
-read_then gives authority named m state old mid new step behind = record {
-  own = behind.own;
-  adds =
-      appended (deeds_of old.marks) (deeds_of mid.marks) (deeds_of new.marks) [] behind.own (looked old step.0 mid step.1.1.2.2) behind.adds;
-  tells = behind.tells;
-}
-
--- a turn that began
-begun : (authority : List ℕ) (m : ℕ) (turn : Errand) (old new : DeskView) (g g2 : Gate) →
-    DeskBegins old g authority m (Ok turn) g2 new →
-    deeds_of new.marks ≡ deeds_of old.marks ++ deeds.Begun (moment_at g m) authority turn.turn ∷ []
-begun authority m turn old new g g2 step = made old g (entries.Begun (moment_at g m) authority turn.turn) new step.2
-
--- a refresh is a turn that brought an answer
-pub refreshed : (gives : List ℕ → Result HttpReply WireFault → Type 0) (authority : List ℕ) (word : Standing)
-    (old new : DeskView) → IsRefreshed gives authority word old new → AddsDeeds (MayRefresh gives authority) old new
-refreshed gives authority word old new is =
-    let g = is.begins.0 in
-    let h = is.arrives.0 in
-    let first = begun authority is.begun is.turn old is.between g is.begins.1.0 is.begins.1.1.2 in
-    let other = made is.between h _ new is.arrives.1.1.2.1 in
-    let life = brought_life gives authority is.says is.life is.brings in
+-- a turn that began where no answer was in force, and brought one
+pub refreshed : (world : World) (authority : List ℕ) (turn : Errand) (word : Standing) (old mid new : DeskView) →
+    BeginsStale world authority turn old mid → Brings world turn word mid new → AddsDeeds (MayRefresh world authority) old new
+refreshed world authority turn word old mid new begins brings =
+    let h = brings.arrives.0 in
+    let other = made mid h _ new brings.arrives.1.1.2.1 in
+    let its_authority : turn.authority ≡ authority = ap (λ (t : Errand). t.authority) begins.turn_is in
+    let P : List ℕ → Type 0 = λ name. IsBrought (world.gives robots_limit) name brings.says brings.life in
+    let brought = subst P its_authority brings.brings in
+    let life = brought_life (world.gives robots_limit) authority brings.says brings.life brought in
     record {
-      own = deeds.Begun (moment_at g is.begun) authority is.turn.turn
-          ∷ deeds.Arrived (moment_at h is.arrived) is.turn.turn is.says is.life ∷ [];
-      adds = appended (deeds_of old.marks) (deeds_of is.between.marks) (deeds_of new.marks) _
-          (deeds.Arrived (moment_at h is.arrived) is.turn.turn is.says is.life ∷ []) first
-          (subst (λ n. deeds_of new.marks ≡ deeds_of is.between.marks ++ deeds.Arrived (moment_at h is.arrived) is.turn.turn is.says n ∷ []) life other);
+      own = deeds.Begun begins.begun authority turn.turn
+          ∷ deeds.Arrived (moment_at h brings.arrived) turn.turn brings.says brings.life ∷ [];
+      adds = appended (deeds_of old.marks) (deeds_of mid.marks) (deeds_of new.marks) _
+          (deeds.Arrived (moment_at h brings.arrived) turn.turn brings.says brings.life ∷ []) begins.adds
+          (subst (λ n. deeds_of new.marks ≡ deeds_of mid.marks ++ deeds.Arrived (moment_at h brings.arrived) turn.turn brings.says n ∷ []) life other);
       tells = inr (record {
-        begun = moment_at g is.begun;
-        turn = is.turn.turn;
-        arrived = moment_at h is.arrived;
-        says = is.says;
-        life = is.life;
-        brings = is.brings;
+        begun = begins.begun;
+        turn = turn.turn;
+        arrived = moment_at h brings.arrived;
+        says = brings.says;
+        life = brings.life;
+        since_begun = begins.since_begun;
+        since_arrived = since world h brings.arrived brings.read_arrived;
+        stale = begins.stale;
+        brings = brought;
         own_is = refl;
       });
     }
 
 -- a hop behind what is no turn or one
-pub behind_refresh : (gives : List ℕ → Result HttpReply WireFault → Type 0) (url : List ℕ) (Tells : List Deed → Type 0)
-    (old mid new : DeskView) → AddsDeeds (MayRefresh gives (authority_of url)) old mid → AddsDeeds Tells mid new →
-    AddsDeeds (AfterRefresh gives url Tells) old new
-behind_refresh gives url Tells old mid new before behind = record {
+pub behind_refresh : (world : World) (url : List ℕ) (Tells : List Deed → Type 0)
+    (old mid new : DeskView) → AddsDeeds (MayRefresh world (authority_of url)) old mid → AddsDeeds Tells mid new →
+    AddsDeeds (AfterRefresh world url Tells) old new
+behind_refresh world url Tells old mid new before behind = record {
   own = before.own ++ behind.own;
   adds = appended (deeds_of old.marks) (deeds_of mid.marks) (deeds_of new.marks) before.own behind.own before.adds behind.adds;
   tells = record { before = before.own; behind = behind.own; may_refresh = before.tells; tells = behind.tells; own_is = refl };
 }
 
 -- a refusal makes no deed
-pub refused : (gives : List ℕ → Result HttpReply WireFault → Type 0) (token url : List ℕ) (refusal : Refusal)
-    (body : List ℕ) (desk : DeskView) → body ≡ [] → AddsDeeds (IsLast gives token url (hops.Refused refusal) body) desk desk
-refused gives token url refusal body desk empty =
+pub refused : (world : World) (token url : List ℕ) (refusal : Refusal)
+    (body : List ℕ) (desk : DeskView) → body ≡ [] → AddsDeeds (IsLast world token url (hops.Refused refusal) body) desk desk
+refused world token url refusal body desk empty =
     record { own = []; adds = sym (append-nil (deeds_of desk.marks)); tells = (refl, empty) }
 
 -- an ask that granted no permit
-pub ask_refused : (gives : List ℕ → Result HttpReply WireFault → Type 0) (token url : List ℕ) (m : ℕ)
-    (refusal : AskRefusal) (body : List ℕ) (old new : DeskView) → body ≡ [] →
+pub ask_refused : (world : World) (token url : List ℕ) (m : ℕ)
+    (refusal : AskRefusal) (body : List ℕ) (old new : DeskView) → world.reads m → body ≡ [] →
     Somewhere old (λ g g2. DeskAsks old g token url m (Err refusal) g2 new) →
-    AddsDeeds (IsLast gives token url (ask_hop refusal) body) old new
-ask_refused gives token url m (asks.Denied denial) body old new empty step = record {
+    AddsDeeds (IsLast world token url (ask_hop refusal) body) old new
+ask_refused world token url m (asks.Denied denial) body old new reads empty step = record {
   own = deeds.AskDenied (moment_at step.0 m) (record { token = token; url = url }) denial.cause ∷ [];
   adds = made old step.0 (entries.AskDenied (moment_at step.0 m) (record { token = token; url = url }) denial.cause) new step.1.1.2.1;
-  tells = (step.1.1.2.0.1, inl (moment_at step.0 m, refl), empty);
+  tells = (
+    step.1.1.2.0.1,
+    inl (record { denied = moment_at step.0 m; since_denied = since world step.0 m reads; own_is = refl }),
+    empty,
+  );
 }
-ask_refused gives token url m asks.LogFull body old new empty step =
+ask_refused world token url m asks.LogFull body old new reads empty step =
     record { own = []; adds = looked old step.0 new step.1.1.2.1; tells = (refl, empty) }
-ask_refused gives token url m asks.Busy body old new empty step =
+ask_refused world token url m asks.Busy body old new reads empty step =
     record { own = []; adds = looked old step.0 new step.1.1.2.1; tells = (refl, empty) }
-ask_refused gives token url m asks.PermitsFull body old new empty step =
+ask_refused world token url m asks.PermitsFull body old new reads empty step =
     record { own = []; adds = looked old step.0 new step.1.1.2.1; tells = (refl, empty) }
-ask_refused gives token url m asks.NoMemory body old new empty step =
+ask_refused world token url m asks.NoMemory body old new reads empty step =
     record { own = []; adds = looked old step.0 new step.1.1.2.1; tells = (refl, empty) }
 
 -- what is true of a grant's deeds, whatever its moment, behind the grant
-pub ask_granted : (gives : List ℕ → Result HttpReply WireFault → Type 0) (token url : List ℕ) (m followed : ℕ)
+pub ask_granted : (world : World) (token url : List ℕ) (m followed : ℕ)
     (permit : Pass) (way : WayOn) (old mid new : DeskView) →
-    Somewhere old (λ g g2. DeskAsks old g token url m (Ok permit) g2 mid) →
-    AddsDeeds (λ (own : List Deed). (granted : ℕ) → TellsWay gives permit.token permit.url followed way
+    world.reads m → Somewhere old (λ g g2. DeskAsks old g token url m (Ok permit) g2 mid) →
+    AddsDeeds (λ (own : List Deed). (granted : ℕ) → IsSinceRead world granted → TellsWay world permit.token permit.url followed way
     (deeds.Granted granted permit.number (record { token = permit.token; url = permit.url }) ∷ own)) mid new →
-    AddsDeeds (TellsWay gives token url followed way) old new
-ask_granted gives token url m followed permit way old mid new step behind =
+    AddsDeeds (TellsWay world token url followed way) old new
+ask_granted world token url m followed permit way old mid new reads step behind =
     let g = step.0 in
-    let P : Pass → Type 0 = λ p. TellsWay gives p.token p.url followed way
+    let P : Pass → Type 0 = λ p. TellsWay world p.token p.url followed way
     (deeds.Granted (moment_at g m) permit.number (record { token = p.token; url = p.url }) ∷ behind.own) in
     record {
       own = deeds.Granted (moment_at g m) permit.number (record { token = token; url = url }) ∷ behind.own;
@@ -159,21 +134,28 @@ ask_granted gives token url m followed permit way old mid new step behind =
           (deeds.Granted (moment_at g m) permit.number (record { token = token; url = url }) ∷ []) behind.own
           (made old g (entries.Granted (moment_at g m) permit.number (record { token = token; url = url })) mid step.1.1.2.2)
           behind.adds;
-      tells = subst P step.1.1.2.1 (behind.tells (moment_at g m));
+      tells = subst P step.1.1.2.1 (behind.tells (moment_at g m) (since world g m reads));
     }
 
 -- a start that is denied
-pub start_denied : (gives : List ℕ → Result HttpReply WireFault → Type 0) (permit : Pass) (m followed : ℕ)
-    (denial : Denial) (body : List ℕ) (old new : DeskView) → body ≡ [] →
+pub start_denied : (world : World) (permit : Pass) (m followed : ℕ)
+    (denial : Denial) (body : List ℕ) (old new : DeskView) → world.reads m → body ≡ [] →
     Somewhere old (λ g g2. DeskStarts old g permit m (Err denial) g2 new) →
-    AddsDeeds (λ (own : List Deed). (granted : ℕ) → IsLast gives permit.token permit.url (hops.No denial) body
+    AddsDeeds (λ (own : List Deed). (granted : ℕ) → IsSinceRead world granted → IsLast world permit.token permit.url (hops.No denial) body
     (deeds.Granted granted permit.number (record { token = permit.token; url = permit.url }) ∷ own)) old new
-start_denied gives permit m followed denial body old new empty step = record {
+start_denied world permit m followed denial body old new reads empty step = record {
   own = deeds.StartDenied (moment_at step.0 m) permit.number denial.cause ∷ [];
   adds = made old step.0 (entries.StartDenied (moment_at step.0 m) permit.number denial.cause) new step.1.1.2.2;
-  tells = λ granted. (
+  tells = λ granted since_granted. (
     step.1.1.2.1.0,
-    inr (record { number = permit.number; granted = granted; denied = moment_at step.0 m; own_is = refl }),
+    inr (record {
+      number = permit.number;
+      granted = granted;
+      denied = moment_at step.0 m;
+      since_granted = since_granted;
+      since_denied = since world step.0 m reads;
+      own_is = refl;
+    }),
     empty,
   );
 }
@@ -195,60 +177,63 @@ led followed url location next is =
     (ltb-true followed most_redirects both.0, both.1)
 
 -- a hop of a fetch that gave no redirect is the last
-last_fetch : (gives : List ℕ → Result HttpReply WireFault → Type 0) (token url : List ℕ) (number : ℕ) (reason : Reason)
+last_fetch : (world : World) (token url : List ℕ) (number : ℕ) (reason : Reason)
     (given : Result HttpReply WireFault) (body : List ℕ) (own : List Deed) →
-    IsFetch gives token url (hop_of number reason given) given own → (IsRedirect given → ⊥) → body ≡ body_of given →
-    IsLast gives token url (hop_of number reason given) body own
-last_fetch gives token url number reason (Ok reply) body own fetch ends is =
+    IsFetch world token url (hop_of number reason given) given own → (IsRedirect given → ⊥) → body ≡ body_of given →
+    IsLast world token url (hop_of number reason given) body own
+last_fetch world token url number reason (Ok reply) body own fetch ends is =
     record { given = Ok reply; fetch = fetch; ends = ends; body_is = is }
-last_fetch gives token url number reason (Err fault) body own fetch ends is =
+last_fetch world token url number reason (Err fault) body own fetch ends is =
     record { given = Err fault; fetch = fetch; ends = ends; body_is = is }
 
 -- the deeds of a fetch tell its way on
-pub fetch_tells : (gives : List ℕ → Result HttpReply WireFault → Type 0) (token url : List ℕ) (number : ℕ)
+pub fetch_tells : (world : World) (token url : List ℕ) (number : ℕ)
     (reason : Reason) (granted started followed : ℕ) (given : Result HttpReply WireFault) (way : WayOn) →
-    gives url given → GoesOn number reason followed url given way →
-    TellsWay gives token url followed way
+    IsSinceRead world granted → IsSinceRead world started → world.gives page_limit url given →
+    GoesOn number reason followed url given way →
+    TellsWay world token url followed way
     (deeds.Granted granted number (record { token = token; url = url }) ∷ deeds.Started started number reason
     ∷ deeds.Finished number ∷ [])
-fetch_tells gives token url number reason granted started followed given (ways.Ends hop body) is goes =
+fetch_tells world token url number reason granted started followed given (ways.Ends hop body) since_granted since_started is goes =
     let own : List Deed = deeds.Granted granted number (record { token = token; url = url }) ∷ deeds.Started started number reason
     ∷ deeds.Finished number ∷ [] in
-    subst (λ (h : Hop). IsLast gives token url h body.items own) (sym goes.0)
-    (last_fetch gives token url number reason given body.items own
-    (record { number = number; reason = reason; granted = granted; started = started; is_given = is; own_is = refl; tells = refl })
+    subst (λ (h : Hop). IsLast world token url h body.items own) (sym goes.0)
+    (last_fetch world token url number reason given body.items own
+    (record { number = number; reason = reason; granted = granted; started = started; since_granted = since_granted; since_started = since_started; is_given = is; own_is = refl; tells = refl })
     goes.1 goes.2)
-fetch_tells gives token url number reason granted started followed given (ways.Leads hop next) is goes =
+fetch_tells world token url number reason granted started followed given (ways.Leads hop next) since_granted since_started is goes =
     let on = led followed url (location_of given) next goes.1.1 in (
       record {
         given = given;
-        fetch = record { number = number; reason = reason; granted = granted; started = started; is_given = is; own_is = refl; tells = goes.1.0 };
+        fetch = record { number = number; reason = reason; granted = granted; started = started; since_granted = since_granted; since_started = since_started; is_given = is; own_is = refl; tells = goes.1.0 };
         redirects = goes.0;
         leads = on.1;
       },
       on.0,
     )
-fetch_tells gives token url number reason granted started followed given (ways.Stops hop stop) is goes = record {
+fetch_tells world token url number reason granted started followed given (ways.Stops hop stop) since_granted since_started is goes = record {
   given = given;
-  fetch = record { number = number; reason = reason; granted = granted; started = started; is_given = is; own_is = refl; tells = goes.1.0 };
+  fetch = record { number = number; reason = reason; granted = granted; started = started; since_granted = since_granted; since_started = since_started; is_given = is; own_is = refl; tells = goes.1.0 };
   redirects = goes.0;
   stops = goes.1.1;
   body_is = refl;
 }
 
 -- a fetch that was started, made and finished
-pub fetched_once : (gives : List ℕ → Result HttpReply WireFault → Type 0) (permit : Pass) (m followed : ℕ) (run : Run)
+pub fetched_once : (world : World) (permit : Pass) (m followed : ℕ) (run : Run)
     (given : Result HttpReply WireFault) (way : WayOn) (old mid new : DeskView) →
-    Somewhere old (λ g g2. DeskStarts old g permit m (Ok run) g2 mid) → gives permit.url given →
+    world.reads m → Somewhere old (λ g g2. DeskStarts old g permit m (Ok run) g2 mid) →
+    world.gives page_limit permit.url given →
     GoesOn permit.number run.reason followed permit.url given way →
     Somewhere mid (λ g g2. DeskFinishes mid g permit.number g2 new) →
-    AddsDeeds (λ (own : List Deed). (granted : ℕ) → TellsWay gives permit.token permit.url followed way
+    AddsDeeds (λ (own : List Deed). (granted : ℕ) → IsSinceRead world granted → TellsWay world permit.token permit.url followed way
     (deeds.Granted granted permit.number (record { token = permit.token; url = permit.url }) ∷ own)) old new
-fetched_once gives permit m followed run given way old mid new starts is goes finishes = record {
+fetched_once world permit m followed run given way old mid new reads starts is goes finishes = record {
   own = deeds.Started (moment_at starts.0 m) permit.number run.reason ∷ deeds.Finished permit.number ∷ [];
   adds = appended (deeds_of old.marks) (deeds_of mid.marks) (deeds_of new.marks)
       (deeds.Started (moment_at starts.0 m) permit.number run.reason ∷ []) (deeds.Finished permit.number ∷ [])
       (made old starts.0 (entries.Started (moment_at starts.0 m) permit.number run.reason) mid starts.1.1.2.3)
       (made mid finishes.0 (entries.Finished permit.number) new finishes.1.1.2.1);
-  tells = λ granted. fetch_tells gives permit.token permit.url permit.number run.reason granted (moment_at starts.0 m) followed given way is goes;
+  tells = λ granted since_granted. fetch_tells world permit.token permit.url permit.number run.reason granted (moment_at starts.0 m) followed given way
+      since_granted (since world starts.0 m reads) is goes;
 }

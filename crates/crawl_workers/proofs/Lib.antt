@@ -8,3 +8,4 @@ mod Hops
 mod Placing
 mod Shifting
 pub mod Starting
+mod Taking

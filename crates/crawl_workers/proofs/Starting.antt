@@ -16,7 +16,9 @@ use Rattle.crawl_job.specs.declared.hop.Refusal.TheVariants as refusals
 use Rattle.crawl_job.specs.declared.job.Job.{Job}
 use Rattle.crawl_job.specs.declared.job.Outcome.{Outcome}
 use Rattle.crawl_workers.specs.OutcomeLaws.{FetchesAreCounted, FetchesAreStarted, numbers_fetched, numbers_started}
-use Rattle.crawl_workers.specs.Outcomes.{AfterRefresh, AreHops, Follows, IsEnd, IsFetch, IsFollowed, IsLast, IsStop, IsStopped, MayRefresh, Works, deeds_of, fetches_in, hop_of}
+use Rattle.crawl_workers.specs.Outcomes.{AfterRefresh, AreHops, Follows, IsEnd, IsFetch, IsFollowed, IsLast, IsStop, IsStopped, MayRefresh, Works, fetches_in, hop_of}
+use Rattle.crawl_workers.specs.Refreshes.{deeds_of}
+use Rattle.crawl_workers.specs.World.{World}
 
 -- the numbers of two lists of deeds, one behind the other
 started_append : (xs ys : List Deed) → numbers_started (xs ++ ys) ≡ numbers_started xs ++ numbers_started ys
@@ -38,18 +40,18 @@ both_append front back own ns ms is one other =
     ap numbers_started is ∙ started_append front back ∙ ap (λ (xs : List ℕ). xs ++ numbers_started back) one ∙ ap (λ (xs : List ℕ). ns ++ xs) other
 
 -- a refresh starts no fetch of a page
-no_start : (gives : List ℕ → Result HttpReply WireFault → Type 0) (authority : List ℕ) (own : List Deed) →
-    MayRefresh gives authority own → numbers_started own ≡ []
-no_start gives authority own (inl is) = ap numbers_started is
-no_start gives authority own (inr turn) = ap numbers_started turn.own_is
+no_start : (world : World) (authority : List ℕ) (own : List Deed) →
+    MayRefresh world authority own → numbers_started own ≡ []
+no_start world authority own (inl is) = ap numbers_started is
+no_start world authority own (inr turn) = ap numbers_started turn.own_is
 
 -- so a hop behind one starts what it starts by itself
-after_start : (gives : List ℕ → Result HttpReply WireFault → Type 0) (url : List ℕ) (Tells : List Deed → Type 0)
-    (own : List Deed) (ns : List ℕ) → AfterRefresh gives url Tells own →
+after_start : (world : World) (url : List ℕ) (Tells : List Deed → Type 0)
+    (own : List Deed) (ns : List ℕ) → AfterRefresh world url Tells own →
     ((behind : List Deed) → Tells behind → numbers_started behind ≡ ns) → numbers_started own ≡ ns
-after_start gives url Tells own ns after starts =
+after_start world url Tells own ns after starts =
     both_append after.before after.behind own [] ns after.own_is
-    (no_start gives _ after.before after.may_refresh) (starts after.behind after.tells)
+    (no_start world _ after.before after.may_refresh) (starts after.behind after.tells)
 
 -- the number of a hop of a fetch
 number_of_hop : (number : ℕ) (reason : Reason) (given : Result HttpReply WireFault) →
@@ -58,24 +60,24 @@ number_of_hop number reason (Ok reply) = refl
 number_of_hop number reason (Err fault) = refl
 
 -- a fetch is started by its number
-fetch_starts : (gives : List ℕ → Result HttpReply WireFault → Type 0) (token url : List ℕ) (hop : Hop)
-    (given : Result HttpReply WireFault) (own : List Deed) → IsFetch gives token url hop given own →
+fetch_starts : (world : World) (token url : List ℕ) (hop : Hop)
+    (given : Result HttpReply WireFault) (own : List Deed) → IsFetch world token url hop given own →
     numbers_started own ≡ numbers_fetched (hop ∷ [])
-fetch_starts gives token url hop given own fetch =
+fetch_starts world token url hop given own fetch =
     ap numbers_started fetch.own_is
     ∙ sym (ap (λ (h : Hop). numbers_fetched (h ∷ [])) fetch.tells ∙ number_of_hop fetch.number fetch.reason given)
 
 -- the last hop by itself is started by its number, where it is a fetch
-last_starts : (gives : List ℕ → Result HttpReply WireFault → Type 0) (token url : List ℕ) (hop : Hop) (body : List ℕ)
-    (own : List Deed) → IsLast gives token url hop body own → numbers_started own ≡ numbers_fetched (hop ∷ [])
-last_starts gives token url (hops.Page number reason status size cut) body own last =
-    fetch_starts gives token url (hops.Page number reason status size cut) last.given own last.fetch
-last_starts gives token url (hops.Fault number fault) body own last =
-    fetch_starts gives token url (hops.Fault number fault) last.given own last.fetch
-last_starts gives token url (hops.No denial) body own (is, inl asked, empty) = ap numbers_started asked.1
-last_starts gives token url (hops.No denial) body own (is, inr started, empty) = ap numbers_started started.own_is
-last_starts gives token url (hops.Refused refusal) body own last = ap numbers_started last.0
-last_starts gives token url (hops.Stop stop) body own last = absurd last
+last_starts : (world : World) (token url : List ℕ) (hop : Hop) (body : List ℕ)
+    (own : List Deed) → IsLast world token url hop body own → numbers_started own ≡ numbers_fetched (hop ∷ [])
+last_starts world token url (hops.Page number reason status size cut) body own last =
+    fetch_starts world token url (hops.Page number reason status size cut) last.given own last.fetch
+last_starts world token url (hops.Fault number fault) body own last =
+    fetch_starts world token url (hops.Fault number fault) last.given own last.fetch
+last_starts world token url (hops.No denial) body own (is, inl asked, empty) = ap numbers_started asked.own_is
+last_starts world token url (hops.No denial) body own (is, inr started, empty) = ap numbers_started started.own_is
+last_starts world token url (hops.Refused refusal) body own last = ap numbers_started last.0
+last_starts world token url (hops.Stop stop) body own last = absurd last
 
 -- why a redirect is not followed is no fetch
 stop_starts : (followed : ℕ) (target : Result (List ℕ) Stop) (stop : Hop) → IsStop followed target stop →
@@ -88,44 +90,44 @@ stop_starts followed target (hops.Fault number fault) is = absurd is
 stop_starts followed target (hops.No denial) is = absurd is
 
 -- the last hops are started by their numbers
-end_starts : (gives : List ℕ → Result HttpReply WireFault → Type 0) (token url : List ℕ) (followed : ℕ) (last : List Hop)
-    (body : List ℕ) (own : List Deed) → IsEnd gives token url followed last body own →
+end_starts : (world : World) (token url : List ℕ) (followed : ℕ) (last : List Hop)
+    (body : List ℕ) (own : List Deed) → IsEnd world token url followed last body own →
     numbers_started own ≡ numbers_fetched last
-end_starts gives token url followed [] body own end = absurd end
-end_starts gives token url followed (hop ∷ []) body own end =
-    after_start gives url (IsLast gives token url hop body) own (numbers_fetched (hop ∷ [])) end
-    (λ behind last. last_starts gives token url hop body behind last)
-end_starts gives token url followed (hop ∷ (stop ∷ [])) body own end =
-    after_start gives url (IsStopped gives token url followed hop stop body) own (numbers_fetched (hop ∷ (stop ∷ []))) end
+end_starts world token url followed [] body own end = absurd end
+end_starts world token url followed (hop ∷ []) body own end =
+    after_start world url (IsLast world token url hop body) own (numbers_fetched (hop ∷ [])) end
+    (λ behind last. last_starts world token url hop body behind last)
+end_starts world token url followed (hop ∷ (stop ∷ [])) body own end =
+    after_start world url (IsStopped world token url followed hop stop body) own (numbers_fetched (hop ∷ (stop ∷ []))) end
     (λ behind stopped.
-    fetch_starts gives token url hop stopped.given behind stopped.fetch ∙ sym (append-nil (numbers_fetched (hop ∷ [])))
+    fetch_starts world token url hop stopped.given behind stopped.fetch ∙ sym (append-nil (numbers_fetched (hop ∷ [])))
     ∙ ap (λ (ns : List ℕ). numbers_fetched (hop ∷ []) ++ ns) (sym (stop_starts followed _ stop stopped.stops))
     ∙ sym (fetched_append (hop ∷ []) (stop ∷ [])))
-end_starts gives token url followed (hop ∷ (stop ∷ (other ∷ later))) body own end = absurd end
+end_starts world token url followed (hop ∷ (stop ∷ (other ∷ later))) body own end = absurd end
 
 -- so are the redirects that were followed
-follow_starts : (gives : List ℕ → Result HttpReply WireFault → Type 0) (token url end : List ℕ) (way : List Hop)
-    (own : List Deed) → Follows gives token url way end own → numbers_started own ≡ numbers_fetched way
-follow_starts gives token url end [] own follows = ap numbers_started follows.1
-follow_starts gives token url end (hop ∷ later) own follows =
+follow_starts : (world : World) (token url end : List ℕ) (way : List Hop)
+    (own : List Deed) → Follows world token url way end own → numbers_started own ≡ numbers_fetched way
+follow_starts world token url end [] own follows = ap numbers_started follows.1
+follow_starts world token url end (hop ∷ later) own follows =
     let first = follows.1.0 in
     let rest = follows.1.1.0 in
     both_append first rest own (numbers_fetched (hop ∷ [])) (numbers_fetched later) follows.1.1.1.2
-    (after_start gives url (IsFollowed gives token url hop follows.0) first (numbers_fetched (hop ∷ [])) follows.1.1.1.0
-    (λ behind followed. fetch_starts gives token url hop followed.given behind followed.fetch))
-    (follow_starts gives token follows.0 end later rest follows.1.1.1.1)
+    (after_start world url (IsFollowed world token url hop follows.0) first (numbers_fetched (hop ∷ [])) follows.1.1.1.0
+    (λ behind followed. fetch_starts world token url hop followed.given behind followed.fetch))
+    (follow_starts world token follows.0 end later rest follows.1.1.1.1)
     ∙ sym (fetched_append (hop ∷ []) later)
 
-hops_start : (gives : List ℕ → Result HttpReply WireFault → Type 0) (token url : List ℕ) (all : List Hop) (body : List ℕ)
-    (own : List Deed) → AreHops gives token url all body own → numbers_started own ≡ numbers_fetched all
-hops_start gives token url all body own are =
+hops_start : (world : World) (token url : List ℕ) (all : List Hop) (body : List ℕ)
+    (own : List Deed) → AreHops world token url all body own → numbers_started own ≡ numbers_fetched all
+hops_start world token url all body own are =
     both_append are.front are.back own (numbers_fetched are.way) (numbers_fetched are.last) are.own_is
-    (follow_starts gives token url are.end are.way are.front are.follows)
-    (end_starts gives token are.end (length are.way) are.last body are.back are.ends)
+    (follow_starts world token url are.end are.way are.front are.follows)
+    (end_starts world token are.end (length are.way) are.last body are.back are.ends)
     ∙ sym (ap numbers_fetched are.are_all ∙ fetched_append are.way are.last)
 
-pub outcome_starts : (gives : List ℕ → Result HttpReply WireFault → Type 0) → FetchesAreStarted gives
-outcome_starts gives job outcome own is = hops_start gives job.token job.url outcome.hops.items outcome.body.items own is
+pub outcome_starts : (world : World) → FetchesAreStarted world
+outcome_starts world job outcome own is = hops_start world job.token job.url outcome.hops.items outcome.body.items own is
 
 -- so many hops are fetches as they have numbers
 pub fetches_counted : FetchesAreCounted
@@ -146,12 +148,12 @@ starts_counted [] = refl
 starts_counted (m ∷ ms) = one_counted m.place m.deed ms (starts_counted ms)
 
 -- a desk that worked on a job started as many fetches as the outcome tells of
-pub works_starts : (gives : List ℕ → Result HttpReply WireFault → Type 0) (job : Job) (outcome : Outcome) (old new : DeskView) →
-    Works gives job outcome old new → starts_in new.marks ≡ starts_in old.marks + fetches_in outcome.hops.items
-works_starts gives job outcome old new works =
+pub works_starts : (world : World) (job : Job) (outcome : Outcome) (old new : DeskView) →
+    Works world job outcome old new → starts_in new.marks ≡ starts_in old.marks + fetches_in outcome.hops.items
+works_starts world job outcome old new works =
     let all : numbers_started (deeds_of new.marks) ≡ numbers_started (deeds_of old.marks) ++ numbers_fetched outcome.hops.items =
     ap numbers_started works.1.0 ∙ started_append (deeds_of old.marks) works.0
-    ∙ ap (λ (ns : List ℕ). numbers_started (deeds_of old.marks) ++ ns) (outcome_starts gives job outcome works.0 works.1.1) in
+    ∙ ap (λ (ns : List ℕ). numbers_started (deeds_of old.marks) ++ ns) (outcome_starts world job outcome works.0 works.1.1) in
     let sum : length (numbers_started (deeds_of new.marks))
     ≡ length (numbers_started (deeds_of old.marks)) + length (numbers_fetched outcome.hops.items) =
     ap length all ∙ length-append (numbers_started (deeds_of old.marks)) (numbers_fetched outcome.hops.items) in

@@ -1,87 +1,78 @@
--- The workers of a shift: what each does at its seat and its desk, what they hand over, and where that goes.
+-- The workers of a shift: what each draws and does at its desk, what they hand over, and where that goes.
 -- The contracts of the functions behind `run_shift`.
-use Rattle.std.specs.Prelude.{◌≡◌, ℕ, ◌++◌, ◌==◌, true, nat_lt, List, [], ◌∷◌, map, Option, None, Some, Ok, Result, IfOk}
-use Rattle.std.specs.List.{AllZip}
+use Rattle.std.specs.Prelude.{◌≡◌, ℕ, suc, ◌+◌, ◌++◌, ◌==◌, nat_lt, Bool, true, false, List, [], ◌∷◌, length, map, Option, None, Some, Ok, Result, IfOk}
 use Rattle.std.specs.Option.{IsSomeAnd}
 use Rattle.gate_lock.specs.Desks.{DeskView}
 use Rattle.gate_lock.specs.Settling.{one_if}
 use Rattle.gate_lock.specs.declared.mark.Deed.{Deed}
 use Rattle.gate_lock.specs.declared.mark.Mark.{Mark}
-use Rattle.job_line.specs.Covers.{SeatView}
 use Rattle.crawl_workers.specs.declared.crew.Done.{Done}
 use Rattle.crawl_job.specs.declared.job.Job.{Job}
 use Rattle.crawl_workers.specs.declared.report.Crawled.{Crawled}
 use Rattle.crawl_workers.specs.declared.report.ShiftFault.{ShiftFault}
-use Rattle.crawl_workers.specs.Outcomes.{deeds_of}
-use Rattle.crawl_workers.specs.Shifts.{AreDone, ArePlaced, Gives, IsDone, numbers_of}
+use Rattle.crawl_workers.specs.Refreshes.{deeds_of}
+use Rattle.crawl_workers.specs.Shifts.{AreDone, ArePlaced, IsDone, numbers_of}
+use Rattle.crawl_workers.specs.World.{World}
 
 -- a desk did a job more
-abbrev pub DoesJob : Gives → List Job → Done → DeskView → DeskView → Type 0
-DoesJob gives jobs done old new =
-    (own : List Deed) × ((deeds_of new.marks ≡ deeds_of old.marks ++ own) × IsDone gives jobs done own)
+abbrev pub DoesJob : World → List Job → Done → DeskView → DeskView → Type 0
+DoesJob world jobs done old new =
+    (own : List Deed) × ((deeds_of new.marks ≡ deeds_of old.marks ++ own) × IsDone world jobs done own)
 
--- the seat is still that of the same line
-pub record KeepsSeat (old new : SeatView) : Type 0 where
-  pub line_is : new.line ≡ old.line
-  pub jobs_are : new.jobs ≡ old.jobs
-  pub parts_are : new.parts ≡ old.parts
+-- a worker drew the jobs of these numbers, and a desk with these marks did them
+pub record HasDone (world : World) (jobs : List Job) (drawn : List ℕ) (done : List Done) (marks : List Mark) : Type 0 where
+  pub numbers : numbers_of done ≡ drawn
+  pub are_done : AreDone world jobs done (deeds_of marks)
 
--- who has the seat drew until the line had ended, and a desk with these marks did the jobs that were drawn
-pub record HasDone (gives : Gives) (jobs : List Job) (seat : SeatView) (done : List Done) (marks : List Mark) : Type 0 where
-  pub ended : seat.ended ≡ true
-  pub numbers : numbers_of done ≡ seat.drawn
-  pub are_done : AreDone gives jobs done (deeds_of marks)
-
--- a worker: its seat, the jobs that it did, and its end, if it has ended
+-- a worker: the numbers that it drew, the jobs that it did, and its end, if it has ended
 pub record MemberView : Type 0 where
-  pub seat : SeatView
+  pub drawn : List ℕ
   pub done : List Done
   pub end : Option (Result (List Mark) ShiftFault)
 
--- a worker that has only its seat
-abbrev pub hired : SeatView → MemberView
-hired seat = record { seat = seat; done = []; end = None }
+-- a worker that has drawn nothing
+abbrev pub newcomer : MemberView
+newcomer = record { drawn = []; done = []; end = None }
 
 -- a worker has ended; and where it has receipts, it did the jobs that it drew
-pub record Ends (gives : Gives) (jobs : List Job) (old new : MemberView) : Type 0 where
-  pub keeps : KeepsSeat old.seat new.seat
-  pub ends : IsSomeAnd new.end (λ end. IfOk end (HasDone gives jobs new.seat new.done))
+abbrev pub Ends : World → List Job → MemberView → Type 0
+Ends world jobs worker = IsSomeAnd worker.end (λ end. IfOk end (HasDone world jobs worker.drawn worker.done))
 
--- what workers hand over: their seats, the jobs that they did, and the marks of their desks
+-- what workers hand over: what they drew, the jobs that they did, and the marks of their desks
 pub record HandoverView : Type 0 where
-  pub seats : List SeatView
+  pub drawn : List (List ℕ)
   pub done : List (List Done)
   pub receipts : List (List Mark)
 
 -- nothing yet
 abbrev pub nothing_handed : HandoverView
-nothing_handed = record { seats = []; done = []; receipts = [] }
+nothing_handed = record { drawn = []; done = []; receipts = [] }
 
 -- one worker more, which has receipts, hands them over
 pub record TakesIn (old : HandoverView) (worker : MemberView) (new : HandoverView) : Type 0 where
   pub marks : List Mark
   pub end_is : worker.end ≡ Some (Ok marks)
-  pub seats_are : new.seats ≡ old.seats ++ worker.seat ∷ []
+  pub drawn_are : new.drawn ≡ old.drawn ++ worker.drawn ∷ []
   pub done_are : new.done ≡ old.done ++ worker.done ∷ []
   pub receipts_are : new.receipts ≡ old.receipts ++ marks ∷ []
 
 -- these workers, who all have receipts, hand them over
 pub record HandsOver (workers : List MemberView) (h : HandoverView) : Type 0 where
-  pub seats_are : h.seats ≡ map (λ worker. worker.seat) workers
+  pub drawn_are : h.drawn ≡ map (λ worker. worker.drawn) workers
   pub done_are : h.done ≡ map (λ worker. worker.done) workers
   pub receipts_are : map (λ marks. Some (Ok marks)) h.receipts ≡ map (λ worker. worker.end) workers
 
--- at each seat the jobs that were drawn were done
-abbrev pub EachHasDone : Gives → List Job → List SeatView → List (List Done) → List (List Mark) → Type 0
-EachHasDone gives jobs [] [] [] = Unit {0}
-EachHasDone gives jobs (seat ∷ seats) (done ∷ more) (marks ∷ receipts) =
-    HasDone gives jobs seat done marks × EachHasDone gives jobs seats more receipts
-EachHasDone gives jobs _ _ _ = ⊥
+-- each worker did the jobs that it drew
+abbrev pub EachHasDone : World → List Job → List (List ℕ) → List (List Done) → List (List Mark) → Type 0
+EachHasDone world jobs [] [] [] = Unit {0}
+EachHasDone world jobs (numbers ∷ drawn) (done ∷ more) (marks ∷ receipts) =
+    HasDone world jobs numbers done marks × EachHasDone world jobs drawn more receipts
+EachHasDone world jobs _ _ _ = ⊥
 
--- workers that began at these seats did all that was drawn there, and hand it over
-pub record AreAllDone (gives : Gives) (jobs : List Job) (seats : List SeatView) (h : HandoverView) : Type 0 where
-  pub keep : AllZip KeepsSeat seats h.seats
-  pub have_done : EachHasDone gives jobs h.seats h.done h.receipts
+-- so many workers did all that they drew, and hand it over
+pub record AreAllDone (world : World) (jobs : List Job) (workers : ℕ) (h : HandoverView) : Type 0 where
+  pub all_workers : length h.drawn ≡ workers
+  pub have_done : EachHasDone world jobs h.drawn h.done h.receipts
 
 -- the numbers of the jobs that each worker did
 abbrev pub all_numbers : List (List Done) → List (List ℕ)
@@ -99,3 +90,9 @@ one_for n m = one_if (m == n)
 -- one for a number below the count, and nothing for every other one
 abbrev pub one_below : ℕ → ℕ → ℕ
 one_below count n = one_if (nat_lt n count)
+
+-- what the places that are taken weigh together, which are numbered from here on
+abbrev pub weigh_taken : (ℕ → ℕ) → ℕ → List Bool → ℕ
+weigh_taken weight from [] = 0
+weigh_taken weight from (true ∷ places) = weight from + weigh_taken weight (suc from) places
+weigh_taken weight from (false ∷ places) = weigh_taken weight (suc from) places

@@ -10,3 +10,4 @@ pub mod Refreshes
 pub mod Shifts
 pub mod Sites
 pub mod WaysOn
+pub mod World

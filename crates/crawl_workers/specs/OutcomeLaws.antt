@@ -1,15 +1,14 @@
 -- What is true of each outcome: its fetches are the fetches that its desk started.
 -- Cited by the laws of outcomes.
-use Rattle.std.specs.Prelude.{◌≡◌, ◌∷◌, [], ℕ, List, Result, length}
+use Rattle.std.specs.Prelude.{◌≡◌, ◌∷◌, [], ℕ, List, length}
 use Rattle.gate_lock.specs.declared.mark.Deed.{Deed}
 use Rattle.gate_lock.specs.declared.mark.Deed.TheVariants as deeds
-use Rattle.http_wire.specs.declared.fault.WireFault.{WireFault}
-use Rattle.http_wire.specs.declared.response.HttpReply.{HttpReply}
 use Rattle.crawl_job.specs.declared.hop.Hop.{Hop}
 use Rattle.crawl_job.specs.declared.hop.Hop.TheVariants as hops
 use Rattle.crawl_job.specs.declared.job.Job.{Job}
 use Rattle.crawl_job.specs.declared.job.Outcome.{Outcome}
 use Rattle.crawl_workers.specs.Outcomes.{IsOutcome, fetches_in}
+use Rattle.crawl_workers.specs.World.{World}
 
 -- the numbers of the permits whose fetches were started, in order
 abbrev pub numbers_started : List Deed → List ℕ
@@ -25,9 +24,9 @@ numbers_fetched (hops.Fault number fault ∷ later) = number ∷ numbers_fetched
 numbers_fetched (_ ∷ later) = numbers_fetched later
 
 -- the fetches of an outcome are those that were started meanwhile, by their numbers and in order
-abbrev pub FetchesAreStarted : (List ℕ → Result HttpReply WireFault → Type 0) → Type 0
-FetchesAreStarted gives = (job : Job) (outcome : Outcome) (own : List Deed) →
-    IsOutcome gives job outcome own → numbers_started own ≡ numbers_fetched outcome.hops.items
+abbrev pub FetchesAreStarted : World → Type 0
+FetchesAreStarted world = (job : Job) (outcome : Outcome) (own : List Deed) →
+    IsOutcome world job outcome own → numbers_started own ≡ numbers_fetched outcome.hops.items
 
 -- so many hops are fetches as they have numbers
 abbrev pub FetchesAreCounted : Type 0

@@ -1,6 +1,6 @@
 -- What came of a job: fetches one behind another, each by a permit of its own, and how the list of hops ends.
 -- RFC 9309, sections 2.2 and 2.3.1; RFC 9110, section 15.4.
-use Rattle.std.specs.Prelude.{◌≡◌, ◌<◌, ◌≤◌, ◌⊎◌, ◌++◌, ◌∷◌, [], ℕ, suc, List, Option, None, Result, Ok, Err, length, map, string_bytes}
+use Rattle.std.specs.Prelude.{◌≡◌, ◌<◌, ◌≤◌, ◌⊎◌, ◌++◌, ◌∷◌, [], ℕ, suc, List, Option, None, Result, Ok, Err, length, string_bytes}
 use Rattle.std.specs.Option.{option_map}
 use Rattle.path_normal.specs.PageText.{authority_of}
 use Rattle.robots_verdict.specs.declared.said.Said.{Said}
@@ -9,7 +9,6 @@ use Rattle.gate_history.specs.declared.outcome.Reason.{Reason}
 use Rattle.gate_lock.specs.Desks.{DeskView}
 use Rattle.gate_lock.specs.declared.mark.Deed.{Deed}
 use Rattle.gate_lock.specs.declared.mark.Deed.TheVariants as deeds
-use Rattle.gate_lock.specs.declared.mark.Mark.{Mark}
 use Rattle.http_wire.specs.declared.fault.WireFault.{WireFault}
 use Rattle.http_wire.specs.declared.response.HttpReply.{HttpReply}
 use Rattle.robots_fetch.specs.declared.redirect.Stop.{Stop}
@@ -21,11 +20,9 @@ use Rattle.crawl_job.specs.declared.hop.Hop.TheVariants as hops
 use Rattle.crawl_job.specs.declared.hop.Refusal.TheVariants as refusals
 use Rattle.crawl_job.specs.declared.job.Job.{Job}
 use Rattle.crawl_job.specs.declared.job.Outcome.{Outcome}
-use Rattle.crawl_workers.specs.Refreshes.{IsBrought}
-
--- what the marks of a desk say
-abbrev pub deeds_of : List Mark → List Deed
-deeds_of ms = map (λ m. m.deed) ms
+use Rattle.crawl_workers.specs.Limits.{page_limit, robots_limit}
+use Rattle.crawl_workers.specs.Refreshes.{BeganStale, IsBrought, deeds_of}
+use Rattle.crawl_workers.specs.World.{IsSinceRead, World}
 
 -- the hop of a fetch, by its permit and what was given
 abbrev pub hop_of : ℕ → Reason → Result HttpReply WireFault → Hop
@@ -47,78 +44,87 @@ abbrev pub IsRedirect : Result HttpReply WireFault → Type 0
 IsRedirect (Ok reply) = class_of reply.status ≡ classes.Redirect
 IsRedirect (Err fault) = ⊥
 
--- a turn of the authority began and brought an answer that fetches decide
+-- a turn of the authority began where no answer of it was in force, and brought an answer that fetches decide
 pub record IsTurn
-    (gives : List ℕ → Result HttpReply WireFault → Type 0) (authority : List ℕ) (own : List Deed) : Type 0 where
+    (world : World) (authority : List ℕ) (own : List Deed)
+    : Type 0 where
   pub begun : ℕ
   pub turn : ℕ
   pub arrived : ℕ
   pub says : Said
   pub life : ℕ
-  pub brings : IsBrought gives authority says life
+  pub since_begun : IsSinceRead world begun
+  pub since_arrived : IsSinceRead world arrived
+  pub stale : BeganStale authority begun turn
+  pub brings : IsBrought (world.gives robots_limit) authority says life
   pub own_is : own ≡ deeds.Begun begun authority turn ∷ deeds.Arrived arrived turn says life ∷ []
 
 -- at most one such turn
-abbrev pub MayRefresh : (List ℕ → Result HttpReply WireFault → Type 0) → List ℕ → List Deed → Type 0
-MayRefresh gives authority own = (own ≡ []) ⊎ IsTurn gives authority own
+abbrev pub MayRefresh : World → List ℕ → List Deed → Type 0
+MayRefresh world authority own = (own ≡ []) ⊎ IsTurn world authority own
 
 -- a hop behind at most one turn of its authority
 pub record AfterRefresh
-    (gives : List ℕ → Result HttpReply WireFault → Type 0) (url : List ℕ) (Tells : List Deed → Type 0) (own : List Deed)
+    (world : World) (url : List ℕ) (Tells : List Deed → Type 0) (own : List Deed)
     : Type 0 where
   pub before : List Deed
   pub behind : List Deed
-  pub may_refresh : MayRefresh gives (authority_of url) before
+  pub may_refresh : MayRefresh world (authority_of url) before
   pub tells : Tells behind
   pub own_is : own ≡ before ++ behind
 
 -- one fetch of a page: a permit of its own is granted for this token and URL, started and finished, and the
 -- hop tells what was given for the URL
 pub record IsFetch
-    (gives : List ℕ → Result HttpReply WireFault → Type 0) (token url : List ℕ) (hop : Hop)
+    (world : World) (token url : List ℕ) (hop : Hop)
     (given : Result HttpReply WireFault) (own : List Deed)
     : Type 0 where
   pub number : ℕ
   pub reason : Reason
   pub granted : ℕ
   pub started : ℕ
-  pub is_given : gives url given
+  pub since_granted : IsSinceRead world granted
+  pub since_started : IsSinceRead world started
+  pub is_given : world.gives page_limit url given
   pub own_is :
       own ≡ deeds.Granted granted number (record { token = token; url = url })
       ∷ deeds.Started started number reason ∷ deeds.Finished number ∷ []
   pub tells : hop ≡ hop_of number reason given
 
 -- the denial of an ask for this token and URL
-abbrev pub IsAskDenied : List ℕ → List ℕ → Cause → List Deed → Type 0
-IsAskDenied token url cause own =
-    (moment : ℕ) × (own ≡ deeds.AskDenied moment (record { token = token; url = url }) cause ∷ [])
+pub record IsAskDenied (world : World) (token url : List ℕ) (cause : Cause) (own : List Deed) : Type 0 where
+  pub denied : ℕ
+  pub since_denied : IsSinceRead world denied
+  pub own_is : own ≡ deeds.AskDenied denied (record { token = token; url = url }) cause ∷ []
 
 -- the denial of the start of a permit that was granted for them
-pub record IsStartDenied (token url : List ℕ) (cause : Cause) (own : List Deed) : Type 0 where
+pub record IsStartDenied (world : World) (token url : List ℕ) (cause : Cause) (own : List Deed) : Type 0 where
   pub number : ℕ
   pub granted : ℕ
   pub denied : ℕ
+  pub since_granted : IsSinceRead world granted
+  pub since_denied : IsSinceRead world denied
   pub own_is :
       own ≡ deeds.Granted granted number (record { token = token; url = url })
       ∷ deeds.StartDenied denied number cause ∷ []
 
 -- a fetch behind which no hop comes: no redirect was given
 pub record IsLastFetch
-    (gives : List ℕ → Result HttpReply WireFault → Type 0) (token url : List ℕ) (hop : Hop) (body : List ℕ)
+    (world : World) (token url : List ℕ) (hop : Hop) (body : List ℕ)
     (own : List Deed)
     : Type 0 where
   pub given : Result HttpReply WireFault
-  pub fetch : IsFetch gives token url hop given own
+  pub fetch : IsFetch world token url hop given own
   pub ends : IsRedirect given → ⊥
   pub body_is : body ≡ body_of given
 
 -- a fetch behind which a hop comes at another URL: a redirect leads there
 pub record IsFollowed
-    (gives : List ℕ → Result HttpReply WireFault → Type 0) (token url : List ℕ) (hop : Hop) (next : List ℕ)
+    (world : World) (token url : List ℕ) (hop : Hop) (next : List ℕ)
     (own : List Deed)
     : Type 0 where
   pub given : Result HttpReply WireFault
-  pub fetch : IsFetch gives token url hop given own
+  pub fetch : IsFetch world token url hop given own
   pub redirects : IsRedirect given
   pub leads : location_target url (location_of given) ≡ Ok next
 
@@ -131,50 +137,50 @@ IsStop followed target _ = ⊥
 
 -- a fetch behind which a hop says why the redirect is not followed
 pub record IsStopped
-    (gives : List ℕ → Result HttpReply WireFault → Type 0) (token url : List ℕ) (followed : ℕ) (hop stop : Hop)
+    (world : World) (token url : List ℕ) (followed : ℕ) (hop stop : Hop)
     (body : List ℕ) (own : List Deed)
     : Type 0 where
   pub given : Result HttpReply WireFault
-  pub fetch : IsFetch gives token url hop given own
+  pub fetch : IsFetch world token url hop given own
   pub redirects : IsRedirect given
   pub stops : IsStop followed (redirect_target followed url (location_of given)) stop
   pub body_is : body ≡ []
 
 -- the last hop by itself: a fetch that gave no redirect, a denial, or a refusal
 abbrev pub IsLast :
-    (List ℕ → Result HttpReply WireFault → Type 0) → List ℕ → List ℕ → Hop → List ℕ → List Deed → Type 0
-IsLast gives token url (hops.Page number reason status size cut) body own =
-    IsLastFetch gives token url (hops.Page number reason status size cut) body own
-IsLast gives token url (hops.Fault number fault) body own =
-    IsLastFetch gives token url (hops.Fault number fault) body own
-IsLast gives token url (hops.No denial) body own =
-    (denial.url ≡ url) × (IsAskDenied token url denial.cause own ⊎ IsStartDenied token url denial.cause own)
+    World → List ℕ → List ℕ → Hop → List ℕ → List Deed → Type 0
+IsLast world token url (hops.Page number reason status size cut) body own =
+    IsLastFetch world token url (hops.Page number reason status size cut) body own
+IsLast world token url (hops.Fault number fault) body own =
+    IsLastFetch world token url (hops.Fault number fault) body own
+IsLast world token url (hops.No denial) body own =
+    (denial.url ≡ url) × (IsAskDenied world token url denial.cause own ⊎ IsStartDenied world token url denial.cause own)
     × (body ≡ [])
-IsLast gives token url (hops.Refused refusal) body own = (own ≡ []) × (body ≡ [])
-IsLast gives token url (hops.Stop stop) body own = ⊥
+IsLast world token url (hops.Refused refusal) body own = (own ≡ []) × (body ≡ [])
+IsLast world token url (hops.Stop stop) body own = ⊥
 
 -- the last hops at a URL, with so many redirects followed to it: the last by itself, or a redirect and why
 -- it is not followed
 abbrev pub IsEnd :
-    (List ℕ → Result HttpReply WireFault → Type 0) → List ℕ → List ℕ → ℕ → List Hop → List ℕ → List Deed → Type 0
-IsEnd gives token url followed [] body own = ⊥
-IsEnd gives token url followed (hop ∷ []) body own = AfterRefresh gives url (IsLast gives token url hop body) own
-IsEnd gives token url followed (hop ∷ (stop ∷ [])) body own =
-    AfterRefresh gives url (IsStopped gives token url followed hop stop body) own
-IsEnd gives token url followed (hop ∷ (stop ∷ (other ∷ later))) body own = ⊥
+    World → List ℕ → List ℕ → ℕ → List Hop → List ℕ → List Deed → Type 0
+IsEnd world token url followed [] body own = ⊥
+IsEnd world token url followed (hop ∷ []) body own = AfterRefresh world url (IsLast world token url hop body) own
+IsEnd world token url followed (hop ∷ (stop ∷ [])) body own =
+    AfterRefresh world url (IsStopped world token url followed hop stop body) own
+IsEnd world token url followed (hop ∷ (stop ∷ (other ∷ later))) body own = ⊥
 
 -- the hops are redirects from the one URL to the other, each followed from where the one before it led
 abbrev pub Follows :
-    (List ℕ → Result HttpReply WireFault → Type 0) → List ℕ → List ℕ → List Hop → List ℕ → List Deed → Type 0
-Follows gives token url [] end own = (url ≡ end) × (own ≡ [])
-Follows gives token url (hop ∷ later) end own =
+    World → List ℕ → List ℕ → List Hop → List ℕ → List Deed → Type 0
+Follows world token url [] end own = (url ≡ end) × (own ≡ [])
+Follows world token url (hop ∷ later) end own =
     (next : List ℕ) × ((first : List Deed) × ((rest : List Deed) ×
-    (AfterRefresh gives url (IsFollowed gives token url hop next) first
-    × Follows gives token next later end rest × (own ≡ first ++ rest))))
+    (AfterRefresh world url (IsFollowed world token url hop next) first
+    × Follows world token next later end rest × (own ≡ first ++ rest))))
 
 -- hops and a body for a token and a URL: redirects, at most five, that are followed, and how they end
 pub record AreHops
-    (gives : List ℕ → Result HttpReply WireFault → Type 0) (token url : List ℕ) (all : List Hop) (body : List ℕ)
+    (world : World) (token url : List ℕ) (all : List Hop) (body : List ℕ)
     (own : List Deed)
     : Type 0 where
   pub way : List Hop
@@ -184,18 +190,18 @@ pub record AreHops
   pub back : List Deed
   pub are_all : all ≡ way ++ last
   pub are_few : length way ≤ most_redirects
-  pub follows : Follows gives token url way end front
-  pub ends : IsEnd gives token end (length way) last body back
+  pub follows : Follows world token url way end front
+  pub ends : IsEnd world token end (length way) last body back
   pub own_is : own ≡ front ++ back
 
 -- an outcome of a job is told by what its desk did
-abbrev pub IsOutcome : (List ℕ → Result HttpReply WireFault → Type 0) → Job → Outcome → List Deed → Type 0
-IsOutcome gives job outcome own = AreHops gives job.token job.url outcome.hops.items outcome.body.items own
+abbrev pub IsOutcome : World → Job → Outcome → List Deed → Type 0
+IsOutcome world job outcome own = AreHops world job.token job.url outcome.hops.items outcome.body.items own
 
 -- a desk worked on a job: the marks that it made meanwhile are those of the outcome
-abbrev pub Works : (List ℕ → Result HttpReply WireFault → Type 0) → Job → Outcome → DeskView → DeskView → Type 0
-Works gives job outcome old new =
-    (own : List Deed) × ((deeds_of new.marks ≡ deeds_of old.marks ++ own) × IsOutcome gives job outcome own)
+abbrev pub Works : World → Job → Outcome → DeskView → DeskView → Type 0
+Works world job outcome old new =
+    (own : List Deed) × ((deeds_of new.marks ≡ deeds_of old.marks ++ own) × IsOutcome world job outcome own)
 
 -- how many of the hops are fetches of a page, whatever came of them
 abbrev pub fetches_in : List Hop → ℕ

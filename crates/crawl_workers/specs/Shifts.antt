@@ -1,10 +1,8 @@
 -- What a shift of several workers does: each job is drawn by one worker, once, and what each worker's desk
 -- did is told by the outcomes of the jobs that it drew, in the order of its draws.
 -- The contract of `run_shift`; RFC 9309 has none of it.
-use Rattle.std.specs.Prelude.{◌≡◌, ℕ, ◌+◌, ◌++◌, List, [], ◌∷◌, length, map, Some, Result}
+use Rattle.std.specs.Prelude.{◌≡◌, ℕ, ◌+◌, ◌++◌, List, [], ◌∷◌, length, map, Some}
 use Rattle.std.specs.List.{AllZip, slice_get}
-use Rattle.http_wire.specs.declared.fault.WireFault.{WireFault}
-use Rattle.http_wire.specs.declared.response.HttpReply.{HttpReply}
 use Rattle.gate_lock.specs.Settling.{SettlesSome}
 use Rattle.gate_lock.specs.declared.mark.Deed.{Deed}
 use Rattle.gate_lock.specs.declared.mark.Mark.{Mark}
@@ -14,32 +12,30 @@ use Rattle.crawl_workers.specs.declared.crew.Done.{Done}
 use Rattle.crawl_job.specs.declared.job.Job.{Job}
 use Rattle.crawl_job.specs.declared.job.Outcome.{Outcome}
 use Rattle.crawl_workers.specs.declared.report.Crawled.{Crawled}
-use Rattle.crawl_workers.specs.Outcomes.{IsOutcome, deeds_of, fetches_in}
-
--- what a fetcher gives for a URL
-abbrev pub Gives : Type 1
-Gives = List ℕ → Result HttpReply WireFault → Type 0
+use Rattle.crawl_workers.specs.Outcomes.{IsOutcome, fetches_in}
+use Rattle.crawl_workers.specs.Refreshes.{deeds_of}
+use Rattle.crawl_workers.specs.World.{World}
 
 -- a desk did this for a job of the list: what an outcome of the job tells, with these hops and some body
-pub record IsDone (gives : Gives) (jobs : List Job) (done : Done) (own : List Deed) : Type 0 where
+pub record IsDone (world : World) (jobs : List Job) (done : Done) (own : List Deed) : Type 0 where
   pub job : Job
   pub outcome : Outcome
   pub job_is : slice_get jobs done.number ≡ Some job
   pub hops_are : outcome.hops ≡ done.crawled.hops
-  pub told : IsOutcome gives job outcome own
+  pub told : IsOutcome world job outcome own
 
 -- it did one job, and then others
-pub record IsDoneFirst (gives : Gives) (jobs : List Job) (done : Done) (Later : List Deed → Type 0) (own : List Deed) : Type 0 where
+pub record IsDoneFirst (world : World) (jobs : List Job) (done : Done) (Later : List Deed → Type 0) (own : List Deed) : Type 0 where
   pub first : List Deed
   pub later : List Deed
-  pub first_is : IsDone gives jobs done first
+  pub first_is : IsDone world jobs done first
   pub later_are : Later later
   pub own_is : own ≡ first ++ later
 
 -- it did these jobs, one behind another, and nothing else
-abbrev pub AreDone : Gives → List Job → List Done → List Deed → Type 0
-AreDone gives jobs [] own = own ≡ []
-AreDone gives jobs (done ∷ later) own = IsDoneFirst gives jobs done (AreDone gives jobs later) own
+abbrev pub AreDone : World → List Job → List Done → List Deed → Type 0
+AreDone world jobs [] own = own ≡ []
+AreDone world jobs (done ∷ later) own = IsDoneFirst world jobs done (AreDone world jobs later) own
 
 -- the numbers of the jobs, in order
 abbrev pub numbers_of : List Done → List ℕ
@@ -51,11 +47,11 @@ ArePlaced outcomes [] = Unit {0}
 ArePlaced outcomes (done ∷ later) = (slice_get outcomes done.number ≡ Some done.crawled) × ArePlaced outcomes later
 
 -- a worker drew the jobs of these numbers, and what its desk did is told by their outcomes
-pub record Worked (gives : Gives) (jobs : List Job) (outcomes : List Crawled) (numbers : List ℕ) (marks : List Mark) : Type 0 where
+pub record Worked (world : World) (jobs : List Job) (outcomes : List Crawled) (numbers : List ℕ) (marks : List Mark) : Type 0 where
   pub done : List Done
   pub numbers_are : numbers_of done ≡ numbers
   pub are_placed : ArePlaced outcomes done
-  pub are_done : AreDone gives jobs done (deeds_of marks)
+  pub are_done : AreDone world jobs done (deeds_of marks)
 
 -- how many of the hops of all outcomes are fetches of a page
 abbrev pub all_fetches : List Crawled → ℕ
@@ -72,10 +68,10 @@ pub record ReportView : Type 0 where
 -- the report of a shift: as many workers drew the numbers of all jobs, each number once; each job has an
 -- outcome, and they tell what the workers' desks did; and by their receipts the gate is settled, with as
 -- many started fetches as the outcomes have
-pub record IsShift (gives : Gives) (jobs : List Job) (workers : ℕ) (report : ReportView) : Type 0 where
+pub record IsShift (world : World) (jobs : List Job) (workers : ℕ) (report : ReportView) : Type 0 where
   pub one_each : length report.outcomes ≡ length jobs
   pub all_workers : length report.drawn ≡ workers
   pub each_once : (weight : ℕ → ℕ) → weigh_all weight report.drawn ≡ weigh_below weight (length jobs)
-  pub worked : AllZip (Worked gives jobs report.outcomes) report.drawn report.receipts
+  pub worked : AllZip (Worked world jobs report.outcomes) report.drawn report.receipts
   pub settled : SettlesSome report.receipts report.settled
   pub starts : report.settled.starts ≡ all_fetches report.outcomes

@@ -17,6 +17,6 @@ abbrev pub IsScripted : List ScriptedPage → List ℕ → ℕ → Result HttpRe
 IsScripted pages url limit result =
     MatchOption (response_of pages url) (result ≡ Err Device) (λ response. Tells (Some response) limit result)
 
--- the same within some limit
-abbrev pub GivesScripted : List ScriptedPage → List ℕ → Result HttpReply WireFault → Type 0
-GivesScripted pages url result = (limit : ℕ) × IsScripted pages url limit result
+-- the same, in the order of a fetcher's predicate
+abbrev pub GivesScripted : List ScriptedPage → ℕ → List ℕ → Result HttpReply WireFault → Type 0
+GivesScripted pages limit url result = IsScripted pages url limit result

@@ -15,7 +15,9 @@ use Rattle.crawl_job.specs.declared.hop.Hop.TheVariants as hops
 use Rattle.crawl_job.specs.declared.hop.Refusal.TheVariants as refusals
 use Rattle.crawl_workers.specs.declared.way_on.WayOn.{WayOn}
 use Rattle.crawl_workers.specs.declared.way_on.WayOn.TheVariants as ways
-use Rattle.crawl_workers.specs.Outcomes.{IsFollowed, IsLast, IsRedirect, IsStop, IsStopped, body_of, deeds_of, hop_of, location_of}
+use Rattle.crawl_workers.specs.Outcomes.{IsFollowed, IsLast, IsRedirect, IsStop, IsStopped, body_of, hop_of, location_of}
+use Rattle.crawl_workers.specs.Refreshes.{deeds_of}
+use Rattle.crawl_workers.specs.World.{World}
 
 -- a desk made some deeds meanwhile, of which this is true
 pub record AddsDeeds (Tells : List Deed → Type 0) (old new : DeskView) : Type 0 where
@@ -50,8 +52,8 @@ GoesOn number reason followed url given (ways.Stops hop stop) =
 
 -- the deeds of a hop, behind a refresh of its authority
 abbrev pub TellsWay :
-    (List ℕ → Result HttpReply WireFault → Type 0) → List ℕ → List ℕ → ℕ → WayOn → List Deed → Type 0
-TellsWay gives token url followed (ways.Ends hop body) own = IsLast gives token url hop body.items own
-TellsWay gives token url followed (ways.Leads hop next) own =
-    IsFollowed gives token url hop next own × (followed < most_redirects)
-TellsWay gives token url followed (ways.Stops hop stop) own = IsStopped gives token url followed hop stop [] own
+    World → List ℕ → List ℕ → ℕ → WayOn → List Deed → Type 0
+TellsWay world token url followed (ways.Ends hop body) own = IsLast world token url hop body.items own
+TellsWay world token url followed (ways.Leads hop next) own =
+    IsFollowed world token url hop next own × (followed < most_redirects)
+TellsWay world token url followed (ways.Stops hop stop) own = IsStopped world token url followed hop stop [] own

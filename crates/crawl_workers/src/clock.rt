@@ -7,8 +7,14 @@ use std::{io, time};
 
 /// What tells the moment of a call, in seconds. It may go back.
 pub trait Clock {
+    ghost use Rattle.std.specs.Prelude.{ℕ, ⊤};
+
+    /// Holds of each reading of the clock.
+    ghost reads: { Self → ℕ → Type 0 } = { λ _ _. ⊤ };
+
     /// The moment now.
-    fn now(&self) -> u64;
+    fn now(&self) -> u64
+        ensures { reads self.now result };
 }
 
 /// The system's clock: whole seconds since the beginning of 1970, in UTC. It tells 0 where it is set

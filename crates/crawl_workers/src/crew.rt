@@ -1,17 +1,19 @@
-//! The workers of a shift: each draws jobs at a seat of its own, and does them at a desk of its own.
+//! The workers of a shift: each draws jobs from the frontier, and does them at a desk of its own.
 //! RFC 9309 has none of it.
-ghost use Rattle.std.specs.Prelude.{◌≡◌, ◌<◌, [], IfOk, OnOk, length, true};
+ghost use Rattle.std.specs.Prelude.{◌≡◌, [], IfOk, OnOk, Some};
+ghost use Rattle.std.specs.List.{slice_get};
 ghost use Rattle.gate_lock.specs.Desks.{KeepsOut};
-ghost use Rattle.job_line.specs.Covers.{IsNew};
-ghost use Rattle.crawl_workers.specs.Crews.{DoesJob, Ends, HasDone, KeepsSeat};
+ghost use Rattle.crawl_workers.specs.Crews.{DoesJob, Ends, HasDone, newcomer};
+ghost use Rattle.crawl_workers.specs.World.{world_of};
 
 use crate::clock::Clock;
 use crate::fetcher::Fetcher;
+use crate::frontier::Frontier;
 use crate::report::{Crawled, ShiftFault, Watcher};
-use crate::working::work;
+use crate::worker::{Notes, Worker};
+use crate::working::work_by;
 use crawl_job::{Job, Outcome};
 use gate_lock::{Desk, Gate, GateLock, Receipts};
-use job_line::{JobLine, JobSeat};
 use std::alloc::{AllocError, Global};
 use std::marker::Model;
 use std::sync::Wait;
@@ -20,10 +22,27 @@ use std::sync::Wait;
 #[derive(Drop)]
 pub(crate) struct Crew<'a, F, C, W> {
     pub(crate) jobs: &'a [Job],
-    pub(crate) line: &'a JobLine,
+    pub(crate) frontier: &'a Frontier,
     pub(crate) fetcher: &'a F,
     pub(crate) clock: &'a C,
     pub(crate) watcher: &'a W,
+}
+
+// What a worker tells the frontier.
+#[derive(Drop)]
+struct Told<'t, 'f, R: Wait> {
+    rt: &'t R,
+    frontier: &'f Frontier,
+}
+
+impl<R: Wait> Notes for Told<'_, '_, R> {
+    fn asks(&self, authority: &str) {
+        self.frontier.asks(self.rt, authority);
+    }
+
+    fn answered(&self, authority: &str) {
+        self.frontier.answered(self.rt, authority);
+    }
 }
 
 /// A job that was done: its number and what is kept of its outcome.
@@ -33,11 +52,11 @@ pub(crate) struct Done {
     pub(crate) crawled: Crawled,
 }
 
-/// A worker, as a member of the crew: its seat, the jobs that it did in the order of its draws, and,
+/// A worker, as a member of the crew: the numbers that it drew, the jobs that it did, in this order, and,
 /// once it has ended, the receipts of its desk or why it has none.
 #[derive(Drop)]
 pub(crate) struct Member<G: Gate> {
-    pub(crate) seat: JobSeat,
+    pub(crate) drawn: Vec<u64>,
     pub(crate) done: Vec<Done>,
     pub(crate) end: Option<Result<Receipts<G>, ShiftFault>>,
 }
@@ -48,14 +67,14 @@ impl<G: Gate> Model for Member<G> {
     ghost Value = { MemberView };
 
     ghost view = { λ worker. record {
-      seat = worker.seat;
+      drawn = worker.drawn.items;
       done = worker.done.items;
       end = worker.end;
     } };
 }
 
 impl<F: Fetcher, C: Clock, W: Watcher> Crew<'_, F, C, W> {
-    /// Lets a new worker work until the line has ended.
+    /// Lets a new worker work until no job is left.
     pub(crate) fn employ<G: Gate, R: Wait>(
         &self,
         rt: &R,
@@ -63,80 +82,112 @@ impl<F: Fetcher, C: Clock, W: Watcher> Crew<'_, F, C, W> {
         gate: &GateLock<G>,
         worker: &mut Member<G>,
     )
-        requires seat { IsNew self.now.line.now (length self.now.jobs.now) worker.old.seat }
-        requires new { worker.old.done ≡ [] }
-        ensures { Ends (F.gives self.now.fetcher.now) self.now.jobs.now worker.old worker.new }
+        requires new { worker.old ≡ newcomer }
+        ensures { Ends (world_of (F.gives self.now.fetcher.now) (C.reads self.now.clock.now)) self.now.jobs.now worker.new }
     {
-        worker.end = Some(self.man_desk(rt, alloc, gate, &mut worker.seat, &mut worker.done));
+        let end = self.man_desk(rt, alloc, gate, &mut worker.drawn, &mut worker.done);
+        worker.end = Some(end);
     }
 
-    // Opens a desk, does jobs at it until the line has ended, and closes it, whatever came of them.
+    // Opens a desk, does jobs at it until none is left, and closes it, whatever came of them.
     fn man_desk<G: Gate, R: Wait>(
         &self,
         rt: &R,
         alloc: Global,
         gate: &GateLock<G>,
-        seat: &mut JobSeat,
+        drawn: &mut Vec<u64>,
         done: &mut Vec<Done>,
     ) -> Result<Receipts<G>, ShiftFault>
-        requires line { seat.old.line ≡ self.now.line.now }
-        requires jobs { seat.old.jobs ≡ length self.now.jobs.now }
-        requires new { (seat.old.drawn ≡ []) × (done.old.items ≡ []) }
-        ensures seat { KeepsSeat seat.old seat.new }
-        ensures ok { IfOk result (λ marks. HasDone (F.gives self.now.fetcher.now) self.now.jobs.now
-            seat.new done.new.items marks) }
+        requires new { (drawn.old.items ≡ []) × (done.old.items ≡ []) }
+        ensures ok { IfOk result (λ marks. HasDone (world_of (F.gives self.now.fetcher.now) (C.reads self.now.clock.now))
+            self.now.jobs.now drawn.new.items done.new.items marks) }
     {
         let mut desk = gate.desk(rt, alloc)?;
-        let ended = self.draw_all(rt, alloc, &mut desk, seat, done);
+        let ended = self.draw_all(rt, alloc, &mut desk, drawn, done);
         let receipts = desk.close();
         ended?;
         Ok(receipts)
     }
 
-    // Draws jobs until the line has ended, and does each. The room for what is kept of a job is taken
-    // before it is done.
+    // Draws jobs until none is left, and does each. The room for what is kept of a job is taken before it
+    // is done.
     fn draw_all<G: Gate, R: Wait>(
         &self,
         rt: &R,
         alloc: Global,
         desk: &mut Desk<'_, G>,
-        seat: &mut JobSeat,
+        drawn: &mut Vec<u64>,
         done: &mut Vec<Done>,
     ) -> Result<(), AllocError>
-        requires line { seat.old.line ≡ self.now.line.now }
-        requires jobs { seat.old.jobs ≡ length self.now.jobs.now }
-        requires new { (seat.old.drawn ≡ []) × (done.old.items ≡ []) × (desk.old.marks ≡ []) }
-        ensures seat { KeepsSeat seat.old seat.new }
+        requires new { (drawn.old.items ≡ []) × (done.old.items ≡ []) × (desk.old.marks ≡ []) }
         ensures out { KeepsOut desk.old desk.new }
-        ensures ok { OnOk result (HasDone (F.gives self.now.fetcher.now) self.now.jobs.now
-            seat.new done.new.items desk.new.marks) }
+        ensures ok { OnOk result (HasDone (world_of (F.gives self.now.fetcher.now) (C.reads self.now.clock.now))
+            self.now.jobs.now drawn.new.items done.new.items desk.new.marks) }
     {
         'draws: for _ in rt.forever() {
-            let Some(number) = self.line.draw(seat) else {
+            let Some(next) = self.frontier.draw(rt) else {
                 return Ok(());
             };
-            done.reserve(1)?;
-            done.push_reserved(self.do_job(rt, alloc, number, desk)?);
+            let did = self.do_next(rt, alloc, next.number, desk, drawn, done);
+            self.frontier.leave(rt, next.site);
+            did?;
         }
         unreachable!()
     }
 
-    // Does a job and tells of it. Its body is let go here.
-    fn do_job<G: Gate, R: Wait>(
+    // Does the job that was drawn, behind those before it.
+    fn do_next<G: Gate, R: Wait>(
         &self,
         rt: &R,
         alloc: Global,
         number: u64,
         desk: &mut Desk<'_, G>,
+        drawn: &mut Vec<u64>,
+        done: &mut Vec<Done>,
+    ) -> Result<(), AllocError>
+        requires so_far { HasDone (world_of (F.gives self.now.fetcher.now) (C.reads self.now.clock.now))
+            self.now.jobs.now drawn.old.items done.old.items desk.old.marks }
+        ensures out { KeepsOut desk.old desk.new }
+        ensures ok { OnOk result (HasDone (world_of (F.gives self.now.fetcher.now) (C.reads self.now.clock.now))
+            self.now.jobs.now drawn.new.items done.new.items desk.new.marks) }
+    {
+        let Some(job) = self.jobs.get(number as usize) else {
+            return Ok(());
+        };
+        drawn.reserve(1)?;
+        done.reserve(1)?;
+        let did = self.do_job(rt, alloc, number, job, desk)?;
+        drawn.push_reserved(number);
+        done.push_reserved(did);
+        Ok(())
+    }
+
+    // Does a job of the list and tells of it. Its body is let go here.
+    fn do_job<G: Gate, R: Wait>(
+        &self,
+        rt: &R,
+        alloc: Global,
+        number: u64,
+        job: &Job,
+        desk: &mut Desk<'_, G>,
     ) -> Result<Done, AllocError>
-        requires { number < length self.now.jobs.now }
+        requires { slice_get self.now.jobs.now number ≡ Some job.now }
         ensures number { IfOk result (λ done. done.number ≡ number) }
         ensures out { KeepsOut desk.old desk.new }
-        ensures ok { IfOk result (λ done. DoesJob (F.gives self.now.fetcher.now) self.now.jobs.now
-            done desk.old desk.new) }
+        ensures ok { IfOk result (λ done. DoesJob (world_of (F.gives self.now.fetcher.now) (C.reads self.now.clock.now))
+            self.now.jobs.now done desk.old desk.new) }
     {
-        let job = &self.jobs[number as usize];
-        let outcome = work(rt, alloc, job.copy()?, desk, self.fetcher, self.clock)?;
+        let worker = Worker {
+            rt,
+            alloc,
+            fetcher: self.fetcher,
+            clock: self.clock,
+            notes: &Told {
+                rt,
+                frontier: self.frontier,
+            },
+        };
+        let outcome = work_by(&worker, job.copy()?, desk)?;
         self.watcher.done(number, job, &outcome);
         let Outcome { hops, body: _ } = outcome;
         Ok(Done {

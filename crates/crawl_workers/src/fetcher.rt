@@ -1,11 +1,14 @@
 //! What workers fetch by, and the leaves without which nothing is fetched.
 ghost use Rattle.std.specs.Prelude.{◌≡◌};
 ghost use Rattle.crawl_workers.specs.Leaves.{page_of, robots_page_of, token_of_leave};
+ghost use Rattle.crawl_workers.specs.Limits.{robots_limit};
+ghost use Rattle.crawl_workers.specs.Refreshes.{IsOnWalk};
 
 use gate_lock::{Fetched, Gate, RobotsTurn, Running};
 use http_wire::{HttpReply, WireFault};
 use path_normal::PageUrl;
 use robots_text::Token;
+use tcp_wire::Deadline;
 
 /// Leave to fetch a page once. `Fetcher::fetch_page` has it of a started permit, and nothing else
 /// makes one.
@@ -53,17 +56,26 @@ pub trait Fetcher {
     ghost use Rattle.http_wire.specs.declared.fault.WireFault.{WireFault};
     ghost use Rattle.http_wire.specs.declared.response.HttpReply.{HttpReply};
 
-    /// Holds of a URL and each result that a fetch of it gives.
-    ghost gives: { Self → List ℕ → Result HttpReply WireFault → Type 0 };
+    /// Holds of the most octets that are taken of a body, a URL, and each result that such a fetch of
+    /// it gives.
+    ghost gives: { Self → ℕ → List ℕ → Result HttpReply WireFault → Type 0 };
+
+    /// The time that the fetches of one walk over the redirects of a robots file may take together, which
+    /// begins now; none where they have no limit, or no clock can be read.
+    fn begin_walk(&self) -> Option<Deadline>;
 
     /// Fetches a page, and gives at most `limit` octets of its body.
     fn load_page(&self, leave: &PageLeave<'_>, limit: usize) -> Result<HttpReply, WireFault>
-        ensures { gives self.now (page_of leave.now) result };
+        ensures { gives self.now limit (page_of leave.now) result };
 
     /// Fetches a robots file, and gives at most 512,001 octets of its body: those that are kept, and
     /// one that tells that there are more.
-    fn load_robots(&self, leave: &RobotsLeave<'_>) -> Result<HttpReply, WireFault>
-        ensures { gives self.now (robots_page_of leave.now) result };
+    fn load_robots(
+        &self,
+        leave: &RobotsLeave<'_>,
+        time: Option<Deadline>,
+    ) -> Result<HttpReply, WireFault>
+        ensures { gives self.now robots_limit (robots_page_of leave.now) result };
 
     /// Makes a fetch that may be made, under its token, with at most `limit` octets of the page's
     /// body. Whatever comes of it, the fetch was made.
@@ -73,7 +85,7 @@ pub trait Fetcher {
         limit: usize,
     ) -> (Fetched<G>, Result<HttpReply, WireFault>)
         ensures spent { result.0 ≡ running.pass }
-        ensures given { gives self.now running.pass.url result.1 }
+        ensures given { gives self.now limit running.pass.url result.1 }
     {
         let leave = PageLeave {
             token: running.token(),
@@ -83,14 +95,17 @@ pub trait Fetcher {
         (running.spend(), reply)
     }
 
-    /// Fetches a robots file, or what a redirect led to from one, while a turn is in flight.
+    /// Fetches a robots file, or what redirects led to from one, while a turn of its authority is in
+    /// flight.
     final fn fetch_robots<G: Gate>(
         &self,
         _turn: &RobotsTurn<G>,
         url: &PageUrl,
+        time: Option<Deadline>,
     ) -> Result<HttpReply, WireFault>
-        ensures { gives self.now url.now result }
+        requires { IsOnWalk (gives self.now robots_limit) _turn.now.authority url.now }
+        ensures { gives self.now robots_limit url.now result }
     {
-        self.load_robots(&RobotsLeave { url })
+        self.load_robots(&RobotsLeave { url }, time)
     }
 }

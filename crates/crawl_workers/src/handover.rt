@@ -8,15 +8,15 @@ ghost use Rattle.crawl_workers.specs.Crews.{HandsOver, TakesIn, nothing_handed};
 use crate::crew::{Done, Member};
 use crate::report::ShiftFault;
 use gate_lock::{Gate, Receipts};
-use job_line::{JobSeat, MAX_WORKERS};
+use job_line::MAX_WORKERS;
 use std::alloc::{AllocError, Global};
 use std::marker::Model;
 
-/// The seats, the jobs and the receipts of workers, in the order of the workers. The room for 16 is
+/// What workers drew and did, and their receipts, in the order of the workers. The room for 16 is
 /// taken when it is made, so that nothing that was done is lost to a refusal.
 #[derive(Drop)]
 pub(crate) struct Handover<G: Gate> {
-    pub(crate) seats: Vec<JobSeat>,
+    pub(crate) drawn: Vec<Vec<u64>>,
     pub(crate) done: Vec<Vec<Done>>,
     pub(crate) receipts: Vec<Receipts<G>>,
 }
@@ -29,14 +29,14 @@ impl<G: Gate> Model for Handover<G> {
     ghost Value = { HandoverView };
 
     ghost view = { λ h. record {
-      seats = h.seats.items;
+      drawn = map (λ list. list.items) h.drawn.items;
       done = map (λ list. list.items) h.done.items;
       receipts = h.receipts.items;
     } };
 
-    ghost invariant = { λ h. (max_workers ≤ vec_capacity h.seats) × (max_workers ≤ vec_capacity h.done)
-        × (max_workers ≤ vec_capacity h.receipts) × (vec_len h.done ≡ vec_len h.seats)
-        × (vec_len h.receipts ≡ vec_len h.seats) };
+    ghost invariant = { λ h. (max_workers ≤ vec_capacity h.drawn) × (max_workers ≤ vec_capacity h.done)
+        × (max_workers ≤ vec_capacity h.receipts) × (vec_len h.done ≡ vec_len h.drawn)
+        × (vec_len h.receipts ≡ vec_len h.drawn) };
 }
 
 impl<G: Gate> Handover<G> {
@@ -45,7 +45,7 @@ impl<G: Gate> Handover<G> {
         ensures { IfOk result (λ h. h ≡ nothing_handed) }
     {
         Ok(Handover {
-            seats: Vec::with_capacity(alloc, MAX_WORKERS as usize)?,
+            drawn: Vec::with_capacity(alloc, MAX_WORKERS as usize)?,
             done: Vec::with_capacity(alloc, MAX_WORKERS as usize)?,
             receipts: Vec::with_capacity(alloc, MAX_WORKERS as usize)?,
         })
@@ -66,16 +66,16 @@ impl<G: Gate> Handover<G> {
 
     // Takes what one worker hands over.
     fn take_in(&mut self, worker: Member<G>) -> Result<(), ShiftFault>
-        requires room { length self.old.seats < max_workers }
+        requires room { length self.old.drawn < max_workers }
         requires ended { IsSome worker.end }
         ensures { OnOk result (TakesIn self.old worker self.new) }
     {
-        let Member { seat, done, end } = worker;
+        let Member { drawn, done, end } = worker;
         let Some(end) = end else {
             unreachable!();
         };
         let receipts = end?;
-        self.seats.push_reserved(seat);
+        self.drawn.push_reserved(drawn);
         self.done.push_reserved(done);
         self.receipts.push_reserved(receipts);
         Ok(())

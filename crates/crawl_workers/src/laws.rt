@@ -3,7 +3,9 @@
 ghost use Rattle.std.specs.Prelude.{◌≡◌};
 ghost use Rattle.crawl_workers.specs.Limits.{max_hops, page_limit};
 ghost use Rattle.crawl_workers.specs.OutcomeLaws.{FetchesAreCounted, FetchesAreStarted};
+ghost use Rattle.crawl_workers.specs.World.{world_of};
 
+use crate::clock::Clock;
 use crate::fetcher::Fetcher;
 use crate::worker::PAGE_LIMIT;
 use crate::working::MAX_HOPS;
@@ -16,7 +18,7 @@ pub fn limits_are()
 
 /// Each page of an outcome was fetched by a permit whose fetch was started for it: the numbers of the
 /// started fetches are those of the pages and faults, in order, and there are as many.
-pub fn fetches_are_started<F: Fetcher>(_fetcher: &F)
-    ensures started { FetchesAreStarted (F.gives _fetcher.now) }
+pub fn fetches_are_started<F: Fetcher, C: Clock>(_fetcher: &F, _clock: &C)
+    ensures started { FetchesAreStarted (world_of (F.gives _fetcher.now) (C.reads _clock.now)) }
     ensures counted { FetchesAreCounted }
 {}

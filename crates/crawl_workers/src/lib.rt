@@ -5,8 +5,10 @@
 mod clock;
 mod crew;
 mod fetcher;
+mod frontier;
 mod handover;
 pub mod laws;
+mod once;
 mod places;
 mod refreshing;
 mod report;
@@ -25,5 +27,5 @@ pub use report::{Crawled, Report, ShiftFault, Watcher};
 pub use shift::run_shift;
 pub use sites::{ScriptedPage, Sites};
 pub use tcp_fetcher::TcpFetcher;
-pub use tcp_wire::TimeLimits;
+pub use tcp_wire::{Deadline, TimeLimits};
 pub use working::work;

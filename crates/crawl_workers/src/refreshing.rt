@@ -3,8 +3,10 @@
 ghost use Rattle.std.specs.Prelude.{◌≡◌};
 ghost use Rattle.robots_verdict.specs.Answer.{said, spares_of};
 ghost use Rattle.gate_core.specs.States.{standing_as};
-ghost use Rattle.gate_lock.specs.Desks.{KeepsOut};
-ghost use Rattle.crawl_workers.specs.Refreshes.{IsBrought, IsUndecided, Refreshes, reply_of};
+ghost use Rattle.gate_lock.specs.Desks.{HasOut, KeepsOut};
+ghost use Rattle.crawl_workers.specs.Limits.{robots_limit};
+ghost use Rattle.crawl_workers.specs.Refreshes.{Brings, IsBrought, IsUndecided, Refreshes, reply_of};
+ghost use Rattle.crawl_workers.specs.World.{world_of};
 
 use crate::clock::Clock;
 use crate::fetcher::Fetcher;
@@ -31,15 +33,32 @@ pub fn refresh<G: Gate, F: Fetcher, C: Clock, R: Wait>(
     fetcher: &F,
     clock: &C,
 ) -> Result<Standing, BeginRefusal>
-    ensures refreshes { Refreshes (F.gives fetcher.now) authority.now result desk.old desk.new }
+    ensures refreshes { Refreshes (world_of (F.gives fetcher.now) (C.reads clock.now)) authority.now result desk.old desk.new }
     ensures no { desk.new.no ≡ desk.old.no }
     ensures out { KeepsOut desk.old desk.new }
 {
     let turn = desk.begin(rt, authority, clock.now())?;
+    Ok(bring_answer(rt, alloc, turn, desk, fetcher, clock))
+}
+
+/// Fetches the robots file of a turn's authority, has the desk bring the answer, and tells its word.
+pub(crate) fn bring_answer<G: Gate, F: Fetcher, C: Clock, R: Wait>(
+    rt: &R,
+    alloc: Global,
+    turn: RobotsTurn<G>,
+    desk: &mut Desk<'_, G>,
+    fetcher: &F,
+    clock: &C,
+) -> Standing
+    requires own { turn.desk ≡ desk.old.no }
+    ensures brings { Brings (world_of (F.gives fetcher.now) (C.reads clock.now)) turn result desk.old desk.new }
+    ensures no { desk.new.no ≡ desk.old.no }
+    ensures out { HasOut desk.old desk.new 0 0 0 0 0 1 }
+{
     let (answer, life) = fetch_answer(alloc, &turn, fetcher);
     let word = word_of(&answer);
     desk.arrive(rt, turn, answer, life, clock.now());
-    Ok(word)
+    word
 }
 
 // The answer that the authority's robots file gives, and its life in seconds.
@@ -48,14 +67,15 @@ fn fetch_answer<G: Gate, F: Fetcher>(
     turn: &RobotsTurn<G>,
     fetcher: &F,
 ) -> (Answer, u64)
-    ensures brings { IsBrought (F.gives fetcher.now) turn.now.authority (said result.0) result.1 }
+    ensures brings { IsBrought (F.gives fetcher.now robots_limit) turn.now.authority (said result.0) result.1 }
     ensures spares { spares_of result.0 ≡ 2 }
 {
     let Ok(mut walk) = Walk::new(turn.authority()) else {
         return undecided();
     };
+    let time = fetcher.begin_walk();
     loop {
-        let reply = robots_reply(fetcher.fetch_robots(turn, walk.url()));
+        let reply = robots_reply(fetcher.fetch_robots(turn, walk.url(), time));
         walk = match walk.step(alloc, &reply) {
             Step::Go(next) => next,
             Step::Done(answer, life) => return (answer, life),

@@ -1,21 +1,23 @@
 //! A shift: several workers do the jobs of a list over one gate, each on a thread of its own.
 //! RFC 9309, sections 2.2 to 2.4, in the profile of docs/POLICY.md.
-ghost use Rattle.std.specs.Prelude.{◌≡◌, ◌≤◌, ◌<◌, ◌↔◌, ℕ, [], All, IfOk, IsTrue, OnOk, length, map, slice_index_or, vec_len};
+ghost use Rattle.std.specs.Prelude.{◌≡◌, ◌≤◌, ◌<◌, ◌↔◌, ℕ, [], All, IfOk, IsTrue, OnOk, length, replicate, slice_index_or, vec_len};
 ghost use Rattle.gate_lock.specs.Settling.{SettlesSome};
-ghost use Rattle.job_line.specs.Covers.{IsNew};
 ghost use Rattle.job_line.specs.Limits.{max_jobs, max_workers};
-ghost use Rattle.crawl_workers.specs.Crews.{AreAllDone, Ends, MemberView, hired, nothing_handed};
+ghost use Rattle.crawl_workers.specs.Crews.{AreAllDone, Ends, MemberView, newcomer, nothing_handed};
 ghost use Rattle.crawl_workers.specs.Shifts.{IsShift, all_fetches};
+ghost use Rattle.crawl_workers.specs.World.{world_of};
 
 use crate::clock::Clock;
 use crate::crew::{Crew, Member};
 use crate::fetcher::Fetcher;
+use crate::frontier::Frontier;
 use crate::handover::Handover;
+use crate::once::are_all_once;
 use crate::places::place_all;
 use crate::report::{Crawled, Report, ShiftFault, Watcher};
 use crawl_job::Job;
 use gate_lock::{Gate, GateLock, Receipts, SettleFault, Settled, settle};
-use job_line::{JobLine, JobSeat, MAX_WORKERS};
+use job_line::MAX_WORKERS;
 use std::alloc::{AllocError, Global};
 use std::sync::Wait;
 use std::thread;
@@ -25,6 +27,10 @@ use std::thread::Threads;
 /// Each worker has a thread of its own, and one is the caller's; where no thread can be had, a worker
 /// works before or after another one, on that one's thread. `watcher` is told of each job as soon as it
 /// is done.
+///
+/// Workers draw from the sites in turn. While the robots file of a site is fetched, no other worker draws a
+/// job of that site; no more workers do jobs of one site at a time than it has places, and one worker less
+/// than all while other sites have jobs. The report keeps the order of the jobs.
 ///
 /// The faults of the workers come before those of the settlement. After a fault the shift has nothing
 /// out, but its receipts are lost: a gate in which it made an entry can't be settled any more.
@@ -46,25 +52,28 @@ pub fn run_shift<
 ) -> Result<Report<G>, ShiftFault>
     requires jobs { length jobs.now ≤ max_jobs }
     requires workers { (1 ≤ workers) × (workers ≤ max_workers) }
-    ensures { IfOk result (IsShift (F.gives fetcher.now) jobs.now workers) }
+    ensures { IfOk result (IsShift (world_of (F.gives fetcher.now) (C.reads clock.now)) jobs.now workers) }
 {
     let mut outcomes = no_outcomes(alloc, jobs.len())?;
+    let mut places = vec![in alloc; false; jobs.len()]?;
     let mut handover = Handover::with_room(alloc)?;
-    let (line, seats) = JobLine::new(alloc, jobs.len() as u64, workers)?;
+    let frontier = Frontier::new(alloc, jobs, workers, gate.lend(rt).book().limits().places)?;
     let crew = Crew {
         jobs,
-        line: &line,
+        frontier: &frontier,
         fetcher,
         clock,
         watcher,
     };
-    do_all(rt, alloc, gate, &crew, seats, &mut handover)?;
+    do_all(rt, alloc, gate, &crew, workers, &mut handover)?;
     let Handover {
-        seats,
+        drawn,
         done,
         receipts,
     } = handover;
-    let drawn = line.gather(seats).lists;
+    if !are_all_once(drawn.as_slice(), &mut places) {
+        return Err(ShiftFault::Unsettled(SettleFault::Mismatch));
+    }
     place_all(&mut outcomes, done);
     let settled = settle_starts(rt, alloc, gate, &receipts, &outcomes)?;
     Ok(Report {
@@ -88,7 +97,7 @@ fn no_outcomes(alloc: Global, count: usize) -> Result<Vec<Crawled>, AllocError>
     Ok(outcomes)
 }
 
-// Lets workers at these seats do all jobs, and takes what they hand over.
+// Lets so many workers do all jobs, and takes what they hand over.
 fn do_all<
     G: Gate + Send + Sync,
     F: Fetcher + Sync,
@@ -100,33 +109,33 @@ fn do_all<
     alloc: Global,
     gate: &GateLock<G>,
     crew: &Crew<'_, F, C, W>,
-    seats: Vec<JobSeat>,
+    workers: u64,
     handover: &mut Handover<G>,
 ) -> Result<(), ShiftFault>
-    requires few { vec_len seats ≤ max_workers }
-    requires seats { All (IsNew crew.now.line.now (length crew.now.jobs.now)) seats.items }
+    requires few { workers ≤ max_workers }
     requires new { handover.old ≡ nothing_handed }
-    ensures { OnOk result (AreAllDone (F.gives crew.now.fetcher.now) crew.now.jobs.now seats.items handover.new) }
+    ensures { OnOk result (AreAllDone (world_of (F.gives crew.now.fetcher.now) (C.reads crew.now.clock.now))
+        crew.now.jobs.now workers handover.new) }
 {
-    let mut workers = hire(alloc, seats)?;
-    employ_all(rt, alloc, gate, crew, &mut workers);
-    handover.take_all(workers)?;
+    let mut members = hire(alloc, workers)?;
+    employ_all(rt, alloc, gate, crew, &mut members);
+    handover.take_all(members)?;
     Ok(())
 }
 
-// A worker for each seat.
-fn hire<G: Gate>(alloc: Global, seats: Vec<JobSeat>) -> Result<Vec<Member<G>>, AllocError>
-    ensures { IfOk result (λ workers. workers.items ≡ map hired seats.items) }
+// So many workers, who have drawn nothing.
+fn hire<G: Gate>(alloc: Global, workers: u64) -> Result<Vec<Member<G>>, AllocError>
+    ensures { IfOk result (λ members. members.items ≡ replicate workers newcomer) }
 {
-    let mut workers = Vec::with_capacity(alloc, seats.len())?;
-    for seat in seats {
-        workers.push_reserved(Member {
-            seat,
+    let mut members = Vec::with_capacity(alloc, workers as usize)?;
+    for _ in 0..workers {
+        members.push_reserved(Member {
+            drawn: Vec::new(alloc),
             done: Vec::new(alloc),
             end: None,
         });
     }
-    Ok(workers)
+    Ok(members)
 }
 
 // Lets each worker work on a thread of its own, and the last one on this.
@@ -136,21 +145,20 @@ fn employ_all<
     C: Clock + Sync,
     W: Watcher + Sync,
     R: Threads + Wait + Sync,
->(rt: &R, alloc: Global, gate: &GateLock<G>, crew: &Crew<'_, F, C, W>, workers: &mut [Member<G>])
-    requires seats { All (λ worker. IsNew crew.now.line.now (length crew.now.jobs.now) worker.seat) workers.old }
-    requires new { All (λ worker. worker.done ≡ []) workers.old }
-    ensures { (i : ℕ) (d : MemberView) → i < length workers.old → Ends (F.gives crew.now.fetcher.now)
-        crew.now.jobs.now (slice_index_or workers.old i d) (slice_index_or workers.new i d) }
+>(rt: &R, alloc: Global, gate: &GateLock<G>, crew: &Crew<'_, F, C, W>, members: &mut [Member<G>])
+    requires new { All (λ member. member ≡ newcomer) members.old }
+    ensures { (i : ℕ) (d : MemberView) → i < length members.old →
+        Ends (world_of (F.gives crew.now.fetcher.now) (C.reads crew.now.clock.now)) crew.now.jobs.now (slice_index_or members.new i d) }
 {
     thread::for_each_mut(
         rt,
-        workers,
+        members,
         MAX_WORKERS as usize,
-        &|_: usize, worker: &mut Member<G>|
-            requires { IsNew crew.now.line.now (length crew.now.jobs.now) worker.old.seat
-                × (worker.old.done ≡ []) }
-            ensures { Ends (F.gives crew.entry.now.fetcher.now) crew.entry.now.jobs.now worker.old worker.new }
-        { crew.employ(rt, alloc, gate, worker) },
+        &|_: usize, member: &mut Member<G>|
+            requires { member.old ≡ newcomer }
+            ensures { Ends (world_of (F.gives crew.entry.now.fetcher.now) (C.reads crew.entry.now.clock.now))
+                crew.entry.now.jobs.now member.new }
+        { crew.employ(rt, alloc, gate, member) },
     );
 }
 

@@ -9,6 +9,7 @@ use counted_io::Counted;
 use http_wire::{HttpReply, WireFault, read_response};
 use path_normal::PageUrl;
 use std::alloc::Global;
+use tcp_wire::Deadline;
 
 /// A page of a site in memory: its URL as `PageUrl::text` gives it, and its response, heads and all.
 #[derive(Clone, Copy)]
@@ -55,11 +56,19 @@ impl<'a> Fetcher for Sites<'a> {
 
     ghost gives = { λ sites. GivesScripted sites.pages.now };
 
+    fn begin_walk(&self) -> Option<Deadline> {
+        None
+    }
+
     fn load_page(&self, leave: &PageLeave<'_>, limit: usize) -> Result<HttpReply, WireFault> {
         self.answer(leave.url(), limit)
     }
 
-    fn load_robots(&self, leave: &RobotsLeave<'_>) -> Result<HttpReply, WireFault> {
+    fn load_robots(
+        &self,
+        leave: &RobotsLeave<'_>,
+        _time: Option<Deadline>,
+    ) -> Result<HttpReply, WireFault> {
         self.answer(leave.url(), ROBOTS_LIMIT)
     }
 }

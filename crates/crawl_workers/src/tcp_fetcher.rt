@@ -1,8 +1,9 @@
 //! Pages and robots files fetched over TCP, each under its agent.
 //! RFC 9309, section 2.2.1; RFC 9110, section 10.1.5.
-ghost use Rattle.std.specs.Prelude.{◌≡◌, IfOk, None};
+ghost use Rattle.std.specs.Prelude.{◌≡◌, IfOk, IfSome, None};
 ghost use Rattle.http_wire.specs.Response.{Tells};
 ghost use Rattle.tcp_wire.specs.Agent.{IsAgent};
+ghost use Rattle.tcp_wire.specs.TimeLimits.{AreStandard};
 ghost use Rattle.crawl_workers.specs.Limits.{robots_limit};
 
 use crate::fetcher::{Fetcher, PageLeave, RobotsLeave};
@@ -12,7 +13,7 @@ use std::alloc::{AllocError, Global};
 use std::marker::Model;
 use std::net::{Net, TcpStream};
 use std::time;
-use tcp_wire::{TcpClient, TimeLimits};
+use tcp_wire::{Deadline, TcpClient, TimeLimits};
 
 /// The most octets that are taken of a robots file: those that are kept, and one that tells that
 /// there are more.
@@ -20,7 +21,7 @@ pub(crate) const ROBOTS_LIMIT: usize = MAX_TEXT + 1;
 
 /// What fetches pages under the tokens of crawlers, and robots files under an agent of its own.
 ///
-/// A clause sees it as that agent, the value of User-Agent.
+/// A clause sees it as that agent, the value of User-Agent, and its limits of time.
 #[derive(Drop)]
 pub struct TcpFetcher<R: Net<Stream = TcpStream> + time::Clock> {
     client: TcpClient<R>,
@@ -28,12 +29,12 @@ pub struct TcpFetcher<R: Net<Stream = TcpStream> + time::Clock> {
 }
 
 impl<R: Net<Stream = TcpStream> + time::Clock> Model for TcpFetcher<R> {
-    ghost use Rattle.std.specs.Prelude.{List, ℕ};
     ghost use Rattle.tcp_wire.specs.Agent.{IsAgent};
+    ghost use Rattle.crawl_workers.specs.Network.{TcpView};
 
-    ghost Value = { List ℕ };
+    ghost Value = { TcpView };
 
-    ghost view = { λ fetcher. fetcher.agent.items };
+    ghost view = { λ fetcher. record { agent = fetcher.agent.items; limits = fetcher.client } };
 
     ghost invariant = { λ fetcher. IsAgent fetcher.agent.items };
 }
@@ -44,7 +45,8 @@ impl<R: Net<Stream = TcpStream> + time::Clock> TcpFetcher<R> {
     where
         R: Drop,
         requires { IsAgent agent.now }
-        ensures { IfOk result (λ fetcher. fetcher ≡ agent.now) }
+        ensures agent { IfOk result (λ fetcher. fetcher.agent ≡ agent.now) }
+        ensures limits { IfOk result (λ fetcher. AreStandard fetcher.limits) }
     {
         TcpFetcher::with_limits(alloc, rt, agent, TimeLimits::standard())
     }
@@ -59,7 +61,8 @@ impl<R: Net<Stream = TcpStream> + time::Clock> TcpFetcher<R> {
     where
         R: Drop,
         requires { IsAgent agent.now }
-        ensures { IfOk result (λ fetcher. fetcher ≡ agent.now) }
+        ensures agent { IfOk result (λ fetcher. fetcher.agent ≡ agent.now) }
+        ensures limits { IfOk result (λ fetcher. fetcher.limits ≡ limits) }
     {
         Ok(TcpFetcher {
             agent: Vec::from_slice(alloc, agent)?,
@@ -78,6 +81,13 @@ impl<R: Net<Stream = TcpStream> + time::Clock> Fetcher for TcpFetcher<R> {
 
     ghost gives = { λ _. GivesAny };
 
+    /// The fetches of a walk take no longer together than one whole fetch may.
+    fn begin_walk(&self) -> Option<Deadline>
+        ensures { IfSome result (λ deadline. deadline.whole ≡ self.now.limits.whole) }
+    {
+        self.client.begin().ok()
+    }
+
     fn load_page(&self, leave: &PageLeave<'_>, limit: usize) -> Result<HttpReply, WireFault>
         ensures { Tells None limit result }
     {
@@ -86,11 +96,19 @@ impl<R: Net<Stream = TcpStream> + time::Clock> Fetcher for TcpFetcher<R> {
             .fetch(self.allocator(), leave.url(), agent, limit)
     }
 
-    fn load_robots(&self, leave: &RobotsLeave<'_>) -> Result<HttpReply, WireFault>
+    fn load_robots(
+        &self,
+        leave: &RobotsLeave<'_>,
+        time: Option<Deadline>,
+    ) -> Result<HttpReply, WireFault>
         ensures { Tells None robots_limit result }
     {
+        let Some(deadline) = time else {
+            return Err(WireFault::Device);
+        };
         let agent = self.agent.as_slice();
+        let alloc = self.allocator();
         self.client
-            .fetch(self.allocator(), leave.url(), agent, ROBOTS_LIMIT)
+            .fetch_by(alloc, leave.url(), agent, ROBOTS_LIMIT, deadline)
     }
 }

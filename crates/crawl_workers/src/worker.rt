@@ -6,15 +6,17 @@ ghost use Rattle.gate_lock.specs.Desks.{HasOut, KeepsOut};
 ghost use Rattle.gate_lock.specs.declared.mark.Deed.{Deed};
 ghost use Rattle.crawl_workers.specs.Limits.{max_hops};
 ghost use Rattle.crawl_workers.specs.Outcomes.{AfterRefresh, AreHops, MayRefresh};
+ghost use Rattle.crawl_workers.specs.Refreshes.{MayBegin};
 ghost use Rattle.crawl_workers.specs.WaysOn.{AddsDeeds, TellsWay, ask_hop};
+ghost use Rattle.crawl_workers.specs.World.{IsSinceRead, world_of};
 
 use crate::clock::Clock;
 use crate::fetcher::Fetcher;
-use crate::refreshing::refresh;
+use crate::refreshing::bring_answer;
 use crate::way_on::{WayOn, way_on};
 use crawl_job::{Hop, Outcome, Refusal};
 use gate_core::{AskRefusal, BeginRefusal, Standing};
-use gate_lock::{Desk, Gate, Permit};
+use gate_lock::{Desk, Gate, Permit, RobotsTurn};
 use path_normal::{Authority, PageUrl};
 use robots_text::Token;
 use std::alloc::Global;
@@ -23,16 +25,33 @@ use std::sync::Wait;
 /// The most octets that are taken of a page's body.
 pub(crate) const PAGE_LIMIT: usize = 1_048_576;
 
+/// What is told of robots files while a worker does a job.
+pub(crate) trait Notes {
+    /// The robots file of the authority is fetched from now on.
+    fn asks(&self, authority: &str);
+
+    /// An answer of it is known, or none will come.
+    fn answered(&self, authority: &str);
+}
+
+/// Nobody is told.
+impl Notes for () {
+    fn asks(&self, _authority: &str) {}
+
+    fn answered(&self, _authority: &str) {}
+}
+
 /// What works on jobs.
 #[derive(Drop)]
-pub(crate) struct Worker<'a, F: Fetcher, C: Clock, R: Wait> {
+pub(crate) struct Worker<'a, F: Fetcher, C: Clock, N: Notes, R: Wait> {
     pub(crate) rt: &'a R,
     pub(crate) alloc: Global,
     pub(crate) fetcher: &'a F,
     pub(crate) clock: &'a C,
+    pub(crate) notes: &'a N,
 }
 
-impl<F: Fetcher, C: Clock, R: Wait> Worker<'_, F, C, R> {
+impl<F: Fetcher, C: Clock, N: Notes, R: Wait> Worker<'_, F, C, N, R> {
     /// Makes the hops of a job, for which there is room.
     pub(crate) fn hops_from<G: Gate>(
         &self,
@@ -43,7 +62,7 @@ impl<F: Fetcher, C: Clock, R: Wait> Worker<'_, F, C, R> {
     ) -> Outcome
         requires empty { room.items ≡ [] }
         requires room { max_hops ≤ vec_capacity room }
-        ensures tells { AddsDeeds (AreHops (F.gives self.now.fetcher.now) token.now url
+        ensures tells { AddsDeeds (AreHops (world_of (F.gives self.now.fetcher.now) (C.reads self.now.clock.now)) token.now url
             result.hops.items result.body.items) desk.old desk.new }
         ensures no { desk.new.no ≡ desk.old.no }
         ensures out { KeepsOut desk.old desk.new }
@@ -78,12 +97,14 @@ impl<F: Fetcher, C: Clock, R: Wait> Worker<'_, F, C, R> {
         followed: u64,
         desk: &mut Desk<'_, G>,
     ) -> WayOn
-        ensures tells { AddsDeeds (AfterRefresh (F.gives self.now.fetcher.now) url
-            (TellsWay (F.gives self.now.fetcher.now) token.now url followed result)) desk.old desk.new }
+        ensures tells { AddsDeeds (AfterRefresh (world_of (F.gives self.now.fetcher.now) (C.reads self.now.clock.now)) url
+            (TellsWay (world_of (F.gives self.now.fetcher.now) (C.reads self.now.clock.now)) token.now url followed result)) desk.old desk.new }
         ensures no { desk.new.no ≡ desk.old.no }
         ensures out { KeepsOut desk.old desk.new }
     {
-        if let Err(refusal) = self.see_to_answer(&url, desk) {
+        let seen = self.see_to_answer(&url, desk);
+        self.notes.answered(url.authority());
+        if let Err(refusal) = seen {
             return WayOn::Ends(Hop::Refused(refusal), Vec::new(self.alloc));
         }
         match token.copy() {
@@ -95,36 +116,18 @@ impl<F: Fetcher, C: Clock, R: Wait> Worker<'_, F, C, R> {
     // Refreshes the answer of a page's authority where none is in force. Where another desk does so,
     // its answer is waited for.
     fn see_to_answer<G: Gate>(&self, url: &PageUrl, desk: &mut Desk<'_, G>) -> Result<(), Refusal>
-        ensures refreshed { AddsDeeds (MayRefresh (F.gives self.now.fetcher.now) (authority_of url.now))
-            desk.old desk.new }
+        ensures refreshed { AddsDeeds (MayRefresh (world_of (F.gives self.now.fetcher.now)
+            (C.reads self.now.clock.now)) (authority_of url.now)) desk.old desk.new }
         ensures no { desk.new.no ≡ desk.old.no }
         ensures out { KeepsOut desk.old desk.new }
     {
-        let state = desk.state_of(self.rt, url.authority(), self.clock.now());
-        match state.standing {
-            Standing::Unknown | Standing::Expired => self.refresh_once(url, desk),
-            Standing::Closed | Standing::Open | Standing::Rules => Ok(()),
-        }
-    }
-
-    fn refresh_once<G: Gate>(&self, url: &PageUrl, desk: &mut Desk<'_, G>) -> Result<(), Refusal>
-        ensures refreshed { AddsDeeds (MayRefresh (F.gives self.now.fetcher.now) (authority_of url.now))
-            desk.old desk.new }
-        ensures no { desk.new.no ≡ desk.old.no }
-        ensures out { KeepsOut desk.old desk.new }
-    {
-        let Ok(authority) = Authority::of(url) else {
-            return Err(Refusal::NoMemory);
-        };
-        match refresh(
-            self.rt,
-            self.alloc,
-            &authority,
-            desk,
-            self.fetcher,
-            self.clock,
-        ) {
-            Ok(_) => Ok(()),
+        match self.begin_stale(url, desk, self.clock.now()) {
+            Ok(None) => Ok(()),
+            Ok(Some(turn)) => {
+                self.notes.asks(url.authority());
+                bring_answer(self.rt, self.alloc, turn, desk, self.fetcher, self.clock);
+                Ok(())
+            }
             Err(BeginRefusal::InFlight) => {
                 desk.wait_answer(self.rt, url.authority(), self.clock.now());
                 Ok(())
@@ -135,6 +138,35 @@ impl<F: Fetcher, C: Clock, R: Wait> Worker<'_, F, C, R> {
         }
     }
 
+    // Begins a turn of a page's authority where no answer of it is in force. That is read and the turn
+    // begun under one hold of the lock, so no two desks fetch one file.
+    fn begin_stale<G: Gate>(
+        &self,
+        url: &PageUrl,
+        desk: &mut Desk<'_, G>,
+        moment: u64,
+    ) -> Result<Option<RobotsTurn<G>>, BeginRefusal>
+        requires { C.reads self.now.clock.now moment }
+        ensures begins { MayBegin (world_of (F.gives self.now.fetcher.now) (C.reads self.now.clock.now))
+            (authority_of url.now) result desk.old desk.new }
+        ensures no { desk.new.no ≡ desk.old.no }
+    {
+        let mut held = desk.lend(self.rt);
+        let state = desk.state_in(&mut held, url.authority(), moment);
+        match state.standing {
+            Standing::Closed | Standing::Open | Standing::Rules => return Ok(None),
+            Standing::Unknown | Standing::Expired => {}
+        }
+        // No name is copied for who only waits.
+        if state.fetching {
+            return Err(BeginRefusal::InFlight);
+        }
+        let Ok(authority) = Authority::of(url) else {
+            return Err(BeginRefusal::NoMemory);
+        };
+        Ok(Some(desk.begin_in(&mut held, &authority, moment)?))
+    }
+
     // Asks for a page, and fetches it where that is granted.
     fn fetch_asked<G: Gate>(
         &self,
@@ -143,7 +175,7 @@ impl<F: Fetcher, C: Clock, R: Wait> Worker<'_, F, C, R> {
         followed: u64,
         desk: &mut Desk<'_, G>,
     ) -> WayOn
-        ensures tells { AddsDeeds (TellsWay (F.gives self.now.fetcher.now) token url followed result)
+        ensures tells { AddsDeeds (TellsWay (world_of (F.gives self.now.fetcher.now) (C.reads self.now.clock.now)) token url followed result)
             desk.old desk.new }
         ensures no { desk.new.no ≡ desk.old.no }
         ensures out { KeepsOut desk.old desk.new }
@@ -162,7 +194,9 @@ impl<F: Fetcher, C: Clock, R: Wait> Worker<'_, F, C, R> {
         desk: &mut Desk<'_, G>,
     ) -> WayOn
         requires { permit.desk ≡ desk.old.no }
-        ensures tells { AddsDeeds (λ (own : List Deed). (granted : ℕ) → TellsWay (F.gives self.now.fetcher.now)
+        ensures tells { AddsDeeds (λ (own : List Deed). (granted : ℕ) →
+            IsSinceRead (world_of (F.gives self.now.fetcher.now) (C.reads self.now.clock.now)) granted →
+            TellsWay (world_of (F.gives self.now.fetcher.now) (C.reads self.now.clock.now))
             permit.token permit.url followed result
             (Deed.Granted granted permit.number (record { token = permit.token; url = permit.url }) ∷ own))
             desk.old desk.new }

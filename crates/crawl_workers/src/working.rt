@@ -4,10 +4,11 @@ ghost use Rattle.std.specs.Prelude.{◌≡◌, ◌+◌, IfOk, OnErr};
 ghost use Rattle.gate_lock.specs.Desks.{KeepsOut};
 ghost use Rattle.gate_lock.specs.Marks.{starts_in};
 ghost use Rattle.crawl_workers.specs.Outcomes.{Works, fetches_in};
+ghost use Rattle.crawl_workers.specs.World.{world_of};
 
 use crate::clock::Clock;
 use crate::fetcher::Fetcher;
-use crate::worker::Worker;
+use crate::worker::{Notes, Worker};
 use crawl_job::{Job, Outcome};
 use gate_lock::{Desk, Gate};
 use std::alloc::{AllocError, Global};
@@ -33,7 +34,7 @@ pub fn work<G: Gate, F: Fetcher, C: Clock, R: Wait>(
 ) -> Result<Outcome, AllocError>
     ensures no { desk.new.no ≡ desk.old.no }
     ensures out { KeepsOut desk.old desk.new }
-    ensures ok { IfOk result (λ outcome. Works (F.gives fetcher.now) job outcome desk.old desk.new) }
+    ensures ok { IfOk result (λ outcome. Works (world_of (F.gives fetcher.now) (C.reads clock.now)) job outcome desk.old desk.new) }
     ensures starts { IfOk result (λ outcome. starts_in desk.new.marks
         ≡ starts_in desk.old.marks + fetches_in outcome.hops.items) }
     ensures err { OnErr result (desk.new ≡ desk.old) }
@@ -43,8 +44,26 @@ pub fn work<G: Gate, F: Fetcher, C: Clock, R: Wait>(
         alloc,
         fetcher,
         clock,
+        notes: &(),
     };
-    let room = Vec::with_capacity(alloc, MAX_HOPS)?;
+    work_by(&worker, job, desk)
+}
+
+/// The same by a worker.
+pub(crate) fn work_by<G: Gate, F: Fetcher, C: Clock, N: Notes, R: Wait>(
+    worker: &Worker<'_, F, C, N, R>,
+    job: Job,
+    desk: &mut Desk<'_, G>,
+) -> Result<Outcome, AllocError>
+    ensures no { desk.new.no ≡ desk.old.no }
+    ensures out { KeepsOut desk.old desk.new }
+    ensures ok { IfOk result (λ outcome. Works (world_of (F.gives worker.now.fetcher.now) (C.reads worker.now.clock.now))
+        job outcome desk.old desk.new) }
+    ensures starts { IfOk result (λ outcome. starts_in desk.new.marks
+        ≡ starts_in desk.old.marks + fetches_in outcome.hops.items) }
+    ensures err { OnErr result (desk.new ≡ desk.old) }
+{
+    let room = Vec::with_capacity(worker.alloc, MAX_HOPS)?;
     let Job { token, url } = job;
     Ok(worker.hops_from(&token, url, room, desk))
 }

@@ -1,6 +1,5 @@
 -- What the program's words may ask for: where they are taken, each option is a number in its range.
 -- The contract of `options`; docs/crawlgate.1.md has the ranges.
-use Rattle.std.specs.Prelude.{ℕ}
 use Rattle.program_words.specs.declared.words.Subcommand.{Subcommand}
 use Rattle.program_words.specs.declared.words.Subcommand.TheVariants.{Replay, Export, Lines, Audit, Shift}
 use Rattle.gate_core.specs.Limits.{AreLimits}
@@ -12,4 +11,4 @@ IsInRange (Replay limits) = AreLimits limits
 IsInRange (Export limits) = AreLimits limits
 IsInRange Lines = Unit {0}
 IsInRange Audit = Unit {0}
-IsInRange (Shift workers limits) = IsCrew workers × AreLimits limits
+IsInRange (Shift workers limits told) = IsCrew workers × AreLimits limits

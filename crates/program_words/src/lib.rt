@@ -4,4 +4,4 @@
 
 mod words;
 
-pub use words::{Subcommand, options};
+pub use words::{Subcommand, Told, options};

@@ -26,8 +26,17 @@ pub enum Subcommand {
     /// Audits the text of a history on standard input.
     Audit,
     /// Has so many workers do the jobs on standard input, over a book of these limits, and writes
-    /// what came of them to standard output.
-    Shift(u64, Limits),
+    /// this of them to standard output.
+    Shift(u64, Limits, Told),
+}
+
+/// What is written of a shift.
+#[derive(Clone, Copy, Debug, PartialEq, Eq)]
+pub enum Told {
+    /// What came of its jobs.
+    Outcomes,
+    /// The text of its book's history.
+    History,
 }
 
 /// Reads the program's words, of which the first is its own name. The error has what `clap`
@@ -93,12 +102,26 @@ fn subcommand_of(matches: &ArgMatches<'_>) -> Option<Subcommand>
 fn replay_of(matches: &ArgMatches<'_>) -> Option<Subcommand>
     ensures { IfSome result IsInRange }
 {
-    let limits = limits_of(matches)?;
+    let first_generation = number_of(matches, "generation", LAST_GENERATION)?;
+    let limits = limits_of(matches, first_generation)?;
     if matches.get_flag("export") {
         Some(Subcommand::Export(limits))
     } else {
         Some(Subcommand::Replay(limits))
     }
+}
+
+fn shift_of(matches: &ArgMatches<'_>) -> Option<Subcommand>
+    ensures { IfSome result IsInRange }
+{
+    let limits = limits_of(matches, 1)?;
+    let workers = number_of(matches, "workers", MAX_WORKERS)?;
+    let told = if matches.get_flag("export") {
+        Told::History
+    } else {
+        Told::Outcomes
+    };
+    Some(Subcommand::Shift(workers, limits, told))
 }
 
 fn program<'a>(alloc: Global) -> Result<Command<'a>, AllocError> {
@@ -121,36 +144,16 @@ fn program<'a>(alloc: Global) -> Result<Command<'a>, AllocError> {
 
 // The words of `replay`.
 fn replay_words<'a>(alloc: Global) -> Result<Command<'a>, AllocError> {
-    Command::new(alloc, "replay")
-        .about("Answers the lines of standard input, one reply a line")
-        .arg(number(
-            alloc,
-            "slots",
-            "1024",
-            MAX_SLOTS,
-            "Permits that may be out at a time",
-        ))?
+    let replay = Command::new(alloc, "replay").about(
+        "Answers the lines of standard input, one reply a line",
+    );
+    limit_words(alloc, replay)?
         .arg(number(
             alloc,
             "generation",
             "1",
             LAST_GENERATION,
             "Generation of the first permit of each slot",
-        ))?
-        .arg(number(alloc, "log", "1000000", MAX_LOG, "Entries of the history"))?
-        .arg(number(
-            alloc,
-            "authorities",
-            "65536",
-            MAX_AUTHORITIES,
-            "Authorities that are known at a time",
-        ))?
-        .arg(number(
-            alloc,
-            "places",
-            "65536",
-            MAX_PLACES,
-            "Permits that may be out for an authority at a time",
         ))?
         .arg(
             Arg::new(alloc, "export")
@@ -162,8 +165,10 @@ fn replay_words<'a>(alloc: Global) -> Result<Command<'a>, AllocError> {
 
 // The words of `shift`.
 fn shift_words<'a>(alloc: Global) -> Result<Command<'a>, AllocError> {
-    Command::new(alloc, "shift")
-        .about("Fetches the pages of the jobs on standard input, and writes what came of them")
+    let shift = Command::new(alloc, "shift").about(
+        "Fetches the pages of the jobs on standard input, and writes what came of them",
+    );
+    limit_words(alloc, shift)?
         .arg(number(
             alloc,
             "workers",
@@ -171,12 +176,31 @@ fn shift_words<'a>(alloc: Global) -> Result<Command<'a>, AllocError> {
             MAX_WORKERS,
             "Jobs that are done at a time",
         ))?
+        .arg(
+            Arg::new(alloc, "export")
+                .long("export")
+                .action(ArgAction::SetTrue)
+                .help("Writes the history at the end, and no outcomes"),
+        )
+}
+
+// The limits of the gate that both have.
+fn limit_words<'a>(alloc: Global, command: Command<'a>) -> Result<Command<'a>, AllocError> {
+    command
         .arg(number(
             alloc,
             "slots",
             "1024",
             MAX_SLOTS,
             "Permits that may be out at a time",
+        ))?
+        .arg(number(alloc, "log", "1000000", MAX_LOG, "Entries of the history"))?
+        .arg(number(
+            alloc,
+            "authorities",
+            "65536",
+            MAX_AUTHORITIES,
+            "Authorities that are known at a time",
         ))?
         .arg(number(
             alloc,
@@ -207,26 +231,17 @@ fn number<'a>(
 }
 
 // The limits that the options set, where each is in its range.
-fn limits_of(matches: &ArgMatches<'_>) -> Option<Limits>
+fn limits_of(matches: &ArgMatches<'_>, first_generation: u64) -> Option<Limits>
+    requires { (1 ≤ first_generation) × (first_generation ≤ last_generation) }
     ensures { IfSome result AreLimits }
 {
     Some(Limits {
         slots: number_of(matches, "slots", MAX_SLOTS)?,
-        first_generation: number_of(matches, "generation", LAST_GENERATION)?,
+        first_generation,
         log_limit: number_of(matches, "log", MAX_LOG)?,
         authority_limit: number_of(matches, "authorities", MAX_AUTHORITIES)?,
         places: number_of(matches, "places", MAX_PLACES)?,
     })
-}
-
-// The workers and the limits that the options of `shift` set, where each is in its range.
-fn shift_of(matches: &ArgMatches<'_>) -> Option<Subcommand>
-    ensures { IfSome result IsInRange }
-{
-    let mut limits = Limits::usual();
-    limits.slots = number_of(matches, "slots", MAX_SLOTS)?;
-    limits.places = number_of(matches, "places", MAX_PLACES)?;
-    Some(Subcommand::Shift(number_of(matches, "workers", MAX_WORKERS)?, limits))
 }
 
 // The number of an option, where it is from 1 to `most`.

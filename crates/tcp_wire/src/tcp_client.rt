@@ -1,5 +1,5 @@
 //! Pages fetched over TCP, each over a connection of its own.
-ghost use Rattle.std.specs.Prelude.{None};
+ghost use Rattle.std.specs.Prelude.{◌≡◌, None, IfOk};
 ghost use Rattle.http_wire.specs.Response.{Tells};
 ghost use Rattle.tcp_wire.specs.Agent.{IsAgent};
 
@@ -13,6 +13,7 @@ use http_wire::{HttpReply, WireFault};
 use path_normal::PageUrl;
 use std::alloc::Global;
 use std::io::ErrorKind;
+use std::marker::Model;
 use std::net::{Net, TcpStream, ToSocketAddrs};
 use std::{io, time};
 
@@ -23,10 +24,27 @@ pub struct TcpClient<R: Net<Stream = TcpStream> + time::Clock> {
     limits: TimeLimits,
 }
 
+impl<R: Net<Stream = TcpStream> + time::Clock> Model for TcpClient<R> {
+    ghost use Rattle.tcp_wire.specs.declared.time_limits.TimeLimits.{TimeLimits};
+
+    ghost Value = { TimeLimits };
+
+    ghost view = { λ client. client.limits };
+}
+
 impl<R: Net<Stream = TcpStream> + time::Clock> TcpClient<R> {
     /// A client whose fetches take no longer than these limits.
-    pub fn new(rt: R, limits: TimeLimits) -> TcpClient<R> {
+    pub fn new(rt: R, limits: TimeLimits) -> TcpClient<R>
+        ensures { result ≡ limits }
+    {
         TcpClient { rt, limits }
+    }
+
+    /// The time of a whole fetch, which begins now. Several fetches may have one time in common.
+    pub fn begin(&self) -> io::Result<Deadline>
+        ensures { IfOk result (λ deadline. deadline.whole ≡ self.now.whole) }
+    {
+        Deadline::begin(&self.rt, self.limits.whole)
     }
 
     /// Fetches a page, and gives at most `limit` octets of its body. `agent` is the value of
@@ -46,9 +64,25 @@ impl<R: Net<Stream = TcpStream> + time::Clock> TcpClient<R> {
         requires { IsAgent agent.now }
         ensures { Tells None limit result }
     {
-        let Ok(deadline) = Deadline::begin(&self.rt, self.limits.whole) else {
-            return Err(WireFault::Device);
-        };
+        match self.begin() {
+            Ok(deadline) => self.fetch_by(alloc, url, agent, limit, deadline),
+            Err(_) => Err(WireFault::Device),
+        }
+    }
+
+    /// Fetches a page in what is left of a time, as `fetch` does.
+    pub fn fetch_by(
+        &self,
+        alloc: Global,
+        url: &PageUrl,
+        agent: &[u8],
+        limit: usize,
+        deadline: Deadline,
+    ) -> Result<HttpReply, WireFault>
+        // No octet of the agent ends its line.
+        requires { IsAgent agent.now }
+        ensures { Tells None limit result }
+    {
         let Ok(stream) = self.connect(url, &deadline) else {
             return Err(WireFault::Device);
         };
@@ -75,7 +109,10 @@ impl<R: Net<Stream = TcpStream> + time::Clock> TcpClient<R> {
         &'a self,
         stream: &'a TcpStream,
         deadline: Deadline,
-    ) -> TimedStream<'a, R, &'a TcpStream> {
+    ) -> TimedStream<'a, R, &'a TcpStream>
+        ensures step { result.step ≡ self.now.step }
+        ensures deadline { result.deadline ≡ deadline }
+    {
         TimedStream {
             rt: &self.rt,
             stream,

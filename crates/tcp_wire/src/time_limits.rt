@@ -1,8 +1,6 @@
 //! How long a fetch may take.
 //! The one place of these limits.
-ghost use Rattle.std.specs.Prelude.{◌≡◌};
-ghost use Rattle.std.specs.Duration.{as_nanos};
-ghost use Rattle.tcp_wire.specs.TimeLimits.{connect_time, step_time, whole_time};
+ghost use Rattle.tcp_wire.specs.TimeLimits.{AreStandard};
 
 use std::time::Duration;
 
@@ -32,9 +30,7 @@ pub struct TimeLimits {
 impl TimeLimits {
     /// The limits of crawlers: 10 seconds, 30 seconds and 300 seconds.
     pub fn standard() -> TimeLimits
-        ensures connect { as_nanos result.connect ≡ connect_time }
-        ensures step { as_nanos result.step ≡ step_time }
-        ensures whole { as_nanos result.whole ≡ whole_time }
+        ensures { AreStandard result }
     {
         TimeLimits {
             connect: Duration::from_secs(CONNECT_SECONDS),

@@ -4,7 +4,7 @@ use super::sites::crawl_over;
 use super::{demand, new_writer, reader_of};
 use counted_io::{Counted, FailAt};
 use crawl_shift::NotShifted;
-use crawl_workers::{Clock, Fetcher, PageLeave, RobotsLeave};
+use crawl_workers::{Clock, Deadline, Fetcher, PageLeave, RobotsLeave};
 use http_wire::{HttpReply, WireFault, read_response};
 use std::alloc::Global;
 use std::random::RandomSource;
@@ -26,7 +26,11 @@ struct Changing<'a> {
 }
 
 impl Fetcher for Changing<'_> {
-    ghost gives = { λ _ _ _. Unit {0} };
+    ghost gives = { λ _ _ _ _. Unit {0} };
+
+    fn begin_walk(&self) -> Option<Deadline> {
+        None
+    }
 
     fn load_page(&self, _leave: &PageLeave<'_>, limit: usize) -> Result<HttpReply, WireFault> {
         self.now.fetch_add(self.after_page, Ordering::SeqCst);
@@ -34,7 +38,11 @@ impl Fetcher for Changing<'_> {
         read_response(self.alloc, &mut Counted::new(response), limit)
     }
 
-    fn load_robots(&self, _leave: &RobotsLeave<'_>) -> Result<HttpReply, WireFault> {
+    fn load_robots(
+        &self,
+        _leave: &RobotsLeave<'_>,
+        _time: Option<Deadline>,
+    ) -> Result<HttpReply, WireFault> {
         let response: &[u8] = match self.robots_fetches.fetch_add(1, Ordering::SeqCst) {
             0 => b"HTTP/1.1 404 No\r\n\r\n",
             _ => b"HTTP/1.1 200 OK\r\n\r\nUser-agent: *\nDisallow: /\n",

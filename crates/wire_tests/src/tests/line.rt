@@ -27,8 +27,10 @@ fn three_jobs_for_two_seats(rt: HostRuntime) -> Result<(), Fail> {
     assert_eq!(rt; line.draw(&mut first), Some(0));
     assert_eq!(rt; line.draw(&mut second), Some(1));
     assert_eq!(rt; line.draw(&mut first), Some(2));
-    draw_all(&line, &mut first);
-    draw_all(&line, &mut second);
+    assert_eq!(rt; line.draw(&mut first), None);
+    assert_eq!(rt; line.draw(&mut second), None);
+    assert_eq!(rt; line.draw(&mut first), None);
+    assert_eq!(rt; line.draw(&mut second), None);
     assert_eq!(rt; first.drawn(), [0, 2].as_slice());
     assert_eq!(rt; second.drawn(), [1].as_slice());
     Ok(())

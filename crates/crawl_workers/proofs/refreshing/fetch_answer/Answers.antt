@@ -1,14 +1,24 @@
 -- What was given for the walk's URL goes on or decides.
-use Rattle.std.proofs.Common.{ℕ, List, inl, subst}
+use Rattle.std.proofs.Common.{ℕ, List, inl, sym, subst}
+use Rattle.path_normal.specs.PageText.{robots_url_of}
 use Rattle.robots_fetch.specs.declared.reply.RobotsReply.{RobotsReply}
 use Rattle.robots_fetch.specs.declared.walk.Step.TheVariants.{Go, Done}
 use Rattle.robots_fetch.specs.Steps.{Steps}
+use Rattle.crawl_workers.specs.Limits.{robots_limit}
+use Rattle.crawl_workers.specs.Refreshes.{AreLed}
 use Rattle.crawl_workers.proofs.Fetching.{fetched, go_on}
 use Rattle.crawl_workers.proofs.refreshing.fetch_answer.Goals as goal
 
+pub fetch_robots-requires : goal.fetch_robots-requires
+fetch_robots-requires g c =
+    let gives = g.F.Fetcher.gives c.args.fetcher.now robots_limit in
+    let under = c.loop-next.invariant in
+    let P : List ℕ → Type 0 = λ url. AreLed gives (robots_url_of c.args.turn.now.authority) under.way url in
+    (under.way, subst P (sym c.url.ensures) under.are_led)
+
 pub returns-in-Done-clause-brings : goal.returns-in-Done-clause-brings
 returns-in-Done-clause-brings g c =
-    let gives = g.F.Fetcher.gives c.args.fetcher.now in
+    let gives = g.F.Fetcher.gives c.args.fetcher.now robots_limit in
     let walk = c.loop-next.walk in
     let P : List ℕ → Type 0 = λ url. gives url c.fetch_robots.result in
     let Q : RobotsReply → Type 0 = λ reply. Steps walk reply (Done c.in-Done.answer c.in-Done.life) in
@@ -17,7 +27,7 @@ returns-in-Done-clause-brings g c =
 
 pub loop-next-preserved-in-Go : goal.loop-next-preserved-in-Go
 loop-next-preserved-in-Go g c =
-    let gives = g.F.Fetcher.gives c.args.fetcher.now in
+    let gives = g.F.Fetcher.gives c.args.fetcher.now robots_limit in
     let walk = c.loop-next.walk in
     let P : List ℕ → Type 0 = λ url. gives url c.fetch_robots.result in
     let Q : RobotsReply → Type 0 = λ reply. Steps walk reply (Go c.in-Go.next) in

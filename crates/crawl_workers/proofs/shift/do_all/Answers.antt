@@ -1,25 +1,19 @@
--- New workers at these seats, who all end.
+-- New workers, who all end.
 -- Used by `do_all`.
-use Rattle.std.proofs.Common.{◌≡◌, ◌∙◌, [], refl}
-use Rattle.std.specs.Prelude.{length, map}
-use Rattle.std.proofs.lemmas.List.Elements.{All-map, All-same}
-use Rattle.job_line.specs.Covers.{IsNew}
-use Rattle.crawl_workers.specs.Crews.{MemberView, hired}
-use Rattle.crawl_workers.proofs.Handing.{did_all}
+use Rattle.std.proofs.Common.{◌∙◌, ap, arith, sym}
+use Rattle.std.specs.Prelude.{length}
+use Rattle.std.proofs.lemmas.List.{length-replicate}
+use Rattle.crawl_workers.specs.Crews.{newcomer}
+use Rattle.crawl_workers.specs.World.{world_of}
+use Rattle.crawl_workers.proofs.Handing.{all_new, did_all}
 use Rattle.crawl_workers.proofs.shift.do_all.Goals as goal
 
-pub employ_all-requires-clause-seats : goal.employ_all-requires-clause-seats
-employ_all-requires-clause-seats g c κs within =
-    let P : MemberView → Type 0 = λ (worker : MemberView). IsNew c.args.crew.now.line.now (length c.args.crew.now.jobs.now) worker.seat in
-    All-same P _ (map hired c.args.seats.items) (c.deref_mut.ensures.value ∙ c.in_ok-workers.ensures) (All-map P hired c.args.seats.items c.requires.seats)
-
 pub employ_all-requires-clause-new : goal.employ_all-requires-clause-new
-employ_all-requires-clause-new g c κs within =
-    let P : MemberView → Type 0 = λ (worker : MemberView). worker.done ≡ [] in
-    All-same P _ (map hired c.args.seats.items) (c.deref_mut.ensures.value ∙ c.in_ok-workers.ensures) (All-map P hired c.args.seats.items (λ k d w. refl))
+employ_all-requires-clause-new g c κs within = all_new _ c.args.workers (c.deref_mut.ensures.value ∙ c.in_ok-members.ensures)
 
 pub returns : goal.returns
 returns g c =
-    did_all (g.F.Fetcher.gives c.args.crew.now.fetcher.now) c.args.crew.now.jobs.now c.args.seats.items
-    c.deref_mut.result.now c.employ_all.new.workers c.in_ok-workers.workers.len _ c.take_all.new.self
-    (c.deref_mut.ensures.value ∙ c.in_ok-workers.ensures) c.employ_all.auto.workers c.deref_mut.ensures.len c.employ_all.ensures c.in_ok-take_all.ensures
+    let many = ap length (c.deref_mut.ensures.value ∙ c.in_ok-members.ensures) ∙ length-replicate c.args.workers newcomer in
+    did_all (world_of (g.F.Fetcher.gives c.args.crew.now.fetcher.now) (g.C.Clock.reads c.args.crew.now.clock.now)) c.args.crew.now.jobs.now c.args.workers
+    c.employ_all.new.members c.in_ok-members.members.len _ c.take_all.new.self
+    (c.employ_all.auto.members ∙ many) (sym many ∙ c.deref_mut.ensures.len) (λ i d within. c.employ_all.ensures i d (omega (arith, within, c.employ_all.auto.members))) c.in_ok-take_all.ensures

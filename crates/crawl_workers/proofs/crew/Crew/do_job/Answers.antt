@@ -1,15 +1,14 @@
 -- The job that is worked on is the one of the number, once more.
 -- Used by `Crew::do_job`.
-use Rattle.std.proofs.Common.{◌≡◌, get_or, refl, subst}
-use Rattle.std.proofs.lemmas.Option.{slice_get-get_or}
+use Rattle.std.proofs.Common.{◌≡◌, refl, subst}
 use Rattle.crawl_job.specs.declared.job.Job.{Job}
 use Rattle.crawl_workers.specs.Outcomes.{IsOutcome}
+use Rattle.crawl_workers.specs.World.{world_of}
 use Rattle.crawl_workers.proofs.crew.Crew.do_job.Goals as goal
 
 pub returns-clause-ok : goal.returns-clause-ok
 returns-clause-ok g c =
-    let jobs = c.args.self.now.jobs.now in
-    let job = get_or jobs c.args.number c.index-self-number.result in
+    let job = c.args.job.now in
     let outcome = c.in_ok-outcome.outcome in
     let works = c.in_ok-outcome.ensures.ok in
     let same : c.in_ok-copy.field-0 ≡ job = λ i. record { token = c.in_ok-copy.ensures.token i; url = c.in_ok-copy.ensures.url i } in (
@@ -19,9 +18,9 @@ returns-clause-ok g c =
         record {
           job = job;
           outcome = outcome;
-          job_is = slice_get-get_or jobs c.args.number c.index-self-number.result c.requires;
+          job_is = c.requires;
           hops_are = refl;
-          told = subst (λ (j : Job). IsOutcome (g.F.Fetcher.gives c.args.self.now.fetcher.now) j outcome works.0) same works.1.1;
+          told = subst (λ (j : Job). IsOutcome (world_of (g.F.Fetcher.gives c.args.self.now.fetcher.now) (g.C.Clock.reads c.args.self.now.clock.now)) j outcome works.0) same works.1.1;
         },
       ),
     )

@@ -4,18 +4,19 @@ use Rattle.crawl_job.specs.declared.hop.Hop.{Hop}
 use Rattle.crawl_workers.specs.Outcomes.{IsLast}
 use Rattle.crawl_workers.specs.WaysOn.{AddsDeeds}
 use Rattle.crawl_workers.proofs.Hops.{ask_granted, ask_refused}
+use Rattle.crawl_workers.specs.World.{world_of}
 use Rattle.crawl_workers.proofs.worker.Worker.fetch_asked.Goals as goal
 
 pub returns-in-Ok-clause-tells : goal.returns-in-Ok-clause-tells
 returns-in-Ok-clause-tells g c =
-    ask_granted (g.F.Fetcher.gives c.args.self.now.fetcher.now) c.args.token c.args.url c.now.result c.args.followed
+    ask_granted (world_of (g.F.Fetcher.gives c.args.self.now.fetcher.now) (g.C.Clock.reads c.args.self.now.clock.now)) c.args.token c.args.url c.now.result c.args.followed
     c.in-Ok.permit c.fetch_granted.result c.args.desk.now c.ask.new.self c.fetch_granted.new.desk
-    c.in-Ok.ensures.step c.fetch_granted.ensures.tells
+    c.now.ensures c.in-Ok.ensures.step c.fetch_granted.ensures.tells
 
 pub returns-in-Err-clause-tells : goal.returns-in-Err-clause-tells
 returns-in-Err-clause-tells g c =
-    let gives = g.F.Fetcher.gives c.args.self.now.fetcher.now in
-    let P : Hop → Type 0 = λ hop. AddsDeeds (IsLast gives c.args.token c.args.url hop c.new.result.items) c.args.desk.now c.ask.new.self in
+    let world = world_of (g.F.Fetcher.gives c.args.self.now.fetcher.now) (g.C.Clock.reads c.args.self.now.clock.now) in
+    let P : Hop → Type 0 = λ hop. AddsDeeds (IsLast world c.args.token c.args.url hop c.new.result.items) c.args.desk.now c.ask.new.self in
     subst P (sym c.ask_hop.ensures)
-    (ask_refused gives c.args.token c.args.url c.now.result c.in-Err.refusal c.new.result.items c.args.desk.now c.ask.new.self
-    c.new.ensures.items c.in-Err.ensures.step)
+    (ask_refused world c.args.token c.args.url c.now.result c.in-Err.refusal c.new.result.items c.args.desk.now c.ask.new.self
+    c.now.ensures c.new.ensures.items c.in-Err.ensures.step)

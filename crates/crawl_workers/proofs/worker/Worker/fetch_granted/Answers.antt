@@ -3,18 +3,20 @@ use Rattle.std.proofs.Common.{ℕ, List, ap, ◌∙◌, ◌≡◌, subst}
 use Rattle.gate_history.specs.declared.outcome.Reason.{Reason}
 use Rattle.gate_lock.specs.Desks.{Pass}
 use Rattle.gate_lock.specs.Steps.{DeskFinishes, Somewhere}
+use Rattle.crawl_workers.specs.Limits.{page_limit}
 use Rattle.crawl_workers.specs.WaysOn.{GoesOn}
+use Rattle.crawl_workers.specs.World.{world_of}
 use Rattle.crawl_workers.proofs.Hops.{fetched_once, start_denied}
 use Rattle.crawl_workers.proofs.worker.Worker.fetch_granted.Goals as goal
 
 pub returns-in-Err-clause-tells : goal.returns-in-Err-clause-tells
 returns-in-Err-clause-tells g c =
-    start_denied (g.F.Fetcher.gives c.args.self.now.fetcher.now) c.args.permit c.now.result c.args.followed c.in-Err.denial
-    c.new.result.items c.args.desk.now c.start.new.self c.new.ensures.items c.in-Err.ensures.step
+    start_denied (world_of (g.F.Fetcher.gives c.args.self.now.fetcher.now) (g.C.Clock.reads c.args.self.now.clock.now)) c.args.permit c.now.result c.args.followed c.in-Err.denial
+    c.new.result.items c.args.desk.now c.start.new.self c.now.ensures c.new.ensures.items c.in-Err.ensures.step
 
 pub returns-clause-tells : goal.returns-clause-tells
 returns-clause-tells g c =
-    let gives = g.F.Fetcher.gives c.args.self.now.fetcher.now in
+    let world = world_of (g.F.Fetcher.gives c.args.self.now.fetcher.now) (g.C.Clock.reads c.args.self.now.clock.now) in
     let permit = c.args.permit in
     let run = c.in-Ok.running in
     let given = c.fetch_page-fetched.result.1 in
@@ -27,8 +29,8 @@ returns-clause-tells g c =
     let Q : Reason → Type 0 = λ reason. GoesOn permit.number reason c.args.followed c.url.result.now given way in
     let R : List ℕ → Type 0 = λ u. GoesOn permit.number run.reason c.args.followed u given way in
     let S : Pass → Type 0 = λ p. Somewhere c.start.new.self (λ g1 g2. DeskFinishes c.start.new.self g1 p.number g2 c.finish.new.self) in
-    let T : Pass → Type 0 = λ p. gives p.url given in
-    fetched_once gives permit c.now.result c.args.followed run given way c.args.desk.now c.start.new.self c.finish.new.self
-    c.in-Ok.ensures.step (subst T pass c.fetch_page-fetched.ensures.given)
+    let T : Pass → Type 0 = λ p. world.gives page_limit p.url given in
+    fetched_once world permit c.now.result c.args.followed run given way c.args.desk.now c.start.new.self c.finish.new.self
+    c.now.ensures c.in-Ok.ensures.step (subst T pass c.fetch_page-fetched.ensures.given)
     (subst R url (subst Q c.reason-reason.ensures (subst P number c.way_on-way.ensures)))
     (subst S spent c.finish.ensures.step)

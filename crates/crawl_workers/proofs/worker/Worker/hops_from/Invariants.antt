@@ -3,11 +3,12 @@ use Rattle.std.proofs.Common.{◌≡◌, ◌≤◌, ◌-◌, length, vec_capacit
 use Rattle.gate_lock.specs.Desks.{KeepsOut}
 use Rattle.crawl_workers.specs.Limits.{max_hops}
 use Rattle.crawl_workers.proofs.Chains.{HasCome}
+use Rattle.crawl_workers.specs.World.{world_of}
 use Rattle.crawl_workers.proofs.worker.Worker.hops_from.Given as goal
 
 abbrev pub invariant-loop-hop : goal.invariant-loop-hop
 invariant-loop-hop g l = record {
-  come : HasCome (g.F.Fetcher.gives l.self.fetcher.now) l.token l.fn.url l.hops.items l.url l.fn.desk l.desk;
+  come : HasCome (world_of (g.F.Fetcher.gives l.self.fetcher.now) (g.C.Clock.reads l.self.clock.now)) l.token l.fn.url l.hops.items l.url l.fn.desk l.desk;
   same : l.desk.no ≡ l.fn.desk.no;
   out : KeepsOut l.fn.desk l.desk;
   room : max_hops ≤ vec_capacity l.hops;

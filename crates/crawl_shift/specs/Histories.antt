@@ -1,0 +1,11 @@
+-- The history of a shift's gate, written as a text.
+-- The contract of `shift_history`; docs/FORMATS.md has the lines.
+use Rattle.std.specs.Prelude.{ℕ, List, Option}
+use Rattle.std.specs.Io.KnownBytes.{Appends}
+use Rattle.gate_core.specs.Gate.{Gate, HasLegalHistory}
+use Rattle.crawl_audit.specs.declared.version.Version.TheVariants.{Two}
+use Rattle.crawl_audit.specs.Spell.{spell}
+
+-- the text of a gate's history, which is legal, was written behind what was written before
+abbrev pub WritesHistory : Option (List ℕ) → Option (List ℕ) → Type 0
+WritesHistory old new = (gate : Gate) × (HasLegalHistory gate × Appends old new (spell Two gate.entries))

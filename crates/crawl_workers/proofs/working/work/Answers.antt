@@ -1,9 +1,0 @@
--- The starts are counted by the deeds of the hops.
-use Rattle.crawl_workers.proofs.Starting.{works_starts}
-use Rattle.crawl_workers.proofs.working.work.Goals as goal
-
-pub returns-clause-starts : goal.returns-clause-starts
-returns-clause-starts g c =
-    let tells = c.hops_from.ensures.tells in
-    works_starts (g.F.Fetcher.gives c.args.fetcher.now) c.args.job c.hops_from.result c.args.desk.now c.hops_from.new.desk
-    (tells.own, (tells.adds, tells.tells))

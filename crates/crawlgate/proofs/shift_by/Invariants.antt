@@ -1,5 +1,0 @@
--- The ledgers of the program's one gate are those of its blanks.
-use Rattle.crawlgate.proofs.shift_by.Given as goal
-
-abbrev pub ghosts-shift_over : goal.ghosts-shift_over
-ghosts-shift_over g a = record { ledgers = a.blanks }

@@ -1,0 +1,36 @@
+-- How the program ends: the exit status of each ending, and what is told on standard error.
+-- docs/crawlgate.1.md has the same table.
+use Rattle.std.specs.Prelude.{ℕ, List, Option, Some, None, codes, Result, Ok, Err}
+use Rattle.command_server.specs.declared.session_fault.SessionFault.{SessionFault}
+use Rattle.command_server.specs.declared.session_fault.SessionFault.TheVariants as faults
+use Rattle.program_streams.specs.declared.ending.Ending.{Ending}
+use Rattle.program_streams.specs.declared.ending.Ending.TheVariants as endings
+
+-- the exit status
+abbrev pub status_of : Ending → ℕ
+status_of endings.Done = 0
+status_of endings.LongLine = 1
+status_of endings.ManyLines = 1
+status_of endings.BadLine = 1
+status_of endings.BadWords = 2
+status_of endings.NoMemory = 3
+status_of endings.Device = 3
+
+-- what is told behind the program's name; what is wrong with the words is told by their reader
+abbrev pub message_of : Ending → Option (List ℕ)
+message_of endings.Done = None
+message_of endings.LongLine = Some (codes "line too long")
+message_of endings.ManyLines = Some (codes "too many lines")
+message_of endings.BadLine = None
+message_of endings.BadWords = None
+message_of endings.NoMemory = Some (codes "no memory")
+message_of endings.Device = Some (codes "device")
+
+-- how the program ends where its work came to this
+abbrev pub ending_of : Result (Unit {0}) SessionFault → Ending
+ending_of (Ok _) = endings.Done
+ending_of (Err faults.LongLine) = endings.LongLine
+ending_of (Err faults.Lines) = endings.ManyLines
+ending_of (Err faults.Read) = endings.Device
+ending_of (Err faults.Write) = endings.Device
+ending_of (Err faults.NoMemory) = endings.NoMemory

@@ -1,0 +1,65 @@
+//! How the program ends: its exit status, and what it tells on standard error.
+//! docs/crawlgate.1.md has the table.
+ghost use Rattle.std.specs.Prelude.{◌≡◌, option_map};
+ghost use Rattle.program_streams.specs.Endings.{ending_of, message_of, status_of};
+
+use command_server::SessionFault;
+
+/// How a run of the program ended.
+#[derive(Clone, Copy, Debug, PartialEq, Eq)]
+pub enum Ending {
+    /// All was done.
+    Done,
+    /// A line of the input is over the limit.
+    LongLine,
+    /// The input has more lines than a session takes.
+    ManyLines,
+    /// The audit found a bad line, and told its number.
+    BadLine,
+    /// The program's words were refused, or asked for help.
+    BadWords,
+    /// A growth of memory was refused.
+    NoMemory,
+    /// A standard stream failed.
+    Device,
+}
+
+impl Ending {
+    /// The ending of a session or of `lines`.
+    pub fn of(end: Result<(), SessionFault>) -> Ending
+        ensures { result ≡ ending_of end }
+    {
+        match end {
+            Ok(()) => Ending::Done,
+            Err(SessionFault::LongLine) => Ending::LongLine,
+            Err(SessionFault::Lines) => Ending::ManyLines,
+            Err(SessionFault::Read | SessionFault::Write) => Ending::Device,
+            Err(SessionFault::NoMemory) => Ending::NoMemory,
+        }
+    }
+
+    /// The exit status.
+    pub fn status(self) -> u8
+        ensures { result ≡ status_of self }
+    {
+        match self {
+            Ending::Done => 0,
+            Ending::LongLine | Ending::ManyLines | Ending::BadLine => 1,
+            Ending::BadWords => 2,
+            Ending::NoMemory | Ending::Device => 3,
+        }
+    }
+
+    /// What is told on standard error behind the program's name, where that isn't told already.
+    pub fn message(self) -> Option<&'static str>
+        ensures { option_map (λ text. text.now) result ≡ message_of self }
+    {
+        match self {
+            Ending::Done | Ending::BadLine | Ending::BadWords => None,
+            Ending::LongLine => Some("line too long"),
+            Ending::ManyLines => Some("too many lines"),
+            Ending::NoMemory => Some("no memory"),
+            Ending::Device => Some("device"),
+        }
+    }
+}
