@@ -1,5 +1,7 @@
--- What contracts say of the lines of jobs, of the lines of a report, and of why there is none.
+-- What contracts say of the lines of jobs, of the lines of a report or a table, and of why there is none.
+pub mod Causes
 pub mod Histories
 pub mod JobLists
 pub mod NotShifted
 pub mod ShiftText
+pub mod TableText

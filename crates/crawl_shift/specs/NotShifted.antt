@@ -5,8 +5,8 @@ use Rattle.crawl_workers.specs.declared.report.ShiftFault.TheVariants as shift
 use Rattle.gate_lock.specs.declared.settlement.SettleFault.TheVariants as settle
 use Rattle.crawl_shift.specs.declared.job_list.Unread.{Unread}
 use Rattle.crawl_shift.specs.declared.job_list.Unread.TheVariants as unread
-use Rattle.crawl_shift.specs.declared.shifting.NotShifted.{NotShifted}
-use Rattle.crawl_shift.specs.declared.shifting.NotShifted.TheVariants.{BadLine, NoMemory, Device}
+use Rattle.crawl_shift.specs.declared.not_shifted.NotShifted.{NotShifted}
+use Rattle.crawl_shift.specs.declared.not_shifted.NotShifted.TheVariants.{BadLine, NoMemory, Device}
 
 -- the jobs were not read
 abbrev pub by_jobs : Unread → NotShifted

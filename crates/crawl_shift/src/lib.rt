@@ -2,11 +2,19 @@
 //! docs/FORMATS.md has the lines of jobs and of reports.
 #![tactic(auto)]
 
+mod both;
+mod causes;
 mod job_list;
+mod not_shifted;
 mod progress;
 mod report_text;
+mod row;
 mod shifting;
-mod told_fetcher;
+mod status_line;
+mod table;
+mod under_way;
 
 pub use job_list::{MAX_JOB_LINE, Unread, read_jobs};
-pub use shifting::{NotShifted, history_over, shift, shift_history, shift_over};
+pub use not_shifted::NotShifted;
+pub use shifting::{history_over, shift, shift_history, shift_over, shift_table, table_over};
+pub use status_line::StatusLine;

@@ -3,14 +3,15 @@
 use crate::report_text::{push_hops, sums};
 use counted_io::{Counted, DeviceFault, Output, Sink};
 use crawl_job::{Hop, Job, Outcome};
-use crawl_workers::{Crawled, Watcher};
+use crawl_workers::{Crawled, Event, Fetcher, Watcher};
 use std::alloc::{AllocError, Global};
 use std::sync::{Mutex, Wait};
 
 /// What workers tell of their jobs. It has a lock of its own, which is taken while a worker has no other.
 #[derive(Drop)]
-pub struct Progress<'a, W: Sink, R: Wait> {
+pub(crate) struct Progress<'a, W: Sink, F: Fetcher, R: Wait> {
     rt: &'a R,
+    fetcher: &'a F,
     lines: Mutex<Lines<'a, W>>,
 }
 
@@ -29,15 +30,16 @@ struct Lines<'a, W: Sink> {
     failed: bool,
 }
 
-impl<'a, W: Sink, R: Wait> Progress<'a, W, R> {
+impl<'a, W: Sink, F: Fetcher, R: Wait> Progress<'a, W, F, R> {
     /// The report of so many jobs, of which none is done. All memory that the report needs is taken
     /// here, but for lines that wait for others: without it they are written at the end.
-    pub fn new(
+    pub(crate) fn new(
         rt: &'a R,
         alloc: Global,
         sink: &'a mut W,
+        fetcher: &'a F,
         jobs: usize,
-    ) -> Result<Progress<'a, W, R>, AllocError> {
+    ) -> Result<Progress<'a, W, F, R>, AllocError> {
         let mut waiting = Vec::with_capacity(alloc, jobs)?;
         for _ in 0..jobs {
             waiting.push(None)?;
@@ -50,24 +52,25 @@ impl<'a, W: Sink, R: Wait> Progress<'a, W, R> {
             spelling: Output::new(alloc)?,
             failed: false,
         });
-        Ok(Progress { rt, lines })
-    }
-
-    /// Whether a write of the report has failed. Nothing more is written then.
-    pub fn has_failed(&self) -> bool {
-        self.lines.lock(self.rt).failed
+        Ok(Progress { rt, fetcher, lines })
     }
 
     /// Writes what is not written yet of the jobs, and the last line.
-    pub fn finish(self, outcomes: &[Crawled], starts: u64) -> Result<(), DeviceFault> {
+    pub(crate) fn finish(self, outcomes: &[Crawled], starts: u64) -> Result<(), DeviceFault> {
         self.lines.into_inner().finish(outcomes, starts)
     }
 }
 
-impl<W: Sink, R: Wait> Watcher for Progress<'_, W, R> {
+/// Once a write has failed nothing more is fetched.
+impl<W: Sink, F: Fetcher, R: Wait> Watcher for Progress<'_, W, F, R> {
+    fn sees(&self, _number: u64, _event: Event<'_>) {}
+
     fn done(&self, number: u64, _job: &Job, outcome: &Outcome) {
         let mut lines = self.lines.lock(self.rt);
         lines.take(number, outcome.hops.as_slice());
+        if lines.failed {
+            self.fetcher.stop();
+        }
     }
 }
 

@@ -7,6 +7,7 @@ ghost use Rattle.crawl_workers.specs.Crews.{DoesJob, Ends, HasDone, newcomer};
 ghost use Rattle.crawl_workers.specs.World.{world_of};
 
 use crate::clock::Clock;
+use crate::event::Event;
 use crate::fetcher::Fetcher;
 use crate::frontier::Frontier;
 use crate::report::{Crawled, ShiftFault, Watcher};
@@ -28,20 +29,23 @@ pub(crate) struct Crew<'a, F, C, W> {
     pub(crate) watcher: &'a W,
 }
 
-// What a worker tells the frontier.
+// Who is told of the job of a number: the frontier, of robots files, and the watcher.
 #[derive(Drop)]
-struct Told<'t, 'f, R: Wait> {
+struct Told<'t, W: Watcher, R: Wait> {
     rt: &'t R,
-    frontier: &'f Frontier,
+    frontier: &'t Frontier,
+    watcher: &'t W,
+    number: u64,
 }
 
-impl<R: Wait> Notes for Told<'_, '_, R> {
-    fn asks(&self, authority: &str) {
-        self.frontier.asks(self.rt, authority);
-    }
-
-    fn answered(&self, authority: &str) {
-        self.frontier.answered(self.rt, authority);
+impl<W: Watcher, R: Wait> Notes for Told<'_, W, R> {
+    fn sees(&self, event: Event<'_>) {
+        match event {
+            Event::AsksRobots(authority) => self.frontier.asks(self.rt, authority),
+            Event::Answered(authority) => self.frontier.answered(self.rt, authority),
+            _ => {}
+        }
+        self.watcher.sees(self.number, event);
     }
 }
 
@@ -185,6 +189,8 @@ impl<F: Fetcher, C: Clock, W: Watcher> Crew<'_, F, C, W> {
             notes: &Told {
                 rt,
                 frontier: self.frontier,
+                watcher: self.watcher,
+                number,
             },
         };
         let outcome = work_by(&worker, job.copy()?, desk)?;

@@ -8,7 +8,7 @@ use gate_lock::{Fetched, Gate, RobotsTurn, Running};
 use http_wire::{HttpReply, WireFault};
 use path_normal::PageUrl;
 use robots_text::Token;
-use tcp_wire::Deadline;
+use tcp_wire::{Deadline, Failure};
 
 /// Leave to fetch a page once. `Fetcher::fetch_page` has it of a started permit, and nothing else
 /// makes one.
@@ -50,7 +50,8 @@ impl RobotsLeave<'_> {
     }
 }
 
-/// What fetches pages and robots files. A redirect is a reply like others, and is not followed.
+/// What fetches pages and robots files. A redirect is a reply like others, and is not followed. Where the
+/// device of a fetch fails, `failure` is told why, in as far as that is known.
 pub trait Fetcher {
     ghost use Rattle.std.specs.Prelude.{ℕ, List, Result};
     ghost use Rattle.http_wire.specs.declared.fault.WireFault.{WireFault};
@@ -64,8 +65,16 @@ pub trait Fetcher {
     /// begins now; none where they have no limit, or no clock can be read.
     fn begin_walk(&self) -> Option<Deadline>;
 
+    /// Has all fetches fail from now on, those under way as soon as that can be.
+    fn stop(&self);
+
     /// Fetches a page, and gives at most `limit` octets of its body.
-    fn load_page(&self, leave: &PageLeave<'_>, limit: usize) -> Result<HttpReply, WireFault>
+    fn load_page(
+        &self,
+        leave: &PageLeave<'_>,
+        limit: usize,
+        failure: &mut Option<Failure>,
+    ) -> Result<HttpReply, WireFault>
         ensures { gives self.now limit (page_of leave.now) result };
 
     /// Fetches a robots file, and gives at most 512,001 octets of its body: those that are kept, and
@@ -74,6 +83,7 @@ pub trait Fetcher {
         &self,
         leave: &RobotsLeave<'_>,
         time: Option<Deadline>,
+        failure: &mut Option<Failure>,
     ) -> Result<HttpReply, WireFault>
         ensures { gives self.now robots_limit (robots_page_of leave.now) result };
 
@@ -83,6 +93,7 @@ pub trait Fetcher {
         &self,
         running: Running<G>,
         limit: usize,
+        failure: &mut Option<Failure>,
     ) -> (Fetched<G>, Result<HttpReply, WireFault>)
         ensures spent { result.0 ≡ running.pass }
         ensures given { gives self.now limit running.pass.url result.1 }
@@ -91,7 +102,7 @@ pub trait Fetcher {
             token: running.token(),
             url: running.url(),
         };
-        let reply = self.load_page(&leave, limit);
+        let reply = self.load_page(&leave, limit, failure);
         (running.spend(), reply)
     }
 
@@ -102,10 +113,11 @@ pub trait Fetcher {
         _turn: &RobotsTurn<G>,
         url: &PageUrl,
         time: Option<Deadline>,
+        failure: &mut Option<Failure>,
     ) -> Result<HttpReply, WireFault>
         requires { IsOnWalk (gives self.now robots_limit) _turn.now.authority url.now }
         ensures { gives self.now robots_limit url.now result }
     {
-        self.load_robots(&RobotsLeave { url }, time)
+        self.load_robots(&RobotsLeave { url }, time, failure)
     }
 }

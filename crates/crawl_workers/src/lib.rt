@@ -4,6 +4,7 @@
 
 mod clock;
 mod crew;
+mod event;
 mod fetcher;
 mod frontier;
 mod handover;
@@ -21,11 +22,12 @@ mod working;
 
 pub use clock::{Clock, SystemClock};
 pub use crawl_job::{Hop, Job, Outcome, Refusal};
+pub use event::{ClosedBy, Event};
 pub use fetcher::{Fetcher, PageLeave, RobotsLeave};
 pub use refreshing::refresh;
 pub use report::{Crawled, Report, ShiftFault, Watcher};
 pub use shift::run_shift;
 pub use sites::{ScriptedPage, Sites};
 pub use tcp_fetcher::TcpFetcher;
-pub use tcp_wire::{Deadline, TimeLimits};
+pub use tcp_wire::{Deadline, Failure, TimeLimits};
 pub use working::work;

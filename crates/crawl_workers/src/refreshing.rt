@@ -9,7 +9,9 @@ ghost use Rattle.crawl_workers.specs.Refreshes.{Brings, IsBrought, IsUndecided, 
 ghost use Rattle.crawl_workers.specs.World.{world_of};
 
 use crate::clock::Clock;
+use crate::event::{ClosedBy, Event};
 use crate::fetcher::Fetcher;
+use crate::worker::Notes;
 use authority_cache::LIFE;
 use gate_core::{BeginRefusal, Standing};
 use gate_lock::{Desk, Gate, RobotsTurn};
@@ -38,34 +40,43 @@ pub fn refresh<G: Gate, F: Fetcher, C: Clock, R: Wait>(
     ensures out { KeepsOut desk.old desk.new }
 {
     let turn = desk.begin(rt, authority, clock.now())?;
-    Ok(bring_answer(rt, alloc, turn, desk, fetcher, clock))
+    Ok(bring_answer(rt, alloc, turn, desk, fetcher, clock, &()))
 }
 
 /// Fetches the robots file of a turn's authority, has the desk bring the answer, and tells its word.
-pub(crate) fn bring_answer<G: Gate, F: Fetcher, C: Clock, R: Wait>(
+pub(crate) fn bring_answer<G: Gate, F: Fetcher, C: Clock, N: Notes, R: Wait>(
     rt: &R,
     alloc: Global,
     turn: RobotsTurn<G>,
     desk: &mut Desk<'_, G>,
     fetcher: &F,
     clock: &C,
+    notes: &N,
 ) -> Standing
     requires own { turn.desk ≡ desk.old.no }
     ensures brings { Brings (world_of (F.gives fetcher.now) (C.reads clock.now)) turn result desk.old desk.new }
     ensures no { desk.new.no ≡ desk.old.no }
     ensures out { HasOut desk.old desk.new 0 0 0 0 0 1 }
 {
-    let (answer, life) = fetch_answer(alloc, &turn, fetcher);
+    let mut why = ClosedBy::NoMemory;
+    let (answer, life) = fetch_answer(alloc, &turn, fetcher, &mut why);
+    let closed_by = match &answer {
+        Answer::Closed(_) => Some(why),
+        Answer::Rules(_) | Answer::Open(_) => None,
+    };
+    notes.sees(Event::Brought(turn.authority().text(), closed_by));
     let word = word_of(&answer);
     desk.arrive(rt, turn, answer, life, clock.now());
     word
 }
 
-// The answer that the authority's robots file gives, and its life in seconds.
+// The answer that the authority's robots file gives, and its life in seconds. `why` is told what decided
+// it, where that was a reply.
 fn fetch_answer<G: Gate, F: Fetcher>(
     alloc: Global,
     turn: &RobotsTurn<G>,
     fetcher: &F,
+    why: &mut ClosedBy,
 ) -> (Answer, u64)
     ensures brings { IsBrought (F.gives fetcher.now robots_limit) turn.now.authority (said result.0) result.1 }
     ensures spares { spares_of result.0 ≡ 2 }
@@ -75,10 +86,16 @@ fn fetch_answer<G: Gate, F: Fetcher>(
     };
     let time = fetcher.begin_walk();
     loop {
-        let reply = robots_reply(fetcher.fetch_robots(turn, walk.url(), time));
+        let mut failure = None;
+        let given = fetcher.fetch_robots(turn, walk.url(), time, &mut failure);
+        let met = ClosedBy::met(&given, failure);
+        let reply = robots_reply(given);
         walk = match walk.step(alloc, &reply) {
             Step::Go(next) => next,
-            Step::Done(answer, life) => return (answer, life),
+            Step::Done(answer, life) => {
+                *why = met.decided(&reply, &answer);
+                return (answer, life);
+            }
             Step::NoMemory(_) => return undecided(),
         };
     }

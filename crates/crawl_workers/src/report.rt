@@ -3,6 +3,7 @@
 ghost use Rattle.std.specs.Prelude.{◌≡◌, ◌≤◌, ◌∷◌, []};
 ghost use Rattle.crawl_workers.specs.Outcomes.{fetches_in};
 
+use crate::event::Event;
 use crawl_job::{Hop, Job, Outcome};
 use gate_lock::{DesksFull, Gate, Receipts, SettleFault, Settled};
 use std::alloc::AllocError;
@@ -109,14 +110,18 @@ impl From<SettleFault> for ShiftFault {
     }
 }
 
-/// What is told of each job as soon as it is done, bodies too. Workers call it at the same time, each
-/// on its own thread.
+/// What is told of jobs while they are done. Workers call it at the same time, each on its own thread.
 pub trait Watcher {
-    /// The job of this number, from 0, has this outcome.
+    /// This comes next in the job of this number, from 0.
+    fn sees(&self, number: u64, event: Event<'_>);
+
+    /// The job of this number, from 0, is done, and has this outcome, bodies too.
     fn done(&self, number: u64, job: &Job, outcome: &Outcome);
 }
 
 /// Nobody watches.
 impl Watcher for () {
+    fn sees(&self, _number: u64, _event: Event<'_>) {}
+
     fn done(&self, _number: u64, _job: &Job, _outcome: &Outcome) {}
 }

@@ -9,7 +9,7 @@ use counted_io::Counted;
 use http_wire::{HttpReply, WireFault, read_response};
 use path_normal::PageUrl;
 use std::alloc::Global;
-use tcp_wire::Deadline;
+use tcp_wire::{Deadline, Failure};
 
 /// A page of a site in memory: its URL as `PageUrl::text` gives it, and its response, heads and all.
 #[derive(Clone, Copy)]
@@ -60,7 +60,14 @@ impl<'a> Fetcher for Sites<'a> {
         None
     }
 
-    fn load_page(&self, leave: &PageLeave<'_>, limit: usize) -> Result<HttpReply, WireFault> {
+    fn stop(&self) {}
+
+    fn load_page(
+        &self,
+        leave: &PageLeave<'_>,
+        limit: usize,
+        _failure: &mut Option<Failure>,
+    ) -> Result<HttpReply, WireFault> {
         self.answer(leave.url(), limit)
     }
 
@@ -68,6 +75,7 @@ impl<'a> Fetcher for Sites<'a> {
         &self,
         leave: &RobotsLeave<'_>,
         _time: Option<Deadline>,
+        _failure: &mut Option<Failure>,
     ) -> Result<HttpReply, WireFault> {
         self.answer(leave.url(), ROBOTS_LIMIT)
     }

@@ -13,7 +13,7 @@ use std::alloc::{AllocError, Global};
 use std::marker::Model;
 use std::net::{Net, TcpStream};
 use std::time;
-use tcp_wire::{Deadline, TcpClient, TimeLimits};
+use tcp_wire::{Deadline, Failure, TcpClient, TimeLimits};
 
 /// The most octets that are taken of a robots file: those that are kept, and one that tells that
 /// there are more.
@@ -88,18 +88,28 @@ impl<R: Net<Stream = TcpStream> + time::Clock> Fetcher for TcpFetcher<R> {
         self.client.begin().ok()
     }
 
-    fn load_page(&self, leave: &PageLeave<'_>, limit: usize) -> Result<HttpReply, WireFault>
+    fn stop(&self) {
+        self.client.stop();
+    }
+
+    fn load_page(
+        &self,
+        leave: &PageLeave<'_>,
+        limit: usize,
+        failure: &mut Option<Failure>,
+    ) -> Result<HttpReply, WireFault>
         ensures { Tells None limit result }
     {
         let agent = leave.token().text().as_bytes();
         self.client
-            .fetch(self.allocator(), leave.url(), agent, limit)
+            .fetch(self.allocator(), leave.url(), agent, limit, failure)
     }
 
     fn load_robots(
         &self,
         leave: &RobotsLeave<'_>,
         time: Option<Deadline>,
+        failure: &mut Option<Failure>,
     ) -> Result<HttpReply, WireFault>
         ensures { Tells None robots_limit result }
     {
@@ -109,6 +119,6 @@ impl<R: Net<Stream = TcpStream> + time::Clock> Fetcher for TcpFetcher<R> {
         let agent = self.agent.as_slice();
         let alloc = self.allocator();
         self.client
-            .fetch_by(alloc, leave.url(), agent, ROBOTS_LIMIT, deadline)
+            .fetch_by(alloc, leave.url(), agent, ROBOTS_LIMIT, deadline, failure)
     }
 }

@@ -11,6 +11,7 @@ ghost use Rattle.crawl_workers.specs.WaysOn.{AddsDeeds, TellsWay, ask_hop};
 ghost use Rattle.crawl_workers.specs.World.{IsSinceRead, world_of};
 
 use crate::clock::Clock;
+use crate::event::Event;
 use crate::fetcher::Fetcher;
 use crate::refreshing::bring_answer;
 use crate::way_on::{WayOn, way_on};
@@ -25,20 +26,15 @@ use std::sync::Wait;
 /// The most octets that are taken of a page's body.
 pub(crate) const PAGE_LIMIT: usize = 1_048_576;
 
-/// What is told of robots files while a worker does a job.
+/// What is told of a job while a worker does it.
 pub(crate) trait Notes {
-    /// The robots file of the authority is fetched from now on.
-    fn asks(&self, authority: &str);
-
-    /// An answer of it is known, or none will come.
-    fn answered(&self, authority: &str);
+    /// This comes next.
+    fn sees(&self, event: Event<'_>);
 }
 
 /// Nobody is told.
 impl Notes for () {
-    fn asks(&self, _authority: &str) {}
-
-    fn answered(&self, _authority: &str) {}
+    fn sees(&self, _event: Event<'_>) {}
 }
 
 /// What works on jobs.
@@ -72,14 +68,18 @@ impl<F: Fetcher, C: Clock, N: Notes, R: Wait> Worker<'_, F, C, N, R> {
         loop {
             match self.hop_at(token, url, hops.len() as u64, desk) {
                 WayOn::Ends(hop, body) => {
+                    self.notes.sees(Event::Ends(&hop));
                     hops.push_reserved(hop);
                     return Outcome { hops, body };
                 }
                 WayOn::Leads(hop, next) => {
+                    self.notes.sees(Event::Ends(&hop));
                     hops.push_reserved(hop);
                     url = next;
                 }
                 WayOn::Stops(hop, stop) => {
+                    self.notes.sees(Event::Ends(&hop));
+                    self.notes.sees(Event::Ends(&stop));
                     hops.push_reserved(hop);
                     hops.push_reserved(stop);
                     let body = Vec::new(self.alloc);
@@ -102,8 +102,13 @@ impl<F: Fetcher, C: Clock, N: Notes, R: Wait> Worker<'_, F, C, N, R> {
         ensures no { desk.new.no ≡ desk.old.no }
         ensures out { KeepsOut desk.old desk.new }
     {
+        self.notes.sees(Event::Begins {
+            before: followed,
+            token,
+            url: &url,
+        });
         let seen = self.see_to_answer(&url, desk);
-        self.notes.answered(url.authority());
+        self.notes.sees(Event::Answered(url.authority()));
         if let Err(refusal) = seen {
             return WayOn::Ends(Hop::Refused(refusal), Vec::new(self.alloc));
         }
@@ -124,8 +129,16 @@ impl<F: Fetcher, C: Clock, N: Notes, R: Wait> Worker<'_, F, C, N, R> {
         match self.begin_stale(url, desk, self.clock.now()) {
             Ok(None) => Ok(()),
             Ok(Some(turn)) => {
-                self.notes.asks(url.authority());
-                bring_answer(self.rt, self.alloc, turn, desk, self.fetcher, self.clock);
+                self.notes.sees(Event::AsksRobots(url.authority()));
+                bring_answer(
+                    self.rt,
+                    self.alloc,
+                    turn,
+                    desk,
+                    self.fetcher,
+                    self.clock,
+                    self.notes,
+                );
                 Ok(())
             }
             Err(BeginRefusal::InFlight) => {
@@ -209,7 +222,10 @@ impl<F: Fetcher, C: Clock, N: Notes, R: Wait> Worker<'_, F, C, N, R> {
         };
         let number = running.number();
         let reason = running.reason();
-        let (fetched, given) = self.fetcher.fetch_page(running, PAGE_LIMIT);
+        let mut failure = None;
+        self.notes.sees(Event::Fetches);
+        let (fetched, given) = self.fetcher.fetch_page(running, PAGE_LIMIT, &mut failure);
+        self.notes.sees(Event::Fetched(failure));
         let way = way_on(self.alloc, number, reason, followed, fetched.url(), given);
         desk.finish(self.rt, fetched);
         way

@@ -4,20 +4,22 @@
 
 ghost use Rattle.std.specs.Prelude.{◌≡◌, []};
 ghost use Rattle.gate_history.specs.Base.{empty_base};
-ghost use Rattle.gate_core.specs.Limits.{AreLimits};
 ghost use Rattle.job_line.specs.Limits.{IsCrew};
+ghost use Rattle.program_words.specs.Options.{AreForShift};
 
-use counted_io::Counted;
-use crawl_shift::{NotShifted, history_over, shift_over};
+use counted_io::{Counted, Sink};
+use crawl_shift::{NotShifted, StatusLine, history_over, shift_over, table_over};
 use crawl_workers::{Clock, Fetcher, SystemClock, TcpFetcher};
-use gate_core::{Book, Limits};
+use gate_core::Book;
 use gate_lock::Blanks;
 use program_streams::{Ending, Next, new_book, run, tell_bad_line, tell_ending};
-use program_words::Told;
+use program_words::{ShiftOptions, Told};
+use std::io::IsTerminal;
 use std::marker::Brand;
 use std::process::ExitCode;
 use std::sync::Wait;
 use std::thread::Threads;
+use std::time;
 
 // Robots files are fetched under this name, pages under the token of their job (RFC 9309, 2.2.1).
 const AGENT: &[u8] = b"crawlgate";
@@ -25,76 +27,101 @@ const AGENT: &[u8] = b"crawlgate";
 fn main(rt: HostRuntime) -> ExitCode {
     let ending = match run(&rt) {
         Next::Ends(ending) => ending,
-        Next::Shift(workers, limits, told) => match TcpFetcher::new(rt.alloc(), rt, AGENT) {
-            Ok(fetcher) => {
-                let clock = SystemClock::new(rt);
-                let end = shift_by(&rt, &rt, workers, limits, told, &fetcher, &clock);
-                shift_ending(&rt, end)
+        Next::Shift(options) => {
+            match TcpFetcher::with_limits(rt.alloc(), rt, AGENT, options.times) {
+                Ok(fetcher) => {
+                    let clock = SystemClock::new(rt);
+                    let end = shift_by(&rt, &rt, options, &fetcher, &clock);
+                    shift_ending(&rt, end)
+                }
+                Err(_) => Ending::NoMemory,
             }
-            Err(_) => Ending::NoMemory,
-        },
+        }
     };
     tell_ending(&rt, ending);
     ExitCode::from(ending.status())
 }
 
-// Has so many workers do the jobs on standard input, over a new gate, and writes this of them to
-// standard output. The first handle is for threads, the second for the streams.
-fn shift_by<F: Fetcher + Sync, C: Clock + Sync, R: Threads + Wait + Sync>(
+// Does a shift of these options over a new gate. The first handle is for threads, the second for the
+// streams.
+fn shift_by<F: Fetcher + Sync, C: Clock + Sync, R: Threads + Wait + time::Clock + Sync>(
     rt: &R,
     host: &HostRuntime,
-    workers: u64,
-    limits: Limits,
-    told: Told,
+    options: ShiftOptions,
     fetcher: &F,
     clock: &C,
 ) -> Result<(), NotShifted>
-    requires { IsCrew workers × AreLimits limits }
+    requires { AreForShift options }
 {
-    match new_book(host, limits) {
-        Ok(book) => shift_told(rt, host, workers, book, told, fetcher, clock),
+    match new_book(host, options.limits) {
+        Ok(book) => shift_shown(rt, host, options, book, fetcher, clock),
         Err(Ending::NoMemory) => Err(NotShifted::NoMemory),
         Err(_) => Err(NotShifted::Device),
     }
 }
 
-fn shift_told<F: Fetcher + Sync, C: Clock + Sync, R: Threads + Wait + Sync>(
+// Does it, with a line of progress on standard error where a person watches that.
+fn shift_shown<F: Fetcher + Sync, C: Clock + Sync, R: Threads + Wait + time::Clock + Sync>(
     rt: &R,
     host: &HostRuntime,
-    workers: u64,
+    options: ShiftOptions,
     book: Book,
-    told: Told,
     fetcher: &F,
     clock: &C,
 ) -> Result<(), NotShifted>
-    requires workers { IsCrew workers }
+    requires workers { IsCrew options.workers }
+    requires book { (book.base ≡ empty_base) × (book.entries ≡ []) }
+{
+    let mut errors = Counted::new(host.stderr());
+    let sink = if is_watched(host) {
+        Some(&mut errors)
+    } else {
+        None
+    };
+    match StatusLine::new(rt, host.alloc(), sink) {
+        Ok(status) => shift_told(rt, host, options, book, &status, fetcher, clock),
+        Err(_) => Err(NotShifted::NoMemory),
+    }
+}
+
+// Whether standard error is a terminal, on which nothing else is written.
+fn is_watched(host: &HostRuntime) -> bool {
+    host.stderr().is_terminal() && !host.stdout().is_terminal()
+}
+
+// Does it, and writes what is to be told of it to standard output.
+fn shift_told<
+    E: Sink + Send,
+    F: Fetcher + Sync,
+    C: Clock + Sync,
+    R: Threads + Wait + time::Clock + Sync,
+>(
+    rt: &R,
+    host: &HostRuntime,
+    options: ShiftOptions,
+    book: Book,
+    status: &StatusLine<'_, E, R>,
+    fetcher: &F,
+    clock: &C,
+) -> Result<(), NotShifted>
+    requires workers { IsCrew options.workers }
     requires book { (book.base ≡ empty_base) × (book.entries ≡ []) }
 {
     let alloc = host.alloc();
+    let workers = options.workers;
+    let blanks = Blanks::new();
     let mut reader = Counted::new(host.stdin());
     let mut writer = Counted::new(host.stdout());
-    match told {
-        Told::Outcomes => shift_over::<Brand, _, _, _, _, _>(
-            rt,
-            alloc,
-            &mut reader,
-            &mut writer,
-            workers,
-            book,
-            Blanks::new(),
-            fetcher,
-            clock,
+    let (input, output) = (&mut reader, &mut writer);
+    match options.told {
+        Told::Outcomes => shift_over::<Brand, _, _, _, _, _, _>(
+            rt, alloc, input, output, status, workers, book, blanks, fetcher, clock,
         ),
-        Told::History => history_over::<Brand, _, _, _, _, _>(
-            rt,
-            alloc,
-            &mut reader,
-            &mut writer,
-            workers,
-            book,
-            Blanks::new(),
-            fetcher,
-            clock,
+        Told::Table => table_over::<Brand, _, _, _, _, _, _>(
+            rt, alloc, input, output, status, workers, book, blanks, fetcher, clock,
+        ),
+        Told::History => history_over::<Brand, _, _, _, _, _, _>(
+            rt, alloc, input, output, status, workers, book, blanks, fetcher, clock,
         ),
     }
 }

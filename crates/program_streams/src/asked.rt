@@ -88,6 +88,6 @@ fn run_subcommand(rt: &HostRuntime, subcommand: Subcommand) -> Next
         Subcommand::Export(limits) => Next::Ends(export_streams(rt, limits)),
         Subcommand::Lines => Next::Ends(lines_streams(rt)),
         Subcommand::Audit => Next::Ends(audit_streams(rt)),
-        Subcommand::Shift(workers, limits, told) => Next::Shift(workers, limits, told),
+        Subcommand::Shift(options) => Next::Shift(options),
     }
 }

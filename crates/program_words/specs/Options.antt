@@ -1,9 +1,18 @@
 -- What the program's words may ask for: where they are taken, each option is a number in its range.
 -- The contract of `options`; docs/crawlgate.1.md has the ranges.
+use Rattle.program_words.specs.declared.words.ShiftOptions.{ShiftOptions}
 use Rattle.program_words.specs.declared.words.Subcommand.{Subcommand}
 use Rattle.program_words.specs.declared.words.Subcommand.TheVariants.{Replay, Export, Lines, Audit, Shift}
 use Rattle.gate_core.specs.Limits.{AreLimits}
 use Rattle.job_line.specs.Limits.{IsCrew}
+use Rattle.tcp_wire.specs.TimeLimits.{AreWithin}
+
+-- a shift has as many workers as may share it, its book's limits are in their ranges, and its fetches take no
+-- longer than those of crawlers
+pub record AreForShift (options : ShiftOptions) : Type 0 where
+  pub crew : IsCrew options.workers
+  pub limits : AreLimits options.limits
+  pub times : AreWithin options.times
 
 -- the subcommand's options are in their ranges
 abbrev pub IsInRange : Subcommand → Type 0
@@ -11,4 +20,4 @@ IsInRange (Replay limits) = AreLimits limits
 IsInRange (Export limits) = AreLimits limits
 IsInRange Lines = Unit {0}
 IsInRange Audit = Unit {0}
-IsInRange (Shift workers limits told) = IsCrew workers × AreLimits limits
+IsInRange (Shift options) = AreForShift options

@@ -4,4 +4,4 @@
 
 mod words;
 
-pub use words::{Subcommand, Told, options};
+pub use words::{ShiftOptions, Subcommand, Told, options};

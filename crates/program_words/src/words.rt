@@ -5,6 +5,7 @@ ghost use Rattle.permit_book.specs.Numbers.{last_generation};
 ghost use Rattle.gate_core.specs.Limits.{AreLimits};
 ghost use Rattle.program_words.specs.Options.{IsInRange};
 ghost use Rattle.job_line.specs.Limits.{IsCrew};
+ghost use Rattle.tcp_wire.specs.TimeLimits.{AreWithin};
 
 use clap::error::ErrorKind;
 use clap::{Arg, ArgAction, ArgMatches, Command, Error};
@@ -12,6 +13,7 @@ use gate_core::{Limits, MAX_AUTHORITIES, MAX_LOG, MAX_PLACES};
 use job_line::MAX_WORKERS;
 use permit_book::{LAST_GENERATION, MAX_SLOTS};
 use std::alloc::{AllocError, Global};
+use tcp_wire::{CONNECT_SECONDS, STEP_SECONDS, TimeLimits, WHOLE_SECONDS};
 
 /// What the program is asked to do.
 #[derive(Clone, Copy)]
@@ -25,9 +27,20 @@ pub enum Subcommand {
     Lines,
     /// Audits the text of a history on standard input.
     Audit,
-    /// Has so many workers do the jobs on standard input, over a book of these limits, and writes
-    /// this of them to standard output.
-    Shift(u64, Limits, Told),
+    /// Has workers do the jobs on standard input, and writes what is told of them to standard output.
+    Shift(ShiftOptions),
+}
+
+/// How a shift is done.
+#[derive(Clone, Copy)]
+pub struct ShiftOptions {
+    /// How many jobs are done at a time.
+    pub workers: u64,
+    /// The limits of its book.
+    pub limits: Limits,
+    /// The limits of time of its fetches.
+    pub times: TimeLimits,
+    pub told: Told,
 }
 
 /// What is written of a shift.
@@ -35,6 +48,8 @@ pub enum Subcommand {
 pub enum Told {
     /// What came of its jobs.
     Outcomes,
+    /// A table of its hops.
+    Table,
     /// The text of its book's history.
     History,
 }
@@ -114,14 +129,32 @@ fn replay_of(matches: &ArgMatches<'_>) -> Option<Subcommand>
 fn shift_of(matches: &ArgMatches<'_>) -> Option<Subcommand>
     ensures { IfSome result IsInRange }
 {
-    let limits = limits_of(matches, 1)?;
-    let workers = number_of(matches, "workers", MAX_WORKERS)?;
-    let told = if matches.get_flag("export") {
+    Some(Subcommand::Shift(ShiftOptions {
+        workers: number_of(matches, "workers", MAX_WORKERS)?,
+        limits: limits_of(matches, 1)?,
+        times: times_of(matches)?,
+        told: told_by(matches),
+    }))
+}
+
+// The limits of time that the options set, where each is in its range.
+fn times_of(matches: &ArgMatches<'_>) -> Option<TimeLimits>
+    ensures { IfSome result AreWithin }
+{
+    let connect = number_of(matches, "connect-timeout", CONNECT_SECONDS)?;
+    let step = number_of(matches, "read-timeout", STEP_SECONDS)?;
+    let whole = number_of(matches, "fetch-timeout", WHOLE_SECONDS)?;
+    Some(TimeLimits::of_seconds(connect, step, whole))
+}
+
+fn told_by(matches: &ArgMatches<'_>) -> Told {
+    if matches.get_flag("export") {
         Told::History
+    } else if matches.get_flag("tsv") {
+        Told::Table
     } else {
         Told::Outcomes
-    };
-    Some(Subcommand::Shift(workers, limits, told))
+    }
 }
 
 fn program<'a>(alloc: Global) -> Result<Command<'a>, AllocError> {
@@ -168,20 +201,53 @@ fn shift_words<'a>(alloc: Global) -> Result<Command<'a>, AllocError> {
     let shift = Command::new(alloc, "shift").about(
         "Fetches the pages of the jobs on standard input, and writes what came of them",
     );
-    limit_words(alloc, shift)?
-        .arg(number(
-            alloc,
-            "workers",
-            "4",
-            MAX_WORKERS,
-            "Jobs that are done at a time",
-        ))?
+    let shift = limit_words(alloc, shift)?.arg(number(
+        alloc,
+        "workers",
+        "4",
+        MAX_WORKERS,
+        "Jobs that are done at a time",
+    ))?;
+    time_words(alloc, shift)?
         .arg(
             Arg::new(alloc, "export")
                 .long("export")
                 .action(ArgAction::SetTrue)
                 .help("Writes the history at the end, and no outcomes"),
+        )?
+        .arg(
+            Arg::new(alloc, "tsv")
+                .long("tsv")
+                .action(ArgAction::SetTrue)
+                .conflicts_with("export")?
+                .help("Writes a table of the hops, each as soon as it has ended"),
         )
+}
+
+// The limits of time of fetches, in seconds.
+fn time_words<'a>(alloc: Global, command: Command<'a>) -> Result<Command<'a>, AllocError> {
+    command
+        .arg(number(
+            alloc,
+            "connect-timeout",
+            "10",
+            CONNECT_SECONDS,
+            "Seconds for a connection to one address",
+        ))?
+        .arg(number(
+            alloc,
+            "read-timeout",
+            "30",
+            STEP_SECONDS,
+            "Seconds for one read or one write",
+        ))?
+        .arg(number(
+            alloc,
+            "fetch-timeout",
+            "300",
+            WHOLE_SECONDS,
+            "Seconds for a page, or a robots file with its redirects",
+        ))
 }
 
 // The limits of the gate that both have.

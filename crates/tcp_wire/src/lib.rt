@@ -3,6 +3,7 @@
 #![tactic(auto)]
 
 mod deadline;
+mod failure;
 mod http_exchange;
 mod server;
 mod tcp_client;
@@ -10,8 +11,9 @@ mod time_limits;
 mod timed_stream;
 
 pub use deadline::Deadline;
+pub use failure::Failure;
 pub use http_exchange::exchange;
 pub use server::{Server, server_of};
 pub use tcp_client::TcpClient;
-pub use time_limits::TimeLimits;
+pub use time_limits::{CONNECT_SECONDS, STEP_SECONDS, TimeLimits, WHOLE_SECONDS};
 pub use timed_stream::{TimedStream, Waits};

@@ -4,6 +4,7 @@ ghost use Rattle.http_wire.specs.Response.{Tells};
 ghost use Rattle.tcp_wire.specs.Agent.{IsAgent};
 
 use crate::deadline::Deadline;
+use crate::failure::Failure;
 use crate::http_exchange::exchange;
 use crate::server::server_of;
 use crate::time_limits::TimeLimits;
@@ -12,9 +13,9 @@ use counted_io::Counted;
 use http_wire::{HttpReply, WireFault};
 use path_normal::PageUrl;
 use std::alloc::Global;
-use std::io::ErrorKind;
 use std::marker::Model;
-use std::net::{Net, TcpStream, ToSocketAddrs};
+use std::net::{Net, SocketAddr, TcpStream, ToSocketAddrs};
+use std::sync::atomic::{AtomicBool, Ordering};
 use std::{io, time};
 
 /// What fetches pages over TCP. It keeps no connection, and follows no redirect.
@@ -22,6 +23,7 @@ use std::{io, time};
 pub struct TcpClient<R: Net<Stream = TcpStream> + time::Clock> {
     rt: R,
     limits: TimeLimits,
+    stopped: AtomicBool,
 }
 
 impl<R: Net<Stream = TcpStream> + time::Clock> Model for TcpClient<R> {
@@ -37,7 +39,17 @@ impl<R: Net<Stream = TcpStream> + time::Clock> TcpClient<R> {
     pub fn new(rt: R, limits: TimeLimits) -> TcpClient<R>
         ensures { result ≡ limits }
     {
-        TcpClient { rt, limits }
+        TcpClient {
+            rt,
+            limits,
+            stopped: AtomicBool::new(false),
+        }
+    }
+
+    /// Has all fetches fail from now on: those under way within a second, or the time of a connection that
+    /// is being made, and others before they connect.
+    pub fn stop(&self) {
+        self.stopped.store(true, Ordering::SeqCst);
     }
 
     /// The time of a whole fetch, which begins now. Several fetches may have one time in common.
@@ -51,21 +63,23 @@ impl<R: Net<Stream = TcpStream> + time::Clock> TcpClient<R> {
     /// User-Agent.
     ///
     /// `Device` where the host has no address, no address takes a connection, a read or a write fails,
-    /// or a limit of time is passed. The addresses of a name are looked up by the system, whose own
-    /// limits of time hold there, and are tried one after the other.
+    /// a limit of time is passed or the client was told to stop; `failure` has then which of them. The
+    /// addresses of a name are looked up by the system, whose own limits of time hold there, and are
+    /// tried one after the other.
     pub fn fetch(
         &self,
         alloc: Global,
         url: &PageUrl,
         agent: &[u8],
         limit: usize,
+        failure: &mut Option<Failure>,
     ) -> Result<HttpReply, WireFault>
         // No octet of the agent ends its line.
         requires { IsAgent agent.now }
         ensures { Tells None limit result }
     {
         match self.begin() {
-            Ok(deadline) => self.fetch_by(alloc, url, agent, limit, deadline),
+            Ok(deadline) => self.fetch_by(alloc, url, agent, limit, deadline, failure),
             Err(_) => Err(WireFault::Device),
         }
     }
@@ -78,31 +92,59 @@ impl<R: Net<Stream = TcpStream> + time::Clock> TcpClient<R> {
         agent: &[u8],
         limit: usize,
         deadline: Deadline,
+        failure: &mut Option<Failure>,
     ) -> Result<HttpReply, WireFault>
         // No octet of the agent ends its line.
         requires { IsAgent agent.now }
         ensures { Tells None limit result }
     {
-        let Ok(stream) = self.connect(url, &deadline) else {
-            return Err(WireFault::Device);
+        let stream = match self.connect(url, &deadline) {
+            Ok(stream) => stream,
+            Err(why) => {
+                *failure = Some(why);
+                return Err(WireFault::Device);
+            }
         };
         let mut reader = Counted::new(self.timed(&stream, deadline));
         let mut writer = Counted::new(self.timed(&stream, deadline));
-        exchange(alloc, &mut reader, &mut writer, url, agent, limit)
+        let given = exchange(alloc, &mut reader, &mut writer, url, agent, limit);
+        *failure = writer.into_inner().failure.or(reader.into_inner().failure);
+        given
     }
 
     // Connects to the first address of the page's server that takes a connection.
-    fn connect(&self, url: &PageUrl, deadline: &Deadline) -> io::Result<TcpStream> {
+    fn connect(&self, url: &PageUrl, deadline: &Deadline) -> Result<TcpStream, Failure> {
         let server = server_of(url);
-        let mut last = io::Error::from(ErrorKind::NotFound);
-        for address in (server.host, server.port).to_socket_addrs(&self.rt)? {
-            let left = deadline.left(&self.rt, self.limits.connect)?;
-            match TcpStream::connect_timeout(&self.rt, &address, left) {
+        let Ok(addresses) = (server.host, server.port).to_socket_addrs(&self.rt) else {
+            return Err(Failure::NoName);
+        };
+        let mut last = Failure::NoName;
+        for address in addresses {
+            match self.connect_to(&address, deadline) {
                 Ok(stream) => return Ok(stream),
-                Err(error) => last = error,
+                Err(why) => last = why,
             }
         }
         Err(last)
+    }
+
+    fn connect_to(&self, address: &SocketAddr, deadline: &Deadline) -> Result<TcpStream, Failure> {
+        if self.stopped.load(Ordering::SeqCst) {
+            return Err(Failure::Stopped);
+        }
+        let most = self.limits.connect;
+        let Ok(left) = deadline.left(&self.rt, most) else {
+            return Err(Failure::TooLong(deadline.whole));
+        };
+        let past = if left < most {
+            Failure::TooLong(deadline.whole)
+        } else {
+            Failure::NotConnected(most)
+        };
+        match TcpStream::connect_timeout(&self.rt, address, left) {
+            Ok(stream) => Ok(stream),
+            Err(error) => Err(Failure::of(error.kind(), past)),
+        }
     }
 
     fn timed<'a>(
@@ -118,6 +160,8 @@ impl<R: Net<Stream = TcpStream> + time::Clock> TcpClient<R> {
             stream,
             deadline,
             step: self.limits.step,
+            stopped: &self.stopped,
+            failure: None,
         }
     }
 }

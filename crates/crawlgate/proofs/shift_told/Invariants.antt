@@ -6,3 +6,6 @@ ghosts-shift_over g a = record { ledgers = a.blanks }
 
 abbrev pub ghosts-history_over : goal.ghosts-history_over
 ghosts-history_over g a = record { ledgers = a.blanks }
+
+abbrev pub ghosts-table_over : goal.ghosts-table_over
+ghosts-table_over g a = record { ledgers = a.blanks }

@@ -4,7 +4,7 @@ use super::sites::crawl_over;
 use super::{demand, new_writer, reader_of};
 use counted_io::{Counted, FailAt};
 use crawl_shift::NotShifted;
-use crawl_workers::{Clock, Deadline, Fetcher, PageLeave, RobotsLeave};
+use crawl_workers::{Clock, Deadline, Failure, Fetcher, PageLeave, RobotsLeave};
 use http_wire::{HttpReply, WireFault, read_response};
 use std::alloc::Global;
 use std::random::RandomSource;
@@ -12,6 +12,7 @@ use std::sync::Wait;
 use std::sync::atomic::{AtomicU64, Ordering};
 use std::test::Fail;
 use std::thread::Threads;
+use std::time;
 
 const JOBS: &[u8] = b"foobot http://a.example/x\nfoobot http://a.example/y\n";
 
@@ -32,7 +33,14 @@ impl Fetcher for Changing<'_> {
         None
     }
 
-    fn load_page(&self, _leave: &PageLeave<'_>, limit: usize) -> Result<HttpReply, WireFault> {
+    fn stop(&self) {}
+
+    fn load_page(
+        &self,
+        _leave: &PageLeave<'_>,
+        limit: usize,
+        _failure: &mut Option<Failure>,
+    ) -> Result<HttpReply, WireFault> {
         self.now.fetch_add(self.after_page, Ordering::SeqCst);
         let response: &[u8] = b"HTTP/1.1 200 OK\r\n\r\nhello";
         read_response(self.alloc, &mut Counted::new(response), limit)
@@ -42,6 +50,7 @@ impl Fetcher for Changing<'_> {
         &self,
         _leave: &RobotsLeave<'_>,
         _time: Option<Deadline>,
+        _failure: &mut Option<Failure>,
     ) -> Result<HttpReply, WireFault> {
         let response: &[u8] = match self.robots_fetches.fetch_add(1, Ordering::SeqCst) {
             0 => b"HTTP/1.1 404 No\r\n\r\n",
@@ -62,7 +71,7 @@ impl Clock for Set<'_> {
 }
 
 // The shift of one worker over the site.
-fn crawl<R: AllocGlobal + RandomSource + Threads + Wait + Sync>(
+fn crawl<R: AllocGlobal + RandomSource + Threads + Wait + time::Clock + Sync>(
     rt: &R,
     jobs: &mut FailAt,
     report: &mut FailAt,
@@ -79,7 +88,7 @@ fn crawl<R: AllocGlobal + RandomSource + Threads + Wait + Sync>(
 }
 
 // Checks the report where so many seconds pass after the first page.
-fn check<R: AllocGlobal + RandomSource + Threads + Wait + Sync>(
+fn check<R: AllocGlobal + RandomSource + Threads + Wait + time::Clock + Sync>(
     rt: &R,
     after_page: u64,
     want: &[u8],
@@ -88,7 +97,7 @@ fn check<R: AllocGlobal + RandomSource + Threads + Wait + Sync>(
     check_jobs(rt, &mut jobs, after_page, want)
 }
 
-fn check_jobs<R: AllocGlobal + RandomSource + Threads + Wait + Sync>(
+fn check_jobs<R: AllocGlobal + RandomSource + Threads + Wait + time::Clock + Sync>(
     rt: &R,
     jobs: &mut FailAt,
     after_page: u64,

@@ -4,7 +4,7 @@ ghost use Rattle.job_line.specs.Limits.{IsCrew};
 
 use super::new_book;
 use counted_io::FailAt;
-use crawl_shift::{NotShifted, shift_over};
+use crawl_shift::{NotShifted, StatusLine, shift_over};
 use crawl_workers::{Clock, Fetcher, ScriptedPage, Sites};
 use gate_lock::Blanks;
 use std::alloc::{AllocError, Global};
@@ -13,12 +13,13 @@ use std::random::RandomSource;
 use std::sync::Wait;
 use std::test::Fail;
 use std::thread::Threads;
+use std::time;
 
 /// A shift of so many workers over a new gate and what a fetcher fetches.
 pub(super) fn crawl_over<
     F: Fetcher + Sync,
     C: Clock + Sync,
-    R: AllocGlobal + RandomSource + Threads + Wait + Sync,
+    R: AllocGlobal + RandomSource + Threads + Wait + time::Clock + Sync,
 >(
     rt: &R,
     workers: u64,
@@ -30,11 +31,13 @@ pub(super) fn crawl_over<
     requires { IsCrew workers }
 {
     let book = new_book(rt)?;
-    Ok(shift_over::<Brand, _, _, _, _, _>(
+    let status: StatusLine<'_, FailAt, R> = StatusLine::new(rt, rt.alloc(), None)?;
+    Ok(shift_over::<Brand, _, _, _, _, _, _>(
         rt,
         rt.alloc(),
         jobs,
         report,
+        &status,
         workers,
         book,
         Blanks::new(),

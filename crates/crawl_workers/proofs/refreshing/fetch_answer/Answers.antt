@@ -9,8 +9,8 @@ use Rattle.crawl_workers.specs.Refreshes.{AreLed}
 use Rattle.crawl_workers.proofs.Fetching.{fetched, go_on}
 use Rattle.crawl_workers.proofs.refreshing.fetch_answer.Goals as goal
 
-pub fetch_robots-requires : goal.fetch_robots-requires
-fetch_robots-requires g c =
+pub fetch_robots-given-requires : goal.fetch_robots-given-requires
+fetch_robots-given-requires g c =
     let gives = g.F.Fetcher.gives c.args.fetcher.now robots_limit in
     let under = c.loop-next.invariant in
     let P : List ℕ → Type 0 = λ url. AreLed gives (robots_url_of c.args.turn.now.authority) under.way url in
@@ -20,16 +20,16 @@ pub returns-in-Done-clause-brings : goal.returns-in-Done-clause-brings
 returns-in-Done-clause-brings g c =
     let gives = g.F.Fetcher.gives c.args.fetcher.now robots_limit in
     let walk = c.loop-next.walk in
-    let P : List ℕ → Type 0 = λ url. gives url c.fetch_robots.result in
+    let P : List ℕ → Type 0 = λ url. gives url c.fetch_robots-given.result in
     let Q : RobotsReply → Type 0 = λ reply. Steps walk reply (Done c.in-Done.answer c.in-Done.life) in
-    inl (fetched gives c.args.turn.now.authority walk c.fetch_robots.result c.in-Done.answer c.in-Done.life c.loop-next.invariant
-    (subst P c.url.ensures c.fetch_robots.ensures) (subst Q c.robots_reply-reply.ensures c.in-Done.ensures))
+    inl (fetched gives c.args.turn.now.authority walk c.fetch_robots-given.result c.in-Done.answer c.in-Done.life c.loop-next.invariant
+    (subst P c.url.ensures c.fetch_robots-given.ensures) (subst Q c.robots_reply-reply.ensures c.in-Done.ensures))
 
 pub loop-next-preserved-in-Go : goal.loop-next-preserved-in-Go
 loop-next-preserved-in-Go g c =
     let gives = g.F.Fetcher.gives c.args.fetcher.now robots_limit in
     let walk = c.loop-next.walk in
-    let P : List ℕ → Type 0 = λ url. gives url c.fetch_robots.result in
+    let P : List ℕ → Type 0 = λ url. gives url c.fetch_robots-given.result in
     let Q : RobotsReply → Type 0 = λ reply. Steps walk reply (Go c.in-Go.next) in
-    go_on gives c.args.turn.now.authority walk c.in-Go.next c.fetch_robots.result c.loop-next.invariant
-    (subst P c.url.ensures c.fetch_robots.ensures) (subst Q c.robots_reply-reply.ensures c.in-Go.ensures)
+    go_on gives c.args.turn.now.authority walk c.in-Go.next c.fetch_robots-given.result c.loop-next.invariant
+    (subst P c.url.ensures c.fetch_robots-given.ensures) (subst Q c.robots_reply-reply.ensures c.in-Go.ensures)

@@ -10,6 +10,7 @@ use std::test::Fail;
 use std::thread::Threads;
 use std::time;
 use std::time::Duration;
+use tcp_wire::Failure;
 
 // A name, what the server sends first, what it sends again and again, the limit, and what comes of
 // it.
@@ -83,6 +84,7 @@ fn reset(rt: HostRuntime) -> Result<(), Fail> {
     for text in ["", "HTTP/1.1 200 OK|Content-Length: 5||hel"] {
         let told = run(&rt, rt.alloc(), Script::Resets(text), patient(), 9)?;
         assert_eq!(rt; told.text.as_str(), "Device", "after {text}");
+        assert_eq!(rt; told.failure, Some(Failure::Reset), "after {text}");
     }
     Ok(())
 }
@@ -92,6 +94,7 @@ fn refused(rt: HostRuntime) -> Result<(), Fail> {
     let url = closed_page(&rt, rt.alloc())?;
     let told = fetch(&rt, rt.alloc(), &url, patient(), 9)?;
     assert_eq!(rt; told.text.as_str(), "Device");
+    assert_eq!(rt; told.failure, Some(Failure::Refused));
     assert!(rt; told.time < Duration::from_secs(10));
     Ok(())
 }
@@ -111,6 +114,7 @@ fn no_such_name(rt: HostRuntime) -> Result<(), Fail> {
     let url = PageUrl::parse(rt.alloc(), LONG_NAME)?;
     let told = fetch(&rt, rt.alloc(), &url, patient(), 9)?;
     assert_eq!(rt; told.text.as_str(), "Device");
+    assert_eq!(rt; told.failure, Some(Failure::NoName));
     Ok(())
 }
 

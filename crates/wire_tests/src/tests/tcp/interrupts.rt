@@ -1,10 +1,11 @@
 //! Reads and writes that a signal interrupts, and those whose time is over.
 
 use std::io::{ErrorKind, Read, Write};
+use std::sync::atomic::AtomicBool;
 use std::test::Fail;
 use std::time::{Duration, Instant};
 use std::{io, time};
-use tcp_wire::{Deadline, TimedStream, Waits};
+use tcp_wire::{Deadline, Failure, TimedStream, Waits};
 
 // A connection whose first calls a signal interrupts. Then it gives and takes one octet a call.
 #[derive(Drop)]
@@ -57,11 +58,12 @@ impl Waits for Interrupted {
 }
 
 // A stream that a signal interrupts so many times, with so many seconds for the whole.
-fn stream_of<R: time::Clock>(
-    rt: &R,
+fn stream_of<'a, R: time::Clock>(
+    rt: &'a R,
     times: u32,
     whole: u64,
-) -> io::Result<TimedStream<'_, R, Interrupted>> {
+    stopped: &'a AtomicBool,
+) -> io::Result<TimedStream<'a, R, Interrupted>> {
     Ok(TimedStream {
         rt,
         stream: Interrupted(times),
@@ -70,18 +72,22 @@ fn stream_of<R: time::Clock>(
             whole: Duration::from_secs(whole),
         },
         step: Duration::from_secs(30),
+        stopped,
+        failure: None,
     })
 }
 
 // Whether a read of such a stream succeeds.
 fn reads(rt: &impl time::Clock, times: u32, whole: u64) -> io::Result<bool> {
-    let mut stream = stream_of(rt, times, whole)?;
+    let stopped = AtomicBool::new(false);
+    let mut stream = stream_of(rt, times, whole, &stopped)?;
     Ok(stream.read(&mut [0, 0]).is_ok())
 }
 
 // Whether a write to such a stream succeeds.
 fn writes(rt: &impl time::Clock, times: u32, whole: u64) -> io::Result<bool> {
-    let mut stream = stream_of(rt, times, whole)?;
+    let stopped = AtomicBool::new(false);
+    let mut stream = stream_of(rt, times, whole, &stopped)?;
     Ok(stream.write(b"ab").is_ok())
 }
 
@@ -102,5 +108,29 @@ fn interruptions(rt: HostRuntime) -> Result<(), Fail> {
 fn a_time_that_is_over(rt: HostRuntime) -> Result<(), Fail> {
     assert!(rt; !reads(&rt, 0, 0)?);
     assert!(rt; !writes(&rt, 0, 0)?);
+    Ok(())
+}
+
+// Whether a read of a stream that was stopped succeeds, and why it failed.
+fn reads_when_stopped(rt: &impl time::Clock) -> io::Result<(bool, Option<Failure>)> {
+    let stopped = AtomicBool::new(true);
+    let mut stream = stream_of(rt, 0, 60, &stopped)?;
+    let reads = stream.read(&mut [0, 0]).is_ok();
+    Ok((reads, stream.failure))
+}
+
+// The same of a write.
+fn writes_when_stopped(rt: &impl time::Clock) -> io::Result<(bool, Option<Failure>)> {
+    let stopped = AtomicBool::new(true);
+    let mut stream = stream_of(rt, 0, 60, &stopped)?;
+    let writes = stream.write(b"ab").is_ok();
+    Ok((writes, stream.failure))
+}
+
+#[test]
+fn a_stream_that_is_stopped(rt: HostRuntime) -> Result<(), Fail> {
+    let want = (false, Some(Failure::Stopped));
+    assert_eq!(rt; reads_when_stopped(&rt)?, want);
+    assert_eq!(rt; writes_when_stopped(&rt)?, want);
     Ok(())
 }

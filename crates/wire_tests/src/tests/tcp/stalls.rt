@@ -8,7 +8,7 @@ use std::process::Abort;
 use std::test::Fail;
 use std::time;
 use std::time::Duration;
-use tcp_wire::TimeLimits;
+use tcp_wire::{Failure, TimeLimits};
 
 // A name, and what the server sends before it waits.
 const STALLS: [(&str, &str); 4] = [
@@ -21,9 +21,10 @@ const STALLS: [(&str, &str); 4] = [
     ),
 ];
 
-// A fetch that came to nothing, and not sooner than it may, nor as late as a fetch without limits.
-fn check_time(rt: &impl Abort, name: &str, told: &Timed, least: u64) {
+// A fetch that came to nothing for this, and not sooner than it may, nor as late as a fetch without limits.
+fn check_time(rt: &impl Abort, name: &str, told: &Timed, least: u64, why: Failure) {
     assert_eq!(rt; told.text.as_str(), "Device", "{name}");
+    assert_eq!(rt; told.failure, Some(why), "{name}");
     assert!(rt; told.time >= Duration::from_millis(least), "{name}");
     assert!(rt; told.time < Duration::from_secs(8), "{name}");
 }
@@ -33,7 +34,8 @@ fn check_time(rt: &impl Abort, name: &str, told: &Timed, least: u64) {
 fn a_silent_server(rt: HostRuntime) -> Result<(), Fail> {
     for (name, text) in STALLS {
         let told = run(&rt, rt.alloc(), Script::Stalls(text), hasty(50, 20_000), 9)?;
-        check_time(&rt, name, &told, 50);
+        let why = Failure::Silent(Duration::from_millis(50));
+        check_time(&rt, name, &told, 50, why);
     }
     Ok(())
 }
@@ -56,7 +58,8 @@ fn a_slow_server(rt: HostRuntime) -> Result<(), Fail> {
             hasty(20_000, 300),
             9_000,
         )?;
-        check_time(&rt, name, &told, 300);
+        let why = Failure::TooLong(Duration::from_millis(300));
+        check_time(&rt, name, &told, 300, why);
     }
     Ok(())
 }
@@ -96,7 +99,8 @@ fn fetch_of_full<R: Net<Stream = TcpStream> + time::Clock + Abort>(
     };
     let url = page_of(alloc, listener)?;
     let told = fetch(rt, alloc, &url, limits, 9)?;
-    check_time(rt, "a full server", &told, 50);
+    let why = Failure::NotConnected(Duration::from_millis(50));
+    check_time(rt, "a full server", &told, 50, why);
     Ok(())
 }
 
@@ -115,5 +119,6 @@ fn fetch_in_no_time<R: Net<Stream = TcpStream> + time::Clock + Abort>(
     let url = page_of(alloc, listener)?;
     let told = fetch(rt, alloc, &url, hasty(20_000, 0), 9)?;
     assert_eq!(rt; told.text.as_str(), "Device");
+    assert_eq!(rt; told.failure, Some(Failure::TooLong(Duration::ZERO)));
     Ok(())
 }

@@ -9,7 +9,7 @@ use std::test::Fail;
 use std::thread::Threads;
 use std::time::{Duration, Instant};
 use std::{io, thread, time};
-use tcp_wire::{TcpClient, TimeLimits};
+use tcp_wire::{Failure, TcpClient, TimeLimits};
 
 /// What the server does after it has read the head of a request. In its texts `|` stands for CR LF.
 #[derive(Clone, Copy)]
@@ -42,10 +42,11 @@ impl Script {
 /// The most octets that a repeating server sends.
 const MOST_SENT: usize = 16_777_216;
 
-/// What came of a fetch, in words, and how long it took.
+/// What came of a fetch, in words, why its device failed, and how long it took.
 #[derive(Drop)]
 pub(super) struct Timed {
     pub(super) text: String,
+    pub(super) failure: Option<Failure>,
     pub(super) time: Duration,
 }
 
@@ -107,8 +108,10 @@ pub(super) fn fetch<R: Net<Stream = TcpStream> + time::Clock>(
     limit: usize,
 ) -> io::Result<Timed> {
     let begun = Instant::now(rt)?;
-    let given = TcpClient::new(rt, limits).fetch(alloc, url, b"crawlgate", limit);
-    told_since(rt, alloc, begun, &given)
+    let mut failure = None;
+    let client = TcpClient::new(rt, limits);
+    let given = client.fetch(alloc, url, b"crawlgate", limit, &mut failure);
+    told_since(rt, alloc, begun, &given, failure)
 }
 
 fn told_since(
@@ -116,10 +119,15 @@ fn told_since(
     alloc: Global,
     begun: Instant,
     given: &Result<HttpReply, WireFault>,
+    failure: Option<Failure>,
 ) -> io::Result<Timed> {
     let time = begun.elapsed(rt)?;
     let text = told(alloc, given)?;
-    Ok(Timed { text, time })
+    Ok(Timed {
+        text,
+        failure,
+        time,
+    })
 }
 
 /// Fetches a page of a server that does as the script says.

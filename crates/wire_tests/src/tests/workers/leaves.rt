@@ -88,7 +88,8 @@ fn fetch_page<G: Gate, F: Fetcher, R: Wait>(
     let Ok(running) = desk.start(rt, permit, 100) else {
         return None;
     };
-    let (fetched, reply) = fetcher.fetch_page(running, limit);
+    let mut failure = None;
+    let (fetched, reply) = fetcher.fetch_page(running, limit, &mut failure);
     desk.finish(rt, fetched);
     Some(reply)
 }

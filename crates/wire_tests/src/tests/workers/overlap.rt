@@ -2,7 +2,7 @@
 
 use super::pages::{job, jobs_of};
 use super::shift::given_of;
-use crawl_workers::{Deadline, Fetcher, Job, PageLeave, RobotsLeave};
+use crawl_workers::{Deadline, Failure, Fetcher, Job, PageLeave, RobotsLeave};
 use http_wire::{HttpReply, WireFault};
 use path_normal::PageUrl;
 use std::alloc::{AllocError, Global};
@@ -40,7 +40,14 @@ impl<R: time::Clock> Fetcher for Together<'_, R> {
         None
     }
 
-    fn load_page(&self, _leave: &PageLeave<'_>, _limit: usize) -> Result<HttpReply, WireFault> {
+    fn stop(&self) {}
+
+    fn load_page(
+        &self,
+        _leave: &PageLeave<'_>,
+        _limit: usize,
+        _failure: &mut Option<Failure>,
+    ) -> Result<HttpReply, WireFault> {
         self.begun.fetch_add(1, Ordering::SeqCst);
         for _ in 0..10_000 {
             if self.begun.load(Ordering::SeqCst) >= 2 {
@@ -55,6 +62,7 @@ impl<R: time::Clock> Fetcher for Together<'_, R> {
         &self,
         _leave: &RobotsLeave<'_>,
         _time: Option<Deadline>,
+        _failure: &mut Option<Failure>,
     ) -> Result<HttpReply, WireFault> {
         Ok(reply(self.alloc, 404))
     }
@@ -120,7 +128,14 @@ impl Fetcher for Counting {
         None
     }
 
-    fn load_page(&self, _leave: &PageLeave<'_>, _limit: usize) -> Result<HttpReply, WireFault> {
+    fn stop(&self) {}
+
+    fn load_page(
+        &self,
+        _leave: &PageLeave<'_>,
+        _limit: usize,
+        _failure: &mut Option<Failure>,
+    ) -> Result<HttpReply, WireFault> {
         self.pages.fetch_add(1, Ordering::SeqCst);
         Ok(reply(self.alloc, 200))
     }
@@ -129,6 +144,7 @@ impl Fetcher for Counting {
         &self,
         leave: &RobotsLeave<'_>,
         _time: Option<Deadline>,
+        _failure: &mut Option<Failure>,
     ) -> Result<HttpReply, WireFault> {
         if let Some(count) = self.robots.get(site_of(leave.url())) {
             count.fetch_add(1, Ordering::SeqCst);

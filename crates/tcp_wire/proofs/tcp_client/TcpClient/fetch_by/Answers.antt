@@ -3,4 +3,4 @@ use Rattle.tcp_wire.proofs.Exchanges.{exchange_tells}
 use Rattle.tcp_wire.proofs.tcp_client.TcpClient.fetch_by.Goals as goal
 
 pub returns : goal.returns
-returns g c = exchange_tells _ _ _ _ _ _ _ _ _ c.exchange.ensures
+returns g c = exchange_tells _ _ _ _ _ _ _ _ _ c.exchange-given.ensures

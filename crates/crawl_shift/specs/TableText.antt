@@ -1,0 +1,68 @@
+-- The lines of a table of hops, as docs/FORMATS.md has them.
+-- Cited by the contracts of `row` and `table`.
+use Rattle.std.specs.Prelude.{ℕ, Bool, true, false, List, [], ◌++◌, Option, None, Some, codes, decimal}
+use Rattle.tcp_wire.specs.declared.failure.Failure.{Failure}
+use Rattle.crawl_job.specs.declared.hop.Hop.{Hop}
+use Rattle.crawl_job.specs.declared.hop.Hop.TheVariants as hops
+use Rattle.crawl_workers.specs.declared.event.ClosedBy.{ClosedBy}
+use Rattle.crawl_shift.specs.Causes.{denial_text, fault_text, reason_text, refusal_text, stop_text}
+use Rattle.crawl_shift.specs.declared.row.Row.{Row}
+
+-- what stands between two columns
+abbrev tab : List ℕ
+tab = codes "\t"
+
+-- the numbers of a job and of its hop, its token and its page
+abbrev pub place_text : ℕ → ℕ → List ℕ → List ℕ → List ℕ
+place_text job hop token url =
+    decimal job ++ (tab ++ (decimal hop ++ (tab ++ (token ++ (tab ++ (url ++ tab))))))
+
+-- the word of what came of a hop
+abbrev pub outcome_word : Hop → List ℕ
+outcome_word (hops.Page number reason status size cut) = codes "PAGE"
+outcome_word (hops.No denial) = codes "NO"
+outcome_word (hops.Fault number fault) = codes "FAULT"
+outcome_word (hops.Refused refusal) = codes "ERR"
+outcome_word (hops.Stop stop) = codes "STOP"
+
+-- the status of a response, where there is one
+abbrev pub status_of : Hop → Option ℕ
+status_of (hops.Page number reason status size cut) = Some status
+status_of _ = None
+
+-- how many octets of its body were taken
+abbrev pub octets_of : Hop → Option ℕ
+octets_of (hops.Page number reason status size cut) = Some size
+octets_of _ = None
+
+-- a number, or a dash where there is none
+abbrev pub number_text : Option ℕ → List ℕ
+number_text (Some number) = decimal number
+number_text None = codes "-"
+
+-- what came of a hop, its status, its octets and the milliseconds of its fetch
+abbrev pub outcome_text : Hop → Option ℕ → List ℕ
+outcome_text hop milliseconds = outcome_word hop ++ (tab ++
+    (number_text (status_of hop) ++ (tab ++ (number_text (octets_of hop) ++ (tab ++ (number_text milliseconds ++ tab))))))
+
+-- whether more of a body came than was taken
+abbrev pub end_text : Bool → List ℕ
+end_text true = codes ", cut"
+end_text false = []
+
+-- the cause of what came of a hop
+abbrev pub cause_text : Hop → Option Failure → Option ClosedBy → List ℕ
+cause_text (hops.Page number reason status size cut) _ _ = reason_text reason ++ end_text cut
+cause_text (hops.No denial) _ by = denial_text denial.cause by
+cause_text (hops.Fault number fault) failure _ = fault_text fault failure
+cause_text (hops.Refused refusal) _ _ = refusal_text refusal
+cause_text (hops.Stop stop) _ _ = stop_text stop
+
+-- the line of a hop
+abbrev pub row_text : Row → List ℕ
+row_text row = place_text row.job row.hop row.token.now row.url.now
+    ++ (outcome_text row.end.now row.milliseconds ++ (cause_text row.end.now row.failure row.closed_by ++ codes "\n"))
+
+-- the first line, which names the columns
+abbrev pub columns_text : List ℕ
+columns_text = codes "job\thop\ttoken\turl\toutcome\tstatus\toctets\tmilliseconds\tcause\n"

@@ -1,0 +1,22 @@
+//! Two that watch a shift.
+use crawl_job::{Job, Outcome};
+use crawl_workers::{Event, Watcher};
+
+/// Both are told of each job.
+#[derive(Drop)]
+pub(crate) struct Both<'a, A: Watcher, B: Watcher> {
+    pub(crate) first: &'a A,
+    pub(crate) second: &'a B,
+}
+
+impl<A: Watcher, B: Watcher> Watcher for Both<'_, A, B> {
+    fn sees(&self, number: u64, event: Event<'_>) {
+        self.first.sees(number, event);
+        self.second.sees(number, event);
+    }
+
+    fn done(&self, number: u64, job: &Job, outcome: &Outcome) {
+        self.first.done(number, job, outcome);
+        self.second.done(number, job, outcome);
+    }
+}

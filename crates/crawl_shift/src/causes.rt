@@ -1,0 +1,158 @@
+//! The causes of a table of hops in words. This is the one place of these words (docs/FORMATS.md, the table of a
+//! shift).
+ghost use Rattle.std.specs.Prelude.{◌≡◌, ◌++◌, [], codes, decimal};
+ghost use Rattle.crawl_shift.specs.Causes.{closing_text, denial_text, failure_text, fault_text, past_text, reason_text};
+ghost use Rattle.crawl_shift.specs.Causes.{refusal_text, stop_text, words_text};
+
+use crawl_job::Refusal;
+use crawl_workers::{ClosedBy, Failure};
+use gate_history::{Cause, Reason};
+use http_wire::WireFault;
+use line_text::Piece;
+use robots_fetch::Stop;
+use std::time::Duration;
+
+/// A cause in words: what it is of, a text, and behind it a number with its unit, where it has one.
+#[derive(Clone, Copy)]
+pub(crate) struct Words {
+    pub(crate) of: &'static str,
+    pub(crate) text: &'static str,
+    pub(crate) number: Piece<'static>,
+    pub(crate) unit: &'static str,
+}
+
+impl Words {
+    fn plain(of: &'static str, text: &'static str) -> Words
+        ensures { words_text result ≡ of.now ++ text.now }
+    {
+        Words {
+            of,
+            text,
+            number: Piece::Text(""),
+            unit: "",
+        }
+    }
+
+    fn numbered(of: &'static str, text: &'static str, number: u64, unit: &'static str) -> Words
+        ensures { words_text result ≡ of.now ++ (text.now ++ (decimal number ++ unit.now)) }
+    {
+        Words {
+            of,
+            text,
+            number: Piece::Number(number),
+            unit,
+        }
+    }
+}
+
+/// Why a page was allowed.
+pub(crate) fn reason_words(reason: Reason) -> Words
+    ensures { words_text result ≡ reason_text reason }
+{
+    match reason {
+        Reason::Open => Words::plain("", "open"),
+        Reason::Line(line) => Words::numbered("", "line ", line, ""),
+        Reason::NoRule => Words::plain("", "norule"),
+        Reason::RobotsPath => Words::plain("", "robots"),
+    }
+}
+
+/// Why a page was denied; of a closed site what closed it, where that is known.
+pub(crate) fn denial_words(cause: Cause, by: Option<ClosedBy>) -> Words
+    ensures { words_text result ≡ denial_text cause by }
+{
+    match cause {
+        Cause::Spent => Words::plain("", "spent"),
+        Cause::Unknown => Words::plain("", "unknown"),
+        Cause::Expired => Words::plain("", "expired"),
+        Cause::Closed => match by {
+            Some(by) => closing_words(by),
+            None => Words::plain("", "closed"),
+        },
+        Cause::Line(line) => Words::numbered("", "line ", line, ""),
+    }
+}
+
+/// Why a fetch failed; at its device for this.
+pub(crate) fn fault_words(of: &'static str, fault: WireFault, failure: Option<Failure>) -> Words
+    ensures { words_text result ≡ of.now ++ fault_text fault failure }
+{
+    match fault {
+        WireFault::EarlyEnd => Words::plain(of, "ended early"),
+        WireFault::BadHead => Words::plain(of, "bad head"),
+        WireFault::HeadTooLong => Words::plain(of, "head too long"),
+        WireFault::TooManyInterim => Words::plain(of, "too many interim heads"),
+        WireFault::BadLength => Words::plain(of, "bad length"),
+        WireFault::BadChunk => Words::plain(of, "bad chunk"),
+        WireFault::Coding => Words::plain(of, "coded"),
+        WireFault::NoMemory => Words::plain(of, "no memory"),
+        WireFault::TooMuch => Words::plain(of, "too much"),
+        WireFault::Device => match failure {
+            Some(failure) => failure_words(of, failure),
+            None => Words::plain(of, "network"),
+        },
+    }
+}
+
+/// Why the gate had no permit.
+pub(crate) fn refusal_words(refusal: Refusal) -> Words
+    ensures { words_text result ≡ refusal_text refusal }
+{
+    match refusal {
+        Refusal::AuthoritiesFull => Words::plain("", "authorities"),
+        Refusal::LogFull => Words::plain("", "log"),
+        Refusal::Busy => Words::plain("", "busy"),
+        Refusal::PermitsFull => Words::plain("", "permits"),
+        Refusal::NoMemory => Words::plain("", "no memory"),
+    }
+}
+
+/// Why a redirect is not followed.
+pub(crate) fn stop_words(stop: Stop) -> Words
+    ensures { words_text result ≡ stop_text stop }
+{
+    match stop {
+        Stop::TooManyRedirects => Words::plain("", "too many redirects"),
+        Stop::BadRedirect => Words::plain("", "redirect to no page"),
+        Stop::Scheme => Words::plain("", "redirect to another scheme"),
+    }
+}
+
+// What closed a site.
+fn closing_words(by: ClosedBy) -> Words
+    ensures { words_text result ≡ closing_text by }
+{
+    let of = "robots: ";
+    match by {
+        ClosedBy::Status(status) => Words::numbered(of, "", u64::from(status), ""),
+        ClosedBy::BadRedirect => Words::plain(of, "redirect to no page"),
+        ClosedBy::Https => Words::plain(of, "redirect to https"),
+        ClosedBy::OtherScheme => Words::plain(of, "redirect to another scheme"),
+        ClosedBy::Fault(fault, failure) => fault_words(of, fault, failure),
+        ClosedBy::NoMemory => Words::plain(of, "no memory"),
+    }
+}
+
+// Why a device failed.
+fn failure_words(of: &'static str, failure: Failure) -> Words
+    ensures { words_text result ≡ of.now ++ failure_text failure }
+{
+    match failure {
+        Failure::NoName => Words::plain(of, "no such name"),
+        Failure::Refused => Words::plain(of, "refused"),
+        Failure::Unreachable => Words::plain(of, "unreachable"),
+        Failure::Reset => Words::plain(of, "reset"),
+        Failure::NotConnected(limit) => past_words(of, "no connection ", limit),
+        Failure::Silent(limit) => past_words(of, "silent ", limit),
+        Failure::TooLong(limit) => past_words(of, "unfinished ", limit),
+        Failure::Stopped => Words::plain(of, "stopped"),
+        Failure::Other => Words::plain(of, "network"),
+    }
+}
+
+// A limit of time that was passed, in whole seconds.
+fn past_words(of: &'static str, text: &'static str, limit: Duration) -> Words
+    ensures { words_text result ≡ of.now ++ past_text text.now limit }
+{
+    Words::numbered(of, text, limit.as_secs(), " s")
+}

@@ -1,0 +1,70 @@
+//! Why a shift has no whole report.
+use crate::job_list::Unread;
+use counted_io::DeviceFault;
+use crawl_workers::ShiftFault;
+use gate_lock::SettleFault;
+use std::alloc::AllocError;
+
+/// Why a shift has no whole report.
+#[derive(Clone, Copy, Debug, PartialEq, Eq)]
+pub enum NotShifted {
+    /// The line of this number, from 1, can't be read as a job. Nothing was fetched.
+    BadLine(u64),
+    /// A growth of memory was refused.
+    NoMemory,
+    /// A read or a write failed, or the gate was not the shift's alone.
+    Device,
+}
+
+impl From<Unread> for NotShifted {
+    ghost use Rattle.std.specs.Prelude.{◌≡◌};
+    ghost use Rattle.crawl_shift.specs.NotShifted.{by_jobs};
+
+    ghost from_gives = { λ unread told. told ≡ by_jobs unread };
+
+    fn from(unread: Unread) -> NotShifted {
+        match unread {
+            Unread::BadLine(number) => NotShifted::BadLine(number),
+            Unread::Read => NotShifted::Device,
+            Unread::NoMemory => NotShifted::NoMemory,
+        }
+    }
+}
+
+impl From<AllocError> for NotShifted {
+    ghost use Rattle.std.specs.Prelude.{◌≡◌};
+    ghost use Rattle.crawl_shift.specs.declared.not_shifted.NotShifted.TheVariants.{NoMemory};
+
+    ghost from_gives = { λ _ told. told ≡ NoMemory };
+
+    fn from(_: AllocError) -> NotShifted {
+        NotShifted::NoMemory
+    }
+}
+
+impl From<DeviceFault> for NotShifted {
+    ghost use Rattle.std.specs.Prelude.{◌≡◌};
+    ghost use Rattle.crawl_shift.specs.declared.not_shifted.NotShifted.TheVariants.{Device};
+
+    ghost from_gives = { λ _ told. told ≡ Device };
+
+    fn from(_: DeviceFault) -> NotShifted {
+        NotShifted::Device
+    }
+}
+
+impl From<ShiftFault> for NotShifted {
+    ghost use Rattle.std.specs.Prelude.{◌≡◌};
+    ghost use Rattle.crawl_shift.specs.NotShifted.{by_workers};
+
+    ghost from_gives = { λ fault told. told ≡ by_workers fault };
+
+    fn from(fault: ShiftFault) -> NotShifted {
+        match fault {
+            ShiftFault::NoMemory | ShiftFault::Unsettled(SettleFault::NoMemory) => {
+                NotShifted::NoMemory
+            }
+            ShiftFault::DesksFull | ShiftFault::Unsettled(_) => NotShifted::Device,
+        }
+    }
+}

@@ -1,0 +1,169 @@
+//! A line of progress for a person at a terminal, written over again while workers work.
+use counted_io::{DeviceFault, Output, Sink};
+use crawl_job::{Job, Outcome};
+use crawl_workers::{Event, Watcher};
+use line_text::{Piece, Pieces};
+use std::alloc::{AllocError, Global};
+use std::sync::{Mutex, Wait};
+use std::time;
+use std::time::{Duration, Instant};
+
+// The least milliseconds from one writing to the next.
+const PAUSE_MILLISECONDS: u64 = 100;
+
+/// What workers tell of their jobs, in one line. It has a lock of its own, which is taken while a worker has
+/// no other.
+#[derive(Drop)]
+pub struct StatusLine<'a, W: Sink, R: Wait + time::Clock> {
+    rt: &'a R,
+    status: Mutex<Status<'a, W>>,
+}
+
+#[derive(Drop)]
+struct Status<'a, W: Sink> {
+    // Where it is written, if it is.
+    sink: Option<&'a mut W>,
+    output: Output,
+    written: Option<Instant>,
+    counts: Counts,
+}
+
+#[derive(Clone, Copy)]
+struct Counts {
+    jobs: u64,
+    done: u64,
+    // Fetches of pages and of robots files that are under way.
+    fetches: u64,
+    // Robots files that closed their sites.
+    closed: u64,
+}
+
+impl<'a, W: Sink, R: Wait + time::Clock> StatusLine<'a, W, R> {
+    /// A line that is written to this device, or to none.
+    pub fn new(
+        rt: &'a R,
+        alloc: Global,
+        sink: Option<&'a mut W>,
+    ) -> Result<StatusLine<'a, W, R>, AllocError> {
+        let status = Mutex::new(Status {
+            sink,
+            output: Output::new(alloc)?,
+            written: None,
+            counts: Counts {
+                jobs: 0,
+                done: 0,
+                fetches: 0,
+                closed: 0,
+            },
+        });
+        Ok(StatusLine { rt, status })
+    }
+
+    /// So many jobs are to be done.
+    pub(crate) fn expect(&self, jobs: u64) {
+        self.status.lock(self.rt).counts.jobs = jobs;
+    }
+
+    /// Takes the line off the terminal.
+    pub(crate) fn erase(&self) {
+        let mut status = self.status.lock(self.rt);
+        if status.written.is_some() {
+            status.write(Pieces::whole("\r\x1b[K"), Pieces::whole(""));
+        }
+    }
+}
+
+impl<W: Sink, R: Wait + time::Clock> Watcher for StatusLine<'_, W, R> {
+    fn sees(&self, _number: u64, event: Event<'_>) {
+        let mut status = self.status.lock(self.rt);
+        status.counts.take(event);
+        status.show(Instant::now(self.rt).ok());
+    }
+
+    fn done(&self, _number: u64, _job: &Job, _outcome: &Outcome) {
+        let mut status = self.status.lock(self.rt);
+        status.counts.done = status.counts.done.saturating_add(1);
+        status.show(Instant::now(self.rt).ok());
+    }
+}
+
+impl Counts {
+    fn take(&mut self, event: Event<'_>) {
+        match event {
+            Event::AsksRobots(_) | Event::Fetches => self.fetches = self.fetches.saturating_add(1),
+            Event::Fetched(_) => self.fetches = self.fetches.saturating_sub(1),
+            Event::Brought(_, closed_by) => {
+                self.fetches = self.fetches.saturating_sub(1);
+                if closed_by.is_some() {
+                    self.closed = self.closed.saturating_add(1);
+                }
+            }
+            Event::Begins { .. } | Event::Answered(_) | Event::Ends(_) => {}
+        }
+    }
+}
+
+impl<W: Sink> Status<'_, W> {
+    // Writes the line, unless it was written just now.
+    fn show(&mut self, now: Option<Instant>) {
+        let Some(now) = now else {
+            return;
+        };
+        if let Some(written) = self.written {
+            let since = now.saturating_duration_since(written);
+            if since < Duration::from_millis(PAUSE_MILLISECONDS) {
+                return;
+            }
+        }
+        if self.sink.is_some() {
+            self.written = Some(now);
+            self.write(self.counts.of_jobs(), self.counts.of_fetches());
+        }
+    }
+
+    // A terminal that is gone is written to no more.
+    fn write(&mut self, first: Pieces<'_>, second: Pieces<'_>) {
+        if self.try_write(first, second).is_err() {
+            self.sink = None;
+        }
+    }
+
+    fn try_write(&mut self, first: Pieces<'_>, second: Pieces<'_>) -> Result<(), DeviceFault> {
+        let Some(sink) = &mut self.sink else {
+            return Ok(());
+        };
+        first.push(&mut self.output, *sink)?;
+        second.push(&mut self.output, *sink)?;
+        self.output.flush(*sink)
+    }
+}
+
+impl Counts {
+    fn of_jobs(self) -> Pieces<'static> {
+        let none = Piece::Text("");
+        Pieces::joined([
+            Piece::Text("\r"),
+            Piece::Number(self.done),
+            Piece::Text(" of "),
+            Piece::Number(self.jobs),
+            Piece::Text(" jobs done, "),
+            none,
+            none,
+            none,
+        ])
+    }
+
+    fn of_fetches(self) -> Pieces<'static> {
+        let none = Piece::Text("");
+        Pieces::joined([
+            Piece::Number(self.fetches),
+            Piece::Text(" fetches under way, "),
+            Piece::Number(self.closed),
+            Piece::Text(" sites closed\x1b[K"),
+            none,
+            none,
+            none,
+            none,
+        ])
+    }
+}

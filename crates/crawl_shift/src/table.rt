@@ -1,0 +1,137 @@
+//! The table of a shift's hops, written while its workers work: a line for each hop as soon as it has ended.
+use crate::row::columns;
+use crate::under_way::UnderWay;
+use counted_io::{DeviceFault, Output, Sink};
+use crawl_job::{Hop, Job, Outcome};
+use crawl_workers::{ClosedBy, Event, Fetcher, Watcher};
+use gate_history::Cause;
+use std::alloc::{AllocError, Global};
+use std::collections::BTreeMap;
+use std::sync::{Mutex, Wait};
+use std::time;
+use std::time::Instant;
+
+/// What workers tell of their hops. It has a lock of its own, which is taken while a worker has no other.
+#[derive(Drop)]
+pub(crate) struct Table<'a, W: Sink, F: Fetcher, R: Wait + time::Clock> {
+    rt: &'a R,
+    fetcher: &'a F,
+    rows: Mutex<Rows<'a, W>>,
+}
+
+// What is written, and what is known for the lines to come.
+#[derive(Drop)]
+struct Rows<'a, W: Sink> {
+    alloc: Global,
+    sink: &'a mut W,
+    output: Output,
+    under_way: UnderWay,
+    // What closed each authority that is closed. One that there was no memory for is not among them.
+    closings: BTreeMap<String, ClosedBy>,
+    // What came of the writes so far. After a fault nothing is written.
+    wrote: Result<(), DeviceFault>,
+}
+
+impl<'a, W: Sink, F: Fetcher, R: Wait + time::Clock> Table<'a, W, F, R> {
+    /// A table that has its first line.
+    pub(crate) fn new(
+        rt: &'a R,
+        alloc: Global,
+        sink: &'a mut W,
+        fetcher: &'a F,
+    ) -> Result<Table<'a, W, F, R>, AllocError> {
+        let mut rows = Rows {
+            alloc,
+            sink,
+            output: Output::new(alloc)?,
+            under_way: UnderWay::new(alloc)?,
+            closings: BTreeMap::new(alloc),
+            wrote: Ok(()),
+        };
+        rows.wrote = rows.name_columns();
+        Ok(Table {
+            rt,
+            fetcher,
+            rows: Mutex::new(rows),
+        })
+    }
+
+    /// Whether all was written.
+    pub(crate) fn finish(self) -> Result<(), DeviceFault> {
+        self.rows.into_inner().wrote
+    }
+}
+
+/// Once a write has failed nothing more is fetched.
+impl<W: Sink, F: Fetcher, R: Wait + time::Clock> Watcher for Table<'_, W, F, R> {
+    fn sees(&self, number: u64, event: Event<'_>) {
+        let now = Instant::now(self.rt).ok();
+        let mut rows = self.rows.lock(self.rt);
+        rows.take(number, event, now);
+        if rows.wrote.is_err() {
+            self.fetcher.stop();
+        }
+    }
+
+    fn done(&self, number: u64, _job: &Job, _outcome: &Outcome) {
+        self.rows.lock(self.rt).under_way.leave(number);
+    }
+}
+
+impl<W: Sink> Rows<'_, W> {
+    fn name_columns(&mut self) -> Result<(), DeviceFault> {
+        columns().push(&mut self.output, self.sink)?;
+        self.output.flush(self.sink)
+    }
+
+    fn take(&mut self, job: u64, event: Event<'_>, now: Option<Instant>) {
+        match event {
+            Event::Begins { before, token, url } => self.under_way.begin(job, before, token, url),
+            Event::Fetches => {
+                if let Some(place) = self.under_way.at(job) {
+                    place.fetch(now);
+                }
+            }
+            Event::Fetched(failure) => {
+                if let Some(place) = self.under_way.at(job) {
+                    place.end_fetch(now, failure);
+                }
+            }
+            Event::Brought(authority, closed_by) => self.learn(authority, closed_by),
+            Event::Ends(hop) => {
+                if self.wrote.is_ok() {
+                    self.wrote = self.write(job, hop);
+                }
+            }
+            Event::AsksRobots(_) | Event::Answered(_) => {}
+        }
+    }
+
+    // Takes down what closes an authority, if it is closed.
+    fn learn(&mut self, authority: &str, closed_by: Option<ClosedBy>) {
+        self.closings.remove(authority);
+        if let (Some(by), Ok(name)) = (closed_by, String::from_str(self.alloc, authority)) {
+            // (without memory for it the cause is `closed`)
+            let _ = self.closings.insert(name, by);
+        }
+    }
+
+    fn write(&mut self, job: u64, hop: &Hop) -> Result<(), DeviceFault> {
+        let closed_by = self.closing_of(hop);
+        let Some(place) = self.under_way.at(job) else {
+            return Ok(());
+        };
+        place.row(hop, closed_by).push(&mut self.output, self.sink)?;
+        self.output.flush(self.sink)
+    }
+
+    // What closed the site of a hop that was denied for it.
+    fn closing_of(&self, hop: &Hop) -> Option<ClosedBy> {
+        match hop {
+            Hop::No(denial) if denial.cause == Cause::Closed => {
+                self.closings.get(denial.authority()).copied()
+            }
+            _ => None,
+        }
+    }
+}

@@ -1,0 +1,82 @@
+//! What workers tell of a job while they do it.
+//! RFC 9309 has none of it.
+use crawl_job::Hop;
+use http_wire::{HttpReply, WireFault};
+use path_normal::PageUrl;
+use robots_fetch::RobotsReply;
+use robots_text::Token;
+use robots_verdict::{Answer, Closure};
+use tcp_wire::Failure;
+
+/// What comes next in a job.
+#[derive(Clone, Copy)]
+pub enum Event<'a> {
+    /// A hop begins, behind so many others: a page under a token.
+    Begins {
+        before: u64,
+        token: &'a Token,
+        url: &'a PageUrl,
+    },
+    /// The robots file of the authority is fetched from now on.
+    AsksRobots(&'a str),
+    /// That fetch has ended, with an answer for the authority, which it may close.
+    Brought(&'a str, Option<ClosedBy>),
+    /// An answer for the authority is known, or none will come.
+    Answered(&'a str),
+    /// The hop's page is fetched from now on.
+    Fetches,
+    /// The fetch has ended; for this, where its device failed.
+    Fetched(Option<Failure>),
+    /// A hop came to this. The last one of a job may stand for a redirect that is not followed, and has no
+    /// begin of its own.
+    Ends(&'a Hop),
+}
+
+/// What closed a site: the reply to a request for its robots file, or for what redirects led to from it.
+#[derive(Clone, Copy, Debug, PartialEq, Eq)]
+pub enum ClosedBy {
+    /// A response of this status.
+    Status(u16),
+    /// A redirect whose target is missing or is no page URL.
+    BadRedirect,
+    /// A redirect to https.
+    Https,
+    /// A redirect to another scheme than http.
+    OtherScheme,
+    /// The fetch failed so; for this, where its device failed.
+    Fault(WireFault, Option<Failure>),
+    /// There was no memory for the fetch.
+    NoMemory,
+}
+
+impl ClosedBy {
+    /// What came of a fetch, which failed for this where its device did.
+    pub(crate) fn met(given: &Result<HttpReply, WireFault>, failure: Option<Failure>) -> ClosedBy {
+        match given {
+            Ok(reply) => ClosedBy::Status(reply.status),
+            Err(fault) => ClosedBy::Fault(*fault, failure),
+        }
+    }
+
+    /// The same, where it decided this answer: of a redirect why it is not followed.
+    pub(crate) fn decided(self, reply: &RobotsReply, answer: &Answer) -> ClosedBy {
+        match answer {
+            Answer::Closed(Closure::Scheme) if leads_to_https(reply) => ClosedBy::Https,
+            Answer::Closed(Closure::Scheme) => ClosedBy::OtherScheme,
+            Answer::Closed(Closure::BadRedirect) => ClosedBy::BadRedirect,
+            _ => self,
+        }
+    }
+}
+
+fn leads_to_https(reply: &RobotsReply) -> bool {
+    match reply {
+        RobotsReply::Status {
+            location: Some(location),
+            ..
+        } => location
+            .split_once(':')
+            .map_or(false, |(scheme, _)| scheme.eq_ignore_ascii_case("https")),
+        _ => false,
+    }
+}
