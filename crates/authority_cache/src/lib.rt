@@ -7,6 +7,7 @@ mod begin;
 mod cache;
 mod ends;
 mod find;
+mod index;
 pub mod laws;
 mod life;
 mod look;

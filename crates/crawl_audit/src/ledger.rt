@@ -171,6 +171,7 @@ impl Ledger {
         if moment < self.clock || self.numbers.was_granted(number) {
             return Err(Unfit::Illegal);
         }
+        self.cache.make_index(url.authority());
         if decide(&self.cache, &token, &url, moment).is_err() {
             return Err(Unfit::Illegal);
         }
@@ -191,6 +192,7 @@ impl Ledger {
             → Follows h (AskDenied moment (record { token = token.now; url = url.now }) cause) result
             self.new }
     {
+        self.cache.make_index(url.authority());
         if moment < self.clock || !is_same(decide(&self.cache, token, url, moment), Err(cause)) {
             return Err(Unfit::Illegal);
         }

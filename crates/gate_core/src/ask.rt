@@ -16,7 +16,7 @@ ghost use Rattle.gate_core.specs.Places.{AddsOne, held_by};
 ghost use Rattle.gate_core.specs.Replies.{Asks};
 
 use crate::book::Book;
-use crate::judged::Judged;
+use crate::judged::{Judged, Ruling};
 use crate::places::Places;
 use crate::refusal::{AskRefusal, Denial};
 use gate_history::{Cause, Entry, FetchText};
@@ -30,6 +30,7 @@ impl Book {
     pub fn ask(&mut self, token: Token, url: PageUrl, moment: u64) -> Result<PermitNo, AskRefusal>
         ensures { Asks self.old token url moment result self.new }
     {
+        self.cache.make_index(url.authority());
         self.ask_judged(Judged::new(None, token, url), moment)
     }
 
@@ -43,12 +44,23 @@ impl Book {
         }
         let moment = self.moment_of_call(moment);
         let Judged { token, url, ruling } = judged;
-        match self.decide(&token, &url, ruling.as_ref(), moment) {
+        let decided = self.decide(&token, &url, ruling.as_ref(), moment);
+        self.take_index(url.authority(), ruling);
+        match decided {
             Ok(_) => self.grant(token, url, moment),
             Err(cause) => {
                 let denial = self.deny(token, url, cause, moment)?;
                 Err(AskRefusal::Denied(denial))
             }
+        }
+    }
+
+    // Lets the rules in force take the index of the policy that was judged by.
+    fn take_index(&mut self, authority: &str, ruling: Option<Ruling>)
+        ensures { self.new ≡ self.old }
+    {
+        if let Some(ruling) = ruling {
+            self.cache.take_index(authority, ruling.policy);
         }
     }
 

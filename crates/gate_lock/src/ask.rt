@@ -15,6 +15,7 @@ use gate_core::{AskRefusal, Judged};
 use gate_history::FetchText;
 use path_normal::PageUrl;
 use robots_text::Token;
+use robots_verdict::with_index;
 use std::alloc::{AllocError, Global};
 use std::sync::Wait;
 
@@ -43,7 +44,11 @@ impl<'a, G: Gate> Desk<'a, G> {
         ensures err { OnErr result (KeepsOut self.old self.new) }
     {
         let gate = self.gate;
-        let policy = gate.hint(rt, url.authority(), moment);
+        let alloc: Global = *self.marks.allocator();
+        let policy = match gate.hint(rt, url.authority(), moment) {
+            Some(policy) => Some(with_index(alloc, policy)),
+            None => None,
+        };
         let judged = Judged::new(policy, token, url);
         let mut held = gate.lend_from(rt, self.seen);
         let result = self.ask_in(&mut held, judged, moment);

@@ -5,6 +5,7 @@ mod bags;
 mod desk_calls;
 mod entries;
 mod gates;
+mod indexes;
 mod judged;
 mod limits;
 mod sessions;

@@ -6,6 +6,7 @@ pub mod Walking
 pub mod RowLemmas
 pub mod HeadLemmas
 pub mod Verdicts
+pub mod Rewriting
 pub mod Readings
 pub mod Begins
 pub mod Spelling

@@ -1,11 +1,12 @@
 -- Rows as they are kept, and what they are seen as.
 -- Used by `Rows`.
-use Rattle.std.proofs.Common.{◌≡◌, ℕ, ◌+◌, ◌<◌, ◌≤◌, All, List, [], ◌∷◌, ◌++◌, length, take, drop, get_or, refl, sym, ap, ◌∙◌, subst, arith, length-append}
+use Rattle.std.proofs.Common.{◌≡◌, ℕ, ◌+◌, ◌<◌, ◌≤◌, All, List, [], ◌∷◌, ◌++◌, length, map, take, drop, get_or, refl, sym, ap, ◌∙◌, subst, arith, length-append}
 use Rattle.std.specs.List.Sorted.{IsSortedBy}
 use Rattle.std.proofs.lemmas.List.{drop-append-le, take-append-le, get_or-map, length-drop, length-map, length-take, map-append}
 use Rattle.std.proofs.lemmas.List.Elements.{All-get_or, All-head, All-push, All-tail, All-weaker}
 use Rattle.std.proofs.Math.Seq.{drop-append_seam, take-length}
 use Rattle.robots_verdict.specs.declared.row.Row.{Row}
+use Rattle.robots_verdict.specs.Placed.{Placed}
 use Rattle.robots_verdict.specs.Rows.{is_row_above, IsThere, part, row_seen, rows_seen, weight_at, weight_kept}
 use Rattle.robots_verdict.specs.Weights.{is_above}
 
@@ -70,3 +71,8 @@ sorted_seen octets rows there sorted k d low within =
     let weight = ap weight_at seen ∙ same_weight octets (get_or rows k past) (All-get_or (IsThere octets) rows k past here there) in
     let weight' = ap weight_at seen' ∙ same_weight octets (get_or rows (k + 1) past) (All-get_or (IsThere octets) rows (k + 1) past next there) in
     (λ i. is_above (weight' i) (weight i)) ∙ sorted k past low next
+
+-- the numbers of the lines are seen as they are kept
+pub lines_seen : (octets : List ℕ) (rows : List Row) → map (λ (row : Row). row.line) rows ≡ map (λ (row : Placed). row.line) (rows_seen octets rows)
+lines_seen octets [] = refl
+lines_seen octets (row ∷ rows) = ap (λ lines. row.line ∷ lines) (lines_seen octets rows)

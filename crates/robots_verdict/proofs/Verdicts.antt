@@ -30,14 +30,14 @@ use Rattle.robots_verdict.proofs.Weighing.{falling_total}
 -- ---- rows and records
 
 -- the row of a rule line
-abbrev placed : ℕ → Ruled → Placed
+abbrev pub placed : ℕ → Ruled → Placed
 placed group ruled = record { group = group; line = ruled.line; kind = ruled.kind; form = normal_pattern ruled.pattern }
 
 -- the grouped record of a rule line
-abbrev grouped : ℕ → Ruled → Grouped
+abbrev pub grouped : ℕ → Ruled → Grouped
 grouped group ruled = record { group = group; line = ruled.line; kind = rule ruled.kind ruled.pattern }
 
-placed_here : (one : Grouped) (group : ℕ) (ruled : Ruled) → one ≡ grouped group ruled → Contains (placed_at one.group one.line one.kind) (placed group ruled)
+pub placed_here : (one : Grouped) (group : ℕ) (ruled : Ruled) → one ≡ grouped group ruled → Contains (placed_at one.group one.line one.kind) (placed group ruled)
 placed_here one group ruled is = subst (λ (o : Grouped). Contains (placed_at o.group o.line o.kind) (placed group ruled)) (sym is) (first_of (placed group ruled) [])
 
 -- each rule line has its row
@@ -49,7 +49,7 @@ placed_stands (first ∷ lines) group ruled stands = elim (entry_of first (group
 ]
 
 -- the row is that of a rule line
-record IsOfLine (lines : List Grouped) (row : Placed) : Type 0 where
+pub record IsOfLine (lines : List Grouped) (row : Placed) : Type 0 where
   pub ruled : Ruled
   pub stands : Contains lines (grouped row.group ruled)
   pub is : placed row.group ruled ≡ row
@@ -67,7 +67,7 @@ of_first group line (rule kind value) row stands = elim (entry_of (record { grou
 ]
 
 -- and each row is one of a rule line
-of_line : (lines : List Grouped) (row : Placed) → Contains (placed_in lines) row → IsOfLine lines row
+pub of_line : (lines : List Grouped) (row : Placed) → Contains (placed_in lines) row → IsOfLine lines row
 of_line [] row stands = absurd (none_of row stands)
 of_line (first ∷ lines) row stands = elim (Contains-append_cases (placed_at first.group first.line first.kind) (placed_in lines) row stands) [
   | inl here ↦ (

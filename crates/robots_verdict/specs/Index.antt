@@ -1,11 +1,13 @@
 -- What ties the parts of a policy to its text.
--- Cited by the invariant of `Policy`, and by what reads its rows.
+-- Cited by the contract of `Index`, and by what reads its rows.
 use Rattle.std.specs.Prelude.{ℕ, ◌<◌, ◌≤◌, Contains, List, length, Option, Some, None}
 use Rattle.std.specs.List.Sorted.{IsPermutation, IsSortedBy}
 use Rattle.path_pattern.specs.Matches.{Matches}
 use Rattle.robots_text.specs.Grouped.{grouped_records}
+use Rattle.robots_verdict.specs.declared.index.Index.{Index}
 use Rattle.robots_verdict.specs.Placed.{everybody_in, named_in, Names, Placed, placed_in, Table}
 use Rattle.robots_verdict.specs.Rows.{is_row_above, row_at}
+use Rattle.robots_verdict.specs.Search.{IsSearchable}
 
 -- the rows are the rule lines of the text, strongest first, and the names are its names
 pub record IsIndex (text : List ℕ) (table : Table) (names : Names) : Type 0 where
@@ -13,6 +15,10 @@ pub record IsIndex (text : List ℕ) (table : Table) (names : Names) : Type 0 wh
   pub falling : IsSortedBy is_row_above table.rows
   pub named : IsPermutation (named_in (grouped_records text)) names.named
   pub everybody : IsPermutation (everybody_in (grouped_records text)) names.everybody
+
+-- the index is that of the text, and its rows are found by it
+abbrev pub IsIndexOf : List ℕ → Index → Type 0
+IsIndexOf text index = IsIndex text index.rows index.heads × IsSearchable index.rows.rows index.places
 
 -- the row at the place is one of these groups, and matches the path
 pub record IsHit (rows : List Placed) (groups path : List ℕ) (place : ℕ) : Type 0 where

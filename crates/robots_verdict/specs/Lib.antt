@@ -6,6 +6,7 @@ pub mod Index
 pub mod Kept
 pub mod Keys
 pub mod Placed
+pub mod Rewritten
 pub mod Rows
 pub mod Search
 pub mod Spares

@@ -3,10 +3,12 @@
 ghost use Rattle.std.specs.Prelude.{◌≡◌, ◌<◌, IfOk};
 ghost use Rattle.robots_verdict.specs.Answer.{said, spares_behind, spares_of, spares_of_twin};
 
+use crate::policy::Policy;
 use crate::rules::Rules;
 use crate::said::Said;
 use robots_text::RobotsText;
 use std::alloc::{AllocError, Global};
+use std::sync::Arc;
 
 /// The answer of an authority's robots file. Answers are equal where they say the same.
 #[derive(Drop, PartialEq, Eq)]
@@ -66,6 +68,24 @@ impl Answer {
             Answer::Rules(rules) => Answer::Rules(rules.twin()),
             Answer::Open(opening) => Answer::Open(*opening),
             Answer::Closed(closure) => Answer::Closed(*closure),
+        }
+    }
+
+    /// Makes an index of its rules, where one pays and memory suffices. What it says stays.
+    pub fn make_index(&mut self, alloc: Global)
+        ensures { self.new ≡ self.old }
+    {
+        if let Answer::Rules(rules) = self {
+            rules.make_index(alloc);
+        }
+    }
+
+    /// Takes the index of a policy, where its rules have the same text and no index. What it says stays.
+    pub fn take_index(&mut self, policy: Arc<Policy>)
+        ensures { self.new ≡ self.old }
+    {
+        if let Answer::Rules(rules) = self {
+            rules.take_index(policy);
         }
     }
 

@@ -4,13 +4,12 @@ ghost use Rattle.std.specs.Prelude.{◌≡◌, ◌↔◌, ℕ, List, IfOk, IsTru
 ghost use Rattle.robots_text.specs.Records.{Numbered, numbered_records};
 ghost use Rattle.robots_verdict.specs.declared.decision.Verdict.{Verdict as VerdictValue};
 ghost use Rattle.robots_verdict.specs.Answer.{said};
-ghost use Rattle.robots_verdict.specs.Strongest.{IsBest, stronger};
+ghost use Rattle.robots_verdict.specs.Strongest.{IsBest};
 ghost use Rattle.robots_verdict.specs.Verdict.{IsVerdict};
 
 use crate::answer::Answer;
 use crate::decision::{Allowed, Verdict, is_robots_path, verdict_of};
-use crate::policy::Policy;
-use crate::weight::Weight;
+use crate::weight::{Weight, stronger};
 use path_pattern::Pattern;
 use robots_text::{RobotsText, Token};
 use std::alloc::{AllocError, Global};
@@ -26,14 +25,6 @@ pub fn are_equal(one: &Answer, other: &Answer) -> bool
     ensures { IsTrue result ↔ (said one.now ≡ said other.now) }
 {
     one == other
-}
-
-/// The verdict by the first row that matches of the groups for the token, in the order in which
-/// rows rank. It takes no memory.
-pub fn verdict_sorted(policy: &Policy, token: &Token, path: &[u8]) -> Verdict
-    ensures { IsVerdict (numbered_records policy.now) token.now path.now result }
-{
-    policy.verdict_by_walk(token, path)
 }
 
 /// The verdict by the rules for the token, one after another. It makes a pattern of each.
@@ -78,14 +69,4 @@ fn strongest(
         }
     }
     Ok(best)
-}
-
-// The stronger of the two; of lines that rank alike, the former.
-fn stronger(best: Option<Weight>, other: Weight) -> Weight
-    ensures { result ≡ stronger best other }
-{
-    match best {
-        Some(best) if !other.is_above(&best) => best,
-        _ => other,
-    }
 }

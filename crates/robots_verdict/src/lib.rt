@@ -5,23 +5,25 @@
 mod answer;
 mod decision;
 mod heads;
+mod index;
 mod keys;
 pub mod laws;
+mod normal_text;
 mod others;
 mod places;
 mod plain;
 mod policy;
+mod rewritten;
 mod row;
 mod rows;
 mod rules;
 mod said;
 mod search;
 mod texts;
-mod walk;
 mod weight;
 
 pub use answer::{Answer, Closure, Opening};
 pub use decision::{Allowed, Verdict};
 pub use policy::Policy;
-pub use rules::Rules;
+pub use rules::{Rules, with_index};
 pub use said::{PolicyHandle, Said};

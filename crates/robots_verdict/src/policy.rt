@@ -1,73 +1,90 @@
 //! A robots text that is ready to be asked for verdicts.
 //! RFC 9309, section 2.2.2.
-ghost use Rattle.std.specs.Prelude.{◌≡◌, ◌+◌, ◌*◌, ◌^◌, ◌<◌, ◌≤◌, ◌++◌, ◌↔◌, Contains, IfOk, IsTrue, length, map};
-ghost use Rattle.robots_text.specs.Lines.{text_limit};
-ghost use Rattle.robots_text.specs.Grouped.{grouped_records, value_octets};
-ghost use Rattle.robots_text.specs.Records.{kind_seen, numbered_records};
-ghost use Rattle.robots_verdict.specs.Heads.{name_seen};
-ghost use Rattle.robots_verdict.specs.Placed.{everybody_at, everybody_in, named_at, named_in, placed_at, placed_in};
-ghost use Rattle.robots_verdict.specs.Verdict.{IsVerdict};
+ghost use Rattle.std.specs.Prelude.{◌≡◌, ◌≢◌, IfOk};
+ghost use Rattle.std.specs.Arc.{arc_value};
+ghost use Rattle.robots_text.specs.Records.{numbered_records};
+ghost use Rattle.robots_verdict.specs.Index.{IsIndexOf};
+ghost use Rattle.robots_verdict.specs.Verdict.{IsVerdict, robots_path};
 
-use crate::decision::{Allowed, Verdict, is_robots_path};
-use crate::heads::{Heads, Names};
-use crate::rows::Rows;
-use crate::search::Places;
-use crate::walk::first_row;
-use robots_text::{GroupedRecord, RecordKind, RobotsText, Token};
+use crate::decision::{Allowed, Verdict, is_robots_path, verdict_of};
+use crate::index::Index;
+use crate::normal_text::NormalText;
+use robots_text::{RobotsText, Token};
 use std::alloc::{AllocError, Global};
 use std::marker::Model;
+use std::sync::Arc;
+use std::sync::atomic::{AtomicU64, Ordering};
 
-/// A robots text, its rule lines with the strongest first, where each is found, and the names of
-/// its groups.
+// After so many walks over the text an index is made. It takes the time of one or two of them, but up to four times
+// the memory of the text, and a crawl asks most sites less often.
+const WALKS: u64 = 16;
+
+/// A robots text, and an index of its rules, where one was made. Without it, verdicts walk over the text.
 #[derive(Drop)]
 pub struct Policy {
-    text: RobotsText,
-    rows: Rows,
-    places: Places,
-    heads: Heads,
+    text: Arc<NormalText>,
+    index: Option<Index>,
+    // How many verdicts have walked over the text.
+    walks: AtomicU64,
 }
 
 impl Model for Policy {
-    ghost use Rattle.std.specs.Prelude.{List, ℕ};
+    ghost use Rattle.std.specs.Prelude.{IfSome, List, ℕ};
     ghost use Rattle.std.specs.Coded.{coded_list, coded_ℕ};
 
     ghost Value = { List ℕ };
 
     ghost coded = { coded_list coded_ℕ };
 
-    ghost use Rattle.robots_verdict.specs.Index.{IsIndex};
-    ghost use Rattle.robots_verdict.specs.Search.{IsSearchable};
+    ghost use Rattle.std.specs.Arc.{arc_value};
+    ghost use Rattle.robots_verdict.specs.Index.{IsIndexOf};
 
-    ghost view = { λ policy. policy.text };
+    ghost view = { λ policy. arc_value policy.text };
 
-    ghost invariant = { λ policy. IsIndex policy.text policy.rows policy.heads
-        × IsSearchable policy.rows.rows policy.places };
+    ghost invariant = { λ policy. IfSome policy.index (IsIndexOf (arc_value policy.text)) };
 }
 
 impl Policy {
-    /// The policy of a text. It takes memory for its rules.
+    /// The policy of a text, without an index. It takes memory for the patterns that are not written in
+    /// their normal forms.
     pub fn new(alloc: Global, text: RobotsText) -> Result<Policy, AllocError>
         ensures { IfOk result (λ policy. policy ≡ text) }
     {
-        let (mut rows, names) = read(alloc, &text)?;
-        // What is left of growing goes before the lists of places are made.
-        rows.fit();
-        rows.sort();
-        let places = Places::of(alloc, &rows)?;
-        let heads = Heads::of(alloc, names)?;
+        let text = Arc::new(alloc, NormalText::of(alloc, text)?)?;
         Ok(Policy {
             text,
-            rows,
-            places,
-            heads,
+            index: None,
+            walks: AtomicU64::new(0),
         })
+    }
+
+    /// The same policy with an index. It takes memory for its rules, but none for the text.
+    pub fn indexed(&self, alloc: Global) -> Result<Policy, AllocError>
+        ensures { IfOk result (λ policy. policy ≡ self.now) }
+    {
+        let index = Index::of(alloc, self.text())?;
+        Ok(Policy {
+            text: Arc::try_clone(&self.text)?,
+            index: Some(index),
+            walks: AtomicU64::new(0),
+        })
+    }
+
+    /// Whether it has an index.
+    pub fn is_indexed(&self) -> bool {
+        self.index.is_some()
+    }
+
+    /// Whether so many verdicts have walked over the text that an index pays.
+    pub fn wants_index(&self) -> bool {
+        self.index.is_none() && self.walks.load(Ordering::Relaxed) >= WALKS
     }
 
     /// The text that the policy was made of.
     pub fn text(&self) -> &RobotsText
         ensures { result.now ≡ self.now }
     {
-        &self.text
+        self.text.text()
     }
 
     /// Whether a crawler of this token may fetch the path, which is to be in normal form, and by
@@ -78,66 +95,24 @@ impl Policy {
         if is_robots_path(path) {
             return Verdict::Allow(Allowed::RobotsPath);
         }
-        let groups = self.heads.groups_for(token.text().as_bytes());
-        self.rows
-            .verdict(self.places.first(&self.rows, groups, path))
+        match &self.index {
+            Some(index) => self.verdict_by(index, token, path),
+            None => {
+                self.walks.fetch_add(1, Ordering::Relaxed);
+                verdict_of(self.text.strongest(token, path))
+            }
+        }
     }
 
-    /// The same, by a walk over the rows.
-    pub(crate) fn verdict_by_walk(&self, token: &Token, path: &[u8]) -> Verdict
+    // The same by the index, on a path that is not that of robots files.
+    fn verdict_by(&self, index: &Index, token: &Token, path: &[u8]) -> Verdict
+        requires index { IsIndexOf self.now index.now }
+        requires elsewhere { path.now ≢ robots_path }
         ensures { IsVerdict (numbered_records self.now) token.now path.now result }
     {
-        if is_robots_path(path) {
-            return Verdict::Allow(Allowed::RobotsPath);
-        }
-        let groups = self.heads.groups_for(token.text().as_bytes());
-        self.rows.verdict(first_row(&self.rows, groups, path))
-    }
-}
-
-// The rows of the text in the order of its lines, and its names.
-fn read(alloc: Global, text: &RobotsText) -> Result<(Rows, Names), AllocError>
-    ensures rows { IfOk result (λ parts. parts.0.rows ≡ placed_in (grouped_records text.now)) }
-    ensures few { IfOk result (λ parts. length parts.0.rows ≤ text_limit) }
-    ensures named { IfOk result (λ parts. map name_seen parts.1.names.items
-        ≡ named_in (grouped_records text.now)) }
-    ensures everybody { IfOk result (λ parts. parts.1.everybody.items
-        ≡ everybody_in (grouped_records text.now)) }
-{
-    let mut rows = Rows::new(alloc);
-    let mut names = Names::new(alloc);
-    let mut records = text.groups();
-    while let Some(item) = records.next() {
-        take(alloc, &mut rows, &mut names, item)?;
-    }
-    Ok((rows, names))
-}
-
-// Adds what a record says.
-fn take(
-    alloc: Global,
-    rows: &mut Rows,
-    names: &mut Names,
-    item: GroupedRecord<'_>,
-) -> Result<(), AllocError>
-    requires octets { rows.old.octets + 3 * value_octets (kind_seen item.kind) < 2 ^ 32 }
-    requires line { item.line < 2 ^ 32 }
-    requires group { item.group < 2 ^ 32 }
-    ensures rows { IfOk result (λ _. rows.new.rows
-        ≡ rows.old.rows ++ placed_at item.entry.group item.entry.line (kind_seen item.entry.kind)) }
-    ensures octets { IfOk result (λ _. rows.new.octets
-        ≤ rows.old.octets + 3 * value_octets (kind_seen item.entry.kind)) }
-    ensures named { IfOk result (λ _. map name_seen names.new.names.items
-        ≡ map name_seen names.old.names.items
-        ++ named_at item.entry.group (kind_seen item.entry.kind)) }
-    ensures everybody { IfOk result (λ _. names.new.everybody.items
-        ≡ names.old.everybody.items ++ everybody_at item.entry.group (kind_seen item.entry.kind)) }
-{
-    match item.kind {
-        RecordKind::Agent(who) => names.push(alloc, who, item.group as u32),
-        RecordKind::Rule(kind, pattern) => {
-            rows.push(item.group as u32, item.line as u32, kind, pattern)
-        }
-        RecordKind::Other => Ok(()),
+        let groups = index.heads.groups_for(token.text().as_bytes());
+        index
+            .rows
+            .verdict(index.places.first(&index.rows, groups, path))
     }
 }

@@ -100,12 +100,55 @@ impl Rules {
         }
     }
 
+    /// Makes an index, where one pays and memory suffices.
+    pub fn make_index(&mut self, alloc: Global)
+        ensures { self.new ≡ self.old }
+    {
+        if !self.policy.wants_index() {
+            return;
+        }
+        if let Ok(policy) = indexed(alloc, &self.policy) {
+            self.policy = policy;
+        }
+    }
+
+    /// Takes a policy in place of theirs, where it has the same text and theirs has no index.
+    pub fn take_index(&mut self, policy: Arc<Policy>)
+        ensures { self.new ≡ self.old }
+    {
+        if policy.is_indexed()
+            && !self.policy.is_indexed()
+            && self.policy.text().bytes() == policy.text().bytes()
+        {
+            self.policy = policy;
+        }
+    }
+
     /// A handle of the policy, which takes none of the spares.
     pub fn handle(&self) -> Result<Arc<Policy>, AllocError>
         ensures { IfOk result (λ handle. arc_value handle ≡ self.now.text) }
     {
         Arc::try_clone(&self.policy)
     }
+}
+
+/// The policy with an index, where one pays and memory suffices, and else as it is.
+pub fn with_index(alloc: Global, policy: Arc<Policy>) -> Arc<Policy>
+    ensures { arc_value result ≡ arc_value policy }
+{
+    if !policy.wants_index() {
+        return policy;
+    }
+    match indexed(alloc, &policy) {
+        Ok(other) => other,
+        Err(_) => policy,
+    }
+}
+
+fn indexed(alloc: Global, policy: &Policy) -> Result<Arc<Policy>, AllocError>
+    ensures { IfOk result (λ handle. arc_value handle ≡ policy.now) }
+{
+    Ok(Arc::new(alloc, policy.indexed(alloc)?)?)
 }
 
 /// Rules are equal where their texts are, whatever spares they have.

@@ -3,6 +3,7 @@
 ghost use Rattle.std.specs.Prelude.{◌≡◌};
 ghost use Rattle.robots_verdict.specs.Weights.{falling, is_above, kind_place};
 ghost use Rattle.std.specs.Ordering.{nat_cmp};
+ghost use Rattle.robots_verdict.specs.Strongest.{stronger};
 
 use robots_text::RuleKind;
 use std::cmp::Ordering;
@@ -42,5 +43,15 @@ fn compare_kinds(one: RuleKind, other: RuleKind) -> Ordering
         (RuleKind::Allow, RuleKind::Disallow) => Ordering::Less,
         (RuleKind::Disallow, RuleKind::Allow) => Ordering::Greater,
         _ => Ordering::Equal,
+    }
+}
+
+/// The stronger of the two; of lines that rank alike, the former.
+pub(crate) fn stronger(best: Option<Weight>, other: Weight) -> Weight
+    ensures { result ≡ stronger best other }
+{
+    match best {
+        Some(best) if !other.is_above(&best) => best,
+        _ => other,
     }
 }

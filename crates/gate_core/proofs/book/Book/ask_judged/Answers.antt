@@ -2,8 +2,9 @@
 -- The lemma `asks_by` of `Calling` says so.
 use Rattle.std.proofs.Common.{ℕ, Ok, subst}
 use Rattle.gate_history.specs.Cause.{Decides}
-use Rattle.gate_core.specs.Gate.{history}
+use Rattle.gate_core.specs.Gate.{Gate, history}
 use Rattle.gate_core.specs.Judged.{Asked}
+use Rattle.gate_core.specs.Opened.{Grants}
 use Rattle.gate_core.specs.Replies.{Asks}
 use Rattle.gate_core.proofs.Calling.{asks_by}
 use Rattle.gate_core.proofs.book.Book.ask_judged.Goals as goal
@@ -13,8 +14,8 @@ returns-in-Ok c =
     let token = c.judged.inside.token in
     let url = c.judged.inside.url in
     let allowed = subst (λ (t : ℕ). Decides (history c.args.self.now) token url t (Ok c.in-Ok.field-0)) c.moment_of_call-moment.ensures
-    (subst (Decides (history c.args.self.now) token url c.moment_of_call-moment.result) c.in-Ok.is c.decide.ensures) in
+    (subst (Decides (history c.args.self.now) token url c.moment_of_call-moment.result) c.in-Ok.is c.decide-decided.ensures) in
     subst (λ (a : Asked). Asks c.args.self.now a.token a.url c.args.moment c.grant.result c.grant.new.self) c.judged.view_is
     (asks_by c.args.self.now token url c.args.moment c.moment_of_call-moment.result c.moment_of_call-moment.ensures
     (c.has_room.ensures.0 c.if-not-has_room.false) (c.in-Ok.field-0, allowed)
-    c.grant.result c.grant.new.self c.grant.ensures)
+    c.grant.result c.grant.new.self (subst (λ (g : Gate). Grants g token url c.moment_of_call-moment.result c.grant.result c.grant.new.self) c.take_index.ensures c.grant.ensures))

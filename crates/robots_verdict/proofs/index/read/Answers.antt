@@ -1,0 +1,17 @@
+-- One record more was read.
+-- The lemma `read_one` says what that leaves.
+use Rattle.std.proofs.Common.{List, map, subst}
+use Rattle.robots_text.specs.Grouped.{Grouped, grouped_left, grouped_records, grouped_seen}
+use Rattle.robots_verdict.specs.Heads.{name_seen}
+use Rattle.robots_verdict.proofs.Readings.{IsReading, read_one}
+use Rattle.robots_verdict.proofs.index.read.Goals as goal
+
+pub loop-item-preserved : goal.loop-item-preserved
+loop-item-preserved c =
+    let all = grouped_records c.args.text.now in
+    let rows = c.loop-item.rows in
+    let named = map name_seen c.loop-item.names.names.items in
+    let everybody = c.loop-item.names.everybody.items in
+    let reading = subst (λ (left : List Grouped). IsReading all left rows.rows rows.octets named everybody) c.in-Some.ensures.steps c.loop-item.invariant in
+    read_one all (grouped_left c.next.new.self) (grouped_seen c.in-Some.item) rows.rows c.take.new.rows.rows rows.octets c.take.new.rows.octets named _ everybody _ reading
+    c.in_ok-take.ensures.rows c.in_ok-take.ensures.octets c.in_ok-take.ensures.named c.in_ok-take.ensures.everybody

@@ -1,0 +1,89 @@
+//! The index of a robots text: its rule lines with the strongest first, where each is found, and the names
+//! of its groups. RFC 9309, section 2.2.2.
+ghost use Rattle.std.specs.Prelude.{◌≡◌, ◌+◌, ◌*◌, ◌^◌, ◌<◌, ◌≤◌, ◌++◌, IfOk, length, map};
+ghost use Rattle.robots_text.specs.Lines.{text_limit};
+ghost use Rattle.robots_text.specs.Grouped.{grouped_records, value_octets};
+ghost use Rattle.robots_text.specs.Records.{kind_seen};
+ghost use Rattle.robots_verdict.specs.Heads.{name_seen};
+ghost use Rattle.robots_verdict.specs.Index.{IsIndexOf};
+ghost use Rattle.robots_verdict.specs.Placed.{everybody_at, everybody_in, named_at, named_in, placed_at, placed_in};
+
+use crate::heads::{Heads, Names};
+use crate::rows::Rows;
+use crate::search::Places;
+use robots_text::{GroupedRecord, RecordKind, RobotsText};
+use std::alloc::{AllocError, Global};
+
+/// The rows, where each is found, and the names.
+#[derive(Drop)]
+pub(crate) struct Index {
+    pub(crate) rows: Rows,
+    pub(crate) places: Places,
+    pub(crate) heads: Heads,
+}
+
+impl Index {
+    /// The index of a text.
+    pub(crate) fn of(alloc: Global, text: &RobotsText) -> Result<Index, AllocError>
+        ensures { IfOk result (IsIndexOf text.now) }
+    {
+        let (mut rows, names) = read(alloc, text)?;
+        // What is left of growing goes before the lists of places are made.
+        rows.fit();
+        rows.sort();
+        let places = Places::of(alloc, &rows)?;
+        let heads = Heads::of(alloc, names)?;
+        Ok(Index {
+            rows,
+            places,
+            heads,
+        })
+    }
+}
+
+// The rows of the text in the order of its lines, and its names.
+fn read(alloc: Global, text: &RobotsText) -> Result<(Rows, Names), AllocError>
+    ensures rows { IfOk result (λ parts. parts.0.rows ≡ placed_in (grouped_records text.now)) }
+    ensures few { IfOk result (λ parts. length parts.0.rows ≤ text_limit) }
+    ensures named { IfOk result (λ parts. map name_seen parts.1.names.items
+        ≡ named_in (grouped_records text.now)) }
+    ensures everybody { IfOk result (λ parts. parts.1.everybody.items
+        ≡ everybody_in (grouped_records text.now)) }
+{
+    let mut rows = Rows::new(alloc);
+    let mut names = Names::new(alloc);
+    let mut records = text.groups();
+    while let Some(item) = records.next() {
+        take(alloc, &mut rows, &mut names, item)?;
+    }
+    Ok((rows, names))
+}
+
+// Adds what a record says.
+fn take(
+    alloc: Global,
+    rows: &mut Rows,
+    names: &mut Names,
+    item: GroupedRecord<'_>,
+) -> Result<(), AllocError>
+    requires octets { rows.old.octets + 3 * value_octets (kind_seen item.kind) < 2 ^ 32 }
+    requires line { item.line < 2 ^ 32 }
+    requires group { item.group < 2 ^ 32 }
+    ensures rows { IfOk result (λ _. rows.new.rows
+        ≡ rows.old.rows ++ placed_at item.entry.group item.entry.line (kind_seen item.entry.kind)) }
+    ensures octets { IfOk result (λ _. rows.new.octets
+        ≤ rows.old.octets + 3 * value_octets (kind_seen item.entry.kind)) }
+    ensures named { IfOk result (λ _. map name_seen names.new.names.items
+        ≡ map name_seen names.old.names.items
+        ++ named_at item.entry.group (kind_seen item.entry.kind)) }
+    ensures everybody { IfOk result (λ _. names.new.everybody.items
+        ≡ names.old.everybody.items ++ everybody_at item.entry.group (kind_seen item.entry.kind)) }
+{
+    match item.kind {
+        RecordKind::Agent(who) => names.push(alloc, who, item.group as u32),
+        RecordKind::Rule(kind, pattern) => {
+            rows.push(item.group as u32, item.line as u32, kind, pattern)
+        }
+        RecordKind::Other => Ok(()),
+    }
+}

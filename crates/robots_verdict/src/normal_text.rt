@@ -1,0 +1,87 @@
+//! A robots text whose patterns can be read in their normal forms, and the verdict by its lines, one after another.
+//! RFC 9309, section 2.2.2.
+ghost use Rattle.std.specs.Prelude.{◌≡◌, Contains, IfOk};
+ghost use Rattle.path_normal.specs.Normal.{normal_pattern};
+ghost use Rattle.robots_text.specs.Groups.{record_ruled};
+ghost use Rattle.robots_text.specs.Records.{numbered_records};
+ghost use Rattle.robots_text.specs.Walk.{rule_seen};
+ghost use Rattle.robots_verdict.specs.Strongest.{IsBest};
+
+use crate::rewritten::Rewritten;
+use crate::weight::{Weight, stronger};
+use path_pattern::matches;
+use robots_text::{RobotsText, RuleLine, Token};
+use std::alloc::{AllocError, Global};
+use std::marker::Model;
+
+/// A text, and the normal forms of those patterns that it writes otherwise.
+#[derive(Drop)]
+pub(crate) struct NormalText {
+    text: RobotsText,
+    rewritten: Rewritten,
+}
+
+impl Model for NormalText {
+    ghost use Rattle.std.specs.Prelude.{List, ℕ};
+    ghost use Rattle.std.specs.Coded.{coded_list, coded_ℕ};
+
+    ghost Value = { List ℕ };
+
+    ghost coded = { coded_list coded_ℕ };
+
+    ghost use Rattle.std.specs.Prelude.{◌≡◌};
+    ghost use Rattle.robots_text.specs.Grouped.{grouped_records};
+    ghost use Rattle.robots_verdict.specs.Rewritten.{rewritten_in};
+
+    ghost view = { λ normal. normal.text };
+
+    ghost invariant = { λ normal. normal.rewritten ≡ rewritten_in (grouped_records normal.text) };
+}
+
+impl NormalText {
+    pub(crate) fn of(alloc: Global, text: RobotsText) -> Result<NormalText, AllocError>
+        ensures { IfOk result (λ normal. normal ≡ text) }
+    {
+        let rewritten = Rewritten::of(alloc, &text)?;
+        Ok(NormalText { text, rewritten })
+    }
+
+    pub(crate) fn text(&self) -> &RobotsText
+        ensures { result.now ≡ self.now }
+    {
+        &self.text
+    }
+
+    /// The weight of the strongest line for the token that matches the path. It takes no memory.
+    pub(crate) fn strongest(&self, token: &Token, path: &[u8]) -> Option<Weight>
+        ensures { IsBest (numbered_records self.now) token.now path.now result }
+    {
+        let mut best = None;
+        let mut rules = self.text.rules_for(token);
+        while let Some(rule) = rules.next() {
+            let form = self.form(rule);
+            if matches(form, path) {
+                best = Some(stronger(
+                    best,
+                    Weight {
+                        octets: form.len(),
+                        kind: rule.kind,
+                        line: rule.line,
+                    },
+                ));
+            }
+        }
+        best
+    }
+
+    // The pattern of a rule line of the text in its normal form.
+    fn form<'s>(&'s self, rule: RuleLine<'s>) -> &'s [u8]
+        requires { Contains (numbered_records self.now) (record_ruled (rule_seen rule)) }
+        ensures { result.now ≡ normal_pattern rule.entry.pattern.now }
+    {
+        match self.rewritten.form_at(rule.line) {
+            Some(form) => form,
+            None => rule.pattern,
+        }
+    }
+}

@@ -1,0 +1,14 @@
+//! Tests of what clauses don't show: what workers do in each other's way, their waits, and how often a robots file
+//! is fetched.
+
+mod clocks;
+mod gates;
+mod jobs;
+mod leaves;
+mod overlap;
+mod pages;
+mod refreshes;
+mod scripts;
+mod shift;
+mod waits;
+mod words;
