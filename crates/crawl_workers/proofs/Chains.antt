@@ -2,23 +2,23 @@
 -- Used by the loop of `Worker::hops_from`.
 use Rattle.std.proofs.Common.{◌≡◌, ◌≤◌, ◌++◌, ◌∷◌, [], ℕ, List, length, refl, sym, ap, ◌∙◌, subst, arith, append_assoc, append-nil, length-append}
 use Rattle.gate_lock.specs.Desks.{DeskView}
-use Rattle.gate_lock.specs.declared.mark.Deed.{Deed}
+use Rattle.gate_history.specs.declared.entry.Entry.{Entry}
 use Rattle.robots_fetch.specs.Redirects.{most_redirects}
 use Rattle.crawl_job.specs.declared.hop.Hop.{Hop}
 use Rattle.crawl_workers.specs.declared.way_on.WayOn.TheVariants as ways
 use Rattle.crawl_workers.specs.Outcomes.{AfterRefresh, AreHops, Follows, IsFollowed, IsLast, IsStopped}
-use Rattle.crawl_workers.specs.Refreshes.{deeds_of}
-use Rattle.crawl_workers.specs.WaysOn.{AddsDeeds, TellsWay}
+use Rattle.crawl_workers.specs.Refreshes.{entries_of}
+use Rattle.crawl_workers.specs.WaysOn.{AddsEntries, TellsWay}
 use Rattle.crawl_workers.specs.World.{World}
-use Rattle.crawl_workers.proofs.Deeds.{appended}
+use Rattle.crawl_workers.proofs.OwnEntries.{appended}
 
 -- nothing in front and nothing behind
-empty_front : (own : List Deed) → [] ++ own ≡ own ++ []
+empty_front : (own : List Entry) → [] ++ own ≡ own ++ []
 empty_front own = sym (append-nil own)
 
 -- one redirect more is followed
 follows_more : (world : World) (token url mid next : List ℕ) (way : List Hop)
-    (hop : Hop) (front own : List Deed) → Follows world token url way mid front →
+    (hop : Hop) (front own : List Entry) → Follows world token url way mid front →
     AfterRefresh world mid (IsFollowed world token mid hop next) own →
     Follows world token url (way ++ hop ∷ []) next (front ++ own)
 follows_more world token url mid next [] hop front own follows after = (
@@ -30,7 +30,7 @@ follows_more world token url mid next [] hop front own follows after = (
       (
         subst (λ u. AfterRefresh world u (IsFollowed world token u hop next) own) (sym follows.0) after,
         (refl, refl),
-        ap (λ (ds : List Deed). ds ++ own) follows.1 ∙ empty_front own,
+        ap (λ (ds : List Entry). ds ++ own) follows.1 ∙ empty_front own,
       ),
     ),
   ),
@@ -46,7 +46,7 @@ follows_more world token url mid next (one ∷ way) hop front own follows after 
           (
             follows.1.1.1.0,
             follows_more world token follows.0 mid next way hop rest own follows.1.1.1.1 after,
-            ap (λ (ds : List Deed). ds ++ own) follows.1.1.1.2 ∙ append_assoc first rest own,
+            ap (λ (ds : List Entry). ds ++ own) follows.1.1.1.2 ∙ append_assoc first rest own,
           ),
         ),
       ),
@@ -57,8 +57,8 @@ pub record HasCome
     (world : World) (token url : List ℕ) (way : List Hop) (end : List ℕ)
     (old now : DeskView)
     : Type 0 where
-  pub own : List Deed
-  pub adds : deeds_of now.marks ≡ deeds_of old.marks ++ own
+  pub own : List Entry
+  pub adds : entries_of now.marks ≡ entries_of old.marks ++ own
   pub follows : Follows world token url way end own
   pub few : length way ≤ most_redirects
 
@@ -67,20 +67,20 @@ pub begin_chain : (world : World) (token url : List ℕ) (way : List Hop) (desk 
     way ≡ [] → HasCome world token url way url desk desk
 begin_chain world token url way desk empty =
     subst (λ (hs : List Hop). HasCome world token url hs url desk desk) (sym empty)
-    (record { own = []; adds = sym (append-nil (deeds_of desk.marks)); follows = (refl, refl); few = omega arith })
+    (record { own = []; adds = sym (append-nil (entries_of desk.marks)); follows = (refl, refl); few = omega arith })
 
 -- it goes on
 pub come_on : (world : World) (token url mid next : List ℕ) (way all : List Hop)
     (hop : Hop) (followed : ℕ) (old now new : DeskView) → followed ≡ length way → all ≡ way ++ hop ∷ [] →
     HasCome world token url way mid old now →
-    AddsDeeds (AfterRefresh world mid (TellsWay world token mid followed (ways.Leads hop next))) now new →
+    AddsEntries (AfterRefresh world mid (TellsWay world token mid followed (ways.Leads hop next))) now new →
     HasCome world token url all next old new
 come_on world token url mid next way all hop followed old now new count is come added =
     let after : AfterRefresh world mid (IsFollowed world token mid hop next) added.own =
     record { before = added.tells.before; behind = added.tells.behind; may_refresh = added.tells.may_refresh; tells = added.tells.tells.0; own_is = added.tells.own_is } in
     subst (λ (hs : List Hop). HasCome world token url hs next old new) (sym is) (record {
       own = come.own ++ added.own;
-      adds = appended (deeds_of old.marks) (deeds_of now.marks) (deeds_of new.marks) come.own added.own come.adds added.adds;
+      adds = appended (entries_of old.marks) (entries_of now.marks) (entries_of new.marks) come.own added.own come.adds added.adds;
       follows = follows_more world token url mid next way hop come.own added.own come.follows after;
       few = omega (arith, length-append way (hop ∷ []), added.tells.tells.1, count);
     })
@@ -88,11 +88,11 @@ come_on world token url mid next way all hop followed old now new count is come 
 -- it ends with one hop
 pub come_to_end : (world : World) (token url mid : List ℕ) (way : List Hop)
     (hop : Hop) (body : List ℕ) (old now new : DeskView) → HasCome world token url way mid old now →
-    AddsDeeds (AfterRefresh world mid (IsLast world token mid hop body)) now new →
-    AddsDeeds (AreHops world token url (way ++ hop ∷ []) body) old new
+    AddsEntries (AfterRefresh world mid (IsLast world token mid hop body)) now new →
+    AddsEntries (AreHops world token url (way ++ hop ∷ []) body) old new
 come_to_end world token url mid way hop body old now new come added = record {
   own = come.own ++ added.own;
-  adds = appended (deeds_of old.marks) (deeds_of now.marks) (deeds_of new.marks) come.own added.own come.adds added.adds;
+  adds = appended (entries_of old.marks) (entries_of now.marks) (entries_of new.marks) come.own added.own come.adds added.adds;
   tells = record {
     way = way;
     last = hop ∷ [];
@@ -111,16 +111,16 @@ come_to_end world token url mid way hop body old now new come added = record {
 pub come_to_stop : (world : World) (token url mid : List ℕ) (way more all : List Hop)
     (hop stop : Hop) (body : List ℕ) (followed : ℕ) (old now new : DeskView) → followed ≡ length way →
     more ≡ way ++ hop ∷ [] → all ≡ more ++ stop ∷ [] → body ≡ [] → HasCome world token url way mid old now →
-    AddsDeeds (AfterRefresh world mid (TellsWay world token mid followed (ways.Stops hop stop))) now new →
-    AddsDeeds (AreHops world token url all body) old new
+    AddsEntries (AfterRefresh world mid (TellsWay world token mid followed (ways.Stops hop stop))) now new →
+    AddsEntries (AreHops world token url all body) old new
 come_to_stop world token url mid way more all hop stop body followed old now new count one other empty come added =
-    let behind : AddsDeeds (AfterRefresh world mid (TellsWay world token mid (length way) (ways.Stops hop stop))) now new =
-    subst (λ n. AddsDeeds (AfterRefresh world mid (TellsWay world token mid n (ways.Stops hop stop))) now new) count added in
+    let behind : AddsEntries (AfterRefresh world mid (TellsWay world token mid (length way) (ways.Stops hop stop))) now new =
+    subst (λ n. AddsEntries (AfterRefresh world mid (TellsWay world token mid n (ways.Stops hop stop))) now new) count added in
     let ends : AfterRefresh world mid (IsStopped world token mid (length way) hop stop body) behind.own =
     subst (λ (octets : List ℕ). AfterRefresh world mid (IsStopped world token mid (length way) hop stop octets) behind.own) (sym empty) behind.tells in
     record {
       own = come.own ++ behind.own;
-      adds = appended (deeds_of old.marks) (deeds_of now.marks) (deeds_of new.marks) come.own behind.own come.adds behind.adds;
+      adds = appended (entries_of old.marks) (entries_of now.marks) (entries_of new.marks) come.own behind.own come.adds behind.adds;
       tells = record {
         way = way;
         last = hop ∷ (stop ∷ []);

@@ -1,4 +1,4 @@
--- The deeds of one hop, from those of the desk's steps.
+-- The entries of one hop, from those of the desk's steps.
 -- Used by the answers of `Worker`.
 use Rattle.std.proofs.Common.{◌≡◌, ◌<◌, ◌++◌, ◌∷◌, [], ℕ, Bool, true, false, List, Result, Ok, Err, Option, refl, sym, ap, ◌∙◌, subst, arith, inl, inr, append-nil, nat_lt}
 use Rattle.std.specs.Prelude.{if◌then◌else◌}
@@ -14,8 +14,7 @@ use Rattle.gate_core.specs.Gate.{Gate}
 use Rattle.gate_core.specs.Replies.{moment_at}
 use Rattle.gate_lock.specs.Desks.{DeskView, Errand, Pass, Run}
 use Rattle.gate_lock.specs.Steps.{DeskAsks, DeskFinishes, DeskStarts, Somewhere}
-use Rattle.gate_lock.specs.declared.mark.Deed.{Deed}
-use Rattle.gate_lock.specs.declared.mark.Deed.TheVariants as deeds
+use Rattle.gate_history.specs.declared.entry.Entry.{Entry}
 use Rattle.http_wire.specs.declared.fault.WireFault.{WireFault}
 use Rattle.http_wire.specs.declared.response.HttpReply.{HttpReply}
 use Rattle.robots_fetch.specs.declared.redirect.Stop.{Stop}
@@ -28,21 +27,21 @@ use Rattle.crawl_workers.specs.declared.way_on.WayOn.{WayOn}
 use Rattle.crawl_workers.specs.declared.way_on.WayOn.TheVariants as ways
 use Rattle.crawl_workers.specs.Outcomes.{AfterRefresh, IsFetch, IsLast, IsRedirect, MayRefresh, body_of, hop_of, location_of}
 use Rattle.crawl_workers.specs.Limits.{page_limit, robots_limit}
-use Rattle.crawl_workers.specs.Refreshes.{BeginsStale, Brings, DoesNothing, IsBrought, deeds_of}
-use Rattle.crawl_workers.specs.WaysOn.{AddsDeeds, GoesOn, TellsWay, ask_hop}
+use Rattle.crawl_workers.specs.Refreshes.{BeginsStale, Brings, DoesNothing, IsBrought, entries_of}
+use Rattle.crawl_workers.specs.WaysOn.{AddsEntries, GoesOn, TellsWay, ask_hop}
 use Rattle.crawl_workers.specs.World.{IsSinceRead, World}
-use Rattle.crawl_workers.proofs.Deeds.{appended, looked, made}
+use Rattle.crawl_workers.proofs.OwnEntries.{appended, looked, made}
 use Rattle.crawl_workers.proofs.Fetching.{brought_life}
 
--- no deed, and so no turn
+-- no entry, and so no turn
 nothing_made : (world : World) (authority : List ℕ) (old new : DeskView) →
-    deeds_of new.marks ≡ deeds_of old.marks ++ [] → AddsDeeds (MayRefresh world authority) old new
+    entries_of new.marks ≡ entries_of old.marks ++ [] → AddsEntries (MayRefresh world authority) old new
 nothing_made world authority old new is = record { own = []; adds = is; tells = inl refl }
 
 -- a desk that did nothing made no turn
-pub did_nothing : (world : World) (authority : List ℕ) (old new : DeskView) → DoesNothing old new → AddsDeeds (MayRefresh world authority) old new
+pub did_nothing : (world : World) (authority : List ℕ) (old new : DeskView) → DoesNothing old new → AddsEntries (MayRefresh world authority) old new
 did_nothing world authority old new is =
-    nothing_made world authority old new (is.deeds_stay ∙ sym (append-nil (deeds_of old.marks)))
+    nothing_made world authority old new (is.entries_stay ∙ sym (append-nil (entries_of old.marks)))
 
 -- a moment of an entry is the one handed in, or behind it
 pub since : (world : World) (g : Gate) (m : ℕ) → world.reads m → IsSinceRead world (moment_at g m)
@@ -50,7 +49,7 @@ since world g m reads = (m, (reads, omega arith))
 
 -- a turn that began where no answer was in force, and brought one
 pub refreshed : (world : World) (authority : List ℕ) (turn : Errand) (word : Standing) (old mid new : DeskView) →
-    BeginsStale world authority turn old mid → Brings world turn word mid new → AddsDeeds (MayRefresh world authority) old new
+    BeginsStale world authority turn old mid → Brings world turn word mid new → AddsEntries (MayRefresh world authority) old new
 refreshed world authority turn word old mid new begins brings =
     let h = brings.arrives.0 in
     let other = made mid h _ new brings.arrives.1.1.2.1 in
@@ -59,11 +58,13 @@ refreshed world authority turn word old mid new begins brings =
     let brought = subst P its_authority brings.brings in
     let life = brought_life (world.gives robots_limit) authority brings.says brings.life brought in
     record {
-      own = deeds.Begun begins.begun authority turn.turn
-          ∷ deeds.Arrived (moment_at h brings.arrived) turn.turn brings.says brings.life ∷ [];
-      adds = appended (deeds_of old.marks) (deeds_of mid.marks) (deeds_of new.marks) _
-          (deeds.Arrived (moment_at h brings.arrived) turn.turn brings.says brings.life ∷ []) begins.adds
-          (subst (λ n. deeds_of new.marks ≡ deeds_of mid.marks ++ deeds.Arrived (moment_at h brings.arrived) turn.turn brings.says n ∷ []) life other);
+      own = entries.Begun begins.begun authority turn.turn
+          ∷ entries.Arrived (moment_at h brings.arrived) authority turn.turn brings.says brings.life ∷ [];
+      adds = appended (entries_of old.marks) (entries_of mid.marks) (entries_of new.marks) _
+          (entries.Arrived (moment_at h brings.arrived) authority turn.turn brings.says brings.life ∷ []) begins.adds
+          (subst (λ name. entries_of new.marks ≡ entries_of mid.marks ++ entries.Arrived (moment_at h brings.arrived) name turn.turn brings.says brings.life ∷ [])
+          its_authority
+          (subst (λ n. entries_of new.marks ≡ entries_of mid.marks ++ entries.Arrived (moment_at h brings.arrived) turn.authority turn.turn brings.says n ∷ []) life other));
       tells = inr (record {
         begun = begins.begun;
         turn = turn.turn;
@@ -79,28 +80,28 @@ refreshed world authority turn word old mid new begins brings =
     }
 
 -- a hop behind what is no turn or one
-pub behind_refresh : (world : World) (url : List ℕ) (Tells : List Deed → Type 0)
-    (old mid new : DeskView) → AddsDeeds (MayRefresh world (authority_of url)) old mid → AddsDeeds Tells mid new →
-    AddsDeeds (AfterRefresh world url Tells) old new
+pub behind_refresh : (world : World) (url : List ℕ) (Tells : List Entry → Type 0)
+    (old mid new : DeskView) → AddsEntries (MayRefresh world (authority_of url)) old mid → AddsEntries Tells mid new →
+    AddsEntries (AfterRefresh world url Tells) old new
 behind_refresh world url Tells old mid new before behind = record {
   own = before.own ++ behind.own;
-  adds = appended (deeds_of old.marks) (deeds_of mid.marks) (deeds_of new.marks) before.own behind.own before.adds behind.adds;
+  adds = appended (entries_of old.marks) (entries_of mid.marks) (entries_of new.marks) before.own behind.own before.adds behind.adds;
   tells = record { before = before.own; behind = behind.own; may_refresh = before.tells; tells = behind.tells; own_is = refl };
 }
 
--- a refusal makes no deed
+-- a refusal makes no entry
 pub refused : (world : World) (token url : List ℕ) (refusal : Refusal)
-    (body : List ℕ) (desk : DeskView) → body ≡ [] → AddsDeeds (IsLast world token url (hops.Refused refusal) body) desk desk
+    (body : List ℕ) (desk : DeskView) → body ≡ [] → AddsEntries (IsLast world token url (hops.Refused refusal) body) desk desk
 refused world token url refusal body desk empty =
-    record { own = []; adds = sym (append-nil (deeds_of desk.marks)); tells = (refl, empty) }
+    record { own = []; adds = sym (append-nil (entries_of desk.marks)); tells = (refl, empty) }
 
 -- an ask that granted no permit
 pub ask_refused : (world : World) (token url : List ℕ) (m : ℕ)
     (refusal : AskRefusal) (body : List ℕ) (old new : DeskView) → world.reads m → body ≡ [] →
     Somewhere old (λ g g2. DeskAsks old g token url m (Err refusal) g2 new) →
-    AddsDeeds (IsLast world token url (ask_hop refusal) body) old new
+    AddsEntries (IsLast world token url (ask_hop refusal) body) old new
 ask_refused world token url m (asks.Denied denial) body old new reads empty step = record {
-  own = deeds.AskDenied (moment_at step.0 m) (record { token = token; url = url }) denial.cause ∷ [];
+  own = entries.AskDenied (moment_at step.0 m) (record { token = token; url = url }) denial.cause ∷ [];
   adds = made old step.0 (entries.AskDenied (moment_at step.0 m) (record { token = token; url = url }) denial.cause) new step.1.1.2.1;
   tells = (
     step.1.1.2.0.1,
@@ -117,21 +118,21 @@ ask_refused world token url m asks.PermitsFull body old new reads empty step =
 ask_refused world token url m asks.NoMemory body old new reads empty step =
     record { own = []; adds = looked old step.0 new step.1.1.2.1; tells = (refl, empty) }
 
--- what is true of a grant's deeds, whatever its moment, behind the grant
+-- what is true of a grant's entries, whatever its moment, behind the grant
 pub ask_granted : (world : World) (token url : List ℕ) (m followed : ℕ)
     (permit : Pass) (way : WayOn) (old mid new : DeskView) →
     world.reads m → Somewhere old (λ g g2. DeskAsks old g token url m (Ok permit) g2 mid) →
-    AddsDeeds (λ (own : List Deed). (granted : ℕ) → IsSinceRead world granted → TellsWay world permit.token permit.url followed way
-    (deeds.Granted granted permit.number (record { token = permit.token; url = permit.url }) ∷ own)) mid new →
-    AddsDeeds (TellsWay world token url followed way) old new
+    AddsEntries (λ (own : List Entry). (granted : ℕ) → IsSinceRead world granted → TellsWay world permit.token permit.url followed way
+    (entries.Granted granted permit.number (record { token = permit.token; url = permit.url }) ∷ own)) mid new →
+    AddsEntries (TellsWay world token url followed way) old new
 ask_granted world token url m followed permit way old mid new reads step behind =
     let g = step.0 in
     let P : Pass → Type 0 = λ p. TellsWay world p.token p.url followed way
-    (deeds.Granted (moment_at g m) permit.number (record { token = p.token; url = p.url }) ∷ behind.own) in
+    (entries.Granted (moment_at g m) permit.number (record { token = p.token; url = p.url }) ∷ behind.own) in
     record {
-      own = deeds.Granted (moment_at g m) permit.number (record { token = token; url = url }) ∷ behind.own;
-      adds = appended (deeds_of old.marks) (deeds_of mid.marks) (deeds_of new.marks)
-          (deeds.Granted (moment_at g m) permit.number (record { token = token; url = url }) ∷ []) behind.own
+      own = entries.Granted (moment_at g m) permit.number (record { token = token; url = url }) ∷ behind.own;
+      adds = appended (entries_of old.marks) (entries_of mid.marks) (entries_of new.marks)
+          (entries.Granted (moment_at g m) permit.number (record { token = token; url = url }) ∷ []) behind.own
           (made old g (entries.Granted (moment_at g m) permit.number (record { token = token; url = url })) mid step.1.1.2.2)
           behind.adds;
       tells = subst P step.1.1.2.1 (behind.tells (moment_at g m) (since world g m reads));
@@ -141,10 +142,10 @@ ask_granted world token url m followed permit way old mid new reads step behind 
 pub start_denied : (world : World) (permit : Pass) (m followed : ℕ)
     (denial : Denial) (body : List ℕ) (old new : DeskView) → world.reads m → body ≡ [] →
     Somewhere old (λ g g2. DeskStarts old g permit m (Err denial) g2 new) →
-    AddsDeeds (λ (own : List Deed). (granted : ℕ) → IsSinceRead world granted → IsLast world permit.token permit.url (hops.No denial) body
-    (deeds.Granted granted permit.number (record { token = permit.token; url = permit.url }) ∷ own)) old new
+    AddsEntries (λ (own : List Entry). (granted : ℕ) → IsSinceRead world granted → IsLast world permit.token permit.url (hops.No denial) body
+    (entries.Granted granted permit.number (record { token = permit.token; url = permit.url }) ∷ own)) old new
 start_denied world permit m followed denial body old new reads empty step = record {
-  own = deeds.StartDenied (moment_at step.0 m) permit.number denial.cause ∷ [];
+  own = entries.StartDenied (moment_at step.0 m) permit.number denial.cause ∷ [];
   adds = made old step.0 (entries.StartDenied (moment_at step.0 m) permit.number denial.cause) new step.1.1.2.2;
   tells = λ granted since_granted. (
     step.1.1.2.1.0,
@@ -178,7 +179,7 @@ led followed url location next is =
 
 -- a hop of a fetch that gave no redirect is the last
 last_fetch : (world : World) (token url : List ℕ) (number : ℕ) (reason : Reason)
-    (given : Result HttpReply WireFault) (body : List ℕ) (own : List Deed) →
+    (given : Result HttpReply WireFault) (body : List ℕ) (own : List Entry) →
     IsFetch world token url (hop_of number reason given) given own → (IsRedirect given → ⊥) → body ≡ body_of given →
     IsLast world token url (hop_of number reason given) body own
 last_fetch world token url number reason (Ok reply) body own fetch ends is =
@@ -186,17 +187,17 @@ last_fetch world token url number reason (Ok reply) body own fetch ends is =
 last_fetch world token url number reason (Err fault) body own fetch ends is =
     record { given = Err fault; fetch = fetch; ends = ends; body_is = is }
 
--- the deeds of a fetch tell its way on
+-- the entries of a fetch tell its way on
 pub fetch_tells : (world : World) (token url : List ℕ) (number : ℕ)
     (reason : Reason) (granted started followed : ℕ) (given : Result HttpReply WireFault) (way : WayOn) →
     IsSinceRead world granted → IsSinceRead world started → world.gives page_limit url given →
     GoesOn number reason followed url given way →
     TellsWay world token url followed way
-    (deeds.Granted granted number (record { token = token; url = url }) ∷ deeds.Started started number reason
-    ∷ deeds.Finished number ∷ [])
+    (entries.Granted granted number (record { token = token; url = url }) ∷ entries.Started started number reason
+    ∷ entries.Finished number ∷ [])
 fetch_tells world token url number reason granted started followed given (ways.Ends hop body) since_granted since_started is goes =
-    let own : List Deed = deeds.Granted granted number (record { token = token; url = url }) ∷ deeds.Started started number reason
-    ∷ deeds.Finished number ∷ [] in
+    let own : List Entry = entries.Granted granted number (record { token = token; url = url }) ∷ entries.Started started number reason
+    ∷ entries.Finished number ∷ [] in
     subst (λ (h : Hop). IsLast world token url h body.items own) (sym goes.0)
     (last_fetch world token url number reason given body.items own
     (record { number = number; reason = reason; granted = granted; started = started; since_granted = since_granted; since_started = since_started; is_given = is; own_is = refl; tells = refl })
@@ -226,12 +227,12 @@ pub fetched_once : (world : World) (permit : Pass) (m followed : ℕ) (run : Run
     world.gives page_limit permit.url given →
     GoesOn permit.number run.reason followed permit.url given way →
     Somewhere mid (λ g g2. DeskFinishes mid g permit.number g2 new) →
-    AddsDeeds (λ (own : List Deed). (granted : ℕ) → IsSinceRead world granted → TellsWay world permit.token permit.url followed way
-    (deeds.Granted granted permit.number (record { token = permit.token; url = permit.url }) ∷ own)) old new
+    AddsEntries (λ (own : List Entry). (granted : ℕ) → IsSinceRead world granted → TellsWay world permit.token permit.url followed way
+    (entries.Granted granted permit.number (record { token = permit.token; url = permit.url }) ∷ own)) old new
 fetched_once world permit m followed run given way old mid new reads starts is goes finishes = record {
-  own = deeds.Started (moment_at starts.0 m) permit.number run.reason ∷ deeds.Finished permit.number ∷ [];
-  adds = appended (deeds_of old.marks) (deeds_of mid.marks) (deeds_of new.marks)
-      (deeds.Started (moment_at starts.0 m) permit.number run.reason ∷ []) (deeds.Finished permit.number ∷ [])
+  own = entries.Started (moment_at starts.0 m) permit.number run.reason ∷ entries.Finished permit.number ∷ [];
+  adds = appended (entries_of old.marks) (entries_of mid.marks) (entries_of new.marks)
+      (entries.Started (moment_at starts.0 m) permit.number run.reason ∷ []) (entries.Finished permit.number ∷ [])
       (made old starts.0 (entries.Started (moment_at starts.0 m) permit.number run.reason) mid starts.1.1.2.3)
       (made mid finishes.0 (entries.Finished permit.number) new finishes.1.1.2.1);
   tells = λ granted since_granted. fetch_tells world permit.token permit.url permit.number run.reason granted (moment_at starts.0 m) followed given way

@@ -1,6 +1,6 @@
 -- The lemmas of this crate's proofs.
 mod Chains
-mod Deeds
+mod OwnEntries
 mod Doing
 mod Fetching
 mod Handing
@@ -8,4 +8,5 @@ mod Hops
 mod Placing
 mod Shifting
 pub mod Starting
+mod StartTotals
 mod Taking

@@ -1,8 +1,10 @@
 -- What all workers drew and did, once they have ended.
 -- Used by `run_shift`.
 use Rattle.std.proofs.Common.{◌≡◌, ◌∙◌, ℕ, ◌≤◌, List, [], ◌∷◌, ◌++◌, length, take, ap, sym, refl, subst, arith}
+use Rattle.std.specs.Prelude.{Ok}
 use Rattle.std.specs.List.{AllZip}
 use Rattle.std.proofs.lemmas.List.{take-append-le, take_all}
+use Rattle.gate_lock.specs.Marks.{starts_in_all}
 use Rattle.gate_lock.specs.Settling.{SettlesSome}
 use Rattle.gate_lock.specs.declared.mark.Mark.{Mark}
 use Rattle.gate_lock.specs.declared.settlement.Settled.{Settled}
@@ -11,9 +13,10 @@ use Rattle.crawl_workers.specs.declared.crew.Done.{Done}
 use Rattle.crawl_job.specs.declared.job.Job.{Job}
 use Rattle.crawl_workers.specs.declared.report.Crawled.{Crawled}
 use Rattle.crawl_workers.specs.Crews.{AllPlaced, EachHasDone, all_numbers, one_below, one_for}
-use Rattle.crawl_workers.specs.Shifts.{IsShift, Worked, all_fetches}
+use Rattle.crawl_workers.specs.Shifts.{IsShift, Worked}
 use Rattle.crawl_workers.specs.World.{World}
 use Rattle.crawl_workers.proofs.Placing.{weigh_below-one_for}
+use Rattle.crawl_workers.proofs.StartTotals.{starts_are_fetches}
 
 -- the numbers that were drawn are those of the jobs that were done
 pub numbers_drawn : (world : World) (jobs : List Job) (drawn : List (List ℕ)) (lists : List (List Done)) (receipts : List (List Mark))
@@ -53,13 +56,16 @@ pub is_shift : (world : World) (jobs : List Job) (workers : ℕ) (drawn : List (
     → length drawn ≡ workers → ((weight : ℕ → ℕ) → weigh_all weight drawn ≡ weigh_below weight (length jobs))
     → EachHasDone world jobs drawn lists receipts
     → outcomes ≡ placed → length placed ≡ length jobs → AllPlaced placed lists
-    → lent ≡ receipts → SettlesSome lent settled → settled.starts ≡ all_fetches outcomes
+    → lent ≡ receipts → SettlesSome lent (Ok settled) → settled.starts ≡ starts_in_all lent
     → IsShift world jobs workers (record { outcomes = outcomes; drawn = drawn; receipts = receipts; settled = settled })
-is_shift world jobs workers drawn lists receipts lent outcomes placed settled many each did same len placed_all lent_is settles starts = record {
-  one_each = ap length same ∙ len;
-  all_workers = many;
-  each_once = each;
-  worked = all_worked world jobs outcomes drawn lists receipts did (subst (λ (cs : List Crawled). AllPlaced cs lists) (sym same) placed_all);
-  settled = subst (λ (mss : List (List Mark)). SettlesSome mss settled) lent_is settles;
-  starts = starts;
-}
+is_shift world jobs workers drawn lists receipts lent outcomes placed settled many each did same len placed_all lent_is settles starts =
+    let one_each = ap length same ∙ len in
+    let worked = all_worked world jobs outcomes drawn lists receipts did (subst (λ (cs : List Crawled). AllPlaced cs lists) (sym same) placed_all) in
+    record {
+      one_each = one_each;
+      all_workers = many;
+      each_once = each;
+      worked = worked;
+      settled = subst (λ (mss : List (List Mark)). SettlesSome mss (Ok settled)) lent_is settles;
+      starts = starts ∙ ap starts_in_all lent_is ∙ starts_are_fetches world jobs outcomes drawn receipts worked each one_each;
+    }

@@ -4,8 +4,8 @@ use Rattle.std.proofs.Common.{◌≡◌, ◌+◌, ◌++◌, ◌∷◌, [], ℕ, 
 use Rattle.gate_history.specs.declared.outcome.Reason.{Reason}
 use Rattle.gate_lock.specs.Desks.{DeskView}
 use Rattle.gate_lock.specs.Marks.{starts_in}
-use Rattle.gate_lock.specs.declared.mark.Deed.{Deed}
-use Rattle.gate_lock.specs.declared.mark.Deed.TheVariants as deeds
+use Rattle.gate_history.specs.declared.entry.Entry.{Entry}
+use Rattle.gate_history.specs.declared.entry.Entry.TheVariants as entries
 use Rattle.gate_lock.specs.declared.mark.Mark.{Mark}
 use Rattle.http_wire.specs.declared.fault.WireFault.{WireFault}
 use Rattle.http_wire.specs.declared.response.HttpReply.{HttpReply}
@@ -17,14 +17,14 @@ use Rattle.crawl_job.specs.declared.job.Job.{Job}
 use Rattle.crawl_job.specs.declared.job.Outcome.{Outcome}
 use Rattle.crawl_workers.specs.OutcomeLaws.{FetchesAreCounted, FetchesAreStarted, numbers_fetched, numbers_started}
 use Rattle.crawl_workers.specs.Outcomes.{AfterRefresh, AreHops, Follows, IsEnd, IsFetch, IsFollowed, IsLast, IsStop, IsStopped, MayRefresh, Works, fetches_in, hop_of}
-use Rattle.crawl_workers.specs.Refreshes.{deeds_of}
+use Rattle.crawl_workers.specs.Refreshes.{entries_of}
 use Rattle.crawl_workers.specs.World.{World}
 
--- the numbers of two lists of deeds, one behind the other
-started_append : (xs ys : List Deed) → numbers_started (xs ++ ys) ≡ numbers_started xs ++ numbers_started ys
+-- the numbers of two lists of entries, one behind the other
+pub started_append : (xs ys : List Entry) → numbers_started (xs ++ ys) ≡ numbers_started xs ++ numbers_started ys
 started_append [] ys = refl
-started_append (deeds.Started moment number reason ∷ xs) ys = ap (λ (ns : List ℕ). number ∷ ns) (started_append xs ys)
-started_append (deed ∷ xs) ys = started_append xs ys
+started_append (entries.Started moment number reason ∷ xs) ys = ap (λ (ns : List ℕ). number ∷ ns) (started_append xs ys)
+started_append (entry ∷ xs) ys = started_append xs ys
 
 -- the same of hops
 fetched_append : (xs ys : List Hop) → numbers_fetched (xs ++ ys) ≡ numbers_fetched xs ++ numbers_fetched ys
@@ -34,21 +34,21 @@ fetched_append (hops.Fault number fault ∷ xs) ys = ap (λ (ns : List ℕ). num
 fetched_append (hop ∷ xs) ys = fetched_append xs ys
 
 -- both, where each list has its own numbers
-both_append : (front back : List Deed) (own : List Deed) (ns ms : List ℕ) → own ≡ front ++ back →
+both_append : (front back : List Entry) (own : List Entry) (ns ms : List ℕ) → own ≡ front ++ back →
     numbers_started front ≡ ns → numbers_started back ≡ ms → numbers_started own ≡ ns ++ ms
 both_append front back own ns ms is one other =
     ap numbers_started is ∙ started_append front back ∙ ap (λ (xs : List ℕ). xs ++ numbers_started back) one ∙ ap (λ (xs : List ℕ). ns ++ xs) other
 
 -- a refresh starts no fetch of a page
-no_start : (world : World) (authority : List ℕ) (own : List Deed) →
+no_start : (world : World) (authority : List ℕ) (own : List Entry) →
     MayRefresh world authority own → numbers_started own ≡ []
 no_start world authority own (inl is) = ap numbers_started is
 no_start world authority own (inr turn) = ap numbers_started turn.own_is
 
 -- so a hop behind one starts what it starts by itself
-after_start : (world : World) (url : List ℕ) (Tells : List Deed → Type 0)
-    (own : List Deed) (ns : List ℕ) → AfterRefresh world url Tells own →
-    ((behind : List Deed) → Tells behind → numbers_started behind ≡ ns) → numbers_started own ≡ ns
+after_start : (world : World) (url : List ℕ) (Tells : List Entry → Type 0)
+    (own : List Entry) (ns : List ℕ) → AfterRefresh world url Tells own →
+    ((behind : List Entry) → Tells behind → numbers_started behind ≡ ns) → numbers_started own ≡ ns
 after_start world url Tells own ns after starts =
     both_append after.before after.behind own [] ns after.own_is
     (no_start world _ after.before after.may_refresh) (starts after.behind after.tells)
@@ -61,7 +61,7 @@ number_of_hop number reason (Err fault) = refl
 
 -- a fetch is started by its number
 fetch_starts : (world : World) (token url : List ℕ) (hop : Hop)
-    (given : Result HttpReply WireFault) (own : List Deed) → IsFetch world token url hop given own →
+    (given : Result HttpReply WireFault) (own : List Entry) → IsFetch world token url hop given own →
     numbers_started own ≡ numbers_fetched (hop ∷ [])
 fetch_starts world token url hop given own fetch =
     ap numbers_started fetch.own_is
@@ -69,7 +69,7 @@ fetch_starts world token url hop given own fetch =
 
 -- the last hop by itself is started by its number, where it is a fetch
 last_starts : (world : World) (token url : List ℕ) (hop : Hop) (body : List ℕ)
-    (own : List Deed) → IsLast world token url hop body own → numbers_started own ≡ numbers_fetched (hop ∷ [])
+    (own : List Entry) → IsLast world token url hop body own → numbers_started own ≡ numbers_fetched (hop ∷ [])
 last_starts world token url (hops.Page number reason status size cut) body own last =
     fetch_starts world token url (hops.Page number reason status size cut) last.given own last.fetch
 last_starts world token url (hops.Fault number fault) body own last =
@@ -91,7 +91,7 @@ stop_starts followed target (hops.No denial) is = absurd is
 
 -- the last hops are started by their numbers
 end_starts : (world : World) (token url : List ℕ) (followed : ℕ) (last : List Hop)
-    (body : List ℕ) (own : List Deed) → IsEnd world token url followed last body own →
+    (body : List ℕ) (own : List Entry) → IsEnd world token url followed last body own →
     numbers_started own ≡ numbers_fetched last
 end_starts world token url followed [] body own end = absurd end
 end_starts world token url followed (hop ∷ []) body own end =
@@ -107,7 +107,7 @@ end_starts world token url followed (hop ∷ (stop ∷ (other ∷ later))) body 
 
 -- so are the redirects that were followed
 follow_starts : (world : World) (token url end : List ℕ) (way : List Hop)
-    (own : List Deed) → Follows world token url way end own → numbers_started own ≡ numbers_fetched way
+    (own : List Entry) → Follows world token url way end own → numbers_started own ≡ numbers_fetched way
 follow_starts world token url end [] own follows = ap numbers_started follows.1
 follow_starts world token url end (hop ∷ later) own follows =
     let first = follows.1.0 in
@@ -119,7 +119,7 @@ follow_starts world token url end (hop ∷ later) own follows =
     ∙ sym (fetched_append (hop ∷ []) later)
 
 hops_start : (world : World) (token url : List ℕ) (all : List Hop) (body : List ℕ)
-    (own : List Deed) → AreHops world token url all body own → numbers_started own ≡ numbers_fetched all
+    (own : List Entry) → AreHops world token url all body own → numbers_started own ≡ numbers_fetched all
 hops_start world token url all body own are =
     both_append are.front are.back own (numbers_fetched are.way) (numbers_fetched are.last) are.own_is
     (follow_starts world token url are.end are.way are.front are.follows)
@@ -137,24 +137,24 @@ fetches_counted (hops.Fault number fault ∷ all) = ap suc (fetches_counted all)
 fetches_counted (hop ∷ all) = fetches_counted all
 
 -- one mark more is one start more, or none
-one_counted : (place : ℕ) (deed : Deed) (rest : List Mark) → starts_in rest ≡ length (numbers_started (deeds_of rest)) →
-    starts_in (record { place = place; deed = deed } ∷ rest) ≡ length (numbers_started (deed ∷ deeds_of rest))
-one_counted place (deeds.Started moment number reason) rest is = omega (arith, is)
-one_counted place deed rest is = omega (arith, is)
+one_counted : (place : ℕ) (entry : Entry) (rest : List Mark) → starts_in rest ≡ length (numbers_started (entries_of rest)) →
+    starts_in (record { place = place; entry = entry } ∷ rest) ≡ length (numbers_started (entry ∷ entries_of rest))
+one_counted place (entries.Started moment number reason) rest is = omega (arith, is)
+one_counted place entry rest is = omega (arith, is)
 
--- so many marks are starts as their deeds have numbers
-starts_counted : (ms : List Mark) → starts_in ms ≡ length (numbers_started (deeds_of ms))
+-- so many marks are starts as their entries have numbers
+pub starts_counted : (ms : List Mark) → starts_in ms ≡ length (numbers_started (entries_of ms))
 starts_counted [] = refl
-starts_counted (m ∷ ms) = one_counted m.place m.deed ms (starts_counted ms)
+starts_counted (m ∷ ms) = one_counted m.place m.entry ms (starts_counted ms)
 
 -- a desk that worked on a job started as many fetches as the outcome tells of
 pub works_starts : (world : World) (job : Job) (outcome : Outcome) (old new : DeskView) →
     Works world job outcome old new → starts_in new.marks ≡ starts_in old.marks + fetches_in outcome.hops.items
 works_starts world job outcome old new works =
-    let all : numbers_started (deeds_of new.marks) ≡ numbers_started (deeds_of old.marks) ++ numbers_fetched outcome.hops.items =
-    ap numbers_started works.1.0 ∙ started_append (deeds_of old.marks) works.0
-    ∙ ap (λ (ns : List ℕ). numbers_started (deeds_of old.marks) ++ ns) (outcome_starts world job outcome works.0 works.1.1) in
-    let sum : length (numbers_started (deeds_of new.marks))
-    ≡ length (numbers_started (deeds_of old.marks)) + length (numbers_fetched outcome.hops.items) =
-    ap length all ∙ length-append (numbers_started (deeds_of old.marks)) (numbers_fetched outcome.hops.items) in
+    let all : numbers_started (entries_of new.marks) ≡ numbers_started (entries_of old.marks) ++ numbers_fetched outcome.hops.items =
+    ap numbers_started works.1.0 ∙ started_append (entries_of old.marks) works.0
+    ∙ ap (λ (ns : List ℕ). numbers_started (entries_of old.marks) ++ ns) (outcome_starts world job outcome works.0 works.1.1) in
+    let sum : length (numbers_started (entries_of new.marks))
+    ≡ length (numbers_started (entries_of old.marks)) + length (numbers_fetched outcome.hops.items) =
+    ap length all ∙ length-append (numbers_started (entries_of old.marks)) (numbers_fetched outcome.hops.items) in
     omega (arith, sum, starts_counted new.marks, starts_counted old.marks, fetches_counted outcome.hops.items)

@@ -4,25 +4,25 @@ use Rattle.std.specs.Prelude.{◌≡◌, ℕ, suc, ◌+◌, ◌++◌, ◌==◌, 
 use Rattle.std.specs.Option.{IsSomeAnd}
 use Rattle.gate_lock.specs.Desks.{DeskView}
 use Rattle.gate_lock.specs.Settling.{one_if}
-use Rattle.gate_lock.specs.declared.mark.Deed.{Deed}
+use Rattle.gate_history.specs.declared.entry.Entry.{Entry}
 use Rattle.gate_lock.specs.declared.mark.Mark.{Mark}
 use Rattle.crawl_workers.specs.declared.crew.Done.{Done}
 use Rattle.crawl_job.specs.declared.job.Job.{Job}
 use Rattle.crawl_workers.specs.declared.report.Crawled.{Crawled}
 use Rattle.crawl_workers.specs.declared.report.ShiftFault.{ShiftFault}
-use Rattle.crawl_workers.specs.Refreshes.{deeds_of}
+use Rattle.crawl_workers.specs.Refreshes.{entries_of}
 use Rattle.crawl_workers.specs.Shifts.{AreDone, ArePlaced, IsDone, numbers_of}
 use Rattle.crawl_workers.specs.World.{World}
 
 -- a desk did a job more
 abbrev pub DoesJob : World → List Job → Done → DeskView → DeskView → Type 0
 DoesJob world jobs done old new =
-    (own : List Deed) × ((deeds_of new.marks ≡ deeds_of old.marks ++ own) × IsDone world jobs done own)
+    (own : List Entry) × ((entries_of new.marks ≡ entries_of old.marks ++ own) × IsDone world jobs done own)
 
 -- a worker drew the jobs of these numbers, and a desk with these marks did them
 pub record HasDone (world : World) (jobs : List Job) (drawn : List ℕ) (done : List Done) (marks : List Mark) : Type 0 where
   pub numbers : numbers_of done ≡ drawn
-  pub are_done : AreDone world jobs done (deeds_of marks)
+  pub are_done : AreDone world jobs done (entries_of marks)
 
 -- a worker: the numbers that it drew, the jobs that it did, and its end, if it has ended
 pub record MemberView : Type 0 where

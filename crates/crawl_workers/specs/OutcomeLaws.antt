@@ -1,8 +1,8 @@
 -- What is true of each outcome: its fetches are the fetches that its desk started.
 -- Cited by the laws of outcomes.
 use Rattle.std.specs.Prelude.{◌≡◌, ◌∷◌, [], ℕ, List, length}
-use Rattle.gate_lock.specs.declared.mark.Deed.{Deed}
-use Rattle.gate_lock.specs.declared.mark.Deed.TheVariants as deeds
+use Rattle.gate_history.specs.declared.entry.Entry.{Entry}
+use Rattle.gate_history.specs.declared.entry.Entry.TheVariants as entries
 use Rattle.crawl_job.specs.declared.hop.Hop.{Hop}
 use Rattle.crawl_job.specs.declared.hop.Hop.TheVariants as hops
 use Rattle.crawl_job.specs.declared.job.Job.{Job}
@@ -11,9 +11,9 @@ use Rattle.crawl_workers.specs.Outcomes.{IsOutcome, fetches_in}
 use Rattle.crawl_workers.specs.World.{World}
 
 -- the numbers of the permits whose fetches were started, in order
-abbrev pub numbers_started : List Deed → List ℕ
+abbrev pub numbers_started : List Entry → List ℕ
 numbers_started [] = []
-numbers_started (deeds.Started moment number reason ∷ later) = number ∷ numbers_started later
+numbers_started (entries.Started moment number reason ∷ later) = number ∷ numbers_started later
 numbers_started (_ ∷ later) = numbers_started later
 
 -- the numbers of the permits by which pages were fetched, whatever came of them, in order
@@ -25,7 +25,7 @@ numbers_fetched (_ ∷ later) = numbers_fetched later
 
 -- the fetches of an outcome are those that were started meanwhile, by their numbers and in order
 abbrev pub FetchesAreStarted : World → Type 0
-FetchesAreStarted world = (job : Job) (outcome : Outcome) (own : List Deed) →
+FetchesAreStarted world = (job : Job) (outcome : Outcome) (own : List Entry) →
     IsOutcome world job outcome own → numbers_started own ≡ numbers_fetched outcome.hops.items
 
 -- so many hops are fetches as they have numbers

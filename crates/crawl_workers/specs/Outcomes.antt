@@ -7,8 +7,8 @@ use Rattle.robots_verdict.specs.declared.said.Said.{Said}
 use Rattle.gate_history.specs.declared.outcome.Cause.{Cause}
 use Rattle.gate_history.specs.declared.outcome.Reason.{Reason}
 use Rattle.gate_lock.specs.Desks.{DeskView}
-use Rattle.gate_lock.specs.declared.mark.Deed.{Deed}
-use Rattle.gate_lock.specs.declared.mark.Deed.TheVariants as deeds
+use Rattle.gate_history.specs.declared.entry.Entry.{Entry}
+use Rattle.gate_history.specs.declared.entry.Entry.TheVariants as entries
 use Rattle.http_wire.specs.declared.fault.WireFault.{WireFault}
 use Rattle.http_wire.specs.declared.response.HttpReply.{HttpReply}
 use Rattle.robots_fetch.specs.declared.redirect.Stop.{Stop}
@@ -21,7 +21,7 @@ use Rattle.crawl_job.specs.declared.hop.Refusal.TheVariants as refusals
 use Rattle.crawl_job.specs.declared.job.Job.{Job}
 use Rattle.crawl_job.specs.declared.job.Outcome.{Outcome}
 use Rattle.crawl_workers.specs.Limits.{page_limit, robots_limit}
-use Rattle.crawl_workers.specs.Refreshes.{BeganStale, IsBrought, deeds_of}
+use Rattle.crawl_workers.specs.Refreshes.{BeganStale, IsBrought, entries_of}
 use Rattle.crawl_workers.specs.World.{IsSinceRead, World}
 
 -- the hop of a fetch, by its permit and what was given
@@ -46,7 +46,7 @@ IsRedirect (Err fault) = ⊥
 
 -- a turn of the authority began where no answer of it was in force, and brought an answer that fetches decide
 pub record IsTurn
-    (world : World) (authority : List ℕ) (own : List Deed)
+    (world : World) (authority : List ℕ) (own : List Entry)
     : Type 0 where
   pub begun : ℕ
   pub turn : ℕ
@@ -57,18 +57,18 @@ pub record IsTurn
   pub since_arrived : IsSinceRead world arrived
   pub stale : BeganStale authority begun turn
   pub brings : IsBrought (world.gives robots_limit) authority says life
-  pub own_is : own ≡ deeds.Begun begun authority turn ∷ deeds.Arrived arrived turn says life ∷ []
+  pub own_is : own ≡ entries.Begun begun authority turn ∷ entries.Arrived arrived authority turn says life ∷ []
 
 -- at most one such turn
-abbrev pub MayRefresh : World → List ℕ → List Deed → Type 0
+abbrev pub MayRefresh : World → List ℕ → List Entry → Type 0
 MayRefresh world authority own = (own ≡ []) ⊎ IsTurn world authority own
 
 -- a hop behind at most one turn of its authority
 pub record AfterRefresh
-    (world : World) (url : List ℕ) (Tells : List Deed → Type 0) (own : List Deed)
+    (world : World) (url : List ℕ) (Tells : List Entry → Type 0) (own : List Entry)
     : Type 0 where
-  pub before : List Deed
-  pub behind : List Deed
+  pub before : List Entry
+  pub behind : List Entry
   pub may_refresh : MayRefresh world (authority_of url) before
   pub tells : Tells behind
   pub own_is : own ≡ before ++ behind
@@ -77,7 +77,7 @@ pub record AfterRefresh
 -- hop tells what was given for the URL
 pub record IsFetch
     (world : World) (token url : List ℕ) (hop : Hop)
-    (given : Result HttpReply WireFault) (own : List Deed)
+    (given : Result HttpReply WireFault) (own : List Entry)
     : Type 0 where
   pub number : ℕ
   pub reason : Reason
@@ -87,31 +87,31 @@ pub record IsFetch
   pub since_started : IsSinceRead world started
   pub is_given : world.gives page_limit url given
   pub own_is :
-      own ≡ deeds.Granted granted number (record { token = token; url = url })
-      ∷ deeds.Started started number reason ∷ deeds.Finished number ∷ []
+      own ≡ entries.Granted granted number (record { token = token; url = url })
+      ∷ entries.Started started number reason ∷ entries.Finished number ∷ []
   pub tells : hop ≡ hop_of number reason given
 
 -- the denial of an ask for this token and URL
-pub record IsAskDenied (world : World) (token url : List ℕ) (cause : Cause) (own : List Deed) : Type 0 where
+pub record IsAskDenied (world : World) (token url : List ℕ) (cause : Cause) (own : List Entry) : Type 0 where
   pub denied : ℕ
   pub since_denied : IsSinceRead world denied
-  pub own_is : own ≡ deeds.AskDenied denied (record { token = token; url = url }) cause ∷ []
+  pub own_is : own ≡ entries.AskDenied denied (record { token = token; url = url }) cause ∷ []
 
 -- the denial of the start of a permit that was granted for them
-pub record IsStartDenied (world : World) (token url : List ℕ) (cause : Cause) (own : List Deed) : Type 0 where
+pub record IsStartDenied (world : World) (token url : List ℕ) (cause : Cause) (own : List Entry) : Type 0 where
   pub number : ℕ
   pub granted : ℕ
   pub denied : ℕ
   pub since_granted : IsSinceRead world granted
   pub since_denied : IsSinceRead world denied
   pub own_is :
-      own ≡ deeds.Granted granted number (record { token = token; url = url })
-      ∷ deeds.StartDenied denied number cause ∷ []
+      own ≡ entries.Granted granted number (record { token = token; url = url })
+      ∷ entries.StartDenied denied number cause ∷ []
 
 -- a fetch behind which no hop comes: no redirect was given
 pub record IsLastFetch
     (world : World) (token url : List ℕ) (hop : Hop) (body : List ℕ)
-    (own : List Deed)
+    (own : List Entry)
     : Type 0 where
   pub given : Result HttpReply WireFault
   pub fetch : IsFetch world token url hop given own
@@ -121,7 +121,7 @@ pub record IsLastFetch
 -- a fetch behind which a hop comes at another URL: a redirect leads there
 pub record IsFollowed
     (world : World) (token url : List ℕ) (hop : Hop) (next : List ℕ)
-    (own : List Deed)
+    (own : List Entry)
     : Type 0 where
   pub given : Result HttpReply WireFault
   pub fetch : IsFetch world token url hop given own
@@ -138,7 +138,7 @@ IsStop followed target _ = ⊥
 -- a fetch behind which a hop says why the redirect is not followed
 pub record IsStopped
     (world : World) (token url : List ℕ) (followed : ℕ) (hop stop : Hop)
-    (body : List ℕ) (own : List Deed)
+    (body : List ℕ) (own : List Entry)
     : Type 0 where
   pub given : Result HttpReply WireFault
   pub fetch : IsFetch world token url hop given own
@@ -148,7 +148,7 @@ pub record IsStopped
 
 -- the last hop by itself: a fetch that gave no redirect, a denial, or a refusal
 abbrev pub IsLast :
-    World → List ℕ → List ℕ → Hop → List ℕ → List Deed → Type 0
+    World → List ℕ → List ℕ → Hop → List ℕ → List Entry → Type 0
 IsLast world token url (hops.Page number reason status size cut) body own =
     IsLastFetch world token url (hops.Page number reason status size cut) body own
 IsLast world token url (hops.Fault number fault) body own =
@@ -162,7 +162,7 @@ IsLast world token url (hops.Stop stop) body own = ⊥
 -- the last hops at a URL, with so many redirects followed to it: the last by itself, or a redirect and why
 -- it is not followed
 abbrev pub IsEnd :
-    World → List ℕ → List ℕ → ℕ → List Hop → List ℕ → List Deed → Type 0
+    World → List ℕ → List ℕ → ℕ → List Hop → List ℕ → List Entry → Type 0
 IsEnd world token url followed [] body own = ⊥
 IsEnd world token url followed (hop ∷ []) body own = AfterRefresh world url (IsLast world token url hop body) own
 IsEnd world token url followed (hop ∷ (stop ∷ [])) body own =
@@ -171,23 +171,23 @@ IsEnd world token url followed (hop ∷ (stop ∷ (other ∷ later))) body own =
 
 -- the hops are redirects from the one URL to the other, each followed from where the one before it led
 abbrev pub Follows :
-    World → List ℕ → List ℕ → List Hop → List ℕ → List Deed → Type 0
+    World → List ℕ → List ℕ → List Hop → List ℕ → List Entry → Type 0
 Follows world token url [] end own = (url ≡ end) × (own ≡ [])
 Follows world token url (hop ∷ later) end own =
-    (next : List ℕ) × ((first : List Deed) × ((rest : List Deed) ×
+    (next : List ℕ) × ((first : List Entry) × ((rest : List Entry) ×
     (AfterRefresh world url (IsFollowed world token url hop next) first
     × Follows world token next later end rest × (own ≡ first ++ rest))))
 
 -- hops and a body for a token and a URL: redirects, at most five, that are followed, and how they end
 pub record AreHops
     (world : World) (token url : List ℕ) (all : List Hop) (body : List ℕ)
-    (own : List Deed)
+    (own : List Entry)
     : Type 0 where
   pub way : List Hop
   pub last : List Hop
   pub end : List ℕ
-  pub front : List Deed
-  pub back : List Deed
+  pub front : List Entry
+  pub back : List Entry
   pub are_all : all ≡ way ++ last
   pub are_few : length way ≤ most_redirects
   pub follows : Follows world token url way end front
@@ -195,13 +195,13 @@ pub record AreHops
   pub own_is : own ≡ front ++ back
 
 -- an outcome of a job is told by what its desk did
-abbrev pub IsOutcome : World → Job → Outcome → List Deed → Type 0
+abbrev pub IsOutcome : World → Job → Outcome → List Entry → Type 0
 IsOutcome world job outcome own = AreHops world job.token job.url outcome.hops.items outcome.body.items own
 
 -- a desk worked on a job: the marks that it made meanwhile are those of the outcome
 abbrev pub Works : World → Job → Outcome → DeskView → DeskView → Type 0
 Works world job outcome old new =
-    (own : List Deed) × ((deeds_of new.marks ≡ deeds_of old.marks ++ own) × IsOutcome world job outcome own)
+    (own : List Entry) × ((entries_of new.marks ≡ entries_of old.marks ++ own) × IsOutcome world job outcome own)
 
 -- how many of the hops are fetches of a page, whatever came of them
 abbrev pub fetches_in : List Hop → ℕ

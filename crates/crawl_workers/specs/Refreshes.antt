@@ -15,8 +15,8 @@ use Rattle.gate_core.specs.Gate.{Gate, HasLegalHistory, history}
 use Rattle.gate_core.specs.States.{IsState, standing_as}
 use Rattle.gate_lock.specs.Desks.{DeskView, Errand, HasOut, KeepsOut}
 use Rattle.gate_lock.specs.Steps.{DeskArrives, DeskBegins, Somewhere}
-use Rattle.gate_lock.specs.declared.mark.Deed.{Deed}
-use Rattle.gate_lock.specs.declared.mark.Deed.TheVariants as deeds
+use Rattle.gate_history.specs.declared.entry.Entry.{Entry}
+use Rattle.gate_history.specs.declared.entry.Entry.TheVariants as entries
 use Rattle.gate_lock.specs.declared.mark.Mark.{Mark}
 use Rattle.http_wire.specs.declared.fault.WireFault.{WireFault}
 use Rattle.http_wire.specs.declared.fault.WireFault.TheVariants as faults
@@ -28,8 +28,8 @@ use Rattle.crawl_workers.specs.Limits.{robots_limit}
 use Rattle.crawl_workers.specs.World.{IsSinceRead, World}
 
 -- what the marks of a desk say
-abbrev pub deeds_of : List Mark → List Deed
-deeds_of ms = map (λ m. m.deed) ms
+abbrev pub entries_of : List Mark → List Entry
+entries_of ms = map (λ m. m.entry) ms
 
 -- what came of a fetch of a robots file, as a walk reads it
 abbrev pub reply_of : Result HttpReply WireFault → RobotsReply
@@ -88,12 +88,12 @@ pub record BeginsStale (world : World) (authority : List ℕ) (turn : Errand) (o
   pub since_begun : IsSinceRead world begun
   pub stale : BeganStale authority begun turn.turn
   pub turn_is : turn ≡ record { authority = authority; turn = turn.turn; desk = old.no }
-  pub adds : deeds_of new.marks ≡ deeds_of old.marks ++ deeds.Begun begun authority turn.turn ∷ []
+  pub adds : entries_of new.marks ≡ entries_of old.marks ++ entries.Begun begun authority turn.turn ∷ []
   pub out : HasOut old new 0 0 0 0 1 0
 
 -- a desk that did nothing
 pub record DoesNothing (old new : DeskView) : Type 0 where
-  pub deeds_stay : deeds_of new.marks ≡ deeds_of old.marks
+  pub entries_stay : entries_of new.marks ≡ entries_of old.marks
   pub out : KeepsOut old new
 
 -- a turn begins where no answer is in force, and nothing is done where one is or the begin is refused

@@ -1,10 +1,10 @@
 -- What a shift of several workers does: each job is drawn by one worker, once, and what each worker's desk
 -- did is told by the outcomes of the jobs that it drew, in the order of its draws.
 -- The contract of `run_shift`; RFC 9309 has none of it.
-use Rattle.std.specs.Prelude.{◌≡◌, ℕ, ◌+◌, ◌++◌, List, [], ◌∷◌, length, map, Some}
+use Rattle.std.specs.Prelude.{◌≡◌, ℕ, ◌+◌, ◌++◌, List, [], ◌∷◌, length, map, Ok, Some}
 use Rattle.std.specs.List.{AllZip, slice_get}
 use Rattle.gate_lock.specs.Settling.{SettlesSome}
-use Rattle.gate_lock.specs.declared.mark.Deed.{Deed}
+use Rattle.gate_history.specs.declared.entry.Entry.{Entry}
 use Rattle.gate_lock.specs.declared.mark.Mark.{Mark}
 use Rattle.gate_lock.specs.declared.settlement.Settled.{Settled}
 use Rattle.job_line.specs.Sums.{weigh_all, weigh_below}
@@ -13,11 +13,11 @@ use Rattle.crawl_job.specs.declared.job.Job.{Job}
 use Rattle.crawl_job.specs.declared.job.Outcome.{Outcome}
 use Rattle.crawl_workers.specs.declared.report.Crawled.{Crawled}
 use Rattle.crawl_workers.specs.Outcomes.{IsOutcome, fetches_in}
-use Rattle.crawl_workers.specs.Refreshes.{deeds_of}
+use Rattle.crawl_workers.specs.Refreshes.{entries_of}
 use Rattle.crawl_workers.specs.World.{World}
 
 -- a desk did this for a job of the list: what an outcome of the job tells, with these hops and some body
-pub record IsDone (world : World) (jobs : List Job) (done : Done) (own : List Deed) : Type 0 where
+pub record IsDone (world : World) (jobs : List Job) (done : Done) (own : List Entry) : Type 0 where
   pub job : Job
   pub outcome : Outcome
   pub job_is : slice_get jobs done.number ≡ Some job
@@ -25,15 +25,15 @@ pub record IsDone (world : World) (jobs : List Job) (done : Done) (own : List De
   pub told : IsOutcome world job outcome own
 
 -- it did one job, and then others
-pub record IsDoneFirst (world : World) (jobs : List Job) (done : Done) (Later : List Deed → Type 0) (own : List Deed) : Type 0 where
-  pub first : List Deed
-  pub later : List Deed
+pub record IsDoneFirst (world : World) (jobs : List Job) (done : Done) (Later : List Entry → Type 0) (own : List Entry) : Type 0 where
+  pub first : List Entry
+  pub later : List Entry
   pub first_is : IsDone world jobs done first
   pub later_are : Later later
   pub own_is : own ≡ first ++ later
 
 -- it did these jobs, one behind another, and nothing else
-abbrev pub AreDone : World → List Job → List Done → List Deed → Type 0
+abbrev pub AreDone : World → List Job → List Done → List Entry → Type 0
 AreDone world jobs [] own = own ≡ []
 AreDone world jobs (done ∷ later) own = IsDoneFirst world jobs done (AreDone world jobs later) own
 
@@ -51,7 +51,7 @@ pub record Worked (world : World) (jobs : List Job) (outcomes : List Crawled) (n
   pub done : List Done
   pub numbers_are : numbers_of done ≡ numbers
   pub are_placed : ArePlaced outcomes done
-  pub are_done : AreDone world jobs done (deeds_of marks)
+  pub are_done : AreDone world jobs done (entries_of marks)
 
 -- how many of the hops of all outcomes are fetches of a page
 abbrev pub all_fetches : List Crawled → ℕ
@@ -73,5 +73,5 @@ pub record IsShift (world : World) (jobs : List Job) (workers : ℕ) (report : R
   pub all_workers : length report.drawn ≡ workers
   pub each_once : (weight : ℕ → ℕ) → weigh_all weight report.drawn ≡ weigh_below weight (length jobs)
   pub worked : AllZip (Worked world jobs report.outcomes) report.drawn report.receipts
-  pub settled : SettlesSome report.receipts report.settled
+  pub settled : SettlesSome report.receipts (Ok report.settled)
   pub starts : report.settled.starts ≡ all_fetches report.outcomes

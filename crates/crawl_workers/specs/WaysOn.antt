@@ -1,11 +1,11 @@
--- Where a job goes on behind one hop, and what the deeds of that hop are.
+-- Where a job goes on behind one hop, and what the entries of that hop are.
 -- RFC 9309, sections 2.2 and 2.3.1; RFC 9110, section 15.4.
 use Rattle.std.specs.Prelude.{◌≡◌, ◌<◌, ◌++◌, [], ℕ, List, Result, Ok}
 use Rattle.gate_core.specs.declared.refusal.AskRefusal.{AskRefusal}
 use Rattle.gate_core.specs.declared.refusal.AskRefusal.TheVariants as asks
 use Rattle.gate_history.specs.declared.outcome.Reason.{Reason}
 use Rattle.gate_lock.specs.Desks.{DeskView}
-use Rattle.gate_lock.specs.declared.mark.Deed.{Deed}
+use Rattle.gate_history.specs.declared.entry.Entry.{Entry}
 use Rattle.http_wire.specs.declared.fault.WireFault.{WireFault}
 use Rattle.http_wire.specs.declared.response.HttpReply.{HttpReply}
 use Rattle.robots_fetch.specs.declared.redirect.Stop.{Stop}
@@ -16,13 +16,13 @@ use Rattle.crawl_job.specs.declared.hop.Refusal.TheVariants as refusals
 use Rattle.crawl_workers.specs.declared.way_on.WayOn.{WayOn}
 use Rattle.crawl_workers.specs.declared.way_on.WayOn.TheVariants as ways
 use Rattle.crawl_workers.specs.Outcomes.{IsFollowed, IsLast, IsRedirect, IsStop, IsStopped, body_of, hop_of, location_of}
-use Rattle.crawl_workers.specs.Refreshes.{deeds_of}
+use Rattle.crawl_workers.specs.Refreshes.{entries_of}
 use Rattle.crawl_workers.specs.World.{World}
 
--- a desk made some deeds meanwhile, of which this is true
-pub record AddsDeeds (Tells : List Deed → Type 0) (old new : DeskView) : Type 0 where
-  pub own : List Deed
-  pub adds : deeds_of new.marks ≡ deeds_of old.marks ++ own
+-- a desk made some entries meanwhile, of which this is true
+pub record AddsEntries (Tells : List Entry → Type 0) (old new : DeskView) : Type 0 where
+  pub own : List Entry
+  pub adds : entries_of new.marks ≡ entries_of old.marks ++ own
   pub tells : Tells own
 
 -- the hop of an ask that granted no permit
@@ -50,9 +50,9 @@ GoesOn number reason followed url given (ways.Stops hop stop) =
     IsRedirect given
     × LeadsOn followed (redirect_target followed url (location_of given)) (hop_of number reason given) (ways.Stops hop stop)
 
--- the deeds of a hop, behind a refresh of its authority
+-- the entries of a hop, behind a refresh of its authority
 abbrev pub TellsWay :
-    World → List ℕ → List ℕ → ℕ → WayOn → List Deed → Type 0
+    World → List ℕ → List ℕ → ℕ → WayOn → List Entry → Type 0
 TellsWay world token url followed (ways.Ends hop body) own = IsLast world token url hop body.items own
 TellsWay world token url followed (ways.Leads hop next) own =
     IsFollowed world token url hop next own × (followed < most_redirects)

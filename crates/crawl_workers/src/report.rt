@@ -1,7 +1,5 @@
 //! What a shift of several workers reports, and why one does not.
 //! RFC 9309 has none of it.
-ghost use Rattle.std.specs.Prelude.{◌≡◌, ◌≤◌, ◌∷◌, []};
-ghost use Rattle.crawl_workers.specs.Outcomes.{fetches_in};
 
 use crate::event::Event;
 use crawl_job::{Hop, Job, Outcome};
@@ -13,30 +11,6 @@ use std::marker::Model;
 #[derive(Drop)]
 pub struct Crawled {
     pub hops: Vec<Hop>,
-}
-
-impl Crawled {
-    /// How many of the hops are fetches of a page, whatever came of them.
-    pub fn fetches(&self) -> u64
-        ensures { result ≡ fetches_in self.now.hops.items }
-    {
-        let mut count = 0;
-        for hop in &self.hops {
-            count += fetches_of(hop);
-        }
-        count
-    }
-}
-
-// One for a fetch of a page, and nothing for every other hop.
-fn fetches_of(hop: &Hop) -> u64
-    ensures is { result ≡ fetches_in (hop.now ∷ []) }
-    ensures few { result ≤ 1 }
-{
-    match hop {
-        Hop::Page { .. } | Hop::Fault { .. } => 1,
-        _ => 0,
-    }
 }
 
 /// What a shift did, when it has ended and its gate is settled.

@@ -1,10 +1,9 @@
 //! A shift: several workers do the jobs of a list over one gate, each on a thread of its own.
 //! RFC 9309, sections 2.2 to 2.4, in the profile of docs/POLICY.md.
 ghost use Rattle.std.specs.Prelude.{◌≡◌, ◌≤◌, ◌<◌, ◌↔◌, ℕ, [], All, IfOk, IsTrue, OnOk, length, replicate, slice_index_or, vec_len};
-ghost use Rattle.gate_lock.specs.Settling.{SettlesSome};
 ghost use Rattle.job_line.specs.Limits.{max_jobs, max_workers};
 ghost use Rattle.crawl_workers.specs.Crews.{AreAllDone, Ends, MemberView, newcomer, nothing_handed};
-ghost use Rattle.crawl_workers.specs.Shifts.{IsShift, all_fetches};
+ghost use Rattle.crawl_workers.specs.Shifts.{IsShift};
 ghost use Rattle.crawl_workers.specs.World.{world_of};
 
 use crate::clock::Clock;
@@ -16,7 +15,7 @@ use crate::once::are_all_once;
 use crate::places::place_all;
 use crate::report::{Crawled, Report, ShiftFault, Watcher};
 use crawl_job::Job;
-use gate_lock::{Gate, GateLock, Receipts, SettleFault, Settled, settle};
+use gate_lock::{Gate, GateLock, SettleFault, settle};
 use job_line::MAX_WORKERS;
 use std::alloc::{AllocError, Global};
 use std::sync::Wait;
@@ -75,7 +74,7 @@ pub fn run_shift<
         return Err(ShiftFault::Unsettled(SettleFault::Mismatch));
     }
     place_all(&mut outcomes, done);
-    let settled = settle_starts(rt, alloc, gate, &receipts, &outcomes)?;
+    let settled = settle(rt, alloc, gate, &receipts)?;
     Ok(Report {
         outcomes,
         drawn,
@@ -160,38 +159,4 @@ fn employ_all<
                 crew.entry.now.jobs.now member.new }
         { crew.employ(rt, alloc, gate, member) },
     );
-}
-
-// Settles the gate, and compares its started fetches with those of the outcomes. They are as many,
-// unless others used the gate.
-fn settle_starts<G: Gate, R: Wait>(
-    rt: &R,
-    alloc: Global,
-    gate: &GateLock<G>,
-    receipts: &[Receipts<G>],
-    outcomes: &[Crawled],
-) -> Result<Settled, SettleFault>
-    ensures settled { IfOk result (SettlesSome receipts.now) }
-    ensures starts { IfOk result (λ settled. settled.starts ≡ all_fetches outcomes.now) }
-{
-    let settled = settle(rt, alloc, gate, receipts)?;
-    if has_fetches(outcomes, settled.starts) {
-        Ok(settled)
-    } else {
-        Err(SettleFault::Mismatch)
-    }
-}
-
-// Whether the outcomes have so many fetches.
-fn has_fetches(outcomes: &[Crawled], count: u64) -> bool
-    ensures { IsTrue result ↔ (count ≡ all_fetches outcomes.now) }
-{
-    let mut left = count;
-    for crawled in outcomes {
-        let Some(less) = left.checked_sub(crawled.fetches()) else {
-            return false;
-        };
-        left = less;
-    }
-    left == 0
 }

@@ -3,11 +3,11 @@
 ghost use Rattle.std.specs.Prelude.{◌≡◌, ◌≤◌, ◌∷◌, [], ℕ, List, vec_capacity};
 ghost use Rattle.path_normal.specs.PageText.{authority_of};
 ghost use Rattle.gate_lock.specs.Desks.{HasOut, KeepsOut};
-ghost use Rattle.gate_lock.specs.declared.mark.Deed.{Deed};
+ghost use Rattle.gate_history.specs.declared.entry.Entry.{Entry};
 ghost use Rattle.crawl_workers.specs.Limits.{max_hops};
 ghost use Rattle.crawl_workers.specs.Outcomes.{AfterRefresh, AreHops, MayRefresh};
 ghost use Rattle.crawl_workers.specs.Refreshes.{MayBegin};
-ghost use Rattle.crawl_workers.specs.WaysOn.{AddsDeeds, TellsWay, ask_hop};
+ghost use Rattle.crawl_workers.specs.WaysOn.{AddsEntries, TellsWay, ask_hop};
 ghost use Rattle.crawl_workers.specs.World.{IsSinceRead, world_of};
 
 use crate::clock::Clock;
@@ -58,7 +58,7 @@ impl<F: Fetcher, C: Clock, N: Notes, R: Wait> Worker<'_, F, C, N, R> {
     ) -> Outcome
         requires empty { room.items ≡ [] }
         requires room { max_hops ≤ vec_capacity room }
-        ensures tells { AddsDeeds (AreHops (world_of (F.gives self.now.fetcher.now) (C.reads self.now.clock.now)) token.now url
+        ensures tells { AddsEntries (AreHops (world_of (F.gives self.now.fetcher.now) (C.reads self.now.clock.now)) token.now url
             result.hops.items result.body.items) desk.old desk.new }
         ensures no { desk.new.no ≡ desk.old.no }
         ensures out { KeepsOut desk.old desk.new }
@@ -97,7 +97,7 @@ impl<F: Fetcher, C: Clock, N: Notes, R: Wait> Worker<'_, F, C, N, R> {
         followed: u64,
         desk: &mut Desk<'_, G>,
     ) -> WayOn
-        ensures tells { AddsDeeds (AfterRefresh (world_of (F.gives self.now.fetcher.now) (C.reads self.now.clock.now)) url
+        ensures tells { AddsEntries (AfterRefresh (world_of (F.gives self.now.fetcher.now) (C.reads self.now.clock.now)) url
             (TellsWay (world_of (F.gives self.now.fetcher.now) (C.reads self.now.clock.now)) token.now url followed result)) desk.old desk.new }
         ensures no { desk.new.no ≡ desk.old.no }
         ensures out { KeepsOut desk.old desk.new }
@@ -121,7 +121,7 @@ impl<F: Fetcher, C: Clock, N: Notes, R: Wait> Worker<'_, F, C, N, R> {
     // Refreshes the answer of a page's authority where none is in force. Where another desk does so,
     // its answer is waited for.
     fn see_to_answer<G: Gate>(&self, url: &PageUrl, desk: &mut Desk<'_, G>) -> Result<(), Refusal>
-        ensures refreshed { AddsDeeds (MayRefresh (world_of (F.gives self.now.fetcher.now)
+        ensures refreshed { AddsEntries (MayRefresh (world_of (F.gives self.now.fetcher.now)
             (C.reads self.now.clock.now)) (authority_of url.now)) desk.old desk.new }
         ensures no { desk.new.no ≡ desk.old.no }
         ensures out { KeepsOut desk.old desk.new }
@@ -188,7 +188,7 @@ impl<F: Fetcher, C: Clock, N: Notes, R: Wait> Worker<'_, F, C, N, R> {
         followed: u64,
         desk: &mut Desk<'_, G>,
     ) -> WayOn
-        ensures tells { AddsDeeds (TellsWay (world_of (F.gives self.now.fetcher.now) (C.reads self.now.clock.now)) token url followed result)
+        ensures tells { AddsEntries (TellsWay (world_of (F.gives self.now.fetcher.now) (C.reads self.now.clock.now)) token url followed result)
             desk.old desk.new }
         ensures no { desk.new.no ≡ desk.old.no }
         ensures out { KeepsOut desk.old desk.new }
@@ -207,11 +207,11 @@ impl<F: Fetcher, C: Clock, N: Notes, R: Wait> Worker<'_, F, C, N, R> {
         desk: &mut Desk<'_, G>,
     ) -> WayOn
         requires { permit.desk ≡ desk.old.no }
-        ensures tells { AddsDeeds (λ (own : List Deed). (granted : ℕ) →
+        ensures tells { AddsEntries (λ (own : List Entry). (granted : ℕ) →
             IsSinceRead (world_of (F.gives self.now.fetcher.now) (C.reads self.now.clock.now)) granted →
             TellsWay (world_of (F.gives self.now.fetcher.now) (C.reads self.now.clock.now))
             permit.token permit.url followed result
-            (Deed.Granted granted permit.number (record { token = permit.token; url = permit.url }) ∷ own))
+            (Entry.Granted granted permit.number (record { token = permit.token; url = permit.url }) ∷ own))
             desk.old desk.new }
         ensures no { desk.new.no ≡ desk.old.no }
         ensures out { HasOut desk.old desk.new 0 1 0 0 0 0 }

@@ -110,7 +110,7 @@ impl Book {
     }
 
     /// Whether this many more entries fit under the limit of the log.
-    pub(crate) fn has_room(&self, more: u64) -> bool
+    pub fn has_room(&self, more: u64) -> bool
         requires { more ≤ 3 }
         ensures { IsTrue result ↔ HasRoom self.now more }
     {

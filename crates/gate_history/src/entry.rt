@@ -1,5 +1,6 @@
 //! The nine entries of a history.
 //! RFC 9309, sections 2.2.2, 2.3.1 and 2.4, of which each is one event.
+ghost use Rattle.std.specs.Prelude.{◌≡◌, ◌↔◌, IsTrue};
 
 use crate::fetch_text::FetchText;
 use crate::outcome::{Cause, Reason};
@@ -9,7 +10,7 @@ use permit_book::PermitNo;
 use robots_verdict::Said;
 
 /// One event of the gate. Moments are seconds, and never fall along a history.
-#[derive(Drop)]
+#[derive(Drop, PartialEq, Eq)]
 pub enum Entry {
     /// A robots fetch of the authority began.
     Begun {
@@ -62,4 +63,13 @@ pub enum Entry {
         moment: u64,
         count: u64,
     },
+}
+
+impl Entry {
+    /// Whether the two say the same. Texts are compared octet by octet.
+    pub fn is(&self, other: &Entry) -> bool
+        ensures { IsTrue result ↔ (self.now ≡ other.now) }
+    {
+        self == other
+    }
 }

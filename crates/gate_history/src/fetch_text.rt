@@ -1,7 +1,10 @@
 //! The token and the URL of a fetch, as an entry keeps them.
 //! RFC 9309, section 2.2.1.
-ghost use Rattle.std.specs.Prelude.{◌≡◌, IfOk, Some};
+ghost use Rattle.std.specs.Prelude.{◌≡◌, ◌&&◌, bytes_eq, IfOk, Some};
+ghost use Rattle.std.specs.Cmp.{and_equiv, on_equiv, partial_equiv_from_equiv};
+ghost use Rattle.std.specs.Cmp.Lexicographic.{nat_list_eq_equiv};
 ghost use Rattle.path_normal.specs.PageUrl.{IsPage};
+ghost use Rattle.permit_book.specs.declared.out.Fetch.{Fetch};
 ghost use Rattle.robots_text.specs.Token.{token_of};
 
 use path_normal::PageUrl;
@@ -64,4 +67,22 @@ impl FetchText {
     {
         &self.octets[self.url_start..]
     }
+}
+
+impl PartialEq for FetchText {
+    ghost eq = { λ a b. bytes_eq a.token b.token && bytes_eq a.url b.url };
+
+    ghost laws = { partial_equiv_from_equiv (and_equiv
+        (on_equiv (λ (fetch : Fetch). fetch.token) nat_list_eq_equiv)
+        (on_equiv (λ (fetch : Fetch). fetch.url) nat_list_eq_equiv)) };
+
+    fn eq(&self, other: &FetchText) -> bool {
+        self.token() == other.token() && self.url() == other.url()
+    }
+}
+
+impl Eq for FetchText {
+    ghost laws = { and_equiv
+        (on_equiv (λ (fetch : Fetch). fetch.token) nat_list_eq_equiv)
+        (on_equiv (λ (fetch : Fetch). fetch.url) nat_list_eq_equiv) };
 }

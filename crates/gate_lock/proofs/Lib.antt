@@ -3,3 +3,4 @@ pub mod Holding
 pub mod Keeping
 pub mod Replying
 pub mod Starts
+mod StartTotals

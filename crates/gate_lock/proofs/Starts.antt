@@ -6,6 +6,6 @@ use Rattle.gate_lock.specs.declared.mark.Mark.{Mark}
 use Rattle.gate_lock.specs.Marks.{is_start, starts_in}
 
 -- one mark more counts for itself
-pub starts_in_push : (ms : List Mark) (m : Mark) → starts_in (ms ++ m ∷ []) ≡ starts_in ms + (if is_start m.deed then 1 else 0)
+pub starts_in_push : (ms : List Mark) (m : Mark) → starts_in (ms ++ m ∷ []) ≡ starts_in ms + (if is_start m.entry then 1 else 0)
 starts_in_push [] m = omega arith
 starts_in_push (x ∷ ms) m = let e = starts_in_push ms m in omega (arith, e)

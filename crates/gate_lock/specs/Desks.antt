@@ -27,8 +27,9 @@ pub record Errand : Type 0 where
   pub turn : ℕ
   pub desk : ℕ
 
--- the shares of a desk: how many entries it made, and how many started fetches are among them
+-- the shares of a desk: its number, how many entries it made, and how many started fetches are among them
 pub record Shares : Type 0 where
+  pub no : ℕ
   pub entries : ℕ
   pub starts : ℕ
 

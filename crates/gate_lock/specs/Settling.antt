@@ -1,15 +1,17 @@
 -- When a gate is settled: nothing is out, and the receipts of its desks are its history.
 -- The contracts of `marks_fit` and `settle`.
-use Rattle.std.specs.Prelude.{◌≡◌, ℕ, ◌+◌, ◌-◌, ◌<◌, ◌≤◌, ◌==◌, Bool, false, nat_lt, List, [], ◌∷◌, if◌then◌else◌, length, map, Some}
+use Rattle.std.specs.Prelude.{◌≡◌, ℕ, ◌+◌, ◌-◌, ◌<◌, ◌≤◌, ◌==◌, Bool, false, nat_lt, List, [], ◌∷◌, if◌then◌else◌, length, Ok, Err, Result, Some}
 use Rattle.std.specs.List.{slice_get, slice_index_or}
 use Rattle.gate_history.specs.declared.entry.Entry.{Entry}
-use Rattle.gate_history.specs.History.{entry_count, started_count}
+use Rattle.gate_history.specs.Base.{empty_base}
+use Rattle.gate_history.specs.History.{History, entry_count, started_count}
 use Rattle.gate_history.specs.Outstanding.{running, unspent}
 use Rattle.gate_history.specs.Standing.{in_flight}
 use Rattle.gate_core.specs.Gate.{Gate, HasLegalHistory, history}
 use Rattle.gate_lock.specs.declared.mark.Mark.{Mark}
 use Rattle.gate_lock.specs.declared.settlement.Settled.{Settled}
-use Rattle.gate_lock.specs.Marks.{deed_of}
+use Rattle.gate_lock.specs.declared.settlement.SettleFault.{SettleFault}
+use Rattle.gate_lock.specs.declared.settlement.SettleFault.TheVariants.{Mismatch, NoMemory, StillOut}
 
 -- one where a test holds
 abbrev pub one_if : Bool → ℕ
@@ -27,7 +29,7 @@ Ascend (m ∷ ms) = IsBefore m ms × Ascend ms
 
 -- the mark is the entry at its place, unless that place is sealed
 abbrev pub IsEntryAt : ℕ → List Entry → Mark → Type 0
-IsEntryAt sealed entries m = sealed ≤ m.place → slice_get (map deed_of entries) (m.place - sealed) ≡ Some m.deed
+IsEntryAt sealed entries m = sealed ≤ m.place → slice_get entries (m.place - sealed) ≡ Some m.entry
 
 -- so is each mark
 abbrev pub AreEntries : ℕ → List Entry → List Mark → Type 0
@@ -67,16 +69,30 @@ found_at found place = one_if (slice_index_or found place false)
 abbrev pub TooOften : List Bool → ℕ → (ℕ → ℕ) → Type 0
 TooOften found count times = (place : ℕ) × (one_if (nat_lt place count) < found_at found place + times place)
 
--- the gate is settled: its history is legal, nothing is out, and the receipts are its history
+-- nothing is out
+pub record NothingOut (h : History) : Type 0 where
+  pub no_permit : unspent h ≡ []
+  pub no_run : running h ≡ []
+  pub no_turn : in_flight h ≡ []
+
+-- the gate is settled: nothing is out, and the receipts are its history
 pub record IsSettled (g : Gate) (mss : List (List Mark)) (s : Settled) : Type 0 where
-  pub legal : HasLegalHistory g
-  pub no_permit : unspent (history g) ≡ []
-  pub no_run : running (history g) ≡ []
-  pub no_turn : in_flight (history g) ≡ []
+  pub nothing_out : NothingOut (history g)
   pub fit : MarksFit g.base.entries g.entries mss
   pub events_are : s.events ≡ entry_count (history g)
   pub starts_are : s.starts ≡ started_count (history g)
 
--- so is some gate that the lock kept
-abbrev pub SettlesSome : List (List Mark) → Settled → Type 0
-SettlesSome mss s = (g : Gate) × IsSettled g mss s
+-- why it is not: StillOut, where something is out; Mismatch, where the receipts are not its history
+abbrev pub IsUnsettled : Gate → List (List Mark) → SettleFault → Type 0
+IsUnsettled g mss StillOut = NothingOut (history g) → ⊥
+IsUnsettled g mss Mismatch = NothingOut (history g) × (MarksFit g.base.entries g.entries mss → ⊥)
+IsUnsettled g mss NoMemory = NothingOut (history g)
+
+-- the settlement of a gate
+abbrev pub Settles : Gate → List (List Mark) → Result Settled SettleFault → Type 0
+Settles g mss (Ok s) = IsSettled g mss s
+Settles g mss (Err fault) = IsUnsettled g mss fault
+
+-- that of some gate that the lock kept, whose history is legal and whole
+abbrev pub SettlesSome : List (List Mark) → Result Settled SettleFault → Type 0
+SettlesSome mss result = (g : Gate) × (HasLegalHistory g × (g.base ≡ empty_base) × Settles g mss result)

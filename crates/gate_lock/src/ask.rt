@@ -9,10 +9,10 @@ ghost use Rattle.gate_lock.specs.Steps.{DeskAsks, Somewhere};
 use crate::desk::Desk;
 use crate::ledgers::Gate;
 use crate::lock::Held;
-use crate::mark::{Deed, Mark};
+use crate::mark::Mark;
 use crate::tokens::Permit;
 use gate_core::{AskRefusal, Judged};
-use gate_history::FetchText;
+use gate_history::{Entry, FetchText};
 use path_normal::PageUrl;
 use robots_text::Token;
 use robots_verdict::with_index;
@@ -51,9 +51,7 @@ impl<'a, G: Gate> Desk<'a, G> {
         };
         let judged = Judged::new(policy, token, url);
         let mut held = gate.lend_from(rt, self.seen);
-        let result = self.ask_in(&mut held, judged, moment);
-        gate.tell();
-        result
+        self.ask_in(&mut held, judged, moment)
     }
 
     /// Asks for a permit while the lock is held. Room is made for the marks of its start and its end,
@@ -80,7 +78,7 @@ impl<'a, G: Gate> Desk<'a, G> {
             Ok((number, one)) => {
                 self.permits += 1;
                 let last = round.last();
-                self.marks.push_reserved(last.mark(Deed::Granted {
+                self.marks.push_reserved(last.mark(Entry::Granted {
                     moment: last.moment,
                     number,
                     fetch,
@@ -89,13 +87,13 @@ impl<'a, G: Gate> Desk<'a, G> {
                     number,
                     token,
                     url,
-                    desk: self.no,
+                    desk: self.mine.no,
                     one,
                 })
             }
             Err(AskRefusal::Denied(denial)) => {
                 let last = round.last();
-                self.marks.push_reserved(last.mark(Deed::AskDenied {
+                self.marks.push_reserved(last.mark(Entry::AskDenied {
                     moment: last.moment,
                     fetch,
                     cause: denial.cause,

@@ -20,7 +20,6 @@ use std::sync::Wait;
 #[must_use]
 pub struct Desk<'a, G: Gate> {
     pub(crate) gate: &'a GateLock<G>,
-    pub(crate) no: u64,
     pub(crate) seen: u64,
     pub(crate) permits: u64,
     pub(crate) runs: u64,
@@ -37,7 +36,7 @@ impl<'a, G: Gate> Model for Desk<'a, G> {
     ghost Value = { DeskView };
 
     ghost view = { λ desk. record {
-      no = desk.no;
+      no = desk.mine.no;
       seen = desk.seen;
       permits = desk.permits;
       runs = desk.runs;
@@ -46,7 +45,7 @@ impl<'a, G: Gate> Model for Desk<'a, G> {
     } };
 
     ghost invariant = { λ desk. IsDesk (record {
-      no = desk.no;
+      no = desk.mine.no;
       seen = desk.seen;
       permits = desk.permits;
       runs = desk.runs;
@@ -62,10 +61,9 @@ impl<G: Gate> GateLock<G> {
         ensures out { IfOk result (λ desk. out_of desk ≡ 0) }
     {
         let mut held = self.lend(rt);
-        let (no, mine) = held.guard.desk()?;
+        let mine = held.guard.desk()?;
         Ok(Desk {
             gate: self,
-            no,
             seen: held.guard.entry_count(),
             permits: 0,
             runs: 0,
@@ -81,7 +79,7 @@ impl<'a, G: Gate> Desk<'a, G> {
     pub fn no(&self) -> u64
         ensures { result ≡ self.now.no }
     {
-        self.no
+        self.mine.no
     }
 
     /// How many entries it made.
@@ -121,7 +119,6 @@ impl<'a, G: Gate> Desk<'a, G> {
     {
         let Desk {
             gate: _,
-            no: _,
             seen: _,
             permits: _,
             runs: _,

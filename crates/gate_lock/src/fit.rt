@@ -1,11 +1,10 @@
 //! `marks_fit`: whether the marks of receipts are a history.
 //! Each mark is compared with its entry, and each place is found once.
 ghost use Rattle.std.specs.Prelude.{◌≡◌, ◌+◌, ◌^◌, ◌<◌, ◌↔◌, ◌==◌, IfOk, IsTrue, false, length, nat_lt, true, ℕ};
-ghost use Rattle.gate_lock.specs.Marks.{deed_of};
 ghost use Rattle.gate_lock.specs.Settling.{AreEntries, Ascend, EachFits, EachOnce, IsBefore, IsEntryAt, MarksFit, TooOften, found_at, one_if, times_in, times_in_all};
 
 use crate::ledgers::Gate;
-use crate::mark::{Deed, Mark};
+use crate::mark::Mark;
 use crate::receipts::Receipts;
 use gate_history::Entry;
 use std::alloc::{AllocError, Global};
@@ -89,101 +88,8 @@ fn is_entry(sealed: u64, history: &[Entry], mark: &Mark) -> bool
         return true;
     }
     match history.get((mark.place - sealed) as usize) {
-        Some(entry) => is_deed_of(&mark.deed, entry),
+        Some(entry) => mark.entry.is(entry),
         None => false,
-    }
-}
-
-// Whether the deed is what a desk keeps of the entry.
-fn is_deed_of(deed: &Deed, entry: &Entry) -> bool
-    ensures { IsTrue result ↔ (deed.now ≡ deed_of entry.now) }
-{
-    match (deed, entry) {
-        (
-            Deed::Begun {
-                moment,
-                authority,
-                turn,
-            },
-            Entry::Begun {
-                moment: m,
-                authority: a,
-                turn: t,
-            },
-        ) => moment == m && authority == a && turn == t,
-        (
-            Deed::Arrived {
-                moment,
-                turn,
-                says,
-                life,
-            },
-            Entry::Arrived {
-                moment: m,
-                authority: _,
-                turn: t,
-                says: s,
-                life: l,
-            },
-        ) => moment == m && turn == t && says == s && life == l,
-        (
-            Deed::Granted {
-                moment,
-                number,
-                fetch,
-            },
-            Entry::Granted {
-                moment: m,
-                number: n,
-                fetch: f,
-            },
-        ) => moment == m && number == n && fetch.token() == f.token() && fetch.url() == f.url(),
-        (
-            Deed::AskDenied {
-                moment,
-                fetch,
-                cause,
-            },
-            Entry::AskDenied {
-                moment: m,
-                fetch: f,
-                cause: c,
-            },
-        ) => moment == m && fetch.token() == f.token() && fetch.url() == f.url() && cause == c,
-        (
-            Deed::Started {
-                moment,
-                number,
-                reason,
-            },
-            Entry::Started {
-                moment: m,
-                number: n,
-                reason: r,
-            },
-        ) => moment == m && number == n && reason == r,
-        (
-            Deed::StartDenied {
-                moment,
-                number,
-                cause,
-            },
-            Entry::StartDenied {
-                moment: m,
-                number: n,
-                cause: c,
-            },
-        ) => moment == m && number == n && cause == c,
-        (Deed::Returned { number }, Entry::Returned { number: n }) => number == n,
-        (Deed::Finished { number }, Entry::Finished { number: n }) => number == n,
-        (
-            Deed::Swept { moment, count },
-            Entry::Swept {
-                moment: m,
-                count: c,
-            },
-        ) => { moment == m && count == c }
-        _ => false,
     }
 }
 

@@ -1,9 +1,9 @@
 //! The lock of a gate, and the hold of it that can be lent.
 //! Each call here takes the one lock once; none fetches or matches under it.
-ghost use Rattle.std.specs.Prelude.{◌≡◌, ◌<◌, ◌≤◌, [], false, true};
+ghost use Rattle.std.specs.Prelude.{◌≡◌, ◌<◌, ◌≤◌, [], false, length, true};
 ghost use Rattle.gate_history.specs.Base.{empty_base};
 ghost use Rattle.gate_history.specs.History.{entry_count};
-ghost use Rattle.gate_history.specs.Outstanding.{is_running, is_unspent, stands};
+ghost use Rattle.gate_history.specs.Outstanding.{is_running, is_unspent, stands, unspent};
 ghost use Rattle.gate_history.specs.Standing.{has_turn, is_fetching};
 ghost use Rattle.gate_core.specs.Gate.{HasLegalHistory, history};
 
@@ -21,7 +21,7 @@ use std::sync::{Arc, Condvar, Mutex, MutexGuard, Wait};
 #[derive(Drop)]
 pub struct GateLock<G: Gate> {
     round: Mutex<Round<G>>,
-    // Told of each entry: whoever waits for one looks again.
+    // Told of each answer that arrives: whoever waits until a turn is over looks again.
     moved: Condvar,
 }
 
@@ -47,15 +47,25 @@ impl<'a, G: Gate> Model for Held<'a, G> {
 }
 
 impl<'a, G: Gate> Held<'a, G> {
-    /// The book.
+    /// The book. Its history begins with nothing.
     pub fn book(&self) -> &Book
         ensures value { result.now ≡ self.now }
+        ensures base { self.now.base ≡ empty_base }
         ensures legal { HasLegalHistory self.now }
     {
         let book = self.guard.book();
         let _legal = book.history();
         book
     }
+}
+
+/// A permit shows that one is unspent in the gate that made it, whatever else is known of that gate: while it
+/// is kept, the gate can't be settled. Neither changes.
+pub fn vouch<G: Gate>(held: &mut Held<'_, G>, permit: &mut Permit<G>)
+    ensures same { (held.new ≡ held.old) × (permit.new ≡ permit.old) }
+    ensures some { 0 < length (unspent (history held.old)) }
+{
+    held.guard.vouch(&mut permit.one);
 }
 
 impl<G: Gate> GateLock<G> {
@@ -73,7 +83,8 @@ impl<G: Gate> GateLock<G> {
 
     /// The lock, until it is dropped. Whoever has it must not take it again.
     pub fn lend<R: Wait>(&self, rt: &R) -> Held<'_, G>
-        ensures { HasLegalHistory result }
+        ensures legal { HasLegalHistory result }
+        ensures base { result.base ≡ empty_base }
     {
         let held = Held {
             guard: self.round.lock(rt),
@@ -216,7 +227,7 @@ impl<G: Gate> GateLock<G> {
         self.round.lock(rt).book().hint(authority, moment)
     }
 
-    // Wakes all that wait for an entry.
+    // Wakes all that wait until a turn is over.
     pub(crate) fn tell(&self) {
         self.moved.notify_all();
     }

@@ -9,8 +9,8 @@ ghost use Rattle.gate_lock.specs.Steps.{DeskReads, DeskSweeps, Somewhere};
 use crate::desk::Desk;
 use crate::ledgers::Gate;
 use crate::lock::Held;
-use crate::mark::Deed;
 use gate_core::{State, SweepRefusal};
+use gate_history::Entry;
 use std::sync::Wait;
 
 #[tactic(auto, using(std::proofs::lemmas::Grind::common_steps, crate::proofs::Starts::starts_in_push))]
@@ -23,9 +23,7 @@ impl<'a, G: Gate> Desk<'a, G> {
     {
         let gate = self.gate;
         let mut held = gate.lend_from(rt, self.seen);
-        let result = self.sweep_in(&mut held, moment);
-        gate.tell();
-        result
+        self.sweep_in(&mut held, moment)
     }
 
     /// Drops them while the lock is held.
@@ -44,7 +42,7 @@ impl<'a, G: Gate> Desk<'a, G> {
         match result {
             Ok(count) => {
                 let last = round.last();
-                self.marks.push_reserved(last.mark(Deed::Swept {
+                self.marks.push_reserved(last.mark(Entry::Swept {
                     moment: last.moment,
                     count,
                 }));

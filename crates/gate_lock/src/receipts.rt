@@ -7,8 +7,8 @@ use crate::mark::Mark;
 use crate::shares::Mine;
 use std::marker::Model;
 
-/// The marks of a desk that was closed, the oldest first.
-#[derive(Drop)]
+/// The marks of a desk that was closed, the oldest first. Whoever drops them lets the marks go: the gate can't be
+/// settled any more.
 pub struct Receipts<G: Gate> {
     pub(crate) marks: Vec<Mark>,
     pub(crate) mine: Mine<G>,
@@ -25,6 +25,17 @@ impl<G: Gate> Model for Receipts<G> {
 
     ghost invariant = { λ receipts. (receipts.mine.entries ≡ length receipts.marks.items)
         × (receipts.mine.starts ≡ starts_in receipts.marks.items) };
+}
+
+impl<G: Gate> Drop for Receipts<G> {
+    fn drop(self) {
+        let Receipts { marks: _, mine } = self;
+        let Mine {
+            no: _,
+            entries: _,
+            starts: _,
+        } = mine;
+    }
 }
 
 impl<G: Gate> Receipts<G> {

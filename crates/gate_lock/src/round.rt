@@ -1,10 +1,10 @@
 //! What lies under the lock: the book, and the ledgers that count what is out.
 //! Each change is one call of the book with the shares that it moves; RFC 9309, sections 2.3.1 and 2.4.
-ghost use Rattle.std.specs.Prelude.{◌≡◌, ◌+◌, ◌<◌, ◌≤◌, ◌↔◌, [], Err, IfOk, IfSome, IsTrue, Ok, true, false};
+ghost use Rattle.std.specs.Prelude.{◌≡◌, ◌+◌, ◌<◌, ◌≤◌, ◌↔◌, [], Err, IfOk, IfSome, IsTrue, length, Ok, true, false};
 ghost use Rattle.robots_verdict.specs.Answer.{said, spares_of};
 ghost use Rattle.gate_history.specs.Base.{empty_base};
 ghost use Rattle.gate_history.specs.History.{entry_count, moment_of};
-ghost use Rattle.gate_history.specs.Outstanding.{is_running, is_unspent, stands};
+ghost use Rattle.gate_history.specs.Outstanding.{is_running, is_unspent, stands, unspent};
 ghost use Rattle.gate_history.specs.Standing.{has_turn};
 ghost use Rattle.gate_core.specs.Gate.{HasRoom, history};
 ghost use Rattle.gate_core.specs.Judged.{IsRuling};
@@ -13,7 +13,7 @@ ghost use Rattle.gate_lock.specs.Balance.{nothing};
 ghost use Rattle.gate_lock.specs.Results.{IsLast, entries_of_ask, entries_of_ok, is_denial, reply_in};
 
 use crate::ledgers::{Gate, RunningLedger, TurnLedger, UnspentLedger};
-use crate::mark::{Deed, Mark};
+use crate::mark::Mark;
 use crate::shares::{Mine, One};
 use crate::tally::{DesksFull, Tally};
 use authority_cache::TurnNo;
@@ -34,13 +34,13 @@ pub(crate) struct Last {
 }
 
 impl Last {
-    // What a desk keeps of it.
-    pub fn mark(self, deed: Deed) -> Mark
-        ensures { result ≡ record { place = self.place; deed = deed } }
+    // What a desk keeps of that entry.
+    pub fn mark(self, entry: Entry) -> Mark
+        ensures { result ≡ record { place = self.place; entry = entry } }
     {
         Mark {
             place: self.place,
-            deed,
+            entry,
         }
     }
 }
@@ -53,14 +53,14 @@ pub(crate) struct Round<G: Gate> {
 }
 
 impl<G: Gate> Model for Round<G> {
-    ghost use Rattle.gate_core.specs.Gate.{Gate, history};
-    ghost use Rattle.gate_lock.specs.Balance.{IsBalanceOf};
+    ghost use Rattle.gate_core.specs.Gate.{Gate};
+    ghost use Rattle.gate_lock.specs.Balance.{IsRound};
 
     ghost Value = { Gate };
 
     ghost view = { λ round. round.book };
 
-    ghost invariant = { λ round. IsBalanceOf (history round.book) round.tally };
+    ghost invariant = { λ round. IsRound round.book round.tally };
 }
 
 impl<G: Gate> Round<G> {
@@ -75,15 +75,16 @@ impl<G: Gate> Round<G> {
 
     // The book.
     pub fn book(&self) -> &Book
-        ensures { result.now ≡ self.now }
+        ensures value { result.now ≡ self.now }
+        ensures base { self.now.base ≡ empty_base }
     {
         &self.book
     }
 
     // The shares of one more desk.
-    pub fn desk(&mut self) -> Result<(u64, Mine<G>), DesksFull>
+    pub fn desk(&mut self) -> Result<Mine<G>, DesksFull>
         ensures same { self.new ≡ self.old }
-        ensures share { IfOk result (λ desk. desk.1 ≡ record { entries = 0; starts = 0 }) }
+        ensures share { IfOk result (λ mine. mine ≡ record { no = mine.no; entries = 0; starts = 0 }) }
     {
         self.tally.desk()
     }
@@ -133,7 +134,7 @@ impl<G: Gate> Round<G> {
         requires stands { stands (history self.old) number token.now url ≡ true }
         requires ruled { IfSome ruling (λ ruling. IsRuling token.now url ruling.now) }
         ensures reply { Starts self.old number token.now url moment (reply_in result) self.new }
-        ensures share { mine.new ≡ record {
+        ensures share { mine.new ≡ record mine.old {
           entries = mine.old.entries + 1;
           starts = mine.old.starts + entries_of_ok result;
         } }
@@ -254,6 +255,14 @@ impl<G: Gate> Round<G> {
         }
     }
 
+    // The share of a permit shows that a permit is unspent.
+    pub fn vouch(&mut self, one: &mut One<UnspentLedger<G>>)
+        ensures same { self.new ≡ self.old }
+        ensures some { 0 < length (unspent (history self.old)) }
+    {
+        self.tally.vouch(one);
+    }
+
     // How many entries the history has, from the first one ever.
     pub fn entry_count(&self) -> u64
         ensures { result ≡ entry_count (history self.now) }
@@ -276,24 +285,12 @@ impl<G: Gate> Round<G> {
         }
     }
 
-    // Whether so many more entries fit under the limit of the log.
-    fn has_room(&self, more: u64) -> bool
-        requires { more ≤ 3 }
-        ensures { IsTrue result ↔ HasRoom self.now more }
-    {
-        let book = &self.book;
-        let limits = book.limits();
-        let entries = book.history().len() as u64;
-        let promised = book.flight_count() + 2 * book.unspent_count() + book.running_count();
-        entries + promised + more <= limits.log_limit
-    }
-
     // What an ask is answered for which memory was refused before it was made.
     pub fn refuse_ask(&self, judged: &Judged, moment: u64) -> AskRefusal
         ensures reply { Asks self.now judged.now.token judged.now.url moment (Err result) self.now }
         ensures no_entry { is_denial result ≡ false }
     {
-        if self.has_room(3) {
+        if self.book.has_room(3) {
             return AskRefusal::NoMemory;
         }
         AskRefusal::LogFull
@@ -306,7 +303,7 @@ impl<G: Gate> Round<G> {
         if self.book.is_fetching(authority.text()) {
             return BeginRefusal::InFlight;
         }
-        if self.has_room(2) {
+        if self.book.has_room(2) {
             return BeginRefusal::NoMemory;
         }
         BeginRefusal::LogFull
@@ -316,7 +313,7 @@ impl<G: Gate> Round<G> {
     pub fn refuse_sweep(&self, moment: u64) -> SweepRefusal
         ensures { Sweeps self.now moment (Err result) self.now }
     {
-        if self.has_room(1) {
+        if self.book.has_room(1) {
             return SweepRefusal::NoMemory;
         }
         SweepRefusal::LogFull

@@ -1,11 +1,12 @@
 //! `settle`: the end of a gate, when all its desks are closed.
 //! Nothing is out, and the receipts are the whole history; RFC 9309 has none of it.
 ghost use Rattle.std.specs.Prelude.{◌≡◌, IfOk};
-ghost use Rattle.gate_lock.specs.Settling.{SettlesSome};
+ghost use Rattle.gate_lock.specs.Marks.{starts_in_all};
+ghost use Rattle.gate_lock.specs.Settling.{Settles, SettlesSome};
 
 use crate::fit::marks_fit;
 use crate::ledgers::Gate;
-use crate::lock::GateLock;
+use crate::lock::{GateLock, Held};
 use crate::receipts::Receipts;
 use std::alloc::{AllocError, Global};
 use std::sync::Wait;
@@ -49,9 +50,22 @@ pub fn settle<G: Gate, R: Wait>(
     gate: &GateLock<G>,
     all: &[Receipts<G>],
 ) -> Result<Settled, SettleFault>
-    ensures { IfOk result (SettlesSome all.now) }
+    ensures settles { SettlesSome all.now result }
+    ensures starts { IfOk result (λ settled. settled.starts ≡ starts_in_all all.now) }
 {
     let held = gate.lend(rt);
+    settle_in(alloc, &held, all)
+}
+
+/// Settles the gate whose lock is held.
+pub fn settle_in<G: Gate>(
+    alloc: Global,
+    held: &Held<'_, G>,
+    all: &[Receipts<G>],
+) -> Result<Settled, SettleFault>
+    ensures settles { Settles held.now all.now result }
+    ensures starts { IfOk result (λ settled. settled.starts ≡ starts_in_all all.now) }
+{
     let book = held.book();
     if book.unspent_count() > 0 || book.running_count() > 0 || book.flight_count() > 0 {
         return Err(SettleFault::StillOut);

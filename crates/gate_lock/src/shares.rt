@@ -5,8 +5,7 @@ use crate::ledgers::{EntryLedger, Gate, StartLedger};
 use std::marker::Model;
 use std::sync::ledger::{Ledger, Share};
 
-// The share of a value that must be spent: it counts for one.
-#[derive(Drop)]
+// The share of a value that must be spent: it counts for one. It has no `Drop`, so that none is lost.
 pub(crate) struct One<L: Ledger> {
     pub share: Share<L>,
 }
@@ -21,9 +20,10 @@ impl<L: Ledger> Model for One<L> {
     ghost invariant = { λ one. (one.share.amount ≡ 1) × (one.share.parts ≡ 1) };
 }
 
-// The shares of a desk. A clause sees how many entries and started fetches they count.
-#[derive(Drop)]
+// The shares of a desk, with the number that it got with them. A clause sees how many entries and started
+// fetches they count. They have no `Drop`: what is made of a book by a desk must be seen in its marks.
 pub(crate) struct Mine<G: Gate> {
+    pub no: u64,
     pub entries: Share<EntryLedger<G>>,
     pub starts: Share<StartLedger<G>>,
 }
@@ -34,7 +34,11 @@ impl<G: Gate> Model for Mine<G> {
 
     ghost Value = { Shares };
 
-    ghost view = { λ mine. record { entries = mine.entries.amount; starts = mine.starts.amount } };
+    ghost view = { λ mine. record {
+      no = mine.no;
+      entries = mine.entries.amount;
+      starts = mine.starts.amount;
+    } };
 
     ghost invariant = { λ mine. (mine.entries.parts ≡ 1) × (mine.starts.parts ≡ 1) };
 }

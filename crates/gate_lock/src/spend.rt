@@ -1,6 +1,7 @@
 //! `Desk::start`, `back` and `finish`: how a permit and a fetch are spent. None takes memory or is refused.
 //! RFC 9309, section 2.4.
-ghost use Rattle.std.specs.Prelude.{◌≡◌, ◌<◌, ◌≤◌, IfOk, IfSome, OnErr, true};
+ghost use Rattle.std.specs.Prelude.{◌≡◌, ◌≢◌, ◌<◌, ◌≤◌, IfErr, IfOk, IfSome, OnErr, true};
+ghost use Rattle.gate_history.specs.declared.outcome.Cause.TheVariants.{Spent};
 ghost use Rattle.gate_history.specs.History.{entry_count};
 ghost use Rattle.gate_history.specs.Outstanding.{is_running, is_unspent, stands};
 ghost use Rattle.gate_core.specs.Gate.{history};
@@ -11,9 +12,9 @@ ghost use Rattle.gate_lock.specs.Steps.{DeskFinishes, DeskReturns, DeskStarts, S
 use crate::desk::Desk;
 use crate::ledgers::Gate;
 use crate::lock::Held;
-use crate::mark::Deed;
 use crate::tokens::{Fetched, Permit, Running};
 use gate_core::{Denial, Ruling};
+use gate_history::Entry;
 use std::sync::Wait;
 
 #[tactic(auto, using(std::proofs::lemmas::Grind::common_steps, crate::proofs::Starts::starts_in_push))]
@@ -32,14 +33,13 @@ impl<'a, G: Gate> Desk<'a, G> {
         ensures no { self.new.no ≡ self.old.no }
         ensures ok { IfOk result (λ r. (r.pass ≡ permit) × HasOut self.old self.new 0 1 1 0 0 0) }
         ensures err { OnErr result (HasOut self.old self.new 0 1 0 0 0 0) }
+        ensures cause { IfErr result (λ denial. denial.cause ≢ Spent) }
     {
         let gate = self.gate;
         let policy = gate.hint(rt, permit.url.authority(), moment);
         let ruling = Ruling::of(policy, &permit.token, &permit.url);
         let mut held = gate.lend_permit(rt, self.seen, self.permits, &permit);
-        let result = self.start_in(&mut held, permit, ruling.as_ref(), moment);
-        gate.tell();
-        result
+        self.start_in(&mut held, permit, ruling.as_ref(), moment)
     }
 
     /// Gives a permit of this desk back.
@@ -52,7 +52,6 @@ impl<'a, G: Gate> Desk<'a, G> {
         let gate = self.gate;
         let mut held = gate.lend_unspent(rt, self.seen, self.permits, permit.number);
         self.back_in(&mut held, permit);
-        gate.tell();
     }
 
     /// Ends a fetch that this desk started.
@@ -65,7 +64,6 @@ impl<'a, G: Gate> Desk<'a, G> {
         let gate = self.gate;
         let mut held = gate.lend_running(rt, self.seen, self.runs, fetched.number);
         self.finish_in(&mut held, fetched);
-        gate.tell();
     }
 
     fn start_in(
@@ -97,7 +95,7 @@ impl<'a, G: Gate> Desk<'a, G> {
         let (started, one) = match result {
             Ok(both) => both,
             Err(denial) => {
-                self.marks.push_reserved(last.mark(Deed::StartDenied {
+                self.marks.push_reserved(last.mark(Entry::StartDenied {
                     moment: last.moment,
                     number,
                     cause: denial.cause,
@@ -106,7 +104,7 @@ impl<'a, G: Gate> Desk<'a, G> {
             }
         };
         self.runs += 1;
-        self.marks.push_reserved(last.mark(Deed::Started {
+        self.marks.push_reserved(last.mark(Entry::Started {
             moment: last.moment,
             number,
             reason: started.reason,
@@ -140,7 +138,7 @@ impl<'a, G: Gate> Desk<'a, G> {
         self.permits -= 1;
         let last = round.last();
         self.marks
-            .push_reserved(last.mark(Deed::Returned { number }));
+            .push_reserved(last.mark(Entry::Returned { number }));
     }
 
     fn finish_in(&mut self, held: &mut Held<'_, G>, fetched: Fetched<G>)
@@ -162,6 +160,6 @@ impl<'a, G: Gate> Desk<'a, G> {
         self.runs -= 1;
         let last = round.last();
         self.marks
-            .push_reserved(last.mark(Deed::Finished { number }));
+            .push_reserved(last.mark(Entry::Finished { number }));
     }
 }

@@ -89,10 +89,9 @@ impl<G: Gate> Tally<G> {
     }
 
     // The shares of one more desk, which is numbered from 1.
-    pub fn desk(&mut self) -> Result<(u64, Mine<G>), DesksFull>
-        ensures ok { IfOk result (λ desk. (desk.0 ≡ self.old.desks + 1)
-            × (self.new ≡ record self.old { desks = self.old.desks + 1 })
-            × (desk.1 ≡ record { entries = 0; starts = 0 })) }
+    pub fn desk(&mut self) -> Result<Mine<G>, DesksFull>
+        ensures ok { IfOk result (λ mine. (mine ≡ record { no = self.old.desks + 1; entries = 0; starts = 0 })
+            × (self.new ≡ record self.old { desks = self.old.desks + 1 })) }
         ensures full { OnErr result ((self.old.desks ≡ most_desks) × (self.new ≡ self.old)) }
     {
         if self.desks >= MAX_DESKS {
@@ -101,7 +100,11 @@ impl<G: Gate> Tally<G> {
         self.desks += 1;
         let entries = self.entry_parts.split_off(1, 0);
         let starts = self.start_parts.split_off(1, 0);
-        Ok((self.desks, Mine { entries, starts }))
+        Ok(Mine {
+            no: self.desks,
+            entries,
+            starts,
+        })
     }
 
     // One more entry, which a desk made.
@@ -120,6 +123,14 @@ impl<G: Gate> Tally<G> {
         let mut share = self.unspent_parts.split_off(1, 0);
         self.unspent.add(&mut share, 1);
         One { share }
+    }
+
+    // A share of an unspent permit shows that one is counted.
+    pub fn vouch(&mut self, one: &mut One<UnspentLedger<G>>)
+        ensures same { self.new ≡ self.old }
+        ensures some { 0 < self.old.unspent }
+    {
+        self.unspent.audit(&mut one.share);
     }
 
     // One unspent permit less, whose share comes back.

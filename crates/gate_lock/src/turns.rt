@@ -11,10 +11,11 @@ ghost use Rattle.gate_lock.specs.Steps.{DeskArrives, DeskBegins, Somewhere};
 use crate::desk::Desk;
 use crate::ledgers::Gate;
 use crate::lock::Held;
-use crate::mark::{Deed, Mark};
+use crate::mark::Mark;
 use crate::tokens::RobotsTurn;
 use authority_cache::life_of;
 use gate_core::BeginRefusal;
+use gate_history::Entry;
 use path_normal::Authority;
 use robots_verdict::Answer;
 use std::alloc::AllocError;
@@ -37,9 +38,7 @@ impl<'a, G: Gate> Desk<'a, G> {
     {
         let gate = self.gate;
         let mut held = gate.lend_from(rt, self.seen);
-        let result = self.begin_in(&mut held, authority, moment);
-        gate.tell();
-        result
+        self.begin_in(&mut held, authority, moment)
     }
 
     /// Begins a fetch of the authority's robots file while the lock is held. Room is made for the mark
@@ -65,7 +64,7 @@ impl<'a, G: Gate> Desk<'a, G> {
             Ok((turn, one)) => {
                 self.turns += 1;
                 let last = round.last();
-                self.marks.push_reserved(last.mark(Deed::Begun {
+                self.marks.push_reserved(last.mark(Entry::Begun {
                     moment: last.moment,
                     authority: named,
                     turn,
@@ -73,7 +72,7 @@ impl<'a, G: Gate> Desk<'a, G> {
                 Ok(RobotsTurn {
                     authority: kept,
                     turn,
-                    desk: self.no,
+                    desk: self.mine.no,
                     one,
                 })
             }
@@ -139,8 +138,9 @@ impl<'a, G: Gate> Desk<'a, G> {
         self.seen = round.entry_count();
         self.turns -= 1;
         let last = round.last();
-        self.marks.push_reserved(last.mark(Deed::Arrived {
+        self.marks.push_reserved(last.mark(Entry::Arrived {
             moment: last.moment,
+            authority,
             turn,
             says,
             life: kept,

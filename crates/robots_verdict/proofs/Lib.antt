@@ -3,10 +3,12 @@
 pub mod Weighing
 pub mod OneVerdict
 pub mod Walking
+pub mod Parts
 pub mod RowLemmas
 pub mod HeadLemmas
 pub mod Verdicts
 pub mod Rewriting
+pub mod Forms
 pub mod Readings
 pub mod Begins
 pub mod Spelling

@@ -5,7 +5,9 @@ use Rattle.std.specs.Prelude.{bytes_eq, if◌then◌else◌}
 use Rattle.std.specs.List.Sorted.{IsNonDecreasing}
 use Rattle.std.proofs.lemmas.List.Elements.{All-tail, Contains-append_cases, Contains-append_left, Contains-append_right}
 use Rattle.std.proofs.lemmas.Slice.Eq.{bytes_eq-Decides}
-use Rattle.path_normal.specs.Normal.{normal_pattern}
+use Rattle.path_normal.specs.Normal.{is_anchored, normal_pattern}
+use Rattle.path_normal.proofs.NormalLemmas.{pattern_small}
+use Rattle.robots_text.specs.declared.record.RuleKind.{RuleKind}
 use Rattle.robots_text.specs.Grouped.{Grouped, grouped_from, grouped_records, IsWithin, value_octets, values_octets}
 use Rattle.robots_text.specs.Grouping.{begins_behind, group_at}
 use Rattle.robots_text.specs.Groups.{record_ruled, Ruled}
@@ -13,77 +15,108 @@ use Rattle.robots_text.specs.Records.{Record, agent, rule, other, Numbered, numb
 use Rattle.robots_text.proofs.GroupLaws.{grouped_stands, numbered_stands}
 use Rattle.robots_text.proofs.LineEntries.{at, behind, entry_of, first_of, late_from, none_of, numbered_above}
 use Rattle.robots_verdict.specs.Placed.{Placed, placed_at, placed_in}
-use Rattle.robots_verdict.specs.Rewritten.{rewritten_at, rewritten_in}
-use Rattle.robots_verdict.proofs.Verdicts.{grouped, of_line, placed}
+use Rattle.robots_verdict.specs.Rewritten.{FormOfLine, rewritten_at, rewritten_in}
+use Rattle.robots_verdict.proofs.Verdicts.{grouped, of_line}
 
 -- what was read, with what is left, makes up the whole; and there is room for its octets
-pub record IsRewriting (all left : List Grouped) (rows : List Placed) (octets : ℕ) : Type 0 where
-  pub rows_are : rows ++ rewritten_in left ≡ rewritten_in all
+pub record IsRewriting (all left : List Grouped) (forms : List FormOfLine) (octets : ℕ) : Type 0 where
+  pub forms_are : forms ++ rewritten_in left ≡ rewritten_in all
   pub small : octets + 3 * values_octets left ≤ 1536000
   pub within : All (IsWithin 512000) left
 
-pub read_one : (all left : List Grouped) (first : Grouped) (rows rows' : List Placed) (octets octets' : ℕ) → IsRewriting all (first ∷ left) rows octets →
-    rows' ≡ rows ++ rewritten_at first.group first.line first.kind → octets' ≤ octets + 3 * value_octets first.kind → IsRewriting all left rows' octets'
-read_one all left first rows rows' octets octets' reading more few = record {
-  rows_are = ap (λ (l : List Placed). l ++ rewritten_in left) more ∙ append_assoc rows (rewritten_at first.group first.line first.kind) (rewritten_in left) ∙ reading.rows_are;
+pub read_one : (all left : List Grouped) (first : Grouped) (forms forms' : List FormOfLine) (octets octets' : ℕ) → IsRewriting all (first ∷ left) forms octets →
+    forms' ≡ forms ++ rewritten_at first.line first.kind → octets' ≤ octets + 3 * value_octets first.kind → IsRewriting all left forms' octets'
+read_one all left first forms forms' octets octets' reading more few = record {
+  forms_are = ap (λ (l : List FormOfLine). l ++ rewritten_in left) more ∙ append_assoc forms (rewritten_at first.line first.kind) (rewritten_in left) ∙ reading.forms_are;
   small = let before = reading.small in omega arith;
   within = All-tail (IsWithin 512000) first left reading.within;
 }
 
--- ---- each is one of the rule lines
+-- a form that was made in empty memory is at most three times as long as its pattern
+pub made_small : (cleared new made pattern : List ℕ) (rule_kind : RuleKind) (kind : Record) → cleared ≡ [] → new ≡ cleared ++ normal_pattern pattern → made ≡ new →
+    kind ≡ rule rule_kind pattern → length made ≤ 3 * value_octets kind
+made_small cleared new made pattern rule_kind kind none is same kind_is =
+    let small = pattern_small (is_anchored pattern) pattern refl in
+    let form : made ≡ normal_pattern pattern = same ∙ is ∙ ap (λ (front : List ℕ). front ++ normal_pattern pattern) none in
+    omega (arith, small, ap length form, ap value_octets kind_is)
 
-if_not : (is : Bool) (rows : List Placed) (row : Placed) → Contains (if is then [] else rows) row → Contains rows row
-if_not true rows row stands = absurd (none_of row stands)
-if_not false rows row stands = stands
+-- ---- each is that of one of the rule lines
 
-within_at : (group line : ℕ) (kind : Record) (row : Placed) → Contains (rewritten_at group line kind) row → Contains (placed_at group line kind) row
-within_at group line (agent who) row stands = stands
-within_at group line (rule kind value) row stands = if_not (bytes_eq (normal_pattern value) value) (placed_at group line (rule kind value)) row stands
-within_at group line other row stands = stands
+abbrev pub kept_of : Placed → FormOfLine
+kept_of row = record { line = row.line; form = row.form }
 
-pub within : (lines : List Grouped) (row : Placed) → Contains (rewritten_in lines) row → Contains (placed_in lines) row
-within [] row stands = stands
-within (first ∷ lines) row stands = elim (Contains-append_cases (rewritten_at first.group first.line first.kind) (rewritten_in lines) row stands) [
-  | inl here ↦ Contains-append_left (placed_at first.group first.line first.kind) (placed_in lines) row (within_at first.group first.line first.kind row here)
-  | inr rest ↦ Contains-append_right (placed_at first.group first.line first.kind) (placed_in lines) row (within lines row rest)
+-- the row of which the form is kept
+pub record IsOfRow (rows : List Placed) (form : FormOfLine) : Type 0 where
+  pub row : Placed
+  pub stands : Contains rows row
+  pub is : kept_of row ≡ form
+
+if_not : (is : Bool) (row : Placed) (form : FormOfLine) → Contains (if is then [] else kept_of row ∷ []) form → IsOfRow (row ∷ []) form
+if_not true row form stands = absurd (none_of form stands)
+if_not false row form stands = elim (entry_of (kept_of row) form [] stands) [
+  | inl is ↦ record { row = row; stands = first_of row []; is = is }
+  | inr rest ↦ absurd (none_of form rest)
+]
+
+within_at : (group line : ℕ) (kind : Record) (form : FormOfLine) → Contains (rewritten_at line kind) form → IsOfRow (placed_at group line kind) form
+within_at group line (agent who) form stands = absurd (none_of form stands)
+within_at group line (rule kind value) form stands =
+    if_not (bytes_eq (normal_pattern value) value) (record { group = group; line = line; kind = kind; form = normal_pattern value }) form stands
+within_at group line other form stands = absurd (none_of form stands)
+
+pub within : (lines : List Grouped) (form : FormOfLine) → Contains (rewritten_in lines) form → IsOfRow (placed_in lines) form
+within [] form stands = absurd (none_of form stands)
+within (first ∷ lines) form stands = elim (Contains-append_cases (rewritten_at first.line first.kind) (rewritten_in lines) form stands) [
+  | inl here ↦ (
+      let one = within_at first.group first.line first.kind form here in
+      record { row = one.row; stands = Contains-append_left (placed_at first.group first.line first.kind) (placed_in lines) one.row one.stands; is = one.is }
+      )
+  | inr rest ↦ (
+      let one = within lines form rest in
+      record { row = one.row; stands = Contains-append_right (placed_at first.group first.line first.kind) (placed_in lines) one.row one.stands; is = one.is }
+      )
 ]
 
 -- ---- and each rule line whose pattern is written otherwise is there
 
-if_so : (is : Bool) (rows : List Placed) (row : Placed) → is ≡ false → Contains rows row → Contains (if is then [] else rows) row
-if_so true rows row not stands = absurd cc
-if_so false rows row not stands = stands
+abbrev pub form_of : Ruled → FormOfLine
+form_of ruled = record { line = ruled.line; form = normal_pattern ruled.pattern }
+
+if_so : (is : Bool) (form : FormOfLine) → is ≡ false → Contains (if is then [] else form ∷ []) form
+if_so true form not = absurd cc
+if_so false form not = first_of form []
 
 stands_here : (first : Grouped) (group : ℕ) (ruled : Ruled) → bytes_eq (normal_pattern ruled.pattern) ruled.pattern ≡ false → first ≡ grouped group ruled →
-    Contains (rewritten_at first.group first.line first.kind) (placed group ruled)
+    Contains (rewritten_at first.line first.kind) (form_of ruled)
 stands_here first group ruled not is =
-    subst (λ (o : Grouped). Contains (rewritten_at o.group o.line o.kind) (placed group ruled)) (sym is)
-    (if_so (bytes_eq (normal_pattern ruled.pattern) ruled.pattern) (placed group ruled ∷ []) (placed group ruled) not (first_of (placed group ruled) []))
+    subst (λ (o : Grouped). Contains (rewritten_at o.line o.kind) (form_of ruled)) (sym is) (if_so (bytes_eq (normal_pattern ruled.pattern) ruled.pattern) (form_of ruled) not)
 
 rewritten_stands : (lines : List Grouped) (group : ℕ) (ruled : Ruled) → bytes_eq (normal_pattern ruled.pattern) ruled.pattern ≡ false → Contains lines (grouped group ruled) →
-    Contains (rewritten_in lines) (placed group ruled)
+    Contains (rewritten_in lines) (form_of ruled)
 rewritten_stands [] group ruled not stands = absurd (none_of (grouped group ruled) stands)
 rewritten_stands (first ∷ lines) group ruled not stands = elim (entry_of first (grouped group ruled) lines stands) [
-  | inl is ↦ Contains-append_left (rewritten_at first.group first.line first.kind) (rewritten_in lines) (placed group ruled) (stands_here first group ruled not is)
-  | inr rest ↦ Contains-append_right (rewritten_at first.group first.line first.kind) (rewritten_in lines) (placed group ruled) (rewritten_stands lines group ruled not rest)
+  | inl is ↦ Contains-append_left (rewritten_at first.line first.kind) (rewritten_in lines) (form_of ruled) (stands_here first group ruled not is)
+  | inr rest ↦ Contains-append_right (rewritten_at first.line first.kind) (rewritten_in lines) (form_of ruled) (rewritten_stands lines group ruled not rest)
 ]
 
 -- ---- their numbers rise
 
-abbrev pub line_of : Placed → ℕ
-line_of row = row.line
+abbrev pub line_of : FormOfLine → ℕ
+line_of form = form.line
 
-above : (group : ℕ) (begins : Bool) (n : ℕ) (ks : List Record) (row : Placed) → Contains (rewritten_in (grouped_from group begins (numbered_from n ks))) row → n ≤ row.line
-above group begins n ks row stands =
-    let one = of_line (grouped_from group begins (numbered_from n ks)) row (within (grouped_from group begins (numbered_from n ks)) row stands) in
-    let low = numbered_above n ks (record_ruled one.ruled) (numbered_stands group begins n ks (grouped row.group one.ruled) one.stands) in
-    let same : one.ruled.line ≡ row.line = ap (λ (r : Placed). r.line) one.is in
+above : (group : ℕ) (begins : Bool) (n : ℕ) (ks : List Record) (form : FormOfLine) → Contains (rewritten_in (grouped_from group begins (numbered_from n ks))) form → n ≤ form.line
+above group begins n ks form stands =
+    let lines = grouped_from group begins (numbered_from n ks) in
+    let at = within lines form stands in
+    let one = of_line lines at.row at.stands in
+    let low = numbered_above n ks (record_ruled one.ruled) (numbered_stands group begins n ks (grouped at.row.group one.ruled) one.stands) in
+    let same : one.ruled.line ≡ form.line = ap (λ (r : Placed). r.line) one.is ∙ ap line_of at.is in
     omega (arith, low, same)
 
-all_above : (n : ℕ) (rows : List Placed) → ((row : Placed) → Contains rows row → n ≤ row.line) → (j d : ℕ) → j < length (map line_of rows) → n ≤ get_or (map line_of rows) j d
+all_above : (n : ℕ) (forms : List FormOfLine) → ((form : FormOfLine) → Contains forms form → n ≤ form.line) → (j d : ℕ) → j < length (map line_of forms) → n ≤ get_or (map line_of forms) j d
 all_above n [] low j d less = absurd (omega arith)
-all_above n (row ∷ rows) low zero d less = low row (first_of row rows)
-all_above n (row ∷ rows) low (suc j) d less = all_above n rows (λ one stands. low one (behind row one rows stands)) j d (omega arith)
+all_above n (form ∷ forms) low zero d less = low form (first_of form forms)
+all_above n (form ∷ forms) low (suc j) d less = all_above n forms (λ one stands. low one (behind form one forms stands)) j d (omega arith)
 
 onto : (n : ℕ) (xs : List ℕ) → ((j d : ℕ) → j < length xs → n ≤ get_or xs j d) → IsNonDecreasing xs → IsNonDecreasing (n ∷ xs)
 onto n xs low up zero zero d order less = omega arith
@@ -91,24 +124,23 @@ onto n xs low up zero (suc j) d order less = low j d (omega arith)
 onto n xs low up (suc i) zero d order less = absurd (omega arith)
 onto n xs low up (suc i) (suc j) d order less = up i j d (omega arith) (omega arith)
 
-onto_if : (is : Bool) (row : Placed) (rest : List Placed) → ((one : Placed) → Contains rest one → row.line ≤ one.line) → IsNonDecreasing (map line_of rest) →
-    IsNonDecreasing (map line_of ((if is then [] else row ∷ []) ++ rest))
-onto_if true row rest low up = up
-onto_if false row rest low up = onto row.line (map line_of rest) (all_above row.line rest low) up
+onto_if : (is : Bool) (form : FormOfLine) (rest : List FormOfLine) → ((one : FormOfLine) → Contains rest one → form.line ≤ one.line) → IsNonDecreasing (map line_of rest) →
+    IsNonDecreasing (map line_of ((if is then [] else form ∷ []) ++ rest))
+onto_if true form rest low up = up
+onto_if false form rest low up = onto form.line (map line_of rest) (all_above form.line rest low) up
 
-onto_at : (group line : ℕ) (kind : Record) (rest : List Placed) → ((one : Placed) → Contains rest one → line ≤ one.line) → IsNonDecreasing (map line_of rest) →
-    IsNonDecreasing (map line_of (rewritten_at group line kind ++ rest))
-onto_at group line (agent who) rest low up = up
-onto_at group line (rule kind value) rest low up =
-    onto_if (bytes_eq (normal_pattern value) value) (record { group = group; line = line; kind = kind; form = normal_pattern value }) rest low up
-onto_at group line other rest low up = up
+onto_at : (line : ℕ) (kind : Record) (rest : List FormOfLine) → ((one : FormOfLine) → Contains rest one → line ≤ one.line) → IsNonDecreasing (map line_of rest) →
+    IsNonDecreasing (map line_of (rewritten_at line kind ++ rest))
+onto_at line (agent who) rest low up = up
+onto_at line (rule kind value) rest low up = onto_if (bytes_eq (normal_pattern value) value) (record { line = line; form = normal_pattern value }) rest low up
+onto_at line other rest low up = up
 
 rises_from : (group : ℕ) (begins : Bool) (n : ℕ) (ks : List Record) → IsNonDecreasing (map line_of (rewritten_in (grouped_from group begins (numbered_from n ks))))
 rises_from group begins n [] = λ i j d order less. absurd (omega arith)
 rises_from group begins n (k ∷ ks) =
     let here = group_at group begins n k in
     let rest = rewritten_in (grouped_from here (begins_behind begins k) (numbered_from (n + 1) ks)) in
-    onto_at here n k rest (λ one stands. let low = above here (begins_behind begins k) (n + 1) ks one stands in omega (arith, low))
+    onto_at n k rest (λ one stands. let low = above here (begins_behind begins k) (n + 1) ks one stands in omega (arith, low))
     (rises_from here (begins_behind begins k) (n + 1) ks)
 
 pub rises : (text : List ℕ) → IsNonDecreasing (map line_of (rewritten_in (grouped_records text)))
@@ -135,21 +167,23 @@ value_of (rule kind value) = value
 value_of other = []
 
 -- the form that is kept for the number of a rule line is that of its pattern
-pub kept_form : (text : List ℕ) (ruled : Ruled) (row : Placed) → Contains (numbered_records text) (record_ruled ruled) → Contains (rewritten_in (grouped_records text)) row →
-    row.line ≡ ruled.line → row.form ≡ normal_pattern ruled.pattern
-kept_form text ruled row stands kept same =
-    let one = of_line (grouped_records text) row (within (grouped_records text) row kept) in
-    let also = numbered_stands 0 true 1 (records_of text) (grouped row.group one.ruled) one.stands in
-    let is = apart 1 (records_of text) (record_ruled one.ruled) (record_ruled ruled) also stands (ap line_of one.is ∙ same) in
-    sym (ap (λ (r : Placed). r.form) one.is) ∙ ap (λ (z : Numbered). normal_pattern (value_of z.kind)) is
+pub kept_form : (text : List ℕ) (ruled : Ruled) (form : FormOfLine) → Contains (numbered_records text) (record_ruled ruled) → Contains (rewritten_in (grouped_records text)) form →
+    form.line ≡ ruled.line → form.form ≡ normal_pattern ruled.pattern
+kept_form text ruled form stands kept same =
+    let at = within (grouped_records text) form kept in
+    let one = of_line (grouped_records text) at.row at.stands in
+    let also = numbered_stands 0 true 1 (records_of text) (grouped at.row.group one.ruled) one.stands in
+    let line = ap (λ (r : Placed). r.line) one.is ∙ ap line_of at.is ∙ same in
+    let is = apart 1 (records_of text) (record_ruled one.ruled) (record_ruled ruled) also stands line in
+    sym (ap (λ (r : Placed). r.form) one.is ∙ ap (λ (f : FormOfLine). f.form) at.is) ∙ ap (λ (z : Numbered). normal_pattern (value_of z.kind)) is
 
 -- and a line of which none is kept is written in its normal form
 pub own_form : (text : List ℕ) (ruled : Ruled) → Contains (numbered_records text) (record_ruled ruled) →
-    ((row : Placed) → Contains (rewritten_in (grouped_records text)) row → row.line ≡ ruled.line → ⊥) → ruled.pattern ≡ normal_pattern ruled.pattern
+    ((form : FormOfLine) → Contains (rewritten_in (grouped_records text)) form → form.line ≡ ruled.line → ⊥) → ruled.pattern ≡ normal_pattern ruled.pattern
 own_form text ruled stands none = by (bytes_eq (normal_pattern ruled.pattern) ruled.pattern) refl
   where
     by : (is : Bool) → bytes_eq (normal_pattern ruled.pattern) ruled.pattern ≡ is → ruled.pattern ≡ normal_pattern ruled.pattern
     by true is = sym ((bytes_eq-Decides (normal_pattern ruled.pattern) ruled.pattern).0 is)
     by false not =
         let found = grouped_stands 0 true 1 (records_of text) (record_ruled ruled) stands in
-        absurd (none (placed found.0 ruled) (rewritten_stands (grouped_records text) found.0 ruled not found.1) refl)
+        absurd (none (form_of ruled) (rewritten_stands (grouped_records text) found.0 ruled not found.1) refl)

@@ -1,19 +1,46 @@
--- The rule lines whose patterns are not written in their normal forms.
+-- The rule lines whose patterns are not written in their normal forms, and how those forms are kept.
 -- What `Rewritten` is seen as.
-use Rattle.std.specs.Prelude.{ℕ, List, [], ◌++◌, ◌∷◌, bytes_eq, if◌then◌else◌}
+use Rattle.std.specs.Prelude.{ℕ, ◌+◌, ◌≤◌, List, [], ◌++◌, ◌∷◌, length, slice_index_or, bytes_eq, if◌then◌else◌}
 use Rattle.path_normal.specs.Normal.{normal_pattern}
 use Rattle.robots_text.specs.Grouped.{Grouped}
 use Rattle.robots_text.specs.Records.{Record, agent, rule, other}
-use Rattle.robots_verdict.specs.Placed.{Placed, placed_at}
+use Rattle.robots_verdict.specs.declared.rewritten.Form.{Form}
+use Rattle.robots_verdict.specs.Rows.{part}
 
--- the row of a rule line whose pattern is not written in its normal form
-abbrev pub rewritten_at : ℕ → ℕ → Record → List Placed
-rewritten_at group line (agent who) = []
-rewritten_at group line (rule kind value) =
-    if bytes_eq (normal_pattern value) value then [] else placed_at group line (rule kind value)
-rewritten_at group line other = []
+-- the number of a rule line, and its pattern in normal form
+pub record FormOfLine : Type 0 where
+  pub line : ℕ
+  pub form : List ℕ
 
--- those rows of the records
-abbrev pub rewritten_in : List Grouped → List Placed
+-- the forms that are kept, and how many octets they have
+pub record Forms : Type 0 where
+  pub of_lines : List FormOfLine
+  pub octets : ℕ
+
+-- what is kept of a rule line: its form, where its pattern is not written so
+abbrev pub rewritten_at : ℕ → Record → List FormOfLine
+rewritten_at line (agent who) = []
+rewritten_at line (rule kind value) =
+    if bytes_eq (normal_pattern value) value then [] else record { line = line; form = normal_pattern value } ∷ []
+rewritten_at line other = []
+
+-- what is kept of the records
+abbrev pub rewritten_in : List Grouped → List FormOfLine
 rewritten_in [] = []
-rewritten_in (first ∷ lines) = rewritten_at first.group first.line first.kind ++ rewritten_in lines
+rewritten_in (first ∷ lines) = rewritten_at first.line first.kind ++ rewritten_in lines
+
+-- the form that is kept so
+abbrev pub form_seen : List ℕ → Form → FormOfLine
+form_seen octets form = record { line = form.line; form = part octets form.start form.len }
+
+-- the octets of the form are there
+abbrev pub HasOctets : List ℕ → Form → Type 0
+HasOctets octets form = form.start + form.len ≤ length octets
+
+-- a form that stands for places past the end
+abbrev pub no_form : FormOfLine
+no_form = record { line = 0; form = [] }
+
+-- the form at a place
+abbrev pub form_at : List FormOfLine → ℕ → FormOfLine
+form_at forms place = slice_index_or forms place no_form

@@ -35,7 +35,7 @@ impl Model for NormalText {
 
     ghost view = { λ normal. normal.text };
 
-    ghost invariant = { λ normal. normal.rewritten ≡ rewritten_in (grouped_records normal.text) };
+    ghost invariant = { λ normal. normal.rewritten.of_lines ≡ rewritten_in (grouped_records normal.text) };
 }
 
 impl NormalText {

@@ -1,99 +1,153 @@
 //! The rule lines of a text whose patterns are not written in their normal forms, with those forms.
 //! RFC 9309, section 2.2.2.
-ghost use Rattle.std.specs.Prelude.{◌≡◌, ◌+◌, ◌*◌, ◌^◌, ◌≤◌, ◌<◌, ◌++◌, bytes_eq, Contains, IfOk, length, map, MatchOption};
+ghost use Rattle.std.specs.Prelude.{◌≡◌, ◌+◌, ◌*◌, ◌^◌, ◌∷◌, ◌≤◌, ◌<◌, ◌++◌, [], Contains, IfOk, length, map, MatchOption};
 ghost use Rattle.std.specs.List.Sorted.{IsNonDecreasing};
-ghost use Rattle.path_normal.specs.Normal.{normal_pattern};
 ghost use Rattle.robots_text.specs.Grouped.{grouped_records, value_octets};
 ghost use Rattle.robots_text.specs.Records.{kind_seen};
-ghost use Rattle.robots_verdict.specs.Placed.{Placed};
-ghost use Rattle.robots_verdict.specs.Rewritten.{rewritten_at, rewritten_in};
+ghost use Rattle.robots_verdict.specs.Rewritten.{form_at, FormOfLine, rewritten_at, rewritten_in};
 
-use crate::rows::Rows;
+use crate::rows::part;
 use path_normal::push_normal_pattern;
 use robots_text::{GroupedRecord, RecordKind, RobotsText};
 use std::alloc::{AllocError, Global};
 use std::marker::Model;
 
+/// Where the form of a line lies among the octets of all forms.
+#[derive(Clone, Copy)]
+pub(crate) struct Form {
+    pub line: u32,
+    pub start: u32,
+    pub len: u32,
+}
+
 /// Those rule lines, in the order of their lines.
 #[derive(Drop)]
 pub(crate) struct Rewritten {
-    rows: Rows,
-    // The numbers of the lines, row by row.
-    lines: Vec<u64>,
+    octets: Vec<u8>,
+    forms: Vec<Form>,
 }
 
 impl Model for Rewritten {
-    ghost use Rattle.robots_verdict.specs.Placed.{Placed};
-    ghost use Rattle.std.specs.Prelude.{List};
+    ghost use Rattle.robots_verdict.specs.Rewritten.{Forms};
 
-    ghost Value = { List Placed };
+    ghost Value = { Forms };
 
-    ghost use Rattle.std.specs.Prelude.{◌≡◌, map};
+    ghost use Rattle.std.specs.Prelude.{All, length, map};
+    ghost use Rattle.robots_verdict.specs.Rewritten.{form_seen, HasOctets};
 
-    ghost view = { λ rewritten. rewritten.rows.rows };
+    ghost view = { λ rewritten. record {
+      of_lines = map (form_seen rewritten.octets.items) rewritten.forms.items;
+      octets = length rewritten.octets.items;
+    } };
 
-    ghost invariant = { λ rewritten. rewritten.lines.items ≡ map (λ row. row.line) rewritten.rows.rows };
+    ghost invariant = { λ rewritten. All (HasOctets rewritten.octets.items) rewritten.forms.items };
 }
 
 impl Rewritten {
     /// Those of a text.
     pub(crate) fn of(alloc: Global, text: &RobotsText) -> Result<Rewritten, AllocError>
-        ensures { IfOk result (λ rewritten. rewritten ≡ rewritten_in (grouped_records text.now)) }
+        ensures { IfOk result (λ rewritten. rewritten.of_lines ≡ rewritten_in (grouped_records text.now)) }
     {
-        let mut rows = read(alloc, text)?;
-        rows.fit();
-        let lines = rows.lines(alloc)?;
-        Ok(Rewritten { rows, lines })
+        let mut rewritten = read(alloc, text)?;
+        rewritten.fit();
+        Ok(rewritten)
+    }
+
+    fn new(alloc: Global) -> Rewritten
+        ensures { result ≡ record { of_lines = []; octets = 0 } }
+    {
+        Rewritten {
+            octets: Vec::new(alloc),
+            forms: Vec::new(alloc),
+        }
+    }
+
+    // Adds a line with its pattern in normal form.
+    fn push(&mut self, line: u32, form: &[u8]) -> Result<(), AllocError>
+        requires { self.old.octets + length form.now < 2 ^ 32 }
+        ensures line { IfOk result (λ _. self.new.of_lines
+            ≡ self.old.of_lines ++ record { line = line; form = form.now } ∷ []) }
+        ensures octets { IfOk result (λ _. self.new.octets ≡ self.old.octets + length form.now) }
+    {
+        let start = self.octets.len();
+        self.octets.extend_from_slice(form)?;
+        self.forms.push(Form {
+            line,
+            start: start as u32,
+            len: form.len() as u32,
+        })?;
+        Ok(())
+    }
+
+    // Gives back the memory that no form needs.
+    fn fit(&mut self)
+        ensures { self.new ≡ self.old }
+    {
+        self.octets.shrink_to_fit();
+        self.forms.shrink_to_fit();
     }
 
     /// The normal form of the pattern of the line of this number, where it is not written so.
     pub(crate) fn form_at(&self, line: u64) -> Option<&[u8]>
-        requires { IsNonDecreasing (map (λ row. row.line) self.now) }
-        ensures { MatchOption result ((row : Placed) → Contains self.now row → row.line ≡ line → ⊥)
-            (λ form. (row : Placed) × (Contains self.now row) × (row.line ≡ line) × (form.now ≡ row.form)) }
+        requires { IsNonDecreasing (map (λ form. form.line) self.now.of_lines) }
+        ensures { MatchOption result ((form : FormOfLine) → Contains self.now.of_lines form → form.line ≡ line → ⊥)
+            (λ octets. (form : FormOfLine) × (Contains self.now.of_lines form)
+            × (form.line ≡ line) × (octets.now ≡ form.form)) }
     {
-        match self.lines.binary_search(&line) {
-            Ok(place) => Some(self.rows.form(place)),
+        match self
+            .forms
+            .binary_search_by_key(&line, |form| u64::from(form.line))
+        {
+            Ok(place) => Some(self.form(place)),
             Err(_) => None,
         }
     }
+
+    fn form(&self, place: usize) -> &[u8]
+        requires { place < length self.now.of_lines }
+        ensures { result.now ≡ (form_at self.now.of_lines place).form }
+    {
+        let form = self.forms[place];
+        part(
+            self.octets.as_slice(),
+            form.start as usize,
+            form.len as usize,
+        )
+    }
 }
 
-fn read(alloc: Global, text: &RobotsText) -> Result<Rows, AllocError>
-    ensures { IfOk result (λ rows. rows.rows ≡ rewritten_in (grouped_records text.now)) }
+fn read(alloc: Global, text: &RobotsText) -> Result<Rewritten, AllocError>
+    ensures { IfOk result (λ rewritten. rewritten.of_lines ≡ rewritten_in (grouped_records text.now)) }
 {
-    let mut rows = Rows::new(alloc);
+    let mut rewritten = Rewritten::new(alloc);
     let mut form = Vec::new(alloc);
     let mut records = text.groups();
     while let Some(item) = records.next() {
-        take(&mut rows, &mut form, item)?;
+        take(&mut rewritten, &mut form, item)?;
     }
-    Ok(rows)
+    Ok(rewritten)
 }
 
-// Adds the row of a record that has one. The form of each pattern is made in the same memory.
-fn take(rows: &mut Rows, form: &mut Vec<u8>, item: GroupedRecord<'_>) -> Result<(), AllocError>
-    requires octets { rows.old.octets + 3 * value_octets (kind_seen item.kind) < 2 ^ 32 }
+// Adds the line of a record whose pattern is written otherwise. The form of each pattern is made in the same memory.
+fn take(
+    rewritten: &mut Rewritten,
+    form: &mut Vec<u8>,
+    item: GroupedRecord<'_>,
+) -> Result<(), AllocError>
+    requires octets { rewritten.old.octets + 3 * value_octets (kind_seen item.kind) < 2 ^ 32 }
     requires line { item.line < 2 ^ 32 }
-    requires group { item.group < 2 ^ 32 }
-    ensures rows { IfOk result (λ _. rows.new.rows
-        ≡ rows.old.rows ++ rewritten_at item.entry.group item.entry.line (kind_seen item.entry.kind)) }
-    ensures octets { IfOk result (λ _. rows.new.octets
-        ≤ rows.old.octets + 3 * value_octets (kind_seen item.entry.kind)) }
+    ensures lines { IfOk result (λ _. rewritten.new.of_lines
+        ≡ rewritten.old.of_lines ++ rewritten_at item.entry.line (kind_seen item.entry.kind)) }
+    ensures octets { IfOk result (λ _. rewritten.new.octets
+        ≤ rewritten.old.octets + 3 * value_octets (kind_seen item.entry.kind)) }
 {
-    match item.kind {
-        RecordKind::Rule(kind, pattern) if !is_normal(form, pattern)? => {
-            rows.push(item.group as u32, item.line as u32, kind, pattern)
-        }
-        _ => Ok(()),
-    }
-}
-
-// Whether the pattern is written in its normal form, which is made in this memory.
-fn is_normal(form: &mut Vec<u8>, pattern: &[u8]) -> Result<bool, AllocError>
-    ensures { IfOk result (λ is. is ≡ bytes_eq (normal_pattern pattern.now) pattern.now) }
-{
+    let RecordKind::Rule(_, pattern) = item.kind else {
+        return Ok(());
+    };
     form.clear();
     push_normal_pattern(form, pattern)?;
-    Ok(form.as_slice() == pattern)
+    if form.as_slice() == pattern {
+        return Ok(());
+    }
+    rewritten.push(item.line as u32, form.as_slice())
 }

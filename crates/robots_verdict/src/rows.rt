@@ -1,6 +1,6 @@
 //! The rows of a policy, in one list, with the octets of all their patterns in another.
 //! RFC 9309, section 2.2.2.
-ghost use Rattle.std.specs.Prelude.{◌≡◌, ◌+◌, ◌*◌, ◌^◌, ◌∷◌, ◌++◌, [], ◌<◌, ◌≤◌, length, map, IfOk, IfSome};
+ghost use Rattle.std.specs.Prelude.{◌≡◌, ◌+◌, ◌*◌, ◌^◌, ◌∷◌, ◌++◌, [], ◌<◌, ◌≤◌, length, IfOk, IfSome};
 ghost use Rattle.std.specs.List.Sorted.{IsPermutation, IsSortedBy};
 ghost use Rattle.path_normal.specs.Normal.{normal_pattern};
 ghost use Rattle.robots_verdict.specs.Rows.{is_row_above, part, row_at, weight_kept};
@@ -102,14 +102,6 @@ impl Rows {
         self.rows.len()
     }
 
-    /// The numbers of their lines, row by row.
-    pub(crate) fn lines(&self, alloc: Global) -> Result<Vec<u64>, AllocError>
-        ensures { IfOk result (λ lines. lines.items ≡ map (λ row. row.line) self.now.rows) }
-    {
-        let lines = lines_of(alloc, self.rows.as_slice())?;
-        Ok(lines)
-    }
-
     /// The number of the row's group, and 0 past the end.
     pub(crate) fn group(&self, place: usize) -> u32
         ensures { result ≡ (row_at self.now.rows place).group }
@@ -149,21 +141,12 @@ impl Rows {
     }
 }
 
-fn part(octets: &[u8], start: usize, len: usize) -> &[u8]
+/// A part of the octets.
+pub(crate) fn part(octets: &[u8], start: usize, len: usize) -> &[u8]
     requires { start + len ≤ length octets.now }
     ensures { result.now ≡ part octets.now start len }
 {
     &octets[start..start + len]
-}
-
-fn lines_of(alloc: Global, rows: &[Row]) -> Result<Vec<u64>, AllocError>
-    ensures { IfOk result (λ lines. lines.items ≡ map (λ row. row.line) rows.now) }
-{
-    let mut lines = Vec::with_capacity(alloc, rows.len())?;
-    for row in rows {
-        lines.push(u64::from(row.line))?;
-    }
-    Ok(lines)
 }
 
 fn falling_rows(one: &Row, other: &Row) -> Ordering

@@ -3,7 +3,7 @@ ghost use Rattle.gate_core.specs.Limits.{AreLimits};
 
 use super::gates::{Standing, book};
 use super::pages::{job, pages};
-use super::words::{push_deeds, push_numbered};
+use super::words::{push_entries, push_numbered};
 use crawl_workers::{Job, Outcome, Sites, work};
 use gate_core::Limits;
 use gate_lock::{Gate, GateLock, Mark, Visit, with_gate};
@@ -14,7 +14,7 @@ use std::random::RandomSource;
 use std::sync::Wait;
 use std::test::Fail;
 
-// A URL, the hops, the last page's body, and the deeds.
+// A URL, the hops, the last page's body, and the entries.
 const JOBS: [(&str, &str); 14] = [
     ("http://a.example/x", "65536 Open 200 5; hello; BAGSF"),
     ("http://a.example/gone", "65536 Open 410 2; no; BAGSF"),
@@ -133,7 +133,7 @@ fn push_outcome(
     text.push_str("; ")?;
     text.push_str(str::from_utf8(outcome.body.as_slice()).unwrap_or("?"))?;
     text.push_str("; ")?;
-    push_deeds(text, marks)
+    push_entries(text, marks)
 }
 
 // A job at a new gate with these limits.

@@ -3,7 +3,7 @@ ghost use Rattle.gate_core.specs.Limits.{AreLimits};
 
 use super::gates::{Standing, book};
 use super::pages::pages;
-use super::words::push_deeds;
+use super::words::push_entries;
 use crawl_workers::{Sites, refresh};
 use gate_core::{BeginRefusal, Limits};
 use gate_lock::{Gate, GateLock, Mark, Visit, with_gate};
@@ -14,7 +14,7 @@ use std::random::RandomSource;
 use std::sync::Wait;
 use std::test::Fail;
 
-// An authority, and the word of its answer with the deeds of two refreshes.
+// An authority, and the word of its answer with the entries of two refreshes.
 const REFRESHES: [(&str, &str); 5] = [
     ("a.example", "Ok(Open) Ok(Open) BABA"),
     ("b.example", "Ok(Rules) Ok(Rules) BABA"),
@@ -86,7 +86,7 @@ fn both_text(
     marks: &[Mark],
 ) -> Result<String, AllocError> {
     let mut text = format!(in alloc; "{first:?} {last:?} ")?;
-    push_deeds(&mut text, marks)?;
+    push_entries(&mut text, marks)?;
     Ok(text)
 }
 

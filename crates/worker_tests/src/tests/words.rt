@@ -1,9 +1,10 @@
-//! Hops and deeds in words.
-//! In a text of deeds `B`, `A`, `G`, `S` and `F` are begun, arrived, granted, started and finished, and
+//! Hops and entries in words.
+//! In a text of entries `B`, `A`, `G`, `S` and `F` are begun, arrived, granted, started and finished, and
 //! `D` is a denied ask.
 
 use crawl_workers::Hop;
-use gate_lock::{Deed, Mark};
+use gate_history::Entry;
+use gate_lock::Mark;
 use std::alloc::{AllocError, Global};
 
 /// Adds the hops, one behind another.
@@ -71,22 +72,22 @@ fn hop_text(alloc: Global, hop: &Hop) -> Result<String, AllocError> {
     }
 }
 
-/// Adds the deeds of the marks, a letter each.
-pub(super) fn push_deeds(text: &mut String, marks: &[Mark]) -> Result<(), AllocError> {
+/// Adds the entries of the marks, a letter each.
+pub(super) fn push_entries(text: &mut String, marks: &[Mark]) -> Result<(), AllocError> {
     for mark in marks {
-        text.push_str(deed_letter(&mark.deed))?;
+        text.push_str(entry_letter(&mark.entry))?;
     }
     Ok(())
 }
 
-fn deed_letter(deed: &Deed) -> &'static str {
-    match deed {
-        Deed::Begun { .. } => "B",
-        Deed::Arrived { .. } => "A",
-        Deed::Granted { .. } => "G",
-        Deed::AskDenied { .. } => "D",
-        Deed::Started { .. } => "S",
-        Deed::Finished { .. } => "F",
-        Deed::StartDenied { .. } | Deed::Returned { .. } | Deed::Swept { .. } => "?",
+fn entry_letter(entry: &Entry) -> &'static str {
+    match entry {
+        Entry::Begun { .. } => "B",
+        Entry::Arrived { .. } => "A",
+        Entry::Granted { .. } => "G",
+        Entry::AskDenied { .. } => "D",
+        Entry::Started { .. } => "S",
+        Entry::Finished { .. } => "F",
+        Entry::StartDenied { .. } | Entry::Returned { .. } | Entry::Swept { .. } => "?",
     }
 }

@@ -4,7 +4,6 @@ use Rattle.std.proofs.Common.{◌≡◌, ◌∙◌, ◌≤◌, List, ℕ, Vec, G
 use Rattle.std.specs.Prelude.{map}
 use Rattle.job_line.specs.Sums.{weigh_all, weigh_below}
 use Rattle.crawl_workers.specs.Crews.{AreAllDone, all_numbers, one_below, one_for}
-use Rattle.crawl_workers.specs.Shifts.{all_fetches}
 use Rattle.crawl_workers.specs.World.{world_of}
 use Rattle.crawl_workers.proofs.Shifting.{done_once, is_shift, lent_whole}
 use Rattle.crawl_workers.proofs.shift.run_shift.Goals as goal
@@ -38,4 +37,4 @@ returns g c =
     is_shift world jobs c.args.workers drawn lists receipts c.deref.result.now _ c.place_all.new.outcomes c.in_ok-settled.settled
     all.all_workers each all.have_done
     (lent_whole _ c.place_all.new.outcomes _ (c.place_all.ensures.len ∙ c.deref_mut-2.ensures.len)) (c.place_all.ensures.len ∙ len) c.place_all.ensures.placed
-    c.deref.ensures.value c.in_ok-settled.ensures.settled (c.in_ok-settled.ensures.starts ∙ ap all_fetches c.deref-2.ensures.value)
+    c.deref.ensures.value c.in_ok-settled.ensures.settles c.in_ok-settled.ensures.starts

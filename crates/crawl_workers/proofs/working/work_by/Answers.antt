@@ -1,4 +1,4 @@
--- The starts are counted by the deeds of the hops.
+-- The starts are counted by the entries of the hops.
 use Rattle.crawl_workers.proofs.Starting.{works_starts}
 use Rattle.crawl_workers.specs.World.{world_of}
 use Rattle.crawl_workers.proofs.working.work_by.Goals as goal

@@ -5,4 +5,4 @@ use Rattle.robots_verdict.proofs.Rewriting.{IsRewriting}
 use Rattle.robots_verdict.proofs.rewritten.read.Given as goal
 
 abbrev pub invariant-loop-item : goal.invariant-loop-item
-invariant-loop-item l = IsRewriting (grouped_records l.text) (grouped_left l.records) l.rows.rows l.rows.octets
+invariant-loop-item l = IsRewriting (grouped_records l.text) (grouped_left l.records) l.rewritten.of_lines l.rewritten.octets

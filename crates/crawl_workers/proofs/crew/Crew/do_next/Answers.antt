@@ -4,7 +4,7 @@ use Rattle.std.proofs.Common.{◌≡◌, ◌∙◌, ◌++◌, ◌∷◌, [], ap,
 use Rattle.std.specs.Prelude.{map}
 use Rattle.std.proofs.lemmas.List.{map-append}
 use Rattle.crawl_workers.specs.declared.crew.Done.{Done}
-use Rattle.crawl_workers.specs.Refreshes.{deeds_of}
+use Rattle.crawl_workers.specs.Refreshes.{entries_of}
 use Rattle.crawl_workers.specs.World.{world_of}
 use Rattle.crawl_workers.proofs.Doing.{did_another}
 use Rattle.crawl_workers.proofs.crew.Crew.do_next.Goals as goal
@@ -23,5 +23,5 @@ returns-clause-ok g c =
     record {
       numbers = ap (map (λ (d : Done). d.number)) items ∙ map-append (λ (d : Done). d.number) c.args.done.now.items (did ∷ [])
           ∙ (λ i. so_far.numbers i ++ number i) ∙ sym numbers;
-      are_done = did_another world c.args.self.now.jobs.now c.args.done.now.items c.push_reserved-2.new.self.items did (deeds_of c.args.desk.now.marks) this.0 (deeds_of c.do_job.new.desk.marks) items this.1.0 so_far.are_done this.1.1;
+      are_done = did_another world c.args.self.now.jobs.now c.args.done.now.items c.push_reserved-2.new.self.items did (entries_of c.args.desk.now.marks) this.0 (entries_of c.do_job.new.desk.marks) items this.1.0 so_far.are_done this.1.1;
     }

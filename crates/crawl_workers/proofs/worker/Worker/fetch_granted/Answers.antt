@@ -1,4 +1,4 @@
--- The fetch is that of the permit, so its deeds are.
+-- The fetch is that of the permit, so its entries are.
 use Rattle.std.proofs.Common.{ℕ, List, ap, ◌∙◌, ◌≡◌, subst}
 use Rattle.gate_history.specs.declared.outcome.Reason.{Reason}
 use Rattle.gate_lock.specs.Desks.{Pass}
