@@ -36,41 +36,12 @@ use Rattle.gate_history.specs.Outstanding.{is_unspent, stands, unspent}
 use Rattle.gate_history.specs.Standing.{has_turn, in_flight, is_fetching, past_count, standing}
 use Rattle.gate_history.proofs.Deciding.{decides_once}
 use Rattle.gate_history.proofs.Soundness.{stands_once}
-use Rattle.gate_core.proofs.Looking.{decides_by, decides_expired, decides_unknown, IsInForce, IsPast}
 use Rattle.crawl_audit.specs.declared.ledger.Ledger.{Ledger}
 use Rattle.crawl_audit.specs.declared.numbers.Numbers.{Numbers}
 use Rattle.crawl_audit.specs.declared.numbers.Phase.{Phase}
 use Rattle.crawl_audit.specs.declared.numbers.Phase.TheVariants.{Unspent, Running, Ended}
 use Rattle.crawl_audit.specs.Tables.{GivesUnspent, is_running_in, is_unspent_in, Keeps, phases_of, Tells, unspent_under}
 use Rattle.crawl_audit.proofs.Numbering.{finished_tells, granted_tells, returned_tells, start_denied_tells, started_tells}
-
--- ---- what the cache finds decides
-
-past_of : (o : Option Answered) (authority : List ℕ) (moment : ℕ) → option_map_or (is_past moment) o false ≡ true → IsPast (option_map (answer_for authority) o) moment
-past_of None authority moment is = absurd (true≢false (sym is))
-past_of (Some s) authority moment is = record { answer = answer_for authority s; stands = refl; past = is }
-
-in_force_of : (o : Option Answered) (authority : List ℕ) (moment : ℕ) (says : Said) → option_map_or (is_past moment) o false ≡ false → option_map (λ s. s.says) o ≡ Some says →
-    IsInForce (option_map (answer_for authority) o) moment says
-in_force_of None authority moment says is said = absurd (true≢false (ap is_some (sym said)))
-in_force_of (Some s) authority moment says is said =
-    record { answer = answer_for authority s; stands = refl; in_force = is; said = ap (λ (o : Option Said). unwrap_or o says) said }
-
-module _ (k : Known) (answers : List StandingAnswer) (turns : List Turn) (tells : TellsCache k answers turns) (a authority token url : List ℕ) (same : a ≡ authority) (moment : ℕ) where
-  found : option_map (answer_for a) (site_of k a).standing ≡ find (is_answer_for authority) answers
-  found = (reading.reads_alike k answers turns tells).answers a ∙ ap (λ b. find (is_answer_for b) answers) same
-
-  pub judges_unknown : (site_of k a).standing ≡ None → Judges (find (is_answer_for authority) answers) token url moment (Err causes.Unknown)
-  judges_unknown is = decides_unknown _ token url moment (sym found ∙ ap (option_map (answer_for a)) is)
-
-  pub judges_expired : has_past moment (site_of k a) ≡ true → Judges (find (is_answer_for authority) answers) token url moment (Err causes.Expired)
-  judges_expired is =
-      decides_expired _ token url moment (subst (λ (o : Option StandingAnswer). IsPast o moment) found (past_of (site_of k a).standing a moment is))
-
-  pub judges_in_force : (says : Said) (outcome : Result Reason Cause) → has_past moment (site_of k a) ≡ false → option_map (λ s. s.says) (site_of k a).standing ≡ Some says → Says says token url outcome →
-      Judges (find (is_answer_for authority) answers) token url moment outcome
-  judges_in_force says outcome is said by =
-      decides_by _ token url moment says outcome (subst (λ (o : Option StandingAnswer). IsInForce o moment says) found (in_force_of (site_of k a).standing a moment says is said)) by
 
 -- ---- the moment
 

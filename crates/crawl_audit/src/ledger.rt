@@ -11,12 +11,11 @@ ghost use Rattle.crawl_audit.specs.Entries.{HasLife};
 ghost use Rattle.crawl_audit.specs.Reading.{entry_of};
 ghost use Rattle.crawl_audit.specs.Tables.{Follows, Tells};
 
-use crate::decide::decide;
 use crate::numbers::{Numbers, Phase};
 use crate::record::Record;
 use crate::version::Version;
 use authority_cache::{Cache, TurnNo};
-use gate_history::{Cause, Reason};
+use gate_history::{Cause, Reason, decide};
 use path_normal::{Authority, PageUrl};
 use permit_book::{Fetch, PermitNo};
 use robots_text::Token;
@@ -172,7 +171,7 @@ impl Ledger {
             return Err(Unfit::Illegal);
         }
         self.cache.make_index(url.authority());
-        if decide(&self.cache, &token, &url, moment).is_err() {
+        if decide(&self.cache, &token, &url, None, moment).is_err() {
             return Err(Unfit::Illegal);
         }
         self.numbers
@@ -193,7 +192,9 @@ impl Ledger {
             self.new }
     {
         self.cache.make_index(url.authority());
-        if moment < self.clock || !is_same(decide(&self.cache, token, url, moment), Err(cause)) {
+        if moment < self.clock
+            || !is_same(decide(&self.cache, token, url, None, moment), Err(cause))
+        {
             return Err(Unfit::Illegal);
         }
         self.clock = moment;
@@ -236,7 +237,7 @@ impl Ledger {
     {
         match self.numbers.unspent(number) {
             Some(fetch) => is_same(
-                decide(&self.cache, &fetch.token, &fetch.url, moment),
+                decide(&self.cache, &fetch.token, &fetch.url, None, moment),
                 outcome,
             ),
             None => false,

@@ -5,7 +5,6 @@
 mod audit_text;
 mod auditor;
 mod body;
-mod decide;
 mod entry_pieces;
 mod export_text;
 mod fault;

@@ -16,10 +16,10 @@ ghost use Rattle.gate_core.specs.Places.{AddsOne, held_by};
 ghost use Rattle.gate_core.specs.Replies.{Asks};
 
 use crate::book::Book;
-use crate::judged::{Judged, Ruling};
+use crate::judged::Judged;
 use crate::places::Places;
 use crate::refusal::{AskRefusal, Denial};
-use gate_history::{Cause, Entry, FetchText};
+use gate_history::{Cause, Entry, FetchText, Ruling};
 use path_normal::PageUrl;
 use permit_book::{PermitNo, Permits};
 use robots_text::Token;
@@ -60,7 +60,7 @@ impl Book {
         ensures { self.new ≡ self.old }
     {
         if let Some(ruling) = ruling {
-            self.cache.take_index(authority, ruling.policy);
+            self.cache.take_index(authority, ruling.into_policy());
         }
     }
 

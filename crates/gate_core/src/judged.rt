@@ -1,35 +1,13 @@
 //! A verdict that is found before the book is at hand, for an ask or a start: matching a path takes time, and another
 //! caller may have the book meanwhile. RFC 9309, section 2.2.2.
-ghost use Rattle.std.specs.Prelude.{◌≡◌, IfSome};
-ghost use Rattle.gate_core.specs.Judged.{IsRuling};
+ghost use Rattle.std.specs.Prelude.{◌≡◌};
 
+use gate_history::Ruling;
 use path_normal::PageUrl;
 use robots_text::Token;
-use robots_verdict::{Policy, Verdict};
+use robots_verdict::Policy;
 use std::marker::Model;
 use std::sync::Arc;
-
-/// The verdict of a policy on a fetch. It counts only where the text in force then is that policy's.
-#[derive(Drop)]
-pub struct Ruling {
-    pub(crate) policy: Arc<Policy>,
-    pub(crate) verdict: Verdict,
-}
-
-impl Ruling {
-    /// Judges by the policy, if there is one. It takes no memory.
-    pub fn of(policy: Option<Arc<Policy>>, token: &Token, url: &PageUrl) -> Option<Ruling>
-        ensures { IfSome result (IsRuling token.now url.now) }
-    {
-        match policy {
-            Some(policy) => {
-                let verdict = policy.verdict(token, url.path_to_match());
-                Some(Ruling { policy, verdict })
-            }
-            None => None,
-        }
-    }
-}
 
 /// A token and a URL to ask for, with the verdict of the policy that was thought to be in force.
 #[derive(Drop)]
@@ -41,7 +19,8 @@ pub struct Judged {
 
 impl Model for Judged {
     ghost use Rattle.std.specs.Prelude.{IfSome};
-    ghost use Rattle.gate_core.specs.Judged.{Asked, IsRuling};
+    ghost use Rattle.gate_history.specs.Ruling.{IsRuling};
+    ghost use Rattle.gate_core.specs.Judged.{Asked};
 
     ghost Value = { Asked };
 

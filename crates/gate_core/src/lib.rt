@@ -25,6 +25,6 @@ pub use book::Book;
 pub use call::{Call, Reply};
 pub use calls::run;
 pub use config::{Config, Limits, MAX_AUTHORITIES, MAX_LOG, MAX_PLACES, limits_are};
-pub use judged::{Judged, Ruling};
+pub use judged::Judged;
 pub use refusal::{AskRefusal, BeginRefusal, Denial, NoMemory, Started, SweepRefusal};
 pub use state::{Standing, State};

@@ -5,13 +5,12 @@ ghost use Rattle.gate_history.specs.declared.entry.Entry.TheVariants.{StartDenie
 ghost use Rattle.gate_history.specs.History.{now};
 ghost use Rattle.gate_history.specs.Legal.{SpendsAs};
 ghost use Rattle.gate_core.specs.Gate.{Adds, history};
-ghost use Rattle.gate_core.specs.Judged.{IsRuling};
+ghost use Rattle.gate_history.specs.Ruling.{IsRuling};
 ghost use Rattle.gate_core.specs.Replies.{Starts};
 
 use crate::book::Book;
-use crate::judged::Ruling;
 use crate::refusal::{Denial, Started};
-use gate_history::{Cause, Entry, Reason};
+use gate_history::{Cause, Entry, Reason, Ruling};
 use path_normal::PageUrl;
 use permit_book::PermitNo;
 use robots_text::Token;

@@ -10,3 +10,4 @@ pub mod LeftOpenLaws
 pub mod EntryCounts
 pub mod KnownLaws
 pub mod Deciding
+pub mod Looking

@@ -8,8 +8,10 @@ mod fetch_text;
 pub mod laws;
 mod outcome;
 pub mod rows;
+mod ruling;
 
 pub use base::{Base, SlotGrant};
 pub use entry::Entry;
 pub use fetch_text::FetchText;
 pub use outcome::{Cause, Reason};
+pub use ruling::{Ruling, decide};

@@ -5,7 +5,7 @@ ghost use Rattle.gate_history.specs.declared.outcome.Cause.TheVariants.{Spent};
 ghost use Rattle.gate_history.specs.History.{entry_count};
 ghost use Rattle.gate_history.specs.Outstanding.{is_running, is_unspent, stands};
 ghost use Rattle.gate_core.specs.Gate.{history};
-ghost use Rattle.gate_core.specs.Judged.{IsRuling};
+ghost use Rattle.gate_history.specs.Ruling.{IsRuling};
 ghost use Rattle.gate_lock.specs.Desks.{HasOut};
 ghost use Rattle.gate_lock.specs.Steps.{DeskFinishes, DeskReturns, DeskStarts, Somewhere};
 
@@ -13,8 +13,8 @@ use crate::desk::Desk;
 use crate::ledgers::Gate;
 use crate::lock::Held;
 use crate::tokens::{Fetched, Permit, Running};
-use gate_core::{Denial, Ruling};
-use gate_history::Entry;
+use gate_core::Denial;
+use gate_history::{Entry, Ruling};
 use std::sync::Wait;
 
 #[tactic(auto, using(std::proofs::lemmas::Grind::common_steps, crate::proofs::Starts::starts_in_push))]

@@ -1,8 +1,8 @@
 -- What the cache finds is what the lists have.
 use Rattle.robots_verdict.specs.Answer.{said}
 use Rattle.path_normal.specs.PageText.{authority_of}
-use Rattle.crawl_audit.proofs.Following.{judges_expired, judges_in_force, judges_unknown}
-use Rattle.crawl_audit.proofs.decide.decide.Goals as goal
+use Rattle.gate_history.proofs.Looking.{judges_expired, judges_in_force, judges_unknown}
+use Rattle.gate_history.proofs.ruling.decide.Goals as goal
 
 pub returns-in-Unknown : goal.returns-in-Unknown
 returns-in-Unknown c = λ answers turns tells.
