@@ -13,7 +13,7 @@ use Rattle.authority_cache.specs.declared.find.Found.{Found}
 use Rattle.authority_cache.specs.declared.site.Site.{Site}
 use Rattle.authority_cache.specs.Calls.{IsFound, state_at}
 use Rattle.authority_cache.specs.Kept.{AllKnown, known_in, said_entries, said_entry}
-use Rattle.authority_cache.specs.Sites.{AreApart, Known, State, is_known, nothing, said_site, site_of}
+use Rattle.authority_cache.specs.Sites.{AreApart, Known, State, is_known, nothing_known, said_site, site_of}
 use Rattle.authority_cache.proofs.EntryLaws.{all-at, all-map}
 use Rattle.authority_cache.proofs.SiteLaws.{found-said, is_named, same_text}
 
@@ -24,11 +24,11 @@ state_found k authority found is = by found.index refl is.some is.none
     by : (index : Option ℕ) → found.index ≡ index → IfSome index (λ i. slice_get k.sites i ≡ Some (authority, site_of k authority)) →
         IfNone index (lookup (bytes_eq authority) k.sites ≡ None) → state_at k found ≡ site_of k authority
     by None none some absent =
-        ap (λ o. unwrap_or (option_map (λ (e : List ℕ × State). e.1) (option_and_then (slice_get k.sites) o)) nothing) none
-        ∙ sym (ap (λ o. unwrap_or o nothing) absent)
+        ap (λ o. unwrap_or (option_map (λ (e : List ℕ × State). e.1) (option_and_then (slice_get k.sites) o)) nothing_known) none
+        ∙ sym (ap (λ o. unwrap_or o nothing_known) absent)
     by (Some i) at some absent =
-        ap (λ o. unwrap_or (option_map (λ (e : List ℕ × State). e.1) (option_and_then (slice_get k.sites) o)) nothing) at
-        ∙ ap (λ o. unwrap_or (option_map (λ (e : List ℕ × State). e.1) o) nothing) some
+        ap (λ o. unwrap_or (option_map (λ (e : List ℕ × State). e.1) (option_and_then (slice_get k.sites) o)) nothing_known) at
+        ∙ ap (λ o. unwrap_or (option_map (λ (e : List ℕ × State). e.1) o) nothing_known) some
 
 -- what stands at an index is found
 found_somewhere : (a : List ℕ) (sites : List (List ℕ × State)) (i : ℕ) (s : State) → slice_get sites i ≡ Some (a, s) → is_some (lookup (bytes_eq a) sites) ≡ true

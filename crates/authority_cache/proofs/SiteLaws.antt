@@ -8,13 +8,12 @@ use Rattle.std.specs.Option.{option_map, option_map_or}
 use Rattle.std.specs.Str.{bytes_eq}
 use Rattle.std.proofs.lemmas.Bool.{and_right, le-leb, lt-leb}
 use Rattle.std.proofs.lemmas.Slice.Eq.{bytes_eq-Decides}
-use Rattle.robots_verdict.specs.declared.said.Said.{Said}
-use Rattle.authority_cache.specs.declared.refusal.BeginRefusal.{BeginRefusal}
+use Rattle.authority_cache.specs.declared.refusal.FlightRefusal.{FlightRefusal}
 use Rattle.authority_cache.specs.declared.refusal.Stale.{Stale}
 use Rattle.authority_cache.specs.declared.site.Flight.{Flight}
 use Rattle.authority_cache.specs.declared.site.Site.{Site}
-use Rattle.authority_cache.specs.Lives.{life_of}
-use Rattle.authority_cache.specs.Sites.{Answered, Known, State, arrived, count_of, flight_count, has_turn, is_flying, is_known, known_count, nothing, said_site, site_of, with_flight}
+use Rattle.authority_cache.specs.Lives.{Timed}
+use Rattle.authority_cache.specs.Sites.{Answered, Known, State, arrived, count_of, flight_count, has_turn, is_flying, is_known, known_count, nothing_known, said_site, site_of, with_flight}
 use Rattle.authority_cache.specs.Calls.{Arrives, Changes, cannot_know, one_if}
 use Rattle.authority_cache.specs.Kept.{AllKnown, known_in, said_entries}
 use Rattle.authority_cache.proofs.EntryLaws.{all-lookup, all-map, all-push, all-set_value, count-all, count-bound, count-map, count-push, count-set_value, lookup-map, lookup-push, lookup-push_other, set_value-same}
@@ -45,17 +44,17 @@ turn_flies turn state has = by state.in_flight has
     by (Some flight) has = refl
 
 -- one turn less is in flight where an answer arrived
-pub arrived_fewer : (old new : Known) (a : List ℕ) (turn life : ℕ) (says : Said) → has_turn turn (site_of old a) ≡ true →
-    Changes old a (arrived turn says life (site_of old a)) new → flight_count new + 1 ≡ flight_count old
-arrived_fewer old new a turn life says has changes =
+pub arrived_fewer : (old new : Known) (a : List ℕ) (turn : ℕ) (answer : Timed) → has_turn turn (site_of old a) ≡ true →
+    Changes old a (arrived turn answer.says answer.life (site_of old a)) new → flight_count new + 1 ≡ flight_count old
+arrived_fewer old new a turn answer has changes =
     let was : one_if (is_flying (site_of old a)) ≡ 1 = ap one_if (turn_flies turn (site_of old a) has) in
     omega (arith, was, changes.counts is_flying refl)
 
 -- an answer that was refused left all as it was
-pub refused : (old new : Known) (a : List ℕ) (turn life : ℕ) (says : Said) (r : Result Unit Stale) → IsErr r →
-    (has_turn turn (site_of old a) ≡ false) × (new ≡ old) → Arrives old a turn says life r new
-refused old new a turn life says (Ok done) is both = absurd (true≢false (sym is))
-refused old new a turn life says (Err stale) is both = both
+pub refused : (old new : Known) (a : List ℕ) (turn : ℕ) (answer : Timed) (r : Result Unit Stale) → IsErr r →
+    (has_turn turn (site_of old a) ≡ false) × (new ≡ old) → Arrives old a turn answer r new
+refused old new a turn answer (Ok done) is both = absurd (true≢false (sym is))
+refused old new a turn answer (Err stale) is both = both
 
 -- a turn in flight makes an authority known
 pub flying-known : (flight : Flight) (v w : Site) → said_site w ≡ with_flight flight (said_site v) → is_known (said_site w) ≡ true
@@ -74,12 +73,12 @@ module _ {Y : Type 0} where
   -- what is known of an authority that is found
   pub state-some : (limit : ℕ) (a : List ℕ) (es : List (String Y × Site)) (v : Site) → lookup (is_named a) es ≡ Some v →
       site_of (known_in limit es) a ≡ said_site v
-  state-some limit a es v found = ap (λ o. unwrap_or o nothing) (found-said a es ∙ ap (option_map said_site) found)
+  state-some limit a es v found = ap (λ o. unwrap_or o nothing_known) (found-said a es ∙ ap (option_map said_site) found)
 
   -- nothing is known of one that is not
   pub state-none : (limit : ℕ) (a : List ℕ) (es : List (String Y × Site)) → lookup (is_named a) es ≡ None →
-      site_of (known_in limit es) a ≡ nothing
-  state-none limit a es none = ap (λ o. unwrap_or o nothing) (found-said a es ∙ ap (option_map said_site) none)
+      site_of (known_in limit es) a ≡ nothing_known
+  state-none limit a es none = ap (λ o. unwrap_or o nothing_known) (found-said a es ∙ ap (option_map said_site) none)
 
   -- a count of authorities is one of entries
   pub counted : (test : State → Bool) (limit : ℕ) (es : List (String Y × Site)) →
@@ -96,7 +95,7 @@ module _ {Y : Type 0} where
       Changes (known_in limit es) a (said_site w) (known_in limit es')
   Changes-written limit a es es' v w found written others = record {
     limit = refl;
-    sites = λ b. ap (λ o. unwrap_or o nothing) (found-said b es' ∙ ap (option_map said_site) (others b)) ∙ by b (bytes_eq a b);
+    sites = λ b. ap (λ o. unwrap_or o nothing_known) (found-said b es' ∙ ap (option_map said_site) (others b)) ∙ by b (bytes_eq a b);
     counts = λ test fails.
         let was : one_if (test (site_of (known_in limit es) a)) ≡ one_if (test (said_site v)) = ap (λ s. one_if (test s)) (state-some limit a es v found) in
         let more : length (filter (λ e. test (said_site e.1)) es') + one_if (test (said_site v))
@@ -105,10 +104,10 @@ module _ {Y : Type 0} where
         omega (arith, counted test limit es, counted test limit es');
   }
     where
-      by : (b : List ℕ) (t : Bool) → unwrap_or (option_map said_site (cond t (Some w) (lookup (is_named b) es))) nothing
+      by : (b : List ℕ) (t : Bool) → unwrap_or (option_map said_site (cond t (Some w) (lookup (is_named b) es))) nothing_known
           ≡ cond t (said_site w) (site_of (known_in limit es) b)
       by b true = refl
-      by b false = sym (ap (λ o. unwrap_or o nothing) (found-said b es))
+      by b false = sym (ap (λ o. unwrap_or o nothing_known) (found-said b es))
 
   -- nothing changed where an entry was written as it was
   pub unchanged-written : (limit : ℕ) (a : List ℕ) (es es' : List (String Y × Site)) (v w : Site) → lookup (is_named a) es ≡ Some v →
@@ -132,30 +131,30 @@ module _ {Y : Type 0} where
       (subst (λ s. Changes (known_in limit es) a s (known_in limit es')) now (Changes-written limit a es es' v w found written others))
 
   -- an answer arrived, or was refused, at an authority that is known
-  pub arrived-known : (limit : ℕ) (a : List ℕ) (turn life : ℕ) (says : Said) (es es' : List (String Y × Site)) (v w : Site) (r : Result Unit Stale) →
+  pub arrived-known : (limit : ℕ) (a : List ℕ) (turn : ℕ) (answer : Timed) (es es' : List (String Y × Site)) (v w : Site) (r : Result Unit Stale) →
       AllKnown es → lookup (is_named a) es ≡ Some v → es' ≡ set_value (is_named a) es w →
       ((b : List ℕ) → lookup (is_named b) es' ≡ cond (bytes_eq a b) (Some w) (lookup (is_named b) es)) →
-      (IsOk r ↔ (has_turn turn (said_site v) ≡ true)) → OnOk r (said_site w ≡ arrived turn says life (said_site v)) → OnErr r (w ≡ v) →
-      Arrives (known_in limit es) a turn says life r (known_in limit es') × AllKnown es'
-  arrived-known limit a turn life says es es' v w (Ok done) all found written others has now same =
+      (IsOk r ↔ (has_turn turn (said_site v) ≡ true)) → OnOk r (said_site w ≡ arrived turn answer.says answer.life (said_site v)) → OnErr r (w ≡ v) →
+      Arrives (known_in limit es) a turn answer r (known_in limit es') × AllKnown es'
+  arrived-known limit a turn answer es es' v w (Ok done) all found written others has now same =
       let state = state-some limit a es v found in
       let changes = Changes-written limit a es es' v w found written others in
       let flying = has.0 refl in (
         (
           ap (has_turn turn) state ∙ flying,
-          subst (λ s. Changes (known_in limit es) a (arrived turn says life s) (known_in limit es')) (sym state)
+          subst (λ s. Changes (known_in limit es) a (arrived turn answer.says answer.life s) (known_in limit es')) (sym state)
               (subst (λ s. Changes (known_in limit es) a s (known_in limit es')) now changes),
         ),
         known-written a es es' w all written (ap is_known now ∙ answered (said_site v).in_flight flying),
       )
     where
       answer_of : Flight → Answered
-      answer_of flight = record { turn = turn; begun = flight.begun; life = life_of says life; says = says }
+      answer_of flight = record { turn = turn; begun = flight.begun; life = answer.life; says = answer.says }
 
       answered : (o : Option Flight) → option_map_or (λ flight. flight.turn == turn) o false ≡ true → (is_some (option_map answer_of o) || false) ≡ true
       answered (Some flight) is = refl
       answered None is = absurd (true≢false (sym is))
-  arrived-known limit a turn life says es es' v w (Err stale) all found written others has now same =
+  arrived-known limit a turn answer es es' v w (Err stale) all found written others has now same =
       let state = state-some limit a es v found in
       let was_known = all-lookup (λ s. is_known (said_site s)) (is_named a) es v all found in (
         (rw state (by (has_turn turn (said_site v)) refl), unchanged-written limit a es es' v w found written same),
@@ -173,13 +172,13 @@ Changes-added limit a state sites none = record {
   limit = refl;
   sites = λ b. by b (bytes_eq a b) refl;
   counts = λ test fails.
-      let was : one_if (test (unwrap_or (lookup (bytes_eq a) sites) nothing)) ≡ 0 = rw (none, fails) refl in
+      let was : one_if (test (unwrap_or (lookup (bytes_eq a) sites) nothing_known)) ≡ 0 = rw (none, fails) refl in
       omega (arith, count-push (λ (e : List ℕ × State). test e.1) sites (a, state));
 }
   where
-    by : (b : List ℕ) (t : Bool) → bytes_eq a b ≡ t → unwrap_or (lookup (bytes_eq b) (sites ++ (a, state) ∷ [])) nothing
-        ≡ cond (bytes_eq a b) state (unwrap_or (lookup (bytes_eq b) sites) nothing)
-    by b true is = rw is (subst (λ c. unwrap_or (lookup (bytes_eq c) (sites ++ (a, state) ∷ [])) nothing ≡ state) ((bytes_eq-Decides a b).0 is)
+    by : (b : List ℕ) (t : Bool) → bytes_eq a b ≡ t → unwrap_or (lookup (bytes_eq b) (sites ++ (a, state) ∷ [])) nothing_known
+        ≡ cond (bytes_eq a b) state (unwrap_or (lookup (bytes_eq b) sites) nothing_known)
+    by b true is = rw is (subst (λ c. unwrap_or (lookup (bytes_eq c) (sites ++ (a, state) ∷ [])) nothing_known ≡ state) ((bytes_eq-Decides a b).0 is)
         (rw (lookup-push (bytes_eq a) sites a state none, same_text a) refl))
     by b false is = rw (is, lookup-push_other (bytes_eq b) sites a state (other_text a b is)) refl
 
@@ -205,21 +204,21 @@ module _ {Y : Type 0} where
 
   -- a turn was begun at an authority that is new
   pub begun-new : (limit : ℕ) (a : List ℕ) (flight : Flight) (es es' : List (String Y × Site)) → lookup (is_named a) es ≡ None →
-      said_entries es' ≡ said_entries es ++ (a, with_flight flight nothing) ∷ [] →
+      said_entries es' ≡ said_entries es ++ (a, with_flight flight nothing_known) ∷ [] →
       Changes (known_in limit es) a (with_flight flight (site_of (known_in limit es) a)) (known_in limit es')
   begun-new limit a flight es es' none added =
       let unsaid : lookup (bytes_eq a) (said_entries es) ≡ None = found-said a es ∙ ap (option_map said_site) none in
       subst (λ s. Changes (known_in limit es) a (with_flight flight s) (known_in limit es')) (sym (state-none limit a es none))
-      (subst (λ sites. Changes (known_in limit es) a (with_flight flight nothing) (record { limit = limit; sites = sites })) (sym added)
-      (Changes-added limit a (with_flight flight nothing) (said_entries es) unsaid))
+      (subst (λ sites. Changes (known_in limit es) a (with_flight flight nothing_known) (record { limit = limit; sites = sites })) (sym added)
+      (Changes-added limit a (with_flight flight nothing_known) (said_entries es) unsaid))
 
   -- all are known still, with the one that was added
-  pub known-new : (a : List ℕ) (flight : Flight) (es es' : List (String Y × Site)) (r : Result Unit BeginRefusal) → AllKnown es →
-      OnOk r (said_entries es' ≡ said_entries es ++ (a, with_flight flight nothing) ∷ []) → OnErr r (es' ≡ es) → AllKnown es'
+  pub known-new : (a : List ℕ) (flight : Flight) (es es' : List (String Y × Site)) (r : Result Unit FlightRefusal) → AllKnown es →
+      OnOk r (said_entries es' ≡ said_entries es ++ (a, with_flight flight nothing_known) ∷ []) → OnErr r (es' ≡ es) → AllKnown es'
   known-new a flight es es' (Ok done) all added same =
       let old : list_all (λ (p : List ℕ × State). is_known p.1) (said_entries es) ≡ true = all-map string_bytes said_site is_known es ∙ all in
       let new : list_all (λ (p : List ℕ × State). is_known p.1) (said_entries es') ≡ true =
-      rw added (all-push (λ (p : List ℕ × State). is_known p.1) (said_entries es) (a, with_flight flight nothing) old refl) in
+      rw added (all-push (λ (p : List ℕ × State). is_known p.1) (said_entries es) (a, with_flight flight nothing_known) old refl) in
       sym (all-map string_bytes said_site is_known es') ∙ new
   known-new a flight es es' (Err refusal) all added same = subst (λ entries. AllKnown entries) (sym same) all
 

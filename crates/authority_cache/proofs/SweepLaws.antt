@@ -14,7 +14,7 @@ use Rattle.indexmap.specs.IndexMap.{set_value_at}
 use Rattle.indexmap.specs.Layout.{length-set_value_at}
 use Rattle.authority_cache.specs.declared.site.Flight.{Flight}
 use Rattle.authority_cache.specs.declared.site.Site.{Site}
-use Rattle.authority_cache.specs.Sites.{Answered, AreApart, Known, State, count_of, flight_count, has_past, is_flying, is_known, nothing, past_count, said_site, site_of, swept}
+use Rattle.authority_cache.specs.Sites.{Answered, AreApart, Known, State, count_of, flight_count, has_past, is_flying, is_known, nothing_known, past_count, said_site, site_of, swept}
 use Rattle.authority_cache.specs.Calls.{Changes, Sweeps, one_if}
 use Rattle.authority_cache.specs.Ends.{Covers, CoversBut, DropsAnswer, KeptEnds, Removes, SaysPastAt, SweepsPart, has_end, last_moment}
 use Rattle.authority_cache.specs.Kept.{AllKnown, known_in, said_entries}
@@ -65,10 +65,10 @@ part_changed old new moment a state changes same young = record {
     by b false is = refl
 
 -- nothing is known of an authority without an answer and a turn
-unknown : (state : State) → false ≡ is_flying state → left_by true state ≡ nothing
+unknown : (state : State) → false ≡ is_flying state → left_by true state ≡ nothing_known
 unknown state still = by state.in_flight still
   where
-    by : (o : Option Flight) → false ≡ is_some o → (let is : State = record { standing = None; in_flight = o } in is) ≡ nothing
+    by : (o : Option Flight) → false ≡ is_some o → (let is : State = record { standing = None; in_flight = o } in is) ≡ nothing_known
     by None still = refl
     by (Some f) still = absurd (true≢false (sym still))
 
@@ -148,34 +148,34 @@ module _ {Y : Type 0} where
 
   -- an authority of which nothing is known any more was taken away
   part_removed : (limit moment : ℕ) (es es' : List (String Y × Site)) (i : ℕ) (e : String Y × Site) → AreApart (said_entries es) →
-      slice_get es i ≡ Some e → said_site e.1 ≡ nothing → es' ≡ swap_remove es i e →
+      slice_get es i ≡ Some e → said_site e.1 ≡ nothing_known → es' ≡ swap_remove es i e →
       ((b : List ℕ) → lookup (is_named b) es' ≡ cond (bytes_eq (string_bytes e.0) b) None (lookup (is_named b) es)) →
       SweepsPart (known_in limit es) moment 0 (known_in limit es')
   part_removed limit moment es es' i e apart at gone taken others =
       subst (λ n. SweepsPart (known_in limit es) moment n (known_in limit es')) (ap (λ s. one_if (has_past moment s)) state)
-      (part_changed (known_in limit es) (known_in limit es') moment (string_bytes e.0) nothing changes (ap (swept moment) (sym state)) refl)
+      (part_changed (known_in limit es) (known_in limit es') moment (string_bytes e.0) nothing_known changes (ap (swept moment) (sym state)) refl)
     where
-      state : site_of (known_in limit es) (string_bytes e.0) ≡ nothing
+      state : site_of (known_in limit es) (string_bytes e.0) ≡ nothing_known
       state = state-some limit (string_bytes e.0) es e.1 (found_of es i e apart at) ∙ gone
 
-      by : (b : List ℕ) (t : Bool) → unwrap_or (option_map said_site (cond t None (lookup (is_named b) es))) nothing
-          ≡ cond t nothing (site_of (known_in limit es) b)
+      by : (b : List ℕ) (t : Bool) → unwrap_or (option_map said_site (cond t None (lookup (is_named b) es))) nothing_known
+          ≡ cond t nothing_known (site_of (known_in limit es) b)
       by b true = refl
-      by b false = sym (ap (λ o. unwrap_or o nothing) (found-said b es))
+      by b false = sym (ap (λ o. unwrap_or o nothing_known) (found-said b es))
 
-      fewer : (test : State → Bool) → test nothing ≡ false → count_of test (known_in limit es') ≡ count_of test (known_in limit es)
+      fewer : (test : State → Bool) → test nothing_known ≡ false → count_of test (known_in limit es') ≡ count_of test (known_in limit es)
       fewer test fails =
           let none : one_if (test (said_site e.1)) ≡ 0 = ap (λ s. one_if (test s)) gone ∙ ap one_if fails in
           let more : length (filter (λ e. test (said_site e.1)) es') + one_if (test (said_site e.1)) ≡ length (filter (λ e. test (said_site e.1)) es) =
           rw taken (count-swapped (λ e. test (said_site e.1)) es i e at) in
           omega (arith, counted test limit es, counted test limit es', none, more)
 
-      changes : Changes (known_in limit es) (string_bytes e.0) nothing (known_in limit es')
+      changes : Changes (known_in limit es) (string_bytes e.0) nothing_known (known_in limit es')
       changes = record {
         limit = refl;
-        sites = λ b. ap (λ o. unwrap_or o nothing) (found-said b es' ∙ ap (option_map said_site) (others b)) ∙ by b (bytes_eq (string_bytes e.0) b);
+        sites = λ b. ap (λ o. unwrap_or o nothing_known) (found-said b es' ∙ ap (option_map said_site) (others b)) ∙ by b (bytes_eq (string_bytes e.0) b);
         counts = λ test fails.
-            let was : one_if (test (site_of (known_in limit es) (string_bytes e.0))) ≡ one_if (test nothing) = ap (λ s. one_if (test s)) state in
+            let was : one_if (test (site_of (known_in limit es) (string_bytes e.0))) ≡ one_if (test nothing_known) = ap (λ s. one_if (test s)) state in
             omega (arith, fewer test fails, was);
       }
 

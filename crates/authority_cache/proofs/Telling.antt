@@ -12,8 +12,7 @@ use Rattle.std.proofs.lemmas.Slice.Eq.{bytes_eq-Decides}
 use Rattle.authority_cache.specs.declared.site.Flight.{Flight}
 use Rattle.authority_cache.specs.declared.standing_answer.StandingAnswer.{StandingAnswer}
 use Rattle.authority_cache.specs.declared.turn.Turn.{Turn}
-use Rattle.authority_cache.specs.Lives.{life_of}
-use Rattle.authority_cache.specs.Sites.{Answered, AreApart, Known, State, arrived, has_past, is_flying, is_known, nothing, site_of, with_flight}
+use Rattle.authority_cache.specs.Sites.{Answered, AreApart, Known, State, arrived, has_past, is_flying, is_known, nothing_known, site_of, with_flight}
 use Rattle.authority_cache.specs.Calls.{Changes, one_if}
 use Rattle.authority_cache.specs.Lists.{answer_for, answered, answers_in, has_number, is_answer_for, is_past_answer, is_turn_of, lacks_answer, turn_for, turns_in}
 use Rattle.authority_cache.specs.Laws.{ArriveTells, BeginTells, NewTells, SweepTells, TellingCountsAlike}
@@ -73,15 +72,15 @@ apart_text a b x apart is = by (bytes_eq x a) refl
     by false not_a = not_a
     by true is_a = absurd (true≢false (sym is ∙ (ap (λ y. bytes_eq y b) ((bytes_eq-Decides x a).0 is_a) ∙ apart)))
 
-module _ {X : Type 0} (authority : X → List ℕ) (test : State → Bool) (fails : test nothing ≡ false) where
+module _ {X : Type 0} (authority : X → List ℕ) (test : State → Bool) (fails : test nothing_known ≡ false) where
   -- as many of a list as of the authorities, where of each authority there are as many
   parts : (sites : List (List ℕ × State)) (xs : List X) → AreApart sites →
-      ((a : List ℕ) → length (filter (λ x. bytes_eq (authority x) a) xs) ≡ one_if (test (unwrap_or (lookup (bytes_eq a) sites) nothing))) →
+      ((a : List ℕ) → length (filter (λ x. bytes_eq (authority x) a) xs) ≡ one_if (test (unwrap_or (lookup (bytes_eq a) sites) nothing_known))) →
       length xs ≡ length (filter (λ (e : List ℕ × State). test e.1) sites)
   parts [] [] apart each = refl
   parts [] (x ∷ xs) apart each =
       let own = each (authority x) in
-      let none : one_if (test nothing) ≡ 0 = rw fails refl in
+      let none : one_if (test nothing_known) ≡ 0 = rw fails refl in
       let head : length (filter (λ y. bytes_eq (authority y) (authority x)) (x ∷ xs)) ≡ one_if true + length (filter (λ y. bytes_eq (authority y) (authority x)) xs) =
       count-cons (λ y. bytes_eq (authority y) (authority x)) x xs ∙ ap (λ b. one_if b + length (filter (λ y. bytes_eq (authority y) (authority x)) xs)) (same_text (authority x)) in
       absurd (omega arith)
@@ -89,22 +88,22 @@ module _ {X : Type 0} (authority : X → List ℕ) (test : State → Bool) (fail
       let rest = filter (λ x. not (bytes_eq (authority x) e.0)) xs in
       let later = parts sites rest apart.1 (λ a. by a (bytes_eq a e.0) refl) in
       let own : length (filter (λ x. bytes_eq (authority x) e.0) xs) ≡ one_if (test e.1) =
-      each e.0 ∙ ap (λ b. one_if (test (unwrap_or (cond b (Some e.1) (lookup (bytes_eq e.0) sites)) nothing))) (same_text e.0) in
+      each e.0 ∙ ap (λ b. one_if (test (unwrap_or (cond b (Some e.1) (lookup (bytes_eq e.0) sites)) nothing_known))) (same_text e.0) in
       let both = filter-both (λ x. bytes_eq (authority x) e.0) xs in
       omega (arith, count-cons (λ (p : List ℕ × State). test p.1) e sites)
     where
       by : (a : List ℕ) (b : Bool) → bytes_eq a e.0 ≡ b →
           length (filter (λ x. bytes_eq (authority x) a) (filter (λ x. not (bytes_eq (authority x) e.0)) xs))
-          ≡ one_if (test (unwrap_or (lookup (bytes_eq a) sites) nothing))
+          ≡ one_if (test (unwrap_or (lookup (bytes_eq a) sites) nothing_known))
       by a true is =
           let same = (bytes_eq-Decides a e.0).0 is in
           let gone = filter-dropped (λ x. bytes_eq (authority x) a) (λ x. not (bytes_eq (authority x) e.0)) xs (λ x own. ap not (ap (bytes_eq (authority x)) (sym same) ∙ own)) in
           let none : lookup (bytes_eq a) sites ≡ None = subst (λ c. lookup (bytes_eq c) sites ≡ None) (sym same) apart.0 in
-          ap length gone ∙ sym (ap (λ o. one_if (test (unwrap_or o nothing))) none ∙ ap one_if fails)
+          ap length gone ∙ sym (ap (λ o. one_if (test (unwrap_or o nothing_known))) none ∙ ap one_if fails)
       by a false is =
           ap length (filter-kept (λ x. bytes_eq (authority x) a) (λ x. not (bytes_eq (authority x) e.0)) xs
           (λ x own. ap not (apart_text e.0 a (authority x) (other_text a e.0 is) own)))
-          ∙ (each a ∙ ap (λ b. one_if (test (unwrap_or (cond b (Some e.1) (lookup (bytes_eq a) sites)) nothing))) is)
+          ∙ (each a ∙ ap (λ b. one_if (test (unwrap_or (cond b (Some e.1) (lookup (bytes_eq a) sites)) nothing_known))) is)
 
 -- a new cache
 pub new : NewTells
@@ -174,11 +173,11 @@ arrives old changed standing in_flight a turn life says tells flying own changes
     numbered = own ∙ (tells.turns_are a ∙ ap (λ o. option_to_list (option_map (turn_for a) o)) flight.1)
 
     arrival : StandingAnswer
-    arrival = record { authority = a; turn = turn; begun = flight.0.begun; life = life_of says life; says = says }
+    arrival = record { authority = a; turn = turn; begun = flight.0.begun; life = life; says = says }
 
     added_is : added ≡ arrival ∷ []
     added_is = ap (map (answered says life)) numbered
-        ∙ ap (λ n. (let s : StandingAnswer = record { authority = a; turn = n; begun = flight.0.begun; life = life_of says life; says = says } in s) ∷ []) flight.2
+        ∙ ap (λ n. (let s : StandingAnswer = record { authority = a; turn = n; begun = flight.0.begun; life = life; says = says } in s) ∷ []) flight.2
 
     own_answers : filter (is_answer_for a) left ++ filter (is_answer_for a) added ≡ answers_in a (site_of changed a)
     own_answers =
@@ -190,7 +189,7 @@ arrives old changed standing in_flight a turn life says tells flying own changes
         ap (λ xs. xs ++ filter (is_answer_for a) added) gone ∙ (one ∙ sym now)
       where
         arrived_from : Flight → Answered
-        arrived_from f = record { turn = turn; begun = f.begun; life = life_of says life; says = says }
+        arrived_from f = record { turn = turn; begun = f.begun; life = life; says = says }
 
     answers : (b : List ℕ) (t : Bool) → bytes_eq a b ≡ t →
         filter (is_answer_for b) left ++ filter (is_answer_for b) added ≡ answers_in b (site_of changed b)

@@ -5,15 +5,15 @@ use Rattle.std.specs.Map.{lookup}
 use Rattle.std.specs.Option.{option_map}
 use Rattle.std.specs.Str.{bytes_eq}
 use Rattle.robots_verdict.specs.Answer.{said}
-use Rattle.robots_verdict.specs.declared.said.Said.{Said}
 use Rattle.authority_cache.specs.declared.find.Found.{Found}
 use Rattle.authority_cache.specs.declared.look.Look.{Look}
 use Rattle.authority_cache.specs.declared.look.Look.TheVariants.{Unknown, Expired, InForce}
-use Rattle.authority_cache.specs.declared.refusal.BeginRefusal.{BeginRefusal}
-use Rattle.authority_cache.specs.declared.refusal.BeginRefusal.TheVariants as refusals
+use Rattle.authority_cache.specs.declared.refusal.FlightRefusal.{FlightRefusal}
+use Rattle.authority_cache.specs.declared.refusal.FlightRefusal.TheVariants as refusals
 use Rattle.authority_cache.specs.declared.refusal.Stale.{Stale}
 use Rattle.authority_cache.specs.declared.site.Flight.{Flight}
-use Rattle.authority_cache.specs.Sites.{Known, State, arrived, count_of, has_past, has_turn, is_flying, is_known, known_count, nothing, past_count, site_of, swept, with_flight}
+use Rattle.authority_cache.specs.Lives.{Timed}
+use Rattle.authority_cache.specs.Sites.{Known, State, arrived, count_of, has_past, has_turn, is_flying, is_known, known_count, nothing_known, past_count, site_of, swept, with_flight}
 
 -- 1 where a test passes
 abbrev pub one_if : Bool → ℕ
@@ -24,12 +24,12 @@ one_if passes = if passes then 1 else 0
 pub record Changes (old : Known) (authority : List ℕ) (state : State) (new : Known) : Type 0 where
   pub limit : new.limit ≡ old.limit
   pub sites : (other : List ℕ) → site_of new other ≡ (if bytes_eq authority other then state else site_of old other)
-  pub counts : (test : State → Bool) → test nothing ≡ false →
+  pub counts : (test : State → Bool) → test nothing_known ≡ false →
       count_of test new + one_if (test (site_of old authority)) ≡ count_of test old + one_if (test state)
 
 -- what is known of an authority that was found
 abbrev pub state_at : Known → Found → State
-state_at k found = unwrap_or (option_map (λ e. e.1) (option_and_then (slice_get k.sites) found.index)) nothing
+state_at k found = unwrap_or (option_map (λ e. e.1) (option_and_then (slice_get k.sites) found.index)) nothing_known
 
 -- find: where the authority stands with what is known of it, or that it stands nowhere, and whether a
 -- turn of it is in flight
@@ -43,14 +43,14 @@ abbrev pub cannot_know : Known → List ℕ → Bool
 cannot_know k authority = not (is_known (site_of k authority)) && nat_le k.limit (known_count k)
 
 -- whether a turn may begin: InFlight; AuthoritiesFull
-abbrev pub MayBegin : Known → List ℕ → Result Unit BeginRefusal → Type 0
+abbrev pub MayBegin : Known → List ℕ → Result Unit FlightRefusal → Type 0
 MayBegin k authority (Ok _) = (is_flying (site_of k authority) ≡ false) × (cannot_know k authority ≡ false)
 MayBegin k authority (Err refusals.InFlight) = is_flying (site_of k authority) ≡ true
 MayBegin k authority (Err refusals.AuthoritiesFull) = (is_flying (site_of k authority) ≡ false) × (cannot_know k authority ≡ true)
 MayBegin k authority (Err refusals.NoMemory) = ⊥
 
 -- begin: InFlight; AuthoritiesFull; NoMemory where neither holds
-abbrev pub Begins : Known → List ℕ → Flight → Result Unit BeginRefusal → Known → Type 0
+abbrev pub Begins : Known → List ℕ → Flight → Result Unit FlightRefusal → Known → Type 0
 Begins old authority flight (Ok _) new =
     (is_flying (site_of old authority) ≡ false) × (cannot_know old authority ≡ false)
     × Changes old authority (with_flight flight (site_of old authority)) new
@@ -61,10 +61,11 @@ Begins old authority flight (Err refusals.NoMemory) new =
     (is_flying (site_of old authority) ≡ false) × (cannot_know old authority ≡ false) × (new ≡ old)
 
 -- arrive: Stale, where that turn is not in flight for the authority
-abbrev pub Arrives : Known → List ℕ → ℕ → Said → ℕ → Result Unit Stale → Known → Type 0
-Arrives old authority turn says life (Ok _) new =
-    (has_turn turn (site_of old authority) ≡ true) × Changes old authority (arrived turn says life (site_of old authority)) new
-Arrives old authority turn says life (Err _) new = (has_turn turn (site_of old authority) ≡ false) × (new ≡ old)
+abbrev pub Arrives : Known → List ℕ → ℕ → Timed → Result Unit Stale → Known → Type 0
+Arrives old authority turn answer (Ok _) new =
+    (has_turn turn (site_of old authority) ≡ true)
+    × Changes old authority (arrived turn answer.says answer.life (site_of old authority)) new
+Arrives old authority turn answer (Err _) new = (has_turn turn (site_of old authority) ≡ false) × (new ≡ old)
 
 -- what is found of an answer: none stands; it is older than its life; it is in force
 abbrev pub LooksAt : State → ℕ → Look → Type 0
@@ -82,4 +83,4 @@ pub record Sweeps (old : Known) (moment count : ℕ) (new : Known) : Type 0 wher
   pub limit : new.limit ≡ old.limit
   pub sites : (authority : List ℕ) → site_of new authority ≡ swept moment (site_of old authority)
   pub dropped : count ≡ past_count moment old
-  pub counts : (test : State → Bool) → test nothing ≡ false → count_of test new ≡ count_of (λ state. test (swept moment state)) old
+  pub counts : (test : State → Bool) → test nothing_known ≡ false → count_of test new ≡ count_of (λ state. test (swept moment state)) old

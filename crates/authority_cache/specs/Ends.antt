@@ -13,7 +13,7 @@ use Rattle.std.specs.Str.{bytes_eq}
 use Rattle.indexmap.specs.IndexMap.{set_value_at}
 use Rattle.authority_cache.specs.declared.ends.Ends.TheInside.{Inside}
 use Rattle.authority_cache.specs.declared.site.Site.{Site}
-use Rattle.authority_cache.specs.Sites.{Answered, Known, State, count_of, has_past, is_flying, nothing, past_count, said_site, site_of, swept}
+use Rattle.authority_cache.specs.Sites.{Answered, Known, State, count_of, has_past, is_flying, nothing_known, past_count, said_site, site_of, swept}
 
 -- an end: the last moment in seconds at which an answer is in force, and the index of its site
 abbrev pub End : Type 0
@@ -71,8 +71,8 @@ abbrev pub CoversAt : KeptEnds → ℕ → State → Type 0
 CoversAt kept site state = IfSome state.standing (λ s. has_end kept (last_moment s, site) ≡ true)
 
 -- there is memory for the ends of as many answers more as turns are in flight
-abbrev pub HasRoom : KeptEnds → ℕ → Type 0
-HasRoom kept turns = length kept.ends + turns ≤ kept.room
+abbrev pub HasRoomForEnds : KeptEnds → ℕ → Type 0
+HasRoomForEnds kept turns = length kept.ends + turns ≤ kept.room
 
 module _ {Y : Type 0} where
   -- the end of each answer that stands is kept
@@ -121,5 +121,5 @@ pub record SweepsPart (old : Known) (moment count : ℕ) (new : Known) : Type 0 
   pub limit : new.limit ≡ old.limit
   pub sites : (authority : List ℕ) → swept moment (site_of new authority) ≡ swept moment (site_of old authority)
   pub dropped : count + past_count moment new ≡ past_count moment old
-  pub counts : (test : State → Bool) → test nothing ≡ false →
+  pub counts : (test : State → Bool) → test nothing_known ≡ false →
       count_of (λ state. test (swept moment state)) new ≡ count_of (λ state. test (swept moment state)) old

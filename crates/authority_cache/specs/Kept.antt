@@ -6,7 +6,7 @@ use Rattle.std.specs.List.{list_all}
 use Rattle.std.specs.declared.string.String.{String}
 use Rattle.authority_cache.specs.declared.cache.Cache.TheInside.{Inside}
 use Rattle.authority_cache.specs.declared.site.Site.{Site}
-use Rattle.authority_cache.specs.Ends.{Covers, HasRoom}
+use Rattle.authority_cache.specs.Ends.{Covers, HasRoomForEnds}
 use Rattle.authority_cache.specs.Sites.{Known, State, flight_count, is_known, said_site}
 
 -- an entry of the map, by what is known
@@ -34,4 +34,4 @@ pub record IsSound (c : Inside) : Type 0 where
   pub known : AllKnown c.sites.entries
   pub flights : c.flights ≡ flight_count (known_of c)
   pub covered : Covers c.ends c.sites.entries
-  pub room : HasRoom c.ends c.flights
+  pub room : HasRoomForEnds c.ends c.flights

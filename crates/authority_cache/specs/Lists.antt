@@ -8,7 +8,6 @@ use Rattle.robots_verdict.specs.declared.said.Said.{Said}
 use Rattle.authority_cache.specs.declared.site.Flight.{Flight}
 use Rattle.authority_cache.specs.declared.standing_answer.StandingAnswer.{StandingAnswer}
 use Rattle.authority_cache.specs.declared.turn.Turn.{Turn}
-use Rattle.authority_cache.specs.Lives.{life_of}
 use Rattle.authority_cache.specs.Sites.{Answered, Known, State, site_of}
 
 -- the answer is this authority's
@@ -35,9 +34,9 @@ turn_for authority flight = record { authority = authority; turn = flight.turn; 
 abbrev pub answer_for : List ℕ → Answered → StandingAnswer
 answer_for authority s = record { authority = authority; turn = s.turn; begun = s.begun; life = s.life; says = s.says }
 
--- what an answer that ends a turn stands for, where a life of so many seconds was asked for
+-- what an answer of this life that ends a turn stands for
 abbrev pub answered : Said → ℕ → Turn → StandingAnswer
-answered says life t = record { authority = t.authority; turn = t.turn; begun = t.begun; life = life_of says life; says = says }
+answered says life t = record { authority = t.authority; turn = t.turn; begun = t.begun; life = life; says = says }
 
 -- the answers that stand in a state of an authority, none or one
 abbrev pub answers_in : List ℕ → State → List StandingAnswer

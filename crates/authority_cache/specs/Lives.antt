@@ -1,6 +1,8 @@
 -- How long an answer is in force.
 -- RFC 9309, section 2.4: no longer than 24 hours.
-use Rattle.std.specs.Prelude.{ℕ, max, min}
+use Rattle.std.specs.Prelude.{◌≡◌, ℕ, ◌-◌, max, min}
+use Rattle.robots_verdict.specs.Answer.{said, spares_of}
+use Rattle.robots_verdict.specs.declared.answer.Answer.{Answer}
 use Rattle.robots_verdict.specs.declared.said.Said.{Said}
 use Rattle.robots_verdict.specs.declared.said.Said.TheVariants as says
 
@@ -17,3 +19,37 @@ abbrev pub life_of : Said → ℕ → ℕ
 life_of (says.Rules text) asked = max least_life (min asked greatest_life)
 life_of (says.Open opening) asked = greatest_life
 life_of (says.Closed closure) asked = greatest_life
+
+-- an answer with its life: what it says, how many twins it can still give, its life in seconds
+pub record Timed : Type 0 where
+  pub says : Said
+  pub spares : ℕ
+  pub life : ℕ
+
+-- an answer whose reply asked for so many seconds
+abbrev pub timed : Answer → ℕ → Timed
+timed answer asked = record { says = said answer; spares = spares_of answer; life = life_of (said answer) asked }
+
+-- the life is that of its answer
+abbrev pub IsOwnLife : Timed → Type 0
+IsOwnLife t = life_of t.says t.life ≡ t.life
+
+-- how many twins are left to give behind one: rules spend a spare for it, and no other answer needs any
+abbrev pub spares_left : Said → ℕ → ℕ
+spares_left (says.Rules text) spares = spares - 1
+spares_left (says.Open opening) spares = spares
+spares_left (says.Closed closure) spares = spares
+
+-- how many twins a twin can give: of rules none
+abbrev pub spares_got : Said → ℕ → ℕ
+spares_got (says.Rules text) spares = 0
+spares_got (says.Open opening) spares = spares
+spares_got (says.Closed closure) spares = spares
+
+-- an answer that has given a twin
+abbrev pub behind_twin : Timed → Timed
+behind_twin t = record { says = t.says; spares = spares_left t.says t.spares; life = t.life }
+
+-- the twin
+abbrev pub twin_of : Timed → Timed
+twin_of t = record { says = t.says; spares = spares_got t.says t.spares; life = t.life }

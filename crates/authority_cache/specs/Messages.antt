@@ -1,11 +1,11 @@
 -- What refusals are called.
 -- Printed by `Display` of `refusal.rt`.
 use Rattle.std.specs.Prelude.{ℕ, List, codes}
-use Rattle.authority_cache.specs.declared.refusal.BeginRefusal.{BeginRefusal}
-use Rattle.authority_cache.specs.declared.refusal.BeginRefusal.TheVariants.{InFlight, AuthoritiesFull, NoMemory}
+use Rattle.authority_cache.specs.declared.refusal.FlightRefusal.{FlightRefusal}
+use Rattle.authority_cache.specs.declared.refusal.FlightRefusal.TheVariants.{InFlight, AuthoritiesFull, NoMemory}
 
 -- the text of each refusal of a begin
-abbrev pub refusal_text : BeginRefusal → List ℕ
-refusal_text InFlight = codes "a turn of the authority is in flight"
-refusal_text AuthoritiesFull = codes "too many authorities are known"
-refusal_text NoMemory = codes "no memory for the authority"
+abbrev pub flight_refusal_text : FlightRefusal → List ℕ
+flight_refusal_text InFlight = codes "a turn of the authority is in flight"
+flight_refusal_text AuthoritiesFull = codes "too many authorities are known"
+flight_refusal_text NoMemory = codes "no memory for the authority"

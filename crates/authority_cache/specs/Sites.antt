@@ -8,8 +8,7 @@ use Rattle.robots_verdict.specs.Answer.{said}
 use Rattle.robots_verdict.specs.declared.said.Said.{Said}
 use Rattle.authority_cache.specs.declared.site.Flight.{Flight}
 use Rattle.authority_cache.specs.declared.site.Site.{Site}
-use Rattle.authority_cache.specs.declared.site.Standing.{Standing}
-use Rattle.authority_cache.specs.Lives.{life_of}
+use Rattle.authority_cache.specs.declared.site.CachedAnswer.{CachedAnswer}
 
 -- an answer that stands: the turn that brought it, the moment of its begin, its life, what it says
 pub record Answered : Type 0 where
@@ -29,16 +28,16 @@ pub record Known : Type 0 where
   pub sites : List (List ℕ × State)
 
 -- an answer that stands, by what it says
-abbrev pub said_standing : Standing → Answered
-said_standing s = record { turn = s.turn; begun = s.begun; life = s.life; says = said s.answer }
+abbrev pub said_cached : CachedAnswer → Answered
+said_cached s = record { turn = s.turn; begun = s.begun; life = s.life; says = said s.answer }
 
 -- what is known, by what the answer says
 abbrev pub said_site : Site → State
-said_site site = record { standing = option_map said_standing site.standing; in_flight = site.in_flight }
+said_site site = record { standing = option_map said_cached site.standing; in_flight = site.in_flight }
 
 -- nothing is known of an authority
-abbrev pub nothing : State
-nothing = record { standing = None; in_flight = None }
+abbrev pub nothing_known : State
+nothing_known = record { standing = None; in_flight = None }
 
 -- no authority stands twice
 abbrev pub AreApart : List (List ℕ × State) → Type 0
@@ -51,7 +50,7 @@ IsApart k = AreApart k.sites
 
 -- what is known of the authority
 abbrev pub site_of : Known → List ℕ → State
-site_of k authority = unwrap_or (lookup (bytes_eq authority) k.sites) nothing
+site_of k authority = unwrap_or (lookup (bytes_eq authority) k.sites) nothing_known
 
 -- a turn is in flight
 abbrev pub is_flying : State → Bool
@@ -80,7 +79,7 @@ with_flight flight site = record { standing = site.standing; in_flight = Some fl
 -- the answer stands now, with its age counted from the begin of the turn, which is no longer in flight
 abbrev pub arrived : ℕ → Said → ℕ → State → State
 arrived turn says life site = record {
-  standing = option_map (λ flight. record { turn = turn; begun = flight.begun; life = life_of says life; says = says }) site.in_flight;
+  standing = option_map (λ flight. record { turn = turn; begun = flight.begun; life = life; says = says }) site.in_flight;
   in_flight = None;
 }
 

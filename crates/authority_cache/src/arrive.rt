@@ -1,7 +1,6 @@
 //! The arrival of the answer to a turn.
 //! RFC 9309, section 2.3.1.
 ghost use Rattle.std.specs.Prelude.{◌≡◌, ℕ, ◌<◌, List, Some, OnErr, length, slice_get};
-ghost use Rattle.robots_verdict.specs.Answer.{said};
 ghost use Rattle.authority_cache.specs.Calls.{Arrives};
 ghost use Rattle.authority_cache.specs.Ends.{Covers, CoversBut, KeptEnds};
 ghost use Rattle.authority_cache.specs.Kept.{AllKnown, known_in, said_entries};
@@ -9,51 +8,62 @@ ghost use Rattle.authority_cache.specs.Sites.{State};
 
 use crate::cache::{Cache, Sites};
 use crate::ends::keep_end;
+use crate::life::TimedAnswer;
 use crate::refusal::Stale;
 use crate::turn::TurnNo;
 use path_normal::Authority;
 use robots_verdict::Answer;
 
 impl Cache {
-    /// Ends a turn, and lets its answer stand in place of the authority's earlier one. Of rules a
-    /// life of so many seconds was asked. It takes no memory.
+    /// Ends a turn, and lets its answer stand in place of the authority's earlier one. It takes no
+    /// memory, and frees none of the earlier answer, which `take_replaced` gives.
     pub fn arrive(
         &mut self,
         authority: &Authority,
         turn: TurnNo,
-        answer: Answer,
-        life: u64,
+        answer: TimedAnswer,
     ) -> Result<(), Stale>
-        ensures { Arrives self.old authority.now turn (said answer) life result self.new }
+        ensures { Arrives self.old authority.now turn answer result self.new }
     {
         let Some(index) = self.find(authority.text()).index else {
             return Err(Stale);
         };
-        close(&mut self.sites, index, turn, answer, life)?;
+        close(&mut self.sites, index, turn, answer, &mut self.replaced)?;
         keep_end(&self.sites, &mut self.ends, index);
         self.flights -= 1;
         Ok(())
     }
+
+    /// The answer that the last arrival replaced, once. An index has megabytes, which are not to be
+    /// freed while others wait for the cache.
+    pub fn take_replaced(&mut self) -> Option<Answer>
+        ensures { self.new ≡ self.old }
+    {
+        self.replaced.take()
+    }
 }
 
-// Ends a turn at the site of this index, and lets its answer stand.
+// Ends a turn at the site of this index, and lets its answer stand. The one that stood is moved out.
 fn close(
     sites: &mut Sites,
     index: usize,
     turn: TurnNo,
-    answer: Answer,
-    life: u64,
+    answer: TimedAnswer,
+    replaced: &mut Option<Answer>,
 ) -> Result<(), Stale>
     requires all { AllKnown sites.old.entries }
     requires within { index < length sites.old.entries }
-    ensures reply { (limit : ℕ) (e : List ℕ × State) → slice_get (said_entries sites.old.entries) index ≡ Some e →
-        Arrives (known_in limit sites.old.entries) e.0 turn (said answer) life result (known_in limit sites.new.entries) }
+    ensures reply { (limit : ℕ) (e : List ℕ × State)
+        → slice_get (said_entries sites.old.entries) index ≡ Some e
+        → Arrives (known_in limit sites.old.entries) e.0 turn answer result
+        (known_in limit sites.new.entries) }
     ensures same { OnErr result (sites.new.entries ≡ sites.old.entries) }
     ensures known { AllKnown sites.new.entries }
-    ensures others { (kept : KeptEnds) → Covers kept sites.old.entries → CoversBut index kept sites.new.entries }
+    ensures others { (kept : KeptEnds) → Covers kept sites.old.entries
+        → CoversBut index kept sites.new.entries }
 {
     match sites.get_index_mut(index) {
-        Some(site) => site.arrive(turn, answer, life),
+        Some(site) => site.arrive(turn, answer, replaced),
         None => Err(Stale),
     }
 }

@@ -2,15 +2,15 @@
 //! RFC 9309, section 2.3.
 ghost use Rattle.std.specs.Prelude.{◌≡◌, ℕ, ◌+◌, ◌*◌, ◌^◌, ◌<◌, ◌≤◌, List, ◌∷◌, ◌++◌, [], None, IfErr, OnErr, OnOk, length};
 ghost use Rattle.std.specs.HashMap.{get_by_text};
-ghost use Rattle.authority_cache.specs.Sites.{IsApart, nothing, site_of, with_flight};
+ghost use Rattle.authority_cache.specs.Sites.{IsApart, nothing_known, site_of, with_flight};
 ghost use Rattle.authority_cache.specs.Calls.{Begins, Changes, IsFound, MayBegin};
-ghost use Rattle.authority_cache.specs.Ends.{Covers, HasRoom, KeptEnds};
+ghost use Rattle.authority_cache.specs.Ends.{Covers, HasRoomForEnds, KeptEnds};
 ghost use Rattle.authority_cache.specs.Kept.{AllKnown, known_in, said_entries};
 
 use crate::cache::{Cache, Sites};
 use crate::ends::{Ends, keep_end};
 use crate::find::Found;
-use crate::refusal::BeginRefusal;
+use crate::refusal::FlightRefusal;
 use crate::site::{Flight, Site};
 use crate::turn::TurnNo;
 use path_normal::Authority;
@@ -23,9 +23,9 @@ impl Cache {
         authority: &Authority,
         turn: TurnNo,
         moment: u64,
-    ) -> Result<(), BeginRefusal>
-        ensures reply { Begins self.old authority.now (record { turn = turn; begun = moment }) result
-            self.new }
+    ) -> Result<(), FlightRefusal>
+        ensures reply { Begins self.old authority.now
+            (record { turn = turn; begun = moment }) result self.new }
         ensures apart { IsApart self.old }
     {
         self.begin_at(self.find(authority.text()), authority, turn, moment)
@@ -38,10 +38,10 @@ impl Cache {
         authority: &Authority,
         turn: TurnNo,
         moment: u64,
-    ) -> Result<(), BeginRefusal>
+    ) -> Result<(), FlightRefusal>
         requires { IsFound self.old authority.now found }
-        ensures reply { Begins self.old authority.now (record { turn = turn; begun = moment }) result
-            self.new }
+        ensures reply { Begins self.old authority.now
+            (record { turn = turn; begun = moment }) result self.new }
         ensures apart { IsApart self.old }
     {
         may_begin(&self.sites, self.limit, found)?;
@@ -57,7 +57,7 @@ impl Cache {
 }
 
 // Whether a turn may begin: none is in flight, and a site that is new is not one too many.
-fn may_begin(sites: &Sites, limit: u64, found: Found) -> Result<(), BeginRefusal>
+fn may_begin(sites: &Sites, limit: u64, found: Found) -> Result<(), FlightRefusal>
     requires all { AllKnown sites.now.entries }
     ensures may { (authority : List ℕ) → IsFound (known_in limit sites.now.entries) authority found
         → MayBegin (known_in limit sites.now.entries) authority result }
@@ -66,10 +66,10 @@ fn may_begin(sites: &Sites, limit: u64, found: Found) -> Result<(), BeginRefusal
 {
     let is_full = sites.len() as u64 >= limit;
     if found.is_fetching {
-        return Err(BeginRefusal::InFlight);
+        return Err(FlightRefusal::InFlight);
     }
     if found.index.is_none() && is_full {
-        return Err(BeginRefusal::AuthoritiesFull);
+        return Err(FlightRefusal::AuthoritiesFull);
     }
     Ok(())
 }
@@ -78,11 +78,11 @@ fn may_begin(sites: &Sites, limit: u64, found: Found) -> Result<(), BeginRefusal
 // nothing any more, they are kept anew first, so that they stay at most about twice the sites.
 fn make_room(sites: &Sites, ends: &mut Ends, flights: u64) -> Result<(), AllocError>
     requires covered { Covers ends.old sites.now.entries }
-    requires room { HasRoom ends.old flights }
+    requires room { HasRoomForEnds ends.old flights }
     requires flights { flights ≤ length sites.now.entries }
     ensures covered { Covers ends.new sites.now.entries }
-    ensures room { HasRoom ends.new flights }
-    ensures ok { OnOk result (HasRoom ends.new (flights + 1)) }
+    ensures room { HasRoomForEnds ends.new flights }
+    ensures ok { OnOk result (HasRoomForEnds ends.new (flights + 1)) }
     ensures few { length ends.new.ends ≤ length sites.now.entries * 2 + 1 }
 {
     if ends.len() / 2 > sites.len() {
@@ -110,15 +110,17 @@ fn open(
     found: Found,
     authority: &str,
     flight: Flight,
-) -> Result<(), BeginRefusal>
+) -> Result<(), FlightRefusal>
     requires all { AllKnown sites.old.entries }
     requires found { IsFound (known_in 0 sites.old.entries) authority.now found }
-    ensures opened { OnOk result ((limit : ℕ) → Changes (known_in limit sites.old.entries) authority.now
-        (with_flight flight (site_of (known_in limit sites.old.entries) authority.now)) (known_in limit sites.new.entries)) }
-    ensures err { IfErr result (λ refusal. refusal ≡ BeginRefusal.NoMemory) }
+    ensures opened { OnOk result ((limit : ℕ) → Changes (known_in limit sites.old.entries)
+        authority.now (with_flight flight (site_of (known_in limit sites.old.entries) authority.now))
+        (known_in limit sites.new.entries)) }
+    ensures err { IfErr result (λ refusal. refusal ≡ FlightRefusal.NoMemory) }
     ensures same { OnErr result (sites.new.entries ≡ sites.old.entries) }
     ensures known { AllKnown sites.new.entries }
-    ensures covered { (kept : KeptEnds) → Covers kept sites.old.entries → Covers kept sites.new.entries }
+    ensures covered { (kept : KeptEnds) → Covers kept sites.old.entries
+        → Covers kept sites.new.entries }
 {
     let Some(index) = found.index else {
         return add(sites, authority, flight);
@@ -131,13 +133,14 @@ fn open(
 }
 
 // A site that is new.
-fn add(sites: &mut Sites, authority: &str, flight: Flight) -> Result<(), BeginRefusal>
+fn add(sites: &mut Sites, authority: &str, flight: Flight) -> Result<(), FlightRefusal>
     requires { get_by_text sites.old authority.now ≡ None }
     ensures ok { OnOk result (said_entries sites.new.entries ≡ said_entries sites.old.entries
-        ++ (authority.now, with_flight flight nothing) ∷ []) }
-    ensures err { IfErr result (λ refusal. refusal ≡ BeginRefusal.NoMemory) }
+        ++ (authority.now, with_flight flight nothing_known) ∷ []) }
+    ensures err { IfErr result (λ refusal. refusal ≡ FlightRefusal.NoMemory) }
     ensures same { OnErr result (sites.new.entries ≡ sites.old.entries) }
-    ensures covered { (kept : KeptEnds) → Covers kept sites.old.entries → Covers kept sites.new.entries }
+    ensures covered { (kept : KeptEnds) → Covers kept sites.old.entries
+        → Covers kept sites.new.entries }
 {
     let name = String::from_str(*sites.allocator(), authority)?;
     let site = Site {
@@ -146,6 +149,6 @@ fn add(sites: &mut Sites, authority: &str, flight: Flight) -> Result<(), BeginRe
     };
     match sites.insert(name, site) {
         Ok(_) => Ok(()),
-        Err(_) => Err(BeginRefusal::NoMemory),
+        Err(_) => Err(FlightRefusal::NoMemory),
     }
 }

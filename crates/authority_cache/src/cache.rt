@@ -7,6 +7,7 @@ use crate::ends::Ends;
 use crate::site::Site;
 use crate::turn::TurnNo;
 use indexmap::IndexMap;
+use robots_verdict::Answer;
 use std::alloc::Global;
 use std::hash::RandomState;
 use std::marker::Model;
@@ -23,6 +24,8 @@ pub struct Cache {
     pub(crate) flights: u64,
     // When the answers that stand end, with room for those of the turns in flight.
     pub(crate) ends: Ends,
+    // The answer that the last arrival replaced, to be freed by whoever takes it.
+    pub(crate) replaced: Option<Answer>,
 }
 
 impl Model for Cache {
@@ -48,6 +51,7 @@ impl Cache {
             sites: IndexMap::with_hasher(alloc, keys),
             flights: 0,
             ends: Ends::new(alloc),
+            replaced: None,
         }
     }
 

@@ -19,8 +19,8 @@ mod turn;
 
 pub use cache::Cache;
 pub use find::Found;
-pub use life::{LEAST_LIFE, LIFE, life_of};
+pub use life::{LEAST_LIFE, LIFE, TimedAnswer, life_of};
 pub use look::Look;
-pub use refusal::{BeginRefusal, Stale};
+pub use refusal::{FlightRefusal, Stale};
 pub use standing_answer::StandingAnswer;
 pub use turn::{Turn, TurnNo};

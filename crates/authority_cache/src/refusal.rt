@@ -7,7 +7,7 @@ use std::fmt;
 
 /// Why no turn was begun, in the order of the tests.
 #[derive(Clone, Copy, Debug, PartialEq, Eq)]
-pub enum BeginRefusal {
+pub enum FlightRefusal {
     /// A turn of the authority is in flight.
     InFlight,
     /// The authority is not known, and as many are as may be.
@@ -20,28 +20,28 @@ pub enum BeginRefusal {
 #[derive(Clone, Copy, Debug, PartialEq, Eq)]
 pub struct Stale;
 
-impl From<AllocError> for BeginRefusal {
+impl From<AllocError> for FlightRefusal {
     ghost use Rattle.std.specs.Prelude.{◌≡◌};
-    ghost use Rattle.authority_cache.specs.declared.refusal.BeginRefusal.{BeginRefusal};
+    ghost use Rattle.authority_cache.specs.declared.refusal.FlightRefusal.{FlightRefusal};
 
-    ghost from_gives = { λ _ refusal. refusal ≡ BeginRefusal.NoMemory };
+    ghost from_gives = { λ _ refusal. refusal ≡ FlightRefusal.NoMemory };
 
-    fn from(_: AllocError) -> BeginRefusal {
-        BeginRefusal::NoMemory
+    fn from(_: AllocError) -> FlightRefusal {
+        FlightRefusal::NoMemory
     }
 }
 
-impl fmt::Display for BeginRefusal {
+impl fmt::Display for FlightRefusal {
     ghost use Rattle.std.specs.Prelude.{Some};
-    ghost use Rattle.authority_cache.specs.Messages.{refusal_text};
+    ghost use Rattle.authority_cache.specs.Messages.{flight_refusal_text};
 
-    ghost output = { λ refusal. Some (refusal_text refusal) };
+    ghost output = { λ refusal. Some (flight_refusal_text refusal) };
 
     fn fmt<W: fmt::Write>(&self, f: &mut fmt::Formatter<W>) -> fmt::Result {
         f.write_str(match self {
-            BeginRefusal::InFlight => "a turn of the authority is in flight",
-            BeginRefusal::AuthoritiesFull => "too many authorities are known",
-            BeginRefusal::NoMemory => "no memory for the authority",
+            FlightRefusal::InFlight => "a turn of the authority is in flight",
+            FlightRefusal::AuthoritiesFull => "too many authorities are known",
+            FlightRefusal::NoMemory => "no memory for the authority",
         })
     }
 }
@@ -56,6 +56,6 @@ impl fmt::Display for Stale {
     }
 }
 
-impl Error for BeginRefusal {}
+impl Error for FlightRefusal {}
 
 impl Error for Stale {}

@@ -3,9 +3,9 @@
 ghost use Rattle.std.specs.Prelude.{◌≡◌, ◌↔◌, true, IsOk, OnErr, OnOk};
 ghost use Rattle.robots_verdict.specs.Answer.{said};
 ghost use Rattle.authority_cache.specs.Ends.{last_moment};
-ghost use Rattle.authority_cache.specs.Sites.{arrived, has_past, has_turn, is_known, is_past, said_site, said_standing, with_flight};
+ghost use Rattle.authority_cache.specs.Sites.{arrived, has_past, has_turn, is_known, is_past, said_site, said_cached, with_flight};
 
-use crate::life::life_of;
+use crate::life::TimedAnswer;
 use crate::refusal::Stale;
 use crate::turn::TurnNo;
 use robots_verdict::Answer;
@@ -21,7 +21,7 @@ pub struct Flight {
 
 /// An answer that stands.
 #[derive(Drop)]
-pub struct Standing {
+pub struct CachedAnswer {
     /// The turn that brought it.
     pub turn: TurnNo,
     /// The moment of that turn's begin, in seconds, from which its age counts.
@@ -36,22 +36,22 @@ pub struct Standing {
 #[derive(Drop)]
 pub struct Site {
     /// The answer that stands.
-    pub standing: Option<Standing>,
+    pub standing: Option<CachedAnswer>,
     /// The turn that is in flight.
     pub in_flight: Option<Flight>,
 }
 
-impl Standing {
+impl CachedAnswer {
     /// Whether it is older than its life at this moment.
     pub fn is_past(&self, moment: u64) -> bool
-        ensures { result ≡ is_past moment (said_standing self.now) }
+        ensures { result ≡ is_past moment (said_cached self.now) }
     {
         moment.saturating_sub(self.begun) > self.life
     }
 
     /// The last moment at which it is in force.
     pub fn last_moment(&self) -> u64
-        ensures { result ≡ last_moment (said_standing self.now) }
+        ensures { result ≡ last_moment (said_cached self.now) }
     {
         self.begun.saturating_add(self.life)
     }
@@ -92,22 +92,29 @@ impl Site {
         self.in_flight = Some(flight);
     }
 
-    /// Ends the turn of that number, and lets its answer stand.
-    pub fn arrive(&mut self, turn: TurnNo, answer: Answer, life: u64) -> Result<(), Stale>
+    /// Ends the turn of that number, and lets its answer stand. The one that stood is moved out.
+    pub fn arrive(
+        &mut self,
+        turn: TurnNo,
+        answer: TimedAnswer,
+        replaced: &mut Option<Answer>,
+    ) -> Result<(), Stale>
         ensures turn { IsOk result ↔ (has_turn turn (said_site self.old) ≡ true) }
         ensures ok { OnOk result (said_site self.new
-            ≡ arrived turn (said answer) life (said_site self.old)) }
+            ≡ arrived turn answer.says answer.life (said_site self.old)) }
         ensures err { OnErr result (self.new ≡ self.old) }
     {
         let in_flight = self.in_flight;
         match in_flight {
             Some(flight) if flight.turn == turn => {
-                self.standing = Some(Standing {
+                let (answer, life) = answer.into_parts();
+                let stood = self.standing.replace(CachedAnswer {
                     turn,
                     begun: flight.begun,
-                    life: life_of(&answer, life),
+                    life,
                     answer,
                 });
+                *replaced = stood.map(|cached| cached.answer);
                 self.in_flight = None;
                 Ok(())
             }

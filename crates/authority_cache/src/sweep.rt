@@ -5,7 +5,7 @@ ghost use Rattle.std.specs.HashMap.{IsUnique};
 ghost use Rattle.std.specs.String.{string_eq};
 ghost use Rattle.authority_cache.specs.Sites.{IsApart, flight_count};
 ghost use Rattle.authority_cache.specs.Calls.{Sweeps, one_if};
-ghost use Rattle.authority_cache.specs.Ends.{Covers, CoversBut, CoversYoung, DropsAnswer, HasRoom, KeepsEnd, Removes, SaysPastAt, SweepsPart};
+ghost use Rattle.authority_cache.specs.Ends.{Covers, CoversBut, CoversYoung, DropsAnswer, HasRoomForEnds, KeepsEnd, Removes, SaysPastAt, SweepsPart};
 ghost use Rattle.authority_cache.specs.Kept.{AllKnown, known_in};
 
 use crate::cache::{Cache, Sites};
@@ -28,13 +28,13 @@ impl Cache {
 fn drop_past(sites: &mut Sites, ends: &mut Ends, moment: u64) -> u64
     requires known { AllKnown sites.old.entries }
     requires covered { Covers ends.old sites.old.entries }
-    requires room { HasRoom ends.old (flight_count (known_in 0 sites.old.entries)) }
+    requires room { HasRoomForEnds ends.old (flight_count (known_in 0 sites.old.entries)) }
     requires few { length sites.old.entries < 2 ^ 63 }
     ensures swept { (limit : ℕ) → Sweeps (known_in limit sites.old.entries) moment result
         (known_in limit sites.new.entries) }
     ensures known { AllKnown sites.new.entries }
     ensures covered { Covers ends.new sites.new.entries }
-    ensures room { HasRoom ends.new (flight_count (known_in 0 sites.new.entries)) }
+    ensures room { HasRoomForEnds ends.new (flight_count (known_in 0 sites.new.entries)) }
 {
     let mut dropped = 0;
     while let Some(index) = ends.pop_before(moment) {
@@ -50,12 +50,12 @@ fn drop_at(sites: &mut Sites, ends: &mut Ends, index: usize, moment: u64) -> boo
     requires known { AllKnown sites.old.entries }
     requires others { CoversBut index ends.old sites.old.entries }
     requires young { CoversYoung moment index ends.old sites.old.entries }
-    requires room { HasRoom ends.old (flight_count (known_in 0 sites.old.entries) + 1) }
+    requires room { HasRoomForEnds ends.old (flight_count (known_in 0 sites.old.entries) + 1) }
     ensures part { SweepsPart (known_in 0 sites.old.entries) moment (one_if result)
         (known_in 0 sites.new.entries) }
     ensures known { AllKnown sites.new.entries }
     ensures covered { Covers ends.new sites.new.entries }
-    ensures room { HasRoom ends.new (flight_count (known_in 0 sites.new.entries)) }
+    ensures room { HasRoomForEnds ends.new (flight_count (known_in 0 sites.new.entries)) }
     ensures fewer { length sites.new.entries * 2 + length ends.new.ends
         ≤ length sites.old.entries * 2 + length ends.old.ends }
 {

@@ -5,19 +5,19 @@ use Rattle.std.specs.Str.{IsAscii, IsUtf8}
 use Rattle.std.proofs.lemmas.Bool.Decides.{nat_tests}
 use Rattle.std.proofs.lemmas.Str.{IsUtf8-from_ascii}
 use Rattle.std.proofs.lemmas.Str.Ascii.{IsAscii-nil, IsAscii-cons}
-use Rattle.command_server.specs.CallOf.{is_plain}
+use Rattle.command_server.specs.CallOf.{has_line_octets}
 
 -- the first octet of a plain line, and the others
-plain_parts : (octet : ℕ) (line : List ℕ) → is_plain (octet ∷ line) ≡ true → (octet < 128) × (is_plain line ≡ true)
+plain_parts : (octet : ℕ) (line : List ℕ) → has_line_octets (octet ∷ line) ≡ true → (octet < 128) × (has_line_octets line ≡ true)
 plain_parts octet line h = (grind (arith, nat_tests), grind (arith, nat_tests))
 
 -- a plain line is ASCII
-ascii_of_plain : (line : List ℕ) → is_plain line ≡ true → IsAscii line
+ascii_of_plain : (line : List ℕ) → has_line_octets line ≡ true → IsAscii line
 ascii_of_plain [] h = IsAscii-nil
 ascii_of_plain (octet ∷ line) h =
     let parts = plain_parts octet line h in IsAscii-cons octet line parts.0 (ascii_of_plain line parts.1)
 
 -- what is read of a plain line as UTF-8 is the line
-pub text_of_plain : {E : Type 0} (P : E → Type 0) (line : List ℕ) (r : Result (Bor (List ℕ)) E) → is_plain line ≡ true → MatchResult r (λ s. (s.now ≡ line) × IsUtf8 line) (λ e. ¬ (IsUtf8 line) × P e) → MatchOption (result_ok r) (is_plain line ≡ false) (λ text. (is_plain line ≡ true) × (text.now ≡ line))
+pub text_of_plain : {E : Type 0} (P : E → Type 0) (line : List ℕ) (r : Result (Bor (List ℕ)) E) → has_line_octets line ≡ true → MatchResult r (λ s. (s.now ≡ line) × IsUtf8 line) (λ e. ¬ (IsUtf8 line) × P e) → MatchOption (result_ok r) (has_line_octets line ≡ false) (λ text. (has_line_octets line ≡ true) × (text.now ≡ line))
 text_of_plain P line (Ok text) h m = (h, m.0)
 text_of_plain P line (Err e) h m = absurd (m.0 (IsUtf8-from_ascii line (ascii_of_plain line h)))

@@ -5,7 +5,7 @@ use Rattle.std.specs.Prelude.{is_none}
 use Rattle.std.specs.Option.{IsSome}
 use Rattle.std.proofs.lemmas.Option.{none-some}
 use Rattle.line_text.specs.Words.{GivesWord}
-use Rattle.command_server.specs.Arrival.{head_of, or_later, replies_fault, reply_fault}
+use Rattle.command_server.specs.Arrival.{head_written, or_later, replies_fault, reply_fault}
 use Rattle.command_server.specs.declared.fault.LineFault.{LineFault}
 use Rattle.command_server.specs.declared.fault.LineFault.TheVariants as faults
 use Rattle.command_server.specs.declared.reply_words.Head.{Head}
@@ -17,7 +17,7 @@ some_fault false is = none-some faults.Replies (sym is)
 
 -- a word alone has a fault
 pub not_alone : (words : List (List ℕ)) (first : List ℕ) → replies_fault words ≡ None → words ≡ first ∷ [] → ⊥
-not_alone words first clean is = some_fault (is_none (head_of first)) (sym (ap replies_fault is) ∙ clean)
+not_alone words first clean is = some_fault (is_none (head_written first)) (sym (ap replies_fault is) ∙ clean)
 
 -- so a second word follows the first
 pub second_follows : (old mid new : List (List ℕ)) (first : List ℕ) (r : Option (Bor (List ℕ))) →
@@ -38,7 +38,7 @@ head_clean (Some head) second is = search
 
 -- what two words without a fault say
 pub two_clean : (old later : List (List ℕ)) (first second : List ℕ) → replies_fault old ≡ None → old ≡ first ∷ second ∷ later →
-    IsSome (head_of first) × (replies_fault later ≡ None)
+    IsSome (head_written first) × (replies_fault later ≡ None)
 two_clean old later first second clean is =
-    let both = first_clean (reply_fault (head_of first) second) (replies_fault later) (sym (ap replies_fault is) ∙ clean) in
-    (head_clean (head_of first) second both.0, both.1)
+    let both = first_clean (reply_fault (head_written first) second) (replies_fault later) (sym (ap replies_fault is) ∙ clean) in
+    (head_clean (head_written first) second both.0, both.1)

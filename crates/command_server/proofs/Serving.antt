@@ -1,19 +1,20 @@
 -- Lemmas on the lines that a session took so far, and on its end.
 -- The answers of `run_session` cite them.
-use Rattle.std.proofs.Common.{◌≡◌, ℕ, ◌+◌, ◌≤◌, Bool, true, false, List, [], ◌∷◌, ◌++◌, None, Some, refl, sym, ap, subst, ◌∙◌, inl, inr, append_assoc, append-nil, length, length-append, arith, rules, ◌≢◌}
+use Rattle.std.proofs.Common.{◌≡◌, ℕ, ◌+◌, ◌≤◌, Bool, true, false, List, [], ◌∷◌, ◌++◌, None, Some, refl, sym, ap, subst, ◌∙◌, inl, inr, append_assoc, append-nil, length, length-append, take, arith, rules, ◌≢◌}
 use Rattle.std.specs.Prelude.{Option, Result, Ok, Err, map, All, ◌⊎◌}
 use Rattle.std.proofs.lemmas.List.{map-append}
 use Rattle.std.proofs.lemmas.List.Elements.{All-nil, All-cons, All-append}
 use Rattle.std.specs.Io.KnownBytes.{Appends, Consumes, prepend_known}
-use Rattle.std.proofs.KnownBytes.{Appends-nil, Consumes-nil, Consumes-trans, Keeps-refl, prepend_known-end}
+use Rattle.std.proofs.KnownBytes.{Appends-nil, Appends-trans, Consumes-nil, Consumes-trans, Keeps-refl, prepend_known-end}
 use Rattle.counted_io.specs.Device.{AppendsPrefix}
 use Rattle.counted_io.specs.Lines.{HasNoLineFeed, without_cr, TakesLine, TakesLast, line_feed}
+use Rattle.counted_io.specs.Limits.{output_buffer}
 use Rattle.counted_io.specs.Output.{Passes}
 use Rattle.counted_io.proofs.Writing.{Passes-push, Passes-written, Passes-cut, Passes-cut-all, Passes-further}
-use Rattle.command_server.specs.Answers.{Answers, GivesReply, LosesReply}
+use Rattle.command_server.specs.Answers.{AnswersLines, GivesReply, LosesReply}
 use Rattle.command_server.specs.Input.{with_line_feeds, TakesLines, FindsPart}
-use Rattle.command_server.specs.Session.{Session, Meets, ResultsIn, Writes, last_words}
-use Rattle.command_server.specs.Steps.{FailsToRead}
+use Rattle.command_server.specs.Session.{KeepsUp, Session, Meets, ResultsIn, StopsAtWrite, Writes, last_words}
+use Rattle.command_server.specs.Steps.{FailsToReadLine}
 use Rattle.command_server.specs.declared.session_fault.SessionFault.{SessionFault}
 use Rattle.command_server.specs.declared.session_fault.SessionFault.TheVariants.{LongLine, Lines, Read, Write, NoMemory}
 
@@ -31,7 +32,7 @@ pub record Served {S : Type 0} (answers : S → List ℕ → List ℕ → Bool �
   pub text : List ℕ
   pub whole : TakesWhole limit input behind lines
   pub count_is : length lines ≡ count
-  pub answered : Answers answers old lines text false new
+  pub answered : AnswersLines answers old lines text false new
   pub passed : Passes written written_new text pending
 
 -- a session that goes on hasn't ended
@@ -40,7 +41,7 @@ never e = search rules
 
 -- one more line is answered
 pub Answers-more : {S : Type 0} (answers : S → List ℕ → List ℕ → Bool → S → Type 0) (old : S) (lines : List (List ℕ)) (text : List ℕ) (mid : S) (line reply : List ℕ) (ended : Bool) (new : S)
-    → Answers answers old lines text false mid → answers mid line reply ended new → Answers answers old (lines ++ line ∷ []) (text ++ reply) ended new
+    → AnswersLines answers old lines text false mid → answers mid line reply ended new → AnswersLines answers old (lines ++ line ∷ []) (text ++ reply) ended new
 Answers-more answers old [] text mid line reply true new so_far answered =
     let start : answers old line reply true new = subst (λ s. answers s line reply true new) so_far.2 answered in
     let all : reply ≡ text ++ reply = ap (λ t. t ++ reply) (sym so_far.0) in
@@ -181,13 +182,47 @@ served_line {answers = answers} {old = old} {mid = mid} {a = a} {b = b} {c = c} 
   passed = Passes-push a b c s.text pending replies.reply left s.passed replies.passed;
 }
 
+-- the replies to the front of the lines passed to the output, of which a part was still pending when a write failed
+keeps_up : {S : Type 0} (answers : S → List ℕ → List ℕ → Bool → S → Type 0) (old mid : S) (front late : List (List ℕ)) (replies rest : List ℕ) (ended : Bool) (a b c : Option (List ℕ)) (pending more : List ℕ)
+    → length late ≤ 1 → AnswersLines answers old front replies ended mid → Passes a b replies pending → length pending ≤ output_buffer → AppendsPrefix b c more
+    → KeepsUp answers old (front ++ late) (replies ++ rest) a c
+keeps_up answers old mid front late replies rest ended a b c pending more few answered passed bound cut = record {
+  front = front;
+  late = late;
+  replies = replies;
+  rest = rest;
+  ended = ended;
+  state = mid;
+  wrote = passed.front ++ take cut.0 more;
+  lines_are = refl;
+  few = few;
+  text_is = refl;
+  answered = answered;
+  appended = Appends-trans a b c passed.front (take cut.0 more) passed.wrote cut.1;
+  nearly = omega (arith, bound, ap length passed.split, length-append passed.front pending, length-append passed.front (take cut.0 more));
+}
+
+-- the same where all lines were answered
+stops_at_write : {S : Type 0} (answers : S → List ℕ → List ℕ → Bool → S → Type 0) (old new : S) (lines : List (List ℕ)) (text : List ℕ) (ended : Bool) (a b c : Option (List ℕ)) (pending words : List ℕ) (result : Result (Unit {0}) SessionFault)
+    → AnswersLines answers old lines text ended new → Passes a b text pending → length pending ≤ output_buffer → Writes b c (pending ++ words) result
+    → StopsAtWrite result (KeepsUp answers old lines text a c)
+stops_at_write answers old new lines text ended a b c pending words (Ok _) answered passed bound wrote = tt
+stops_at_write answers old new lines text ended a b c pending words (Err LongLine) answered passed bound wrote = tt
+stops_at_write answers old new lines text ended a b c pending words (Err Lines) answered passed bound wrote = tt
+stops_at_write answers old new lines text ended a b c pending words (Err Read) answered passed bound wrote = tt
+stops_at_write answers old new lines text ended a b c pending words (Err NoMemory) answered passed bound wrote = tt
+stops_at_write answers old new lines text ended a b c pending words (Err Write) answered passed bound wrote =
+    subst (λ l. KeepsUp answers old l text a c) (append-nil lines)
+    (subst (λ t. KeepsUp answers old (lines ++ []) t a c) (append-nil text)
+    (keeps_up answers old new lines [] text [] ended a b c pending (pending ++ words) (omega arith) answered passed bound wrote))
+
 -- the session stops behind the lines taken
 pub stops : {S : Type 0} {answers : S → List ℕ → List ℕ → Bool → S → Type 0} {limit : ℕ} (most count : ℕ) {old new : S} {input behind : Option (List ℕ)} (unread : List ℕ) (left : Option (List ℕ)) {a b : Option (List ℕ)} (c : Option (List ℕ))
     (lines : List (List ℕ)) (text pending : List ℕ) (ended : Bool) (met result : Result (Unit {0}) SessionFault)
-    → TakesLines limit input behind lines → length lines ≡ count → count ≤ most → Answers answers old lines text ended new → Passes a b text pending
-    → Meets limit most count ended behind unread left met → ResultsIn met result → Writes b c (pending ++ last_words met) result
+    → TakesLines limit input behind lines → length lines ≡ count → count ≤ most → AnswersLines answers old lines text ended new → Passes a b text pending
+    → Meets limit most count ended behind unread left met → ResultsIn met result → Writes b c (pending ++ last_words met) result → length pending ≤ output_buffer
     → Session answers limit most old new input left a c result
-stops {answers = answers} {limit = limit} most count {behind = behind} unread left {a = a} {b = b} c lines text pending ended met result took count_is within answered passed stopped results wrote = record {
+stops {answers = answers} {limit = limit} most count {old = old} {new = new} {behind = behind} unread left {a = a} {b = b} c lines text pending ended met result took count_is within answered passed stopped results wrote bound = record {
   lines = lines;
   text = text;
   ended = ended;
@@ -200,31 +235,32 @@ stops {answers = answers} {limit = limit} most count {behind = behind} unread le
   stopped = subst (λ n. Meets limit most n ended behind unread left met) (sym count_is) stopped;
   results = results;
   wrote = Writes-after a b c text pending (last_words met) result passed wrote;
+  stops = stops_at_write answers old new lines text ended a b c pending (last_words met) result answered passed bound wrote;
 }
 
 -- the session stops with all lines answered
 pub served_stops : {S : Type 0} {answers : S → List ℕ → List ℕ → Bool → S → Type 0} {limit count : ℕ} (most : ℕ) {old new : S} {input behind a b : Option (List ℕ)} {pending : List ℕ} (unread : List ℕ) (left c : Option (List ℕ)) (met result : Result (Unit {0}) SessionFault)
     → Served answers limit count old new input behind a b pending → count ≤ most → Meets limit most count false behind unread left met → ResultsIn met result → Writes b c (pending ++ last_words met) result
-    → Session answers limit most old new input left a c result
-served_stops {answers = answers} {limit = limit} {count = count} most {pending = pending} unread left c met result s within stopped results wrote =
-    stops most count unread left c s.lines s.text pending false met result (took_whole s.whole) s.count_is within s.answered s.passed stopped results wrote
+    → length pending ≤ output_buffer → Session answers limit most old new input left a c result
+served_stops {answers = answers} {limit = limit} {count = count} most {pending = pending} unread left c met result s within stopped results wrote bound =
+    stops most count unread left c s.lines s.text pending false met result (took_whole s.whole) s.count_is within s.answered s.passed stopped results wrote bound
 
 -- the session stops behind one more line
 pub line_stops : {S : Type 0} {answers : S → List ℕ → List ℕ → Bool → S → Type 0} {limit count : ℕ} (most : ℕ) {old mid : S} {input behind after a b c : Option (List ℕ)} {pending pending_new line : List ℕ} (new : S) (ended : Bool) (unread : List ℕ) (left d : Option (List ℕ)) (met result : Result (Unit {0}) SessionFault)
     → (s : Served answers limit count old mid input behind a b pending) → TakesLines limit input after (s.lines ++ line ∷ []) → count + 1 ≤ most → GivesReply (λ reply. answers mid line reply ended new) b c pending pending_new
-    → Meets limit most (count + 1) ended after unread left met → ResultsIn met result → Writes c d (pending_new ++ last_words met) result
+    → Meets limit most (count + 1) ended after unread left met → ResultsIn met result → Writes c d (pending_new ++ last_words met) result → length pending_new ≤ output_buffer
     → Session answers limit most old new input left a d result
-line_stops {answers = answers} {limit = limit} {count = count} most {old = old} {mid = mid} {a = a} {b = b} {c = c} {pending = pending} {pending_new = pending_new} {line = line} new ended unread left d met result s took within replies stopped results wrote =
+line_stops {answers = answers} {limit = limit} {count = count} most {old = old} {mid = mid} {a = a} {b = b} {c = c} {pending = pending} {pending_new = pending_new} {line = line} new ended unread left d met result s took within replies stopped results wrote bound =
     stops most (count + 1) unread left d (s.lines ++ line ∷ []) (s.text ++ replies.reply) pending_new ended met result took
     (length-append s.lines (line ∷ []) ∙ ap (λ n. n + 1) s.count_is) within
     (Answers-more answers old s.lines s.text mid line replies.reply ended new s.answered replies.answered)
-    (Passes-push a b c s.text pending replies.reply pending_new s.passed replies.passed) stopped results wrote
+    (Passes-push a b c s.text pending replies.reply pending_new s.passed replies.passed) stopped results wrote bound
 
 -- a write failed while one more line was answered
 pub line_lost : {S : Type 0} {answers : S → List ℕ → List ℕ → Bool → S → Type 0} {limit count : ℕ} (most : ℕ) {old mid : S} {input after behind a b c : Option (List ℕ)} {pending line : List ℕ} (new : S) (unread : List ℕ) (left : Option (List ℕ))
     → (s : Served answers limit count old mid input behind a b pending) → TakesLines limit input after (s.lines ++ line ∷ []) → count + 1 ≤ most → LosesReply (λ reply ended. answers mid line reply ended new) b c pending
-    → FindsPart after unread left → Session answers limit most old new input left a c (Err Write)
-line_lost {answers = answers} {count = count} most {old = old} {mid = mid} {after = after} {a = a} {b = b} {c = c} {pending = pending} {line = line} new unread left s took within lost part = record {
+    → FindsPart after unread left → length pending ≤ output_buffer → Session answers limit most old new input left a c (Err Write)
+line_lost {answers = answers} {count = count} most {old = old} {mid = mid} {after = after} {a = a} {b = b} {c = c} {pending = pending} {line = line} new unread left s took within lost part bound = record {
   lines = s.lines ++ line ∷ [];
   text = s.text ++ lost.reply;
   ended = lost.ended;
@@ -237,6 +273,7 @@ line_lost {answers = answers} {count = count} most {old = old} {mid = mid} {afte
   stopped = part;
   results = inl refl;
   wrote = subst (AppendsPrefix a c) (sym (append-nil (s.text ++ lost.reply))) (Passes-cut a b c s.text pending lost.reply s.passed lost.cut);
+  stops = keeps_up answers old mid s.lines (line ∷ []) s.text lost.reply false a b c pending (pending ++ lost.reply) (omega arith) s.answered s.passed bound lost.cut;
 }
 
 -- where the pending octets were written or are all still pending, a part of those now pending is a part of them
@@ -247,12 +284,12 @@ still_cut a b c pending left (inr same) cut = subst (λ x. AppendsPrefix x c pen
 
 -- the session stops since no further line could be read
 pub fails_stops : {S : Type 0} {answers : S → List ℕ → List ℕ → Bool → S → Type 0} {limit count : ℕ} (most : ℕ) {old new : S} {input behind a b : Option (List ℕ)} {pending : List ℕ} (unread : List ℕ) (left c : Option (List ℕ)) (fault : SessionFault)
-    → Served answers limit count old new input behind a b pending → count ≤ most → FailsToRead behind unread left pending b c fault → Session answers limit most old new input left a c (Err fault)
-fails_stops most unread left c LongLine s within f = absurd f
-fails_stops most unread left c Lines s within f = absurd f
-fails_stops most {b = b} {pending = pending} unread left c Read s within f =
-    served_stops most unread left c (Err Read) (Err Read) s within (refl, f.0) (inl refl) (subst (Appends b c) (sym (append-nil pending)) f.1)
-fails_stops most {b = b} {pending = pending} unread left c Write s within f =
-    served_stops most unread left c (Err Write) (Err Write) s within f.0 (inl refl) (subst (AppendsPrefix b c) (sym (append-nil pending)) f.1)
-fails_stops most {b = b} {pending = pending} unread left c NoMemory s within f =
-    served_stops most unread left c (Err NoMemory) (Err NoMemory) s within (refl, f.0) (inl refl) (subst (Appends b c) (sym (append-nil pending)) f.1)
+    → Served answers limit count old new input behind a b pending → count ≤ most → FailsToReadLine behind unread left pending b c fault → length pending ≤ output_buffer → Session answers limit most old new input left a c (Err fault)
+fails_stops most unread left c LongLine s within f bound = absurd f
+fails_stops most unread left c Lines s within f bound = absurd f
+fails_stops most {b = b} {pending = pending} unread left c Read s within f bound =
+    served_stops most unread left c (Err Read) (Err Read) s within (refl, f.0) (inl refl) (subst (Appends b c) (sym (append-nil pending)) f.1) bound
+fails_stops most {b = b} {pending = pending} unread left c Write s within f bound =
+    served_stops most unread left c (Err Write) (Err Write) s within f.0 (inl refl) (subst (AppendsPrefix b c) (sym (append-nil pending)) f.1) bound
+fails_stops most {b = b} {pending = pending} unread left c NoMemory s within f bound =
+    served_stops most unread left c (Err NoMemory) (Err NoMemory) s within (refl, f.0) (inl refl) (subst (Appends b c) (sym (append-nil pending)) f.1) bound

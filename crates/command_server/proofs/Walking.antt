@@ -1,8 +1,7 @@
 -- The walk over the replies of an arrival, from its begin to its end.
 -- Used by the proof of `decide`.
 use Rattle.std.proofs.Common.{◌≡◌, ◌≢◌, ◌++◌, ◌∷◌, [], ℕ, List, Some, None, Ok, Err, refl, sym, ap, subst, ◌∙◌, inl, inr, append-nil, append_assoc, length, length-append, ◌+◌, arith}
-use Rattle.robots_verdict.specs.Answer.{said}
-use Rattle.robots_verdict.specs.declared.answer.Answer.{Answer}
+use Rattle.authority_cache.specs.Lives.{Timed}
 use Rattle.robots_verdict.specs.declared.said.Said.{Said}
 use Rattle.robots_fetch.specs.declared.reply.RobotsReply.{RobotsReply}
 use Rattle.robots_fetch.specs.declared.walk.Step.{Step}
@@ -76,40 +75,40 @@ go_on authority words left new walk next reply way takes steps = record {
 }
 
 -- the replies that were read decide
-decided_so_far : (authority : List ℕ) (words left new : List (List ℕ)) (walk : Walk) (reply : RobotsReply) (answer : Answer) (life : ℕ) →
-    (way : IsUnderWay authority words walk left) (takes : TakesReply left (Some reply) new) → Steps walk reply (Done answer life) →
-    IsDecided authority (way.read ++ takes.0 ∷ takes.1.0 ∷ []) (said answer) life
-decided_so_far authority words left new walk reply answer life way takes steps = (
+decided_so_far : (authority : List ℕ) (words left new : List (List ℕ)) (walk : Walk) (reply : RobotsReply) (answer : Timed) →
+    (way : IsUnderWay authority words walk left) (takes : TakesReply left (Some reply) new) → Steps walk reply (Done answer) →
+    IsDecided authority (way.read ++ takes.0 ∷ takes.1.0 ∷ []) answer.says answer.life
+decided_so_far authority words left new walk reply answer way takes steps = (
   way.front ++ reply ∷ [],
   (
     replies_more way.read way.front takes.0 takes.1.0 reply way.are takes.1.1.1,
-    done authority way.first (way.front ++ reply ∷ []) answer life way.begun
-        (one_more way.first walk way.front reply (Done answer life) way.gone steps),
+    done authority way.first (way.front ++ reply ∷ []) answer way.begun
+        (one_more way.first walk way.front reply (Done answer) way.gone steps),
   ),
 )
 
 -- the replies decide, and no word is left
-pub ends_well : (authority : List ℕ) (words left new : List (List ℕ)) (walk : Walk) (reply : RobotsReply) (answer : Answer) (life : ℕ) →
-    IsUnderWay authority words walk left → TakesReply left (Some reply) new → Steps walk reply (Done answer life) → new ≡ [] →
-    Brings authority words (Ok (answer, life))
-ends_well authority words left new walk reply answer life way takes steps none =
+pub ends_well : (authority : List ℕ) (words left new : List (List ℕ)) (walk : Walk) (reply : RobotsReply) (answer : Timed) →
+    IsUnderWay authority words walk left → TakesReply left (Some reply) new → Steps walk reply (Done answer) → new ≡ [] →
+    Brings authority words (Ok answer)
+ends_well authority words left new walk reply answer way takes steps none =
     let all = all_words words way.read left new takes.0 takes.1.0 way.all takes.1.1.0
     ∙ ap (λ (ws : List (List ℕ)). (way.read ++ takes.0 ∷ takes.1.0 ∷ []) ++ ws) none ∙ append-nil (way.read ++ takes.0 ∷ takes.1.0 ∷ []) in
-    subst (λ (ws : List (List ℕ)). IsDecided authority ws (said answer) life) (sym all)
-    (decided_so_far authority words left new walk reply answer life way takes steps)
+    subst (λ (ws : List (List ℕ)). IsDecided authority ws answer.says answer.life) (sym all)
+    (decided_so_far authority words left new walk reply answer way takes steps)
 
 -- the replies decide, and words are left
-pub ends_early : (authority : List ℕ) (words left new : List (List ℕ)) (walk : Walk) (reply : RobotsReply) (answer : Answer) (life : ℕ) →
-    IsUnderWay authority words walk left → TakesReply left (Some reply) new → Steps walk reply (Done answer life) → new ≢ [] →
+pub ends_early : (authority : List ℕ) (words left new : List (List ℕ)) (walk : Walk) (reply : RobotsReply) (answer : Timed) →
+    IsUnderWay authority words walk left → TakesReply left (Some reply) new → Steps walk reply (Done answer) → new ≢ [] →
     Brings authority words (Err faults.Replies)
-ends_early authority words left new walk reply answer life way takes steps more = inr (record {
+ends_early authority words left new walk reply answer way takes steps more = inr (record {
   read = way.read ++ takes.0 ∷ takes.1.0 ∷ [];
   rest = new;
-  says = said answer;
-  life = life;
+  says = answer.says;
+  life = answer.life;
   all = all_words words way.read left new takes.0 takes.1.0 way.all takes.1.1.0;
   more = more;
-  decided = decided_so_far authority words left new walk reply answer life way takes steps;
+  decided = decided_so_far authority words left new walk reply answer way takes steps;
 })
 
 -- no reply ends a list of none

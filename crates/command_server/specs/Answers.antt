@@ -7,9 +7,9 @@ use Rattle.command_server.specs.declared.answerer.Flow.{Flow}
 use Rattle.command_server.specs.declared.answerer.Flow.TheVariants.{Goes, Ends}
 
 -- whether the session ends
-abbrev pub is_end : Flow → Bool
-is_end Goes = false
-is_end Ends = true
+abbrev pub ends_session : Flow → Bool
+ends_session Goes = false
+ends_session Ends = true
 
 -- the reply to a line passed to the output
 pub record GivesReply (is_reply : List ℕ → Type 0) (old new : Option (List ℕ)) (pending left : List ℕ) : Type 0 where
@@ -40,11 +40,11 @@ pub record GoesOn {S : Type 0} (goes : List ℕ → S → Type 0) (rest_is_answe
   pub then : rest_is_answered state rest
 
 -- from a state, the lines are answered in turn by what makes up the text, and lead to a state; a line that ends the session is the last
-abbrev pub Answers : {S : Type 0} → (S → List ℕ → List ℕ → Bool → S → Type 0) → S → List (List ℕ) → List ℕ → Bool → S → Type 0
-Answers answers old [] text ended new = (text ≡ []) × (ended ≡ false) × (new ≡ old)
-Answers answers old (line ∷ lines) text ended new =
+abbrev pub AnswersLines : {S : Type 0} → (S → List ℕ → List ℕ → Bool → S → Type 0) → S → List (List ℕ) → List ℕ → Bool → S → Type 0
+AnswersLines answers old [] text ended new = (text ≡ []) × (ended ≡ false) × (new ≡ old)
+AnswersLines answers old (line ∷ lines) text ended new =
     EndsAtLine (λ reply. answers old line reply true new) lines text ended
-    ⊎ GoesOn (λ reply state. answers old line reply false state) (λ state rest. Answers answers state lines rest ended new) text
+    ⊎ GoesOn (λ reply state. answers old line reply false state) (λ state rest. AnswersLines answers state lines rest ended new) text
 
 -- a reply was given, but no more than a part of the pending octets and of it was written
 pub record CutsReply (is_reply : List ℕ → Type 0) (old new : Option (List ℕ)) (pending : List ℕ) : Type 0 where

@@ -27,9 +27,9 @@ token_fault tokens.BadToken = faults.Token
 token_fault tokens.NoMemory = faults.Memory
 
 -- the line's fault where a word is no authority
-abbrev pub authority_fault : AuthorityFault → LineFault
-authority_fault authorities.BadAuthority = faults.Authority
-authority_fault authorities.NoMemory = faults.Memory
+abbrev pub fault_of_authority : AuthorityFault → LineFault
+fault_of_authority authorities.BadAuthority = faults.Authority
+fault_of_authority authorities.NoMemory = faults.Memory
 
 -- the line's fault where a word is no page URL
 abbrev pub url_fault : UrlFault → LineFault
@@ -55,7 +55,7 @@ token_word word capacity =
 
 -- the authority of a word
 abbrev pub authority_word : List ℕ → Capacity → Result (List ℕ) LineFault
-authority_word word capacity = or_fault authority_fault (authority_from word capacity)
+authority_word word capacity = or_fault fault_of_authority (authority_from word capacity)
 
 -- the page URL of a word
 abbrev pub page_word : List ℕ → Capacity → Result (List ℕ) LineFault

@@ -8,8 +8,7 @@ use Rattle.std.specs.Option.{option_and_then, option_map}
 use Rattle.std.specs.Path.{slash}
 use Rattle.std.specs.Str.{bytes_eq}
 use Rattle.percent_encoding.specs.Percent.{percent_decode}
-use Rattle.robots_verdict.specs.Answer.{said}
-use Rattle.robots_verdict.specs.declared.answer.Answer.{Answer}
+use Rattle.authority_cache.specs.Lives.{Timed}
 use Rattle.robots_verdict.specs.declared.said.Said.{Said}
 use Rattle.robots_fetch.specs.declared.reply.RobotsReply.{RobotsReply}
 use Rattle.robots_fetch.specs.declared.reply.RobotsReply.TheVariants as replies
@@ -24,8 +23,8 @@ use Rattle.command_server.specs.declared.reply_words.Head.{Head}
 use Rattle.command_server.specs.declared.reply_words.Head.TheVariants as heads
 
 -- the status that a word writes: a number of three digits from 100 to 999
-abbrev pub status_of : List ℕ → Option ℕ
-status_of word =
+abbrev pub status_written : List ℕ → Option ℕ
+status_written word =
     if length word == 3
     then option_and_then (λ code. if is_in_range 100 999 code then Some code else None) (number_of word)
     else None
@@ -45,7 +44,7 @@ has_text _ = false
 abbrev pub lasting_of : List ℕ → List ℕ → Option Head
 lasting_of status life =
     option_and_then (λ code. if has_rules (class_of code)
-    then option_map (λ seconds. heads.Status code (Some seconds)) (number_of life) else None) (status_of status)
+    then option_map (λ seconds. heads.Status code (Some seconds)) (number_of life) else None) (status_written status)
 
 -- the octet is the one between a status and a life
 abbrev pub is_slash : ℕ → Bool
@@ -57,18 +56,18 @@ has_slash word = nat_lt (position_or_len is_slash word) (length word)
 
 -- a status alone
 abbrev pub plain_of : List ℕ → Option Head
-plain_of word = option_map (λ code. heads.Status code None) (status_of word)
+plain_of word = option_map (λ code. heads.Status code None) (status_written word)
 
 -- what a word says of a response: its status, and behind a `/` its life
-abbrev pub response_of : List ℕ → Option Head
-response_of word =
+abbrev pub response_written : List ℕ → Option Head
+response_written word =
     if has_slash word then lasting_of (before_first is_slash word) (after_first is_slash word) else plain_of word
 
 -- what the first word of a reply says
-abbrev pub head_of : List ℕ → Option Head
-head_of word =
+abbrev pub head_written : List ℕ → Option Head
+head_written word =
     if bytes_eq word (codes "NET") then Some heads.Network
-    else (if bytes_eq word (codes "CODING") then Some heads.Coding else response_of word)
+    else (if bytes_eq word (codes "CODING") then Some heads.Coding else response_written word)
 
 -- the word stands for no text
 abbrev pub is_none_word : List ℕ → Bool
@@ -93,8 +92,8 @@ or_later None later = later
 -- the first fault of the replies, their words read from left to right
 abbrev pub replies_fault : List (List ℕ) → Option LineFault
 replies_fault [] = None
-replies_fault (first ∷ []) = if is_none (head_of first) then Some faults.Status else Some faults.Replies
-replies_fault (first ∷ second ∷ later) = or_later (reply_fault (head_of first) second) (replies_fault later)
+replies_fault (first ∷ []) = if is_none (head_written first) then Some faults.Status else Some faults.Replies
+replies_fault (first ∷ second ∷ later) = or_later (reply_fault (head_written first) second) (replies_fault later)
 
 -- the words, or the first fault that they have
 abbrev pub unless_fault : Option LineFault → List (List ℕ) → Result (List (List ℕ)) LineFault
@@ -106,27 +105,27 @@ abbrev pub reply_words_of : List (List ℕ) → Result (List (List ℕ)) LineFau
 reply_words_of words = unless_fault (replies_fault words) words
 
 -- the Location that a second word is
-abbrev pub location_of : StatusClass → List ℕ → Option (List ℕ)
-location_of classes.Redirect word = if is_none_word word then None else Some word
-location_of _ word = None
+abbrev pub location_written : StatusClass → List ℕ → Option (List ℕ)
+location_written classes.Redirect word = if is_none_word word then None else Some word
+location_written _ word = None
 
 -- the body that a second word writes
-abbrev pub body_of : StatusClass → List ℕ → List ℕ
-body_of classes.Successful word = if is_none_word word then [] else percent_decode word
-body_of _ word = []
+abbrev pub body_written : StatusClass → List ℕ → List ℕ
+body_written classes.Successful word = if is_none_word word then [] else percent_decode word
+body_written _ word = []
 
 -- the reply has this head and this second word
 abbrev pub HasWords : Head → List ℕ → RobotsReply → Type 0
 HasWords (heads.Status code max_age) word (replies.Status own location body age) =
-    (own ≡ code) × (age ≡ max_age) × (option_map string_bytes location ≡ location_of (class_of code) word)
-    × (body.items ≡ body_of (class_of code) word)
+    (own ≡ code) × (age ≡ max_age) × (option_map string_bytes location ≡ location_written (class_of code) word)
+    × (body.items ≡ body_written (class_of code) word)
 HasWords heads.Coding word replies.CodingFault = Unit {0}
 HasWords heads.Network word replies.NetworkFault = Unit {0}
 HasWords _ word _ = ⊥
 
 -- the reply is that of the two words
 abbrev pub IsReply : List ℕ → List ℕ → RobotsReply → Type 0
-IsReply first second reply = (head : Head) × ((head_of first ≡ Some head) × HasWords head second reply)
+IsReply first second reply = (head : Head) × ((head_written first ≡ Some head) × HasWords head second reply)
 
 -- the replies are those of the words
 abbrev pub AreReplies : List (List ℕ) → List RobotsReply → Type 0
@@ -162,8 +161,8 @@ pub record GoesOnAfter (authority : List ℕ) (words : List (List ℕ)) : Type 0
   pub decided : IsDecided authority read says life
 
 -- the answer and its life that the words bring for the authority, or why they bring none
-abbrev pub Brings : List ℕ → List (List ℕ) → Result (Answer × ℕ) LineFault → Type 0
-Brings authority words (Ok brought) = IsDecided authority words (said brought.0) brought.1
+abbrev pub Brings : List ℕ → List (List ℕ) → Result Timed LineFault → Type 0
+Brings authority words (Ok brought) = IsDecided authority words brought.says brought.life
 Brings authority words (Err faults.Replies) = EndsBefore authority words ⊎ GoesOnAfter authority words
 Brings authority words (Err faults.Memory) = Unit {0}
 Brings authority words (Err _) = ⊥

@@ -11,11 +11,14 @@ use Rattle.command_server.specs.declared.command.Command.{Command}
 use Rattle.command_server.specs.declared.command.Command.TheVariants as commands
 use Rattle.command_server.specs.declared.fault.LineFault.{LineFault}
 use Rattle.command_server.specs.declared.fault.LineFault.TheVariants as faults
+use Rattle.command_server.specs.declared.verbs.Dialogue.{Dialogue}
+use Rattle.command_server.specs.declared.verbs.Dialogue.TheVariants.{Client, Replay}
 use Rattle.command_server.specs.declared.verbs.Verb.{Verb}
 use Rattle.command_server.specs.declared.verbs.Verb.TheVariants as verbs
 use Rattle.command_server.specs.Arguments.{authority_word, number_word, page_word, read_on, token_word}
 use Rattle.command_server.specs.Arrival.{reply_words_of}
 use Rattle.command_server.specs.declared.arrival.Arrival.{Arrival}
+use Rattle.crawl_job.specs.declared.job.Job.{Job}
 use Rattle.line_text.specs.Number.{number_of}
 use Rattle.command_server.specs.Verbs.{row_of, verb_of}
 use Rattle.line_text.specs.Words.{is_count_within, is_empty_word, words_of}
@@ -34,7 +37,7 @@ arrive_of moment (authority ∷ turn ∷ replies) capacity =
     Ok (record { authority = a; turn = t; replies = words; moment = moment }))))
 arrive_of moment _ capacity = Err faults.Words
 
--- `STATE <authority>`
+-- `STATE <authority>` and `REFRESH <authority>`
 abbrev pub authority_alone : List (List ℕ) → Capacity → Result (List ℕ) LineFault
 authority_alone (authority ∷ []) capacity = authority_word authority capacity
 authority_alone _ capacity = Err faults.Words
@@ -52,6 +55,13 @@ start_of moment (number ∷ token ∷ url ∷ []) capacity =
     read_on (number_word number) (λ n. read_on (token_word token capacity) (λ t.
     read_on (page_word url capacity) (λ u. Ok (calls.Start n t u moment))))
 start_of moment _ capacity = Err faults.Words
+
+-- `FETCH <token> <url>`, and a job of a shift
+abbrev pub job_words_of : List (List ℕ) → Capacity → Result Job LineFault
+job_words_of (token ∷ url ∷ []) capacity =
+    read_on (token_word token capacity) (λ t.
+    read_on (page_word url capacity) (λ u. Ok (record { token = t; url = u })))
+job_words_of _ capacity = Err faults.Words
 
 -- `BACK <n>`
 abbrev pub back_of : List (List ℕ) → Result Call LineFault
@@ -84,6 +94,9 @@ arguments_of verbs.Done moment words capacity = calling (done_of words)
 arguments_of verbs.State moment words capacity =
     read_on (authority_alone words capacity) (λ authority. Ok (commands.State authority moment))
 arguments_of verbs.Sweep moment words capacity = Ok (commands.Call (calls.Sweep moment))
+arguments_of verbs.Refresh moment words capacity =
+    read_on (authority_alone words capacity) (λ authority. Ok (commands.Refresh authority))
+arguments_of verbs.Fetch moment words capacity = read_on (job_words_of words capacity) (λ job. Ok (commands.Fetch job))
 arguments_of verbs.Quit moment words capacity = Ok commands.Quit
 
 -- the verb takes so many words
@@ -96,31 +109,36 @@ counted_of verb moment words capacity =
     if takes verb words then arguments_of verb moment words capacity else Err faults.Words
 
 -- check 6: the verb
-abbrev pub verb_words_of : ℕ → List (List ℕ) → Capacity → Result Command LineFault
-verb_words_of moment [] capacity = Err faults.Verb
-verb_words_of moment (name ∷ words) capacity =
-    read_on (ok_or (verb_of name) faults.Verb) (λ verb. counted_of verb moment words capacity)
+abbrev pub verb_words_of : Dialogue → ℕ → List (List ℕ) → Capacity → Result Command LineFault
+verb_words_of dialogue moment [] capacity = Err faults.Verb
+verb_words_of dialogue moment (name ∷ words) capacity =
+    read_on (ok_or (verb_of dialogue name) faults.Verb) (λ verb. counted_of verb moment words capacity)
 
--- check 5: the moment
+-- check 5: the moment, which begins each line of a replay
 abbrev pub timed_words_of : List (List ℕ) → Capacity → Result Command LineFault
 timed_words_of [] capacity = Err faults.Moment
 timed_words_of (first ∷ words) capacity =
-    read_on (ok_or (number_of first) faults.Moment) (λ moment. verb_words_of moment words capacity)
+    read_on (ok_or (number_of first) faults.Moment) (λ moment. verb_words_of Replay moment words capacity)
+
+-- a client's line has none
+abbrev pub dialogue_words_of : Dialogue → List (List ℕ) → Capacity → Result Command LineFault
+dialogue_words_of Replay words capacity = timed_words_of words capacity
+dialogue_words_of (Client moment fetches) words capacity = verb_words_of (Client moment fetches) moment words capacity
 
 -- check 4: no word is empty
-abbrev pub full_words_of : List (List ℕ) → Capacity → Result Command LineFault
-full_words_of words capacity =
-    if list_any is_empty_word words then Err faults.Words else timed_words_of words capacity
+abbrev pub full_words_of : Dialogue → List (List ℕ) → Capacity → Result Command LineFault
+full_words_of dialogue words capacity =
+    if list_any is_empty_word words then Err faults.Words else dialogue_words_of dialogue words capacity
 
 -- the octet may stand in a command line
 abbrev pub is_line_octet : ℕ → Bool
 is_line_octet octet = is_in_range 32 126 octet
 
 -- the line has no other octet
-abbrev pub is_plain : List ℕ → Bool
-is_plain line = list_all is_line_octet line
+abbrev pub has_line_octets : List ℕ → Bool
+has_line_octets line = list_all is_line_octet line
 
 -- the command of a line, or the first fault that it has with some capacity; check 3: its octets
-abbrev pub command_of : List ℕ → Capacity → Result Command LineFault
-command_of line capacity =
-    if is_plain line then full_words_of (words_of line) capacity else Err faults.Chars
+abbrev pub command_of : Dialogue → List ℕ → Capacity → Result Command LineFault
+command_of dialogue line capacity =
+    if has_line_octets line then full_words_of dialogue (words_of line) capacity else Err faults.Chars

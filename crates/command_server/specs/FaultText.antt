@@ -1,24 +1,30 @@
 -- The reply line of each fault of a command line, in the words of docs/FORMATS.md.
 -- Cited by the contracts of `fault` and of the replies.
 use Rattle.std.specs.Prelude.{ℕ, List, codes}
+use Rattle.crawl_job.specs.declared.hop.Refusal.TheVariants as refusals
 use Rattle.command_server.specs.declared.fault.LineFault.{LineFault}
 use Rattle.command_server.specs.declared.fault.LineFault.TheVariants as faults
+use Rattle.command_server.specs.RefusalText.{error_of, refusal_word}
+
+-- the words of a fault
+abbrev pub fault_words : LineFault → List ℕ
+fault_words faults.Long = codes "long"
+fault_words faults.Lines = codes "lines"
+fault_words faults.Chars = codes "chars"
+fault_words faults.Words = codes "words"
+fault_words faults.Moment = codes "moment"
+fault_words faults.Verb = codes "verb"
+fault_words faults.Number = codes "number"
+fault_words faults.Token = codes "token"
+fault_words faults.Authority = codes "authority"
+fault_words faults.BadUrl = codes "url bad"
+fault_words faults.NotHttp = codes "url scheme"
+fault_words faults.HasUser = codes "url user"
+fault_words faults.LongUrl = codes "url long"
+fault_words faults.Status = codes "status"
+fault_words faults.Replies = codes "replies"
+fault_words faults.Memory = refusal_word refusals.NoMemory
 
 -- the line that answers a fault
-abbrev pub fault_text : LineFault → List ℕ
-fault_text faults.Long = codes "ERR long\n"
-fault_text faults.Lines = codes "ERR lines\n"
-fault_text faults.Chars = codes "ERR chars\n"
-fault_text faults.Words = codes "ERR words\n"
-fault_text faults.Moment = codes "ERR moment\n"
-fault_text faults.Verb = codes "ERR verb\n"
-fault_text faults.Number = codes "ERR number\n"
-fault_text faults.Token = codes "ERR token\n"
-fault_text faults.Authority = codes "ERR authority\n"
-fault_text faults.BadUrl = codes "ERR url bad\n"
-fault_text faults.NotHttp = codes "ERR url scheme\n"
-fault_text faults.HasUser = codes "ERR url user\n"
-fault_text faults.LongUrl = codes "ERR url long\n"
-fault_text faults.Status = codes "ERR status\n"
-fault_text faults.Replies = codes "ERR replies\n"
-fault_text faults.Memory = codes "ERR memory\n"
+abbrev pub line_fault_text : LineFault → List ℕ
+line_fault_text fault = error_of (fault_words fault)

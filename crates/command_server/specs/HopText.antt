@@ -1,17 +1,17 @@
 -- The line of a hop, as docs/FORMATS.md has it.
 -- Cited by the contracts of `hop_text`.
-use Rattle.std.specs.Prelude.{ℕ, Bool, true, false, List, [], ◌∷◌, ◌++◌, codes, decimal}
+use Rattle.std.specs.Prelude.{ℕ, ◌+◌, Bool, true, false, List, [], ◌∷◌, ◌++◌, codes, decimal}
 use Rattle.gate_history.specs.declared.outcome.Reason.{Reason}
+use Rattle.gate_history.specs.Wording.{reason_words}
 use Rattle.http_wire.specs.declared.fault.WireFault.{WireFault}
 use Rattle.http_wire.specs.declared.fault.WireFault.TheVariants as wire
 use Rattle.robots_fetch.specs.declared.redirect.Stop.{Stop}
 use Rattle.robots_fetch.specs.declared.redirect.Stop.TheVariants as stops
 use Rattle.crawl_job.specs.declared.hop.Hop.{Hop}
 use Rattle.crawl_job.specs.declared.hop.Hop.TheVariants as hops
-use Rattle.crawl_job.specs.declared.hop.Refusal.{Refusal}
-use Rattle.crawl_job.specs.declared.hop.Refusal.TheVariants as refusals
 use Rattle.line_text.specs.Pieces.{line_of}
-use Rattle.command_server.specs.ReplyText.{denial_text, error_of, reason_words}
+use Rattle.command_server.specs.RefusalText.{refusal_text}
+use Rattle.command_server.specs.ReplyText.{denial_text}
 
 -- whether more of a body came than was taken
 abbrev pub end_word : Bool → List ℕ
@@ -40,14 +40,6 @@ fault_word wire.TooMuch = codes "H10"
 abbrev pub fault_hop_text : WireFault → List ℕ
 fault_hop_text fault = line_of (codes "FAULT" ∷ fault_word fault ∷ [])
 
--- a refusal of the gate
-abbrev pub refusal_text : Refusal → List ℕ
-refusal_text refusals.AuthoritiesFull = error_of (codes "authorities")
-refusal_text refusals.LogFull = error_of (codes "log")
-refusal_text refusals.Busy = error_of (codes "busy")
-refusal_text refusals.PermitsFull = error_of (codes "permits")
-refusal_text refusals.NoMemory = error_of (codes "memory")
-
 -- why a redirect is not followed
 abbrev pub stop_word : Stop → List ℕ
 stop_word stops.TooManyRedirects = codes "toomany"
@@ -65,3 +57,12 @@ hop_text (hops.No denial) = denial_text denial
 hop_text (hops.Fault number fault) = fault_hop_text fault
 hop_text (hops.Refused refusal) = refusal_text refusal
 hop_text (hops.Stop stop) = stop_text stop
+
+-- what leads a hop's line, and the number of the hop, each with a space behind it
+abbrev pub lead_text : List ℕ → ℕ → List ℕ
+lead_text lead number = lead ++ (codes " " ++ (decimal number ++ codes " "))
+
+-- a line for each hop of a job, numbered from this number on
+abbrev pub hops_text : List ℕ → ℕ → List Hop → List ℕ
+hops_text lead number [] = []
+hops_text lead number (hop ∷ hops) = (lead_text lead number ++ hop_text hop) ++ hops_text lead (number + 1) hops

@@ -4,6 +4,7 @@ pub mod Verbs
 pub mod Arguments
 pub mod Arrival
 pub mod CallOf
+pub mod RefusalText
 pub mod FaultText
 pub mod ReplyText
 pub mod Input
@@ -12,4 +13,6 @@ pub mod Session
 pub mod Steps
 pub mod Replay
 pub mod HopText
+pub mod ToldText
+pub mod Clients
 pub mod JobWords

@@ -2,7 +2,7 @@
 -- The contract of `replay` cites it.
 use Rattle.std.specs.Prelude.{◌≡◌, ◌⊎◌, ℕ, Bool, true, false, List, Result, Ok, Err}
 use Rattle.path_normal.specs.Capacity.{Enough, Overflows, Refused}
-use Rattle.robots_verdict.specs.declared.answer.Answer.{Answer}
+use Rattle.authority_cache.specs.Lives.{Timed}
 use Rattle.gate_core.specs.declared.call.Call.{Call}
 use Rattle.gate_core.specs.declared.call.Call.TheVariants as calls
 use Rattle.gate_core.specs.declared.call.Reply.{Reply}
@@ -15,10 +15,12 @@ use Rattle.gate_core.specs.States.{IsState}
 use Rattle.command_server.specs.declared.command.Command.{Command}
 use Rattle.command_server.specs.declared.command.Command.TheVariants as commands
 use Rattle.command_server.specs.declared.fault.LineFault.{LineFault}
+use Rattle.command_server.specs.declared.fault.LineFault.TheVariants as faults
+use Rattle.command_server.specs.declared.verbs.Dialogue.TheVariants.{Replay}
 use Rattle.command_server.specs.declared.arrival.Arrival.{Arrival}
 use Rattle.command_server.specs.Arrival.{Brings}
 use Rattle.command_server.specs.CallOf.{command_of}
-use Rattle.command_server.specs.FaultText.{fault_text}
+use Rattle.command_server.specs.FaultText.{line_fault_text}
 use Rattle.command_server.specs.ReplyText.{bye_text, reply_text, state_text}
 
 -- the text is that of a reply which the call may have, which tells what the headline says, and which
@@ -36,16 +38,20 @@ AnswersState old authority m text new =
     × ((text ≡ state_text authority state) × Stays old new))
 
 -- the answer that the replies decide is brought to the gate, or the text is that of a fault, and nothing changes
-abbrev pub AnswersBrought : Gate → Arrival → Result (Answer × ℕ) LineFault → List ℕ → Gate → Type 0
+abbrev pub AnswersBrought : Gate → Arrival → Result Timed LineFault → List ℕ → Gate → Type 0
 AnswersBrought old arrival (Ok brought) text new =
-    AnswersCall old (calls.Arrive arrival.authority arrival.turn brought.0 brought.1 arrival.moment) text new
-AnswersBrought old arrival (Err fault) text new = (text ≡ fault_text fault) × Stays old new
+    AnswersCall old (calls.Arrive arrival.authority arrival.turn brought arrival.moment) text new
+AnswersBrought old arrival (Err fault) text new = (text ≡ line_fault_text fault) × Stays old new
 
 -- the replies of an arrival bring an answer or a fault, and the text answers that
 abbrev pub AnswersArrival : Gate → Arrival → List ℕ → Gate → Type 0
 AnswersArrival old arrival text new =
-    (brought : Result (Answer × ℕ) LineFault) × (Brings arrival.authority arrival.replies brought
+    (brought : Result Timed LineFault) × (Brings arrival.authority arrival.replies brought
     × AnswersBrought old arrival brought text new)
+
+-- a verb that no line of a replay has
+abbrev pub AnswersNoVerb : Gate → List ℕ → Bool → Gate → Type 0
+AnswersNoVerb old text ended new = (text ≡ line_fault_text faults.Verb) × (ended ≡ false) × Stays old new
 
 -- what a command is answered: a call its reply, QUIT a farewell, which ends the session, a line with a
 -- fault that fault; and but for a call nothing changes
@@ -53,13 +59,15 @@ abbrev pub AnswersCommand : Gate → Result Command LineFault → List ℕ → B
 AnswersCommand old (Ok (commands.Call call)) text ended new = AnswersCall old call text new × (ended ≡ false)
 AnswersCommand old (Ok (commands.Arrive arrival)) text ended new = AnswersArrival old arrival text new × (ended ≡ false)
 AnswersCommand old (Ok (commands.State authority m)) text ended new = AnswersState old authority m text new × (ended ≡ false)
+AnswersCommand old (Ok (commands.Refresh authority)) text ended new = AnswersNoVerb old text ended new
+AnswersCommand old (Ok (commands.Fetch job)) text ended new = AnswersNoVerb old text ended new
 AnswersCommand old (Ok commands.Quit) text ended new = (text ≡ bye_text) × (ended ≡ true) × Stays old new
-AnswersCommand old (Err fault) text ended new = (text ≡ fault_text fault) × (ended ≡ false) × Stays old new
+AnswersCommand old (Err fault) text ended new = (text ≡ line_fault_text fault) × (ended ≡ false) × Stays old new
 
 -- what a line is answered: what it means with enough capacity; or, with too little, the fault of the word
 -- that needs more, and nothing changes
 abbrev pub AnswersLine : Gate → List ℕ → List ℕ → Bool → Gate → Type 0
 AnswersLine old line text ended new =
-    AnswersCommand old (command_of line Enough) text ended new
-    ⊎ AnswersCommand old (command_of line Overflows) text ended new
-    ⊎ AnswersCommand old (command_of line Refused) text ended new
+    AnswersCommand old (command_of Replay line Enough) text ended new
+    ⊎ AnswersCommand old (command_of Replay line Overflows) text ended new
+    ⊎ AnswersCommand old (command_of Replay line Refused) text ended new

@@ -4,10 +4,8 @@ use Rattle.std.specs.Prelude.{ℕ, Bool, true, false, List, [], ◌∷◌, Resul
 use Rattle.path_normal.specs.PageText.{authority_of}
 use Rattle.authority_cache.specs.declared.refusal.Stale.{Stale}
 use Rattle.permit_book.specs.declared.refusal.NotOut.{NotOut}
-use Rattle.gate_history.specs.declared.outcome.Cause.{Cause}
-use Rattle.gate_history.specs.declared.outcome.Cause.TheVariants as causes
 use Rattle.gate_history.specs.declared.outcome.Reason.{Reason}
-use Rattle.gate_history.specs.declared.outcome.Reason.TheVariants as reasons
+use Rattle.gate_history.specs.Wording.{cause_words, reason_words}
 use Rattle.gate_core.specs.declared.call.Reply.{Reply}
 use Rattle.gate_core.specs.declared.call.Reply.TheVariants as replies
 use Rattle.gate_core.specs.declared.refusal.AskRefusal.{AskRefusal}
@@ -21,13 +19,9 @@ use Rattle.gate_core.specs.declared.refusal.SweepRefusal.TheVariants as sweep
 use Rattle.gate_core.specs.declared.state.Standing.{Standing}
 use Rattle.gate_core.specs.declared.state.Standing.TheVariants as standings
 use Rattle.gate_core.specs.declared.state.State.{State}
+use Rattle.crawl_job.specs.declared.hop.Refusal.TheVariants as refusals
 use Rattle.line_text.specs.Pieces.{line_of}
-use Rattle.command_server.specs.declared.fault.LineFault.TheVariants as faults
-use Rattle.command_server.specs.FaultText.{fault_text}
-
--- the line of a refusal
-abbrev pub error_of : List ℕ → List ℕ
-error_of word = line_of (codes "ERR" ∷ word ∷ [])
+use Rattle.command_server.specs.RefusalText.{error_of, refusal_text}
 
 -- the word of what stands for an authority
 abbrev pub standing_word : Standing → List ℕ
@@ -42,30 +36,6 @@ abbrev pub fetching_word : Bool → List ℕ
 fetching_word true = codes "fetching"
 fetching_word false = codes "idle"
 
--- the words of a line of rules
-abbrev pub line_words : ℕ → List (List ℕ)
-line_words number = codes "line" ∷ decimal number ∷ []
-
--- the words of a cause
-abbrev pub cause_words : Cause → List (List ℕ)
-cause_words causes.Spent = codes "spent" ∷ []
-cause_words causes.Unknown = codes "unknown" ∷ []
-cause_words causes.Expired = codes "expired" ∷ []
-cause_words causes.Closed = codes "closed" ∷ []
-cause_words (causes.Line number) = line_words number
-
--- the word of a reason
-abbrev pub reason_word : Reason → List ℕ
-reason_word reasons.Open = codes "open"
-reason_word (reasons.Line number) = codes "line"
-reason_word reasons.NoRule = codes "norule"
-reason_word reasons.RobotsPath = codes "robots"
-
--- the words of a reason
-abbrev pub reason_words : Reason → List (List ℕ)
-reason_words (reasons.Line number) = line_words number
-reason_words reason = reason_word reason ∷ []
-
 -- the reply to an ask or a start that is denied
 abbrev pub denial_text : Denial → List ℕ
 denial_text d = line_of (codes "NO" ∷ authority_of d.url ∷ cause_words d.cause)
@@ -74,9 +44,9 @@ denial_text d = line_of (codes "NO" ∷ authority_of d.url ∷ cause_words d.cau
 abbrev pub begin_text : List ℕ → Result ℕ BeginRefusal → List ℕ
 begin_text authority (Ok turn) = line_of (codes "TURN" ∷ authority ∷ decimal turn ∷ [])
 begin_text authority (Err begin.InFlight) = error_of (codes "inflight")
-begin_text authority (Err begin.LogFull) = error_of (codes "log")
-begin_text authority (Err begin.AuthoritiesFull) = error_of (codes "authorities")
-begin_text authority (Err begin.NoMemory) = fault_text faults.Memory
+begin_text authority (Err begin.LogFull) = refusal_text refusals.LogFull
+begin_text authority (Err begin.AuthoritiesFull) = refusal_text refusals.AuthoritiesFull
+begin_text authority (Err begin.NoMemory) = refusal_text refusals.NoMemory
 
 -- the reply to ARRIVE
 abbrev pub arrive_text : List ℕ → Standing → Result Unit Stale → List ℕ
@@ -86,19 +56,19 @@ arrive_text authority brought (Err _) = error_of (codes "stale")
 -- the reply to ASK
 abbrev pub ask_text : Result ℕ AskRefusal → List ℕ
 ask_text (Ok number) = line_of (codes "PERMIT" ∷ decimal number ∷ [])
-ask_text (Err ask.LogFull) = error_of (codes "log")
+ask_text (Err ask.LogFull) = refusal_text refusals.LogFull
 ask_text (Err (ask.Denied d)) = denial_text d
-ask_text (Err ask.Busy) = error_of (codes "busy")
-ask_text (Err ask.PermitsFull) = error_of (codes "permits")
-ask_text (Err ask.NoMemory) = fault_text faults.Memory
+ask_text (Err ask.Busy) = refusal_text refusals.Busy
+ask_text (Err ask.PermitsFull) = refusal_text refusals.PermitsFull
+ask_text (Err ask.NoMemory) = refusal_text refusals.NoMemory
 
--- the reply to a start that is allowed
-abbrev pub started_text : Started → List ℕ
-started_text s = line_of (codes "GO" ∷ decimal s.number ∷ reason_words s.reason)
+-- the reply to a start that is allowed: the number of its permit, and why
+abbrev pub go_text : ℕ → Reason → List ℕ
+go_text number reason = line_of (codes "GO" ∷ decimal number ∷ reason_words reason)
 
 -- the reply to START
 abbrev pub start_text : Result Started Denial → List ℕ
-start_text (Ok s) = started_text s
+start_text (Ok s) = go_text s.number s.reason
 start_text (Err d) = denial_text d
 
 -- the reply to BACK
@@ -114,8 +84,8 @@ finish_text number (Err _) = error_of (codes "notout")
 -- the reply to SWEEP
 abbrev pub sweep_text : Result ℕ SweepRefusal → List ℕ
 sweep_text (Ok count) = line_of (codes "SWEPT" ∷ decimal count ∷ [])
-sweep_text (Err sweep.LogFull) = error_of (codes "log")
-sweep_text (Err sweep.NoMemory) = fault_text faults.Memory
+sweep_text (Err sweep.LogFull) = refusal_text refusals.LogFull
+sweep_text (Err sweep.NoMemory) = refusal_text refusals.NoMemory
 
 -- the reply to STATE
 abbrev pub state_text : List ℕ → State → List ℕ

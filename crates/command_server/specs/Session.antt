@@ -1,12 +1,13 @@
 -- What a session took, did and wrote, by its result.
 -- The contract of `run_session` cites it.
-use Rattle.std.specs.Prelude.{◌≡◌, ◌⊎◌, ℕ, ◌≤◌, Bool, true, false, List, [], ◌++◌, length, Option, Result, Ok, Err}
+use Rattle.std.specs.Prelude.{◌≡◌, ◌⊎◌, ℕ, ◌+◌, ◌≤◌, Bool, true, false, List, [], ◌++◌, length, Option, Result, Ok, Err}
 use Rattle.std.specs.Io.KnownBytes.{Appends}
 use Rattle.counted_io.specs.Device.{one_more, AppendsPrefix}
+use Rattle.counted_io.specs.Limits.{output_buffer}
 use Rattle.counted_io.specs.Lines.{FindsTooLong}
 use Rattle.command_server.specs.declared.fault.LineFault.TheVariants as faults
-use Rattle.command_server.specs.FaultText.{fault_text}
-use Rattle.command_server.specs.Answers.{Answers}
+use Rattle.command_server.specs.FaultText.{line_fault_text}
+use Rattle.command_server.specs.Answers.{AnswersLines}
 use Rattle.command_server.specs.Input.{TakesLines, FindsNoMore, FindsLine, FindsPart}
 use Rattle.command_server.specs.declared.session_fault.SessionFault.{SessionFault}
 use Rattle.command_server.specs.declared.session_fault.SessionFault.TheVariants.{LongLine, Lines, Read, Write, NoMemory}
@@ -14,8 +15,8 @@ use Rattle.command_server.specs.declared.session_fault.SessionFault.TheVariants.
 -- what a session writes behind the replies
 abbrev pub last_words : Result (Unit {0}) SessionFault → List ℕ
 last_words (Ok _) = []
-last_words (Err LongLine) = fault_text faults.Long
-last_words (Err Lines) = fault_text faults.Lines
+last_words (Err LongLine) = line_fault_text faults.Long
+last_words (Err Lines) = line_fault_text faults.Lines
 last_words (Err Read) = []
 last_words (Err Write) = []
 last_words (Err NoMemory) = []
@@ -42,6 +43,28 @@ Writes old new octets (Err Read) = Appends old new octets
 Writes old new octets (Err NoMemory) = Appends old new octets
 Writes old new octets (Err Write) = AppendsPrefix old new octets
 
+-- of the lines that were taken, all but at most one had been answered, and what answers these was written, but for
+-- as much as a buffer holds
+pub record KeepsUp {S : Type 0} (answers : S → List ℕ → List ℕ → Bool → S → Type 0) (old : S) (lines : List (List ℕ)) (text : List ℕ) (written written_new : Option (List ℕ)) : Type 0 where
+  pub front : List (List ℕ)
+  pub late : List (List ℕ)
+  pub replies : List ℕ
+  pub rest : List ℕ
+  pub ended : Bool
+  pub state : S
+  pub wrote : List ℕ
+  pub lines_are : lines ≡ front ++ late
+  pub few : length late ≤ 1
+  pub text_is : text ≡ replies ++ rest
+  pub answered : AnswersLines answers old front replies ended state
+  pub appended : Appends written written_new wrote
+  pub nearly : length replies ≤ length wrote + output_buffer
+
+-- once a write has failed no further line is taken: the session kept up to the one that was in hand then
+abbrev pub StopsAtWrite : Result (Unit {0}) SessionFault → Type 0 → Type 0
+StopsAtWrite (Err Write) kept_up = kept_up
+StopsAtWrite _ kept_up = Unit {0}
+
 -- at most so many lines of the input were taken, each within the limit; they were answered in turn; and the replies were written, and the last words
 pub record Session {S : Type 0} (answers : S → List ℕ → List ℕ → Bool → S → Type 0) (limit most : ℕ) (old new : S) (input left written written_new : Option (List ℕ)) (result : Result (Unit {0}) SessionFault) : Type 0 where
   pub lines : List (List ℕ)
@@ -52,10 +75,11 @@ pub record Session {S : Type 0} (answers : S → List ℕ → List ℕ → Bool 
   pub unread : List ℕ
   pub took : TakesLines limit input behind lines
   pub within : length lines ≤ most
-  pub answered : Answers answers old lines text ended new
+  pub answered : AnswersLines answers old lines text ended new
   pub stopped : Meets limit most (length lines) ended behind unread left met
   pub results : ResultsIn met result
   pub wrote : Writes written written_new (text ++ last_words met) result
+  pub stops : StopsAtWrite result (KeepsUp answers old lines text written written_new)
 
 -- the source's count of failures after a session: it rises exactly where a read failed
 abbrev pub failures_after_reads : {T : Type 0} → ℕ → Result T SessionFault → ℕ

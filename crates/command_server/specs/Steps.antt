@@ -8,9 +8,9 @@ use Rattle.command_server.specs.declared.session_fault.SessionFault.{SessionFaul
 use Rattle.command_server.specs.declared.session_fault.SessionFault.TheVariants.{LongLine, Lines, Read, Write, NoMemory}
 
 -- no line was read, though a part of one may be gone, and the pending replies were written, up to a write fault
-abbrev pub FailsToRead : (behind : Option (List ℕ)) (unread : List ℕ) (left : Option (List ℕ)) (pending : List ℕ) (old new : Option (List ℕ)) → SessionFault → Type 0
-FailsToRead behind unread left pending old new LongLine = ⊥
-FailsToRead behind unread left pending old new Lines = ⊥
-FailsToRead behind unread left pending old new Read = FindsPart behind unread left × Appends old new pending
-FailsToRead behind unread left pending old new Write = FindsPart behind unread left × AppendsPrefix old new pending
-FailsToRead behind unread left pending old new NoMemory = FindsPart behind unread left × Appends old new pending
+abbrev pub FailsToReadLine : (behind : Option (List ℕ)) (unread : List ℕ) (left : Option (List ℕ)) (pending : List ℕ) (old new : Option (List ℕ)) → SessionFault → Type 0
+FailsToReadLine behind unread left pending old new LongLine = ⊥
+FailsToReadLine behind unread left pending old new Lines = ⊥
+FailsToReadLine behind unread left pending old new Read = FindsPart behind unread left × Appends old new pending
+FailsToReadLine behind unread left pending old new Write = FindsPart behind unread left × AppendsPrefix old new pending
+FailsToReadLine behind unread left pending old new NoMemory = FindsPart behind unread left × Appends old new pending

@@ -1,8 +1,10 @@
 -- The table of the verbs: the name of each, and the least and the most words that follow it.
 -- Cited by the contracts of `verbs` and `command`; docs/FORMATS.md prints the same table.
-use Rattle.std.specs.Prelude.{ℕ, ◌^◌, ◌-◌, List, [], ◌∷◌, Option, codes}
+use Rattle.std.specs.Prelude.{ℕ, ◌^◌, ◌-◌, Bool, true, false, ◌&&◌, List, [], ◌∷◌, Option, codes}
 use Rattle.std.specs.List.{find}
 use Rattle.std.specs.Str.{bytes_eq}
+use Rattle.command_server.specs.declared.verbs.Dialogue.{Dialogue}
+use Rattle.command_server.specs.declared.verbs.Dialogue.TheVariants.{Client, Replay}
 use Rattle.command_server.specs.declared.verbs.Verb.{Verb}
 use Rattle.command_server.specs.declared.verbs.Verb.TheVariants as verbs
 
@@ -30,14 +32,35 @@ row_of verbs.Back = row (codes "BACK") 1 1
 row_of verbs.Done = row (codes "DONE") 1 1
 row_of verbs.State = row (codes "STATE") 1 1
 row_of verbs.Sweep = row (codes "SWEEP") 0 0
+row_of verbs.Refresh = row (codes "REFRESH") 1 1
+row_of verbs.Fetch = row (codes "FETCH") 2 2
 row_of verbs.Quit = row (codes "QUIT") 0 0
 
--- the verbs of a session
-abbrev pub verbs_of_session : List Verb
-verbs_of_session =
+-- all verbs
+abbrev pub all_verbs : List Verb
+all_verbs =
     verbs.Begin ∷ verbs.Arrive ∷ verbs.Ask ∷ verbs.Start ∷ verbs.Back ∷ verbs.Done
-    ∷ verbs.State ∷ verbs.Sweep ∷ verbs.Quit ∷ []
+    ∷ verbs.State ∷ verbs.Sweep ∷ verbs.Refresh ∷ verbs.Fetch ∷ verbs.Quit ∷ []
 
--- the verb of this name, if there is one
-abbrev pub verb_of : List ℕ → Option Verb
-verb_of name = find (λ verb. bytes_eq (row_of verb).name name) verbs_of_session
+-- whether the dialogue is that of a replay
+abbrev pub is_replay : Dialogue → Bool
+is_replay Replay = true
+is_replay (Client moment fetches) = false
+
+-- whether robots files and pages are fetched in the dialogue
+abbrev pub has_fetches : Dialogue → Bool
+has_fetches Replay = false
+has_fetches (Client moment fetches) = fetches
+
+-- whether the dialogue has the verb: a replay brings robots answers, and for a client they are fetched
+abbrev pub is_in : Dialogue → Verb → Bool
+is_in dialogue verbs.Begin = is_replay dialogue
+is_in dialogue verbs.Arrive = is_replay dialogue
+is_in dialogue verbs.Sweep = is_replay dialogue
+is_in dialogue verbs.Refresh = has_fetches dialogue
+is_in dialogue verbs.Fetch = has_fetches dialogue
+is_in dialogue _ = true
+
+-- the verb of this name, if the dialogue has one
+abbrev pub verb_of : Dialogue → List ℕ → Option Verb
+verb_of dialogue name = find (λ verb. is_in dialogue verb && bytes_eq (row_of verb).name name) all_verbs

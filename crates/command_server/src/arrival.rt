@@ -1,15 +1,13 @@
 //! What an ARRIVE line brings, and the answer that its replies decide (RFC 9309, section 2.3.1).
 //! The walk over the replies is that of robots fetches.
 ghost use Rattle.std.specs.Prelude.{◌≡◌, IfOk};
-ghost use Rattle.robots_verdict.specs.Answer.{spares_of};
 ghost use Rattle.command_server.specs.Arrival.{Brings};
 
 use crate::fault::LineFault;
 use crate::reply_words::ReplyWords;
-use authority_cache::TurnNo;
+use authority_cache::{TimedAnswer, TurnNo};
 use path_normal::Authority;
 use robots_fetch::{Step, Walk};
-use robots_verdict::Answer;
 use std::alloc::Global;
 
 /// The replies of the robots fetch of a turn.
@@ -22,22 +20,22 @@ pub struct Arrival<'a> {
     pub moment: u64,
 }
 
-/// The answer that the replies decide for the authority, and its life in seconds.
+/// The answer that the replies decide for the authority, with its life.
 pub(crate) fn decide(
     alloc: Global,
     authority: &Authority,
     replies: ReplyWords<'_>,
-) -> Result<(Answer, u64), LineFault>
+) -> Result<TimedAnswer, LineFault>
     ensures brings { Brings authority.now replies.entry result }
-    ensures spares { IfOk result (λ brought. spares_of brought.0 ≡ 2) }
+    ensures spares { IfOk result (λ brought. brought.spares ≡ 2) }
 {
     let mut replies = replies;
     let mut walk = Walk::new(authority)?;
     while let Some(reply) = replies.next(alloc)? {
         walk = match walk.step(alloc, &reply) {
             Step::Go(next) => next,
-            Step::Done(answer, life) if replies.is_empty() => return Ok((answer, life)),
-            Step::Done(..) => return Err(LineFault::Replies),
+            Step::Done(answer) if replies.is_empty() => return Ok(answer),
+            Step::Done(_) => return Err(LineFault::Replies),
             Step::NoMemory(_) => return Err(LineFault::Memory),
         };
     }

@@ -3,46 +3,57 @@
 ghost use Rattle.std.specs.Prelude.{◌≡◌, OnErr, OnOk};
 ghost use Rattle.counted_io.specs.Device.{failures_after};
 ghost use Rattle.command_server.specs.Answers.{CutsReply, GivesReply};
-ghost use Rattle.command_server.specs.Limits.{max_line, max_lines};
+ghost use Rattle.command_server.specs.Limits.{max_lines};
 ghost use Rattle.command_server.specs.Replay.{AnswersArrival, AnswersCall, AnswersLine};
 ghost use Rattle.gate_core.specs.Calls.{HasSpare};
+ghost use Rattle.line_text.specs.Limits.{max_long_line};
 ghost use Rattle.command_server.specs.Session.{Session, failures_after_reads, failures_after_writes};
 
 use crate::answerer::{Answerer, Flow};
 use crate::arrival::{Arrival, decide};
 use crate::command::{Command, read_command};
+use crate::fault::LineFault;
 use crate::reply_text::{bye_pieces, fault_pieces, reply_pieces, state_pieces};
 use crate::session::run_session;
 use crate::session_fault::SessionFault;
+use crate::verbs::Dialogue;
 use counted_io::{DeviceFault, Output, Sink, Source};
 use gate_core::{Book, Call};
+use line_text::MAX_LONG_LINE;
 use std::alloc::Global;
 
-/// A book answers a line by the call that it makes.
-impl Answerer for Book {
+/// A book is lent, and a line answered by the call that it makes.
+struct BookLines;
+
+impl Answerer<Book> for BookLines {
     ghost use Rattle.command_server.specs.Replay.{AnswersLine};
 
-    ghost answers = { AnswersLine };
+    ghost answers = { λ _. AnswersLine };
 
     fn answer<W: Sink>(
-        &mut self,
+        &self,
         alloc: Global,
+        book: &mut Book,
         line: &[u8],
         output: &mut Output,
         sink: &mut W,
     ) -> Result<Flow, DeviceFault> {
-        match read_command(alloc, line) {
+        match read_command(alloc, Dialogue::Replay, line) {
             Ok(Command::Call(call)) => {
-                answer_call(self, call, output, sink)?;
+                answer_call(book, call, output, sink)?;
                 Ok(Flow::Goes)
             }
             Ok(Command::Arrive(arrival)) => {
-                answer_arrival(self, alloc, arrival, output, sink)?;
+                answer_arrival(book, alloc, arrival, output, sink)?;
                 Ok(Flow::Goes)
             }
             Ok(Command::State { authority, moment }) => {
-                let state = self.state_of(authority.text(), moment);
+                let state = book.state_of(authority.text(), moment);
                 state_pieces(&authority, state).push(output, sink)?;
+                Ok(Flow::Goes)
+            }
+            Ok(Command::Refresh { .. } | Command::Fetch(_)) => {
+                fault_pieces(LineFault::Verb).push(output, sink)?;
                 Ok(Flow::Goes)
             }
             Ok(Command::Quit) => {
@@ -57,9 +68,6 @@ impl Answerer for Book {
     }
 }
 
-/// The most octets of a line, its end not counted.
-pub const MAX_LINE: usize = 2097152;
-
 /// The most lines of a session.
 pub const MAX_LINES: u64 = 1000000;
 
@@ -71,14 +79,22 @@ pub fn replay<R: Source, W: Sink>(
     writer: &mut W,
     book: &mut Book,
 ) -> Result<(), SessionFault>
-    ensures session { Session AnswersLine max_line max_lines book.old book.new
+    ensures session { Session AnswersLine max_long_line max_lines book.old book.new
         (R.left reader.old) (R.left reader.new)
         (W.written writer.old) (W.written writer.new) result }
     ensures reads { R.failures reader.new ≡ failures_after_reads (R.failures reader.old) result }
     ensures writes { W.failures writer.new
         ≡ failures_after_writes (W.failures writer.old) result }
 {
-    run_session(alloc, reader, writer, book, MAX_LINE, MAX_LINES)
+    run_session(
+        alloc,
+        reader,
+        writer,
+        &BookLines,
+        book,
+        MAX_LONG_LINE,
+        MAX_LINES,
+    )
 }
 
 // Makes the call, and pushes the text of its reply.
@@ -107,9 +123,11 @@ fn answer_arrival<W: Sink>(
     output: &mut Output,
     sink: &mut W,
 ) -> Result<(), DeviceFault>
-    ensures ok { OnOk result (GivesReply (λ reply. AnswersArrival book.old arrival.entry reply book.new)
+    ensures ok { OnOk result (GivesReply
+        (λ reply. AnswersArrival book.old arrival.entry reply book.new)
         (W.written sink.old) (W.written sink.new) output.old output.new) }
-    ensures err { OnErr result (CutsReply (λ reply. AnswersArrival book.old arrival.entry reply book.new)
+    ensures err { OnErr result (CutsReply
+        (λ reply. AnswersArrival book.old arrival.entry reply book.new)
         (W.written sink.old) (W.written sink.new) output.old) }
     ensures count { W.failures sink.new ≡ failures_after (W.failures sink.old) result }
 {
@@ -120,12 +138,11 @@ fn answer_arrival<W: Sink>(
         moment,
     } = arrival;
     match decide(alloc, &authority, replies) {
-        Ok((answer, life)) => {
+        Ok(answer) => {
             let call = Call::Arrive {
                 authority,
                 turn,
                 answer,
-                life,
                 moment,
             };
             answer_call(book, call, output, sink)

@@ -1,18 +1,22 @@
 //! The buffers of a session, and what is done with them for each line.
 //! `run_session` runs on them.
-ghost use Rattle.std.specs.Prelude.{◌≡◌, ◌≢◌, ◌++◌, [], IfOk, IfErr, OnOk, OnErr};
+ghost use Rattle.std.specs.Prelude.{◌≡◌, ◌≢◌, ◌≤◌, ◌++◌, [], IfOk, IfErr, OnOk, OnErr, length};
 ghost use Rattle.std.specs.Io.KnownBytes.{prepend_known};
 ghost use Rattle.counted_io.specs.Device.{failures_after};
+ghost use Rattle.counted_io.specs.Limits.{output_buffer};
 ghost use Rattle.counted_io.specs.Lines.{Takes};
 ghost use Rattle.counted_io.specs.Output.{Passes};
-ghost use Rattle.command_server.specs.Answers.{is_end, GivesReply, LosesReply};
+ghost use Rattle.line_text.specs.Pieces.{pieces_text};
+ghost use Rattle.command_server.specs.Answers.{ends_session, GivesReply, LosesReply};
 ghost use Rattle.command_server.specs.Session.{last_words, ResultsIn, Writes, failures_after_reads, failures_after_writes};
-ghost use Rattle.command_server.specs.Steps.{FailsToRead};
+ghost use Rattle.command_server.specs.Steps.{FailsToReadLine};
 
 use crate::answerer::{Answerer, Flow};
 use crate::fault::LineFault;
+use crate::reply_text::fault_pieces;
 use crate::session_fault::SessionFault;
 use counted_io::{DeviceFault, LineReader, NextLine, Output, ReadLineFault, Sink, Source};
+use line_text::Pieces;
 use std::alloc::{AllocError, Global};
 
 /// The octets read and not yet taken, the line in hand, and the replies not yet written.
@@ -48,7 +52,9 @@ impl Buffers {
             next self.new.line.items) }
         ensures passed { OnOk result (Passes (W.written writer.old) (W.written writer.new)
             self.old.output self.new.output) }
-        ensures fault { IfErr result (FailsToRead
+        ensures few { (length self.old.output ≤ output_buffer)
+            × (length self.new.output ≤ output_buffer) }
+        ensures fault { IfErr result (FailsToReadLine
             (prepend_known self.old.reader (R.left reader.old)) self.new.reader (R.left reader.new)
             self.old.output (W.written writer.old) (W.written writer.new)) }
         ensures reads { R.failures reader.new
@@ -56,7 +62,7 @@ impl Buffers {
         ensures writes { W.failures writer.new
             ≡ failures_after_writes (W.failures writer.old) result }
     {
-        if !self.reader.has_line() {
+        if !self.output.is_empty() && !self.reader.has_line() {
             self.output.flush(writer)?;
         }
         match self.reader.next_line(reader, limit, &mut self.line) {
@@ -70,22 +76,23 @@ impl Buffers {
     }
 
     /// Has the line in hand answered.
-    pub(crate) fn answer<W: Sink, A: Answerer>(
+    pub(crate) fn answer<W: Sink, S, A: Answerer<S>>(
         &mut self,
         alloc: Global,
-        answerer: &mut A,
+        answerer: &A,
+        state: &mut S,
         writer: &mut W,
     ) -> Result<Flow, DeviceFault>
         ensures ok { IfOk result (λ flow. GivesReply
-            (λ reply. A.answers answerer.old self.old.line.items reply (is_end flow) answerer.new)
+            (λ reply. A.answers answerer.now state.old self.old.line.items reply (ends_session flow) state.new)
             (W.written writer.old) (W.written writer.new) self.old.output self.new.output) }
         ensures err { OnErr result (LosesReply
-            (λ reply ended. A.answers answerer.old self.old.line.items reply ended answerer.new)
+            (λ reply ended. A.answers answerer.now state.old self.old.line.items reply ended state.new)
             (W.written writer.old) (W.written writer.new) self.old.output) }
         ensures reader { self.new.reader ≡ self.old.reader }
         ensures count { W.failures writer.new ≡ failures_after (W.failures writer.old) result }
     {
-        answerer.answer(alloc, self.line.as_slice(), &mut self.output, writer)
+        answerer.answer(alloc, state, self.line.as_slice(), &mut self.output, writer)
     }
 
     /// Writes the pending replies and the last words, and results in `end` if no write fails.
@@ -95,25 +102,29 @@ impl Buffers {
         end: Result<(), SessionFault>,
     ) -> Result<(), SessionFault>
         requires { end ≢ Err SessionFault.Write }
+        ensures few { length self.old.output ≤ output_buffer }
         ensures results { ResultsIn end result }
         ensures wrote { Writes (W.written writer.old) (W.written writer.new)
             (self.old.output ++ last_words end) result }
         ensures writes { W.failures writer.new
             ≡ failures_after_writes (W.failures writer.old) result }
     {
-        self.output.push(writer, words_at(&end))?;
+        if self.output.is_empty() && end == Ok(()) {
+            return end;
+        }
+        last_pieces(&end).push(&mut self.output, writer)?;
         self.output.flush(writer)?;
         end
     }
 }
 
 // What a session writes behind the replies.
-fn words_at(end: &Result<(), SessionFault>) -> &'static [u8]
-    ensures { result.now ≡ last_words end.now }
+fn last_pieces(end: &Result<(), SessionFault>) -> Pieces<'static>
+    ensures { pieces_text result ≡ last_words end.now }
 {
     match end {
-        Err(SessionFault::LongLine) => LineFault::Long.text().as_bytes(),
-        Err(SessionFault::Lines) => LineFault::Lines.text().as_bytes(),
-        _ => b"",
+        Err(SessionFault::LongLine) => fault_pieces(LineFault::Long),
+        Err(SessionFault::Lines) => fault_pieces(LineFault::Lines),
+        _ => Pieces::whole(""),
     }
 }

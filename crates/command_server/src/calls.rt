@@ -3,7 +3,7 @@
 ghost use Rattle.std.specs.Prelude.{◌≡◌, IfOk, IsTrue};
 ghost use Rattle.gate_core.specs.Calls.{HasSpare};
 ghost use Rattle.path_normal.specs.Capacity.{IsRead};
-ghost use Rattle.command_server.specs.CallOf.{arrive_of, ask_of, authority_alone, back_of, begin_of, done_of, start_of};
+ghost use Rattle.command_server.specs.CallOf.{arrive_of, ask_of, authority_alone, back_of, begin_of, done_of, job_words_of, start_of};
 ghost use Rattle.command_server.specs.CallOf.{takes};
 ghost use Rattle.line_text.specs.Words.{words_left};
 
@@ -13,6 +13,7 @@ use crate::fault::LineFault;
 use crate::reply_words::ReplyWords;
 use crate::verbs::Verb;
 use authority_cache::TurnNo;
+use crawl_job::Job;
 use gate_core::Call;
 use line_text::Words;
 use path_normal::Authority;
@@ -31,7 +32,7 @@ pub fn read_begin(alloc: Global, moment: u64, words: Words<'_>) -> Result<Call, 
     Ok(Call::Begin { authority, moment })
 }
 
-/// Reads `STATE <authority>`.
+/// Reads `STATE <authority>` or `REFRESH <authority>`.
 pub fn read_state(alloc: Global, words: Words<'_>) -> Result<Authority, LineFault>
     requires { IsTrue (takes Verb.State (words_left words)) }
     ensures { IsRead result (authority_alone (words_left words.entry)) }
@@ -73,6 +74,19 @@ pub fn read_ask(alloc: Global, moment: u64, words: Words<'_>) -> Result<Call, Li
     let token = read_token(alloc, token)?;
     let url = read_page(alloc, url)?;
     Ok(Call::Ask { token, url, moment })
+}
+
+/// Reads `FETCH <token> <url>`.
+pub fn read_fetch(alloc: Global, words: Words<'_>) -> Result<Job, LineFault>
+    requires { IsTrue (takes Verb.Fetch (words_left words)) }
+    ensures { IsRead result (job_words_of (words_left words.entry)) }
+{
+    let mut words = words;
+    let token = words.first();
+    let url = words.first();
+    let token = read_token(alloc, token)?;
+    let url = read_page(alloc, url)?;
+    Ok(Job { token, url })
 }
 
 /// Reads `START <n> <token> <url>`.

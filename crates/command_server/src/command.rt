@@ -4,15 +4,16 @@ ghost use Rattle.std.specs.Prelude.{◌≡◌, IfOk, IsTrue, MatchOption, false,
 ghost use Rattle.path_normal.specs.Capacity.{IsRead};
 ghost use Rattle.command_server.specs.CallOf.{arguments_of, CanBeMade, command_of, counted_of};
 ghost use Rattle.command_server.specs.CallOf.{is_line_octet};
-ghost use Rattle.command_server.specs.CallOf.{is_plain, takes, timed_words_of, verb_words_of};
+ghost use Rattle.command_server.specs.CallOf.{has_line_octets, takes, timed_words_of, verb_words_of};
 ghost use Rattle.line_text.specs.Words.{words_left};
 
 use crate::arrival::Arrival;
 use crate::calls::{
-    read_arrive, read_ask, read_back, read_begin, read_done, read_start, read_state,
+    read_arrive, read_ask, read_back, read_begin, read_done, read_fetch, read_start, read_state,
 };
 use crate::fault::LineFault;
-use crate::verbs::Verb;
+use crate::verbs::{Dialogue, Verb};
+use crawl_job::Job;
 use gate_core::Call;
 use line_text::{Words, number_of};
 use path_normal::Authority;
@@ -27,13 +28,21 @@ pub enum Command<'a> {
     Arrive(Arrival<'a>),
     /// What is known of an authority.
     State { authority: Authority, moment: u64 },
+    /// A robots fetch of an authority.
+    Refresh { authority: Authority },
+    /// The fetch of a page, and where redirects lead from it.
+    Fetch(Job),
     /// The end of the session.
     Quit,
 }
 
-/// Reads a command line, without its line end.
-pub fn read_command(alloc: Global, line: &[u8]) -> Result<Command<'_>, LineFault>
-    ensures read { IsRead result (command_of line.now) }
+/// Reads a command line of a dialogue, without its line end.
+pub fn read_command(
+    alloc: Global,
+    dialogue: Dialogue,
+    line: &[u8],
+) -> Result<Command<'_>, LineFault>
+    ensures read { IsRead result (command_of dialogue line.now) }
     ensures spare { IfOk result CanBeMade }
 {
     let Some(text) = plain_text(line) else {
@@ -43,21 +52,24 @@ pub fn read_command(alloc: Global, line: &[u8]) -> Result<Command<'_>, LineFault
     if words.has_empty() {
         return Err(LineFault::Words);
     }
-    read_timed(alloc, words)
+    match dialogue {
+        Dialogue::Replay => read_timed(alloc, words),
+        Dialogue::Client { moment, .. } => read_verb(alloc, dialogue, moment, words),
+    }
 }
 
 pub(crate) fn plain_text(line: &[u8]) -> Option<&str>
-    ensures { MatchOption result (is_plain line.now ≡ false)
-        (λ text. (is_plain line.now ≡ true) × (text.now ≡ line.now)) }
+    ensures { MatchOption result (has_line_octets line.now ≡ false)
+        (λ text. (has_line_octets line.now ≡ true) × (text.now ≡ line.now)) }
 {
-    if !is_plain(line) {
+    if !has_line_octets(line) {
         return None;
     }
     std::str::from_utf8(line).ok()
 }
 
-fn is_plain(line: &[u8]) -> bool
-    ensures { result ≡ is_plain line.now }
+fn has_line_octets(line: &[u8]) -> bool
+    ensures { result ≡ has_line_octets line.now }
 {
     line.iter().all(|octet| is_line_octet(*octet))
 }
@@ -79,18 +91,23 @@ fn read_timed(alloc: Global, words: Words<'_>) -> Result<Command<'_>, LineFault>
     let Some(moment) = number_of(first) else {
         return Err(LineFault::Moment);
     };
-    read_verb(alloc, moment, words)
+    read_verb(alloc, Dialogue::Replay, moment, words)
 }
 
-fn read_verb(alloc: Global, moment: u64, words: Words<'_>) -> Result<Command<'_>, LineFault>
-    ensures read { IsRead result (verb_words_of moment (words_left words.entry)) }
+fn read_verb(
+    alloc: Global,
+    dialogue: Dialogue,
+    moment: u64,
+    words: Words<'_>,
+) -> Result<Command<'_>, LineFault>
+    ensures read { IsRead result (verb_words_of dialogue moment (words_left words.entry)) }
     ensures spare { IfOk result CanBeMade }
 {
     let mut words = words;
     let Some(name) = words.next() else {
         return Err(LineFault::Verb);
     };
-    let Some(verb) = Verb::of(name) else {
+    let Some(verb) = Verb::of(dialogue, name) else {
         return Err(LineFault::Verb);
     };
     read_counted(alloc, verb, moment, words)
@@ -134,6 +151,11 @@ fn read_arguments(
             return Ok(Command::State { authority, moment });
         }
         Verb::Sweep => Call::Sweep { moment },
+        Verb::Refresh => {
+            let authority = read_state(alloc, words)?;
+            return Ok(Command::Refresh { authority });
+        }
+        Verb::Fetch => return Ok(Command::Fetch(read_fetch(alloc, words)?)),
         Verb::Quit => return Ok(Command::Quit),
     }))
 }

@@ -1,7 +1,9 @@
 //! Why a command line is no call, and the reply line that says so (docs/FORMATS.md).
 ghost use Rattle.std.specs.Prelude.{◌≡◌};
-ghost use Rattle.command_server.specs.FaultText.{fault_text};
+ghost use Rattle.command_server.specs.FaultText.{fault_words};
 
+use crate::refusal_text::refusal_word;
+use crawl_job::Refusal;
 use path_normal::{AuthorityFault, UrlFault};
 use robots_text::TokenFault;
 use std::alloc::AllocError;
@@ -70,9 +72,9 @@ impl From<TokenFault> for LineFault {
 
 impl From<AuthorityFault> for LineFault {
     ghost use Rattle.std.specs.Prelude.{◌≡◌};
-    ghost use Rattle.command_server.specs.Arguments.{authority_fault};
+    ghost use Rattle.command_server.specs.Arguments.{fault_of_authority};
 
-    ghost from_gives = { λ fault told. told ≡ authority_fault fault };
+    ghost from_gives = { λ fault told. told ≡ fault_of_authority fault };
 
     fn from(fault: AuthorityFault) -> LineFault {
         match fault {
@@ -100,27 +102,27 @@ impl From<UrlFault> for LineFault {
 }
 
 impl LineFault {
-    /// The reply line, with its line feed.
-    pub fn text(self) -> &'static str
-        ensures { result.now ≡ fault_text self }
+    /// The words behind `ERR` in the reply line.
+    pub(crate) fn words(self) -> &'static str
+        ensures { result.now ≡ fault_words self }
     {
         match self {
-            LineFault::Long => "ERR long\n",
-            LineFault::Lines => "ERR lines\n",
-            LineFault::Chars => "ERR chars\n",
-            LineFault::Words => "ERR words\n",
-            LineFault::Moment => "ERR moment\n",
-            LineFault::Verb => "ERR verb\n",
-            LineFault::Number => "ERR number\n",
-            LineFault::Token => "ERR token\n",
-            LineFault::Authority => "ERR authority\n",
-            LineFault::BadUrl => "ERR url bad\n",
-            LineFault::NotHttp => "ERR url scheme\n",
-            LineFault::HasUser => "ERR url user\n",
-            LineFault::LongUrl => "ERR url long\n",
-            LineFault::Status => "ERR status\n",
-            LineFault::Replies => "ERR replies\n",
-            LineFault::Memory => "ERR memory\n",
+            LineFault::Long => "long",
+            LineFault::Lines => "lines",
+            LineFault::Chars => "chars",
+            LineFault::Words => "words",
+            LineFault::Moment => "moment",
+            LineFault::Verb => "verb",
+            LineFault::Number => "number",
+            LineFault::Token => "token",
+            LineFault::Authority => "authority",
+            LineFault::BadUrl => "url bad",
+            LineFault::NotHttp => "url scheme",
+            LineFault::HasUser => "url user",
+            LineFault::LongUrl => "url long",
+            LineFault::Status => "status",
+            LineFault::Replies => "replies",
+            LineFault::Memory => refusal_word(Refusal::NoMemory),
         }
     }
 }

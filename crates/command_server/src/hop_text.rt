@@ -1,12 +1,13 @@
 //! The text of a hop: what a shift's report says of it behind its numbers (docs/FORMATS.md, hops).
 ghost use Rattle.std.specs.Prelude.{◌≡◌};
 ghost use Rattle.line_text.specs.Pieces.{pieces_text};
-ghost use Rattle.command_server.specs.HopText.{end_word, fault_hop_text, hop_text, page_text};
-ghost use Rattle.command_server.specs.HopText.{refusal_text, stop_text};
+ghost use Rattle.command_server.specs.HopText.{fault_hop_text, fault_word, hop_text, page_text};
+ghost use Rattle.command_server.specs.HopText.{stop_text, stop_word};
 
-use crate::reply_text::{denial_pieces, reason_word};
-use crawl_job::{Hop, Refusal};
-use gate_history::Reason;
+use crate::refusal_text::refusal_pieces;
+use crate::reply_text::denial_pieces;
+use crawl_job::Hop;
+use gate_history::{Reason, Wording};
 use http_wire::WireFault;
 use line_text::{Piece, Pieces};
 use robots_fetch::Stop;
@@ -24,78 +25,65 @@ pub fn hop_pieces(hop: &Hop) -> Pieces<'_>
             cut,
         } => page_pieces(*reason, u64::from(*status), *length, *cut),
         Hop::No(denial) => denial_pieces(denial),
-        Hop::Fault { number: _, fault } => Pieces::whole(fault_line(*fault)),
-        Hop::Refused(refusal) => Pieces::whole(refusal_line(*refusal)),
-        Hop::Stop(stop) => Pieces::whole(stop_line(*stop)),
+        Hop::Fault { number: _, fault } => fault_pieces(*fault),
+        Hop::Refused(refusal) => refusal_pieces(*refusal),
+        Hop::Stop(stop) => stop_pieces(*stop),
     }
 }
 
 fn page_pieces(reason: Reason, status: u64, length: u64, cut: bool) -> Pieces<'static>
     ensures { pieces_text result ≡ page_text reason status length cut }
 {
-    let none = Piece::Text("");
-    let space = Piece::Text(" ");
-    let end = Piece::Text(if cut { " cut\n" } else { " whole\n" });
+    let Wording { word, line } = reason.wording();
+    let (page, word, space) = (Piece::Text("PAGE "), Piece::Text(word), Piece::Text(" "));
     let (status, length) = (Piece::Number(status), Piece::Number(length));
-    match reason {
-        Reason::Line(line) => Pieces::joined([
-            Piece::Text("PAGE line "),
-            Piece::Number(line),
-            space,
-            status,
-            space,
-            length,
-            end,
-            none,
-        ]),
-        other => Pieces::joined([
-            Piece::Text("PAGE "),
-            Piece::Text(reason_word(other)),
-            space,
-            status,
-            space,
-            length,
-            end,
-            none,
-        ]),
+    let end = Piece::Text(if cut { " cut\n" } else { " whole\n" });
+    match line {
+        Some(line) => {
+            let line = Piece::Number(line);
+            Pieces::of(&[page, word, space, line, space, status, space, length, end])
+        }
+        None => Pieces::of(&[page, word, space, status, space, length, end]),
     }
 }
 
-fn fault_line(fault: WireFault) -> &'static str
-    ensures { result.now ≡ fault_hop_text fault }
+fn fault_pieces(fault: WireFault) -> Pieces<'static>
+    ensures { pieces_text result ≡ fault_hop_text fault }
+{
+    Pieces::two_words("FAULT", Piece::Text(fault_word(fault)))
+}
+
+// The number of a fault.
+fn fault_word(fault: WireFault) -> &'static str
+    ensures { result.now ≡ fault_word fault }
 {
     match fault {
-        WireFault::EarlyEnd => "FAULT H1\n",
-        WireFault::BadHead => "FAULT H2\n",
-        WireFault::HeadTooLong => "FAULT H3\n",
-        WireFault::TooManyInterim => "FAULT H4\n",
-        WireFault::BadLength => "FAULT H5\n",
-        WireFault::BadChunk => "FAULT H6\n",
-        WireFault::Coding => "FAULT H7\n",
-        WireFault::Device => "FAULT H8\n",
-        WireFault::NoMemory => "FAULT H9\n",
-        WireFault::TooMuch => "FAULT H10\n",
+        WireFault::EarlyEnd => "H1",
+        WireFault::BadHead => "H2",
+        WireFault::HeadTooLong => "H3",
+        WireFault::TooManyInterim => "H4",
+        WireFault::BadLength => "H5",
+        WireFault::BadChunk => "H6",
+        WireFault::Coding => "H7",
+        WireFault::Device => "H8",
+        WireFault::NoMemory => "H9",
+        WireFault::TooMuch => "H10",
     }
 }
 
-fn refusal_line(refusal: Refusal) -> &'static str
-    ensures { result.now ≡ refusal_text refusal }
+fn stop_pieces(stop: Stop) -> Pieces<'static>
+    ensures { pieces_text result ≡ stop_text stop }
 {
-    match refusal {
-        Refusal::AuthoritiesFull => "ERR authorities\n",
-        Refusal::LogFull => "ERR log\n",
-        Refusal::Busy => "ERR busy\n",
-        Refusal::PermitsFull => "ERR permits\n",
-        Refusal::NoMemory => "ERR memory\n",
-    }
+    Pieces::two_words("STOP", Piece::Text(stop_word(stop)))
 }
 
-fn stop_line(stop: Stop) -> &'static str
-    ensures { result.now ≡ stop_text stop }
+// Why a redirect is not followed.
+fn stop_word(stop: Stop) -> &'static str
+    ensures { result.now ≡ stop_word stop }
 {
     match stop {
-        Stop::TooManyRedirects => "STOP toomany\n",
-        Stop::BadRedirect => "STOP redirect\n",
-        Stop::Scheme => "STOP scheme\n",
+        Stop::TooManyRedirects => "toomany",
+        Stop::BadRedirect => "redirect",
+        Stop::Scheme => "scheme",
     }
 }

@@ -1,10 +1,11 @@
 //! A job in the words of a line (docs/FORMATS.md, jobs).
 ghost use Rattle.std.specs.Prelude.{◌≡◌};
+ghost use Rattle.command_server.specs.CallOf.{job_words_of};
 ghost use Rattle.path_normal.specs.Capacity.{IsRead};
-ghost use Rattle.command_server.specs.JobWords.{job_of, job_words_of};
+ghost use Rattle.command_server.specs.JobWords.{job_of};
 ghost use Rattle.line_text.specs.Words.{words_left};
 
-use crate::arguments::{read_page, read_token};
+use crate::calls::read_fetch;
 use crate::command::plain_text;
 use crate::fault::LineFault;
 use crawl_job::Job;
@@ -27,10 +28,5 @@ fn read_words(alloc: Global, words: Words<'_>) -> Result<Job, LineFault>
     if !words.count_is_within(2, 2) {
         return Err(LineFault::Words);
     }
-    let mut words = words;
-    let token = words.first();
-    let url = words.first();
-    let token = read_token(alloc, token)?;
-    let url = read_page(alloc, url)?;
-    Ok(Job { token, url })
+    read_fetch(alloc, words)
 }

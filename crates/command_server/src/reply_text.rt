@@ -1,16 +1,19 @@
 //! The reply of each call, spelled as pieces (docs/FORMATS.md, replies).
 //! Used by the session, which writes them.
-ghost use Rattle.std.specs.Prelude.{◌≡◌};
-ghost use Rattle.command_server.specs.FaultText.{fault_text};
-ghost use Rattle.line_text.specs.Pieces.{pieces_text};
+ghost use Rattle.std.specs.Prelude.{◌≡◌, ◌∷◌};
+ghost use Rattle.gate_history.specs.Wording.{words_in};
+ghost use Rattle.command_server.specs.FaultText.{line_fault_text};
+ghost use Rattle.line_text.specs.Pieces.{line_of, piece_text, pieces_text};
 ghost use Rattle.command_server.specs.ReplyText.{arrive_text, ask_text, back_text, begin_text};
-ghost use Rattle.command_server.specs.ReplyText.{bye_text, denial_text, finish_text, reason_word, reply_text};
-ghost use Rattle.command_server.specs.ReplyText.{standing_word, start_text, started_text, state_text, sweep_text};
+ghost use Rattle.command_server.specs.ReplyText.{bye_text, denial_text, finish_text, reply_text};
+ghost use Rattle.command_server.specs.ReplyText.{go_text, standing_word, start_text, state_text, sweep_text};
 
 use crate::fault::LineFault;
+use crate::refusal_text::{error_pieces, refusal_pieces};
 use authority_cache::{Stale, TurnNo};
+use crawl_job::Refusal;
 use gate_core::{AskRefusal, BeginRefusal, Denial, Reply, Standing, Started, State, SweepRefusal};
-use gate_history::{Cause, Reason};
+use gate_history::{Reason, Wording};
 use line_text::{Piece, Pieces};
 use path_normal::Authority;
 use permit_book::{NotOut, PermitNo};
@@ -34,8 +37,11 @@ pub fn reply_pieces(reply: &Reply) -> Pieces<'_>
     }
 }
 
-// The reply to BEGIN.
-fn begin_pieces<'a>(authority: &'a Authority, reply: &Result<TurnNo, BeginRefusal>) -> Pieces<'a>
+/// The reply to BEGIN.
+pub(crate) fn begin_pieces<'a>(
+    authority: &'a Authority,
+    reply: &Result<TurnNo, BeginRefusal>,
+) -> Pieces<'a>
     ensures { pieces_text result ≡ begin_text authority.now reply.now }
 {
     match reply {
@@ -43,15 +49,15 @@ fn begin_pieces<'a>(authority: &'a Authority, reply: &Result<TurnNo, BeginRefusa
             let turn = Piece::Number(turn.number());
             Pieces::three_words("TURN", Piece::Text(authority.text()), turn)
         }
-        Err(BeginRefusal::InFlight) => Pieces::whole("ERR inflight\n"),
-        Err(BeginRefusal::LogFull) => Pieces::whole("ERR log\n"),
-        Err(BeginRefusal::AuthoritiesFull) => Pieces::whole("ERR authorities\n"),
-        Err(BeginRefusal::NoMemory) => fault_pieces(LineFault::Memory),
+        Err(BeginRefusal::InFlight) => error_pieces("inflight"),
+        Err(BeginRefusal::LogFull) => refusal_pieces(Refusal::LogFull),
+        Err(BeginRefusal::AuthoritiesFull) => refusal_pieces(Refusal::AuthoritiesFull),
+        Err(BeginRefusal::NoMemory) => refusal_pieces(Refusal::NoMemory),
     }
 }
 
-// The reply to ARRIVE.
-fn arrive_pieces<'a>(
+/// The reply to ARRIVE.
+pub(crate) fn arrive_pieces<'a>(
     authority: &'a Authority,
     brought: Standing,
     reply: &Result<(), Stale>,
@@ -63,21 +69,21 @@ fn arrive_pieces<'a>(
             let word = Piece::Text(standing_word(brought));
             Pieces::three_words("TAKEN", Piece::Text(authority.text()), word)
         }
-        Err(Stale) => Pieces::whole("ERR stale\n"),
+        Err(Stale) => error_pieces("stale"),
     }
 }
 
-// The reply to ASK.
-fn ask_pieces(reply: &Result<PermitNo, AskRefusal>) -> Pieces<'_>
+/// The reply to ASK.
+pub(crate) fn ask_pieces(reply: &Result<PermitNo, AskRefusal>) -> Pieces<'_>
     ensures { pieces_text result ≡ ask_text reply.now }
 {
     match reply {
         Ok(number) => Pieces::two_words("PERMIT", Piece::Number(number.number())),
-        Err(AskRefusal::LogFull) => Pieces::whole("ERR log\n"),
+        Err(AskRefusal::LogFull) => refusal_pieces(Refusal::LogFull),
         Err(AskRefusal::Denied(denial)) => denial_pieces(denial),
-        Err(AskRefusal::Busy) => Pieces::whole("ERR busy\n"),
-        Err(AskRefusal::PermitsFull) => Pieces::whole("ERR permits\n"),
-        Err(AskRefusal::NoMemory) => fault_pieces(LineFault::Memory),
+        Err(AskRefusal::Busy) => refusal_pieces(Refusal::Busy),
+        Err(AskRefusal::PermitsFull) => refusal_pieces(Refusal::PermitsFull),
+        Err(AskRefusal::NoMemory) => refusal_pieces(Refusal::NoMemory),
     }
 }
 
@@ -86,52 +92,35 @@ fn start_pieces(reply: &Result<Started, Denial>) -> Pieces<'_>
     ensures { pieces_text result ≡ start_text reply.now }
 {
     match reply {
-        Ok(started) => started_pieces(started),
+        Ok(started) => go_pieces(started.number, started.reason),
         Err(denial) => denial_pieces(denial),
     }
 }
 
-fn started_pieces(started: &Started) -> Pieces<'_>
-    ensures { pieces_text result ≡ started_text started.now }
+/// The reply to a start that is allowed.
+pub(crate) fn go_pieces<'a>(number: PermitNo, reason: Reason) -> Pieces<'a>
+    ensures { pieces_text result ≡ go_text number reason }
 {
-    let number = Piece::Number(started.number.number());
-    match started.reason {
-        Reason::Line(line) => {
-            Pieces::four_words("GO", number, Piece::Text("line"), Piece::Number(line))
-        }
-        other => Pieces::three_words("GO", number, Piece::Text(reason_word(other))),
-    }
+    worded("GO", Piece::Number(number.number()), reason.wording())
 }
 
-// The word of a reason, of which a line has a number behind it.
-pub(crate) fn reason_word(reason: Reason) -> &'static str
-    ensures { result.now ≡ reason_word reason }
-{
-    match reason {
-        Reason::Open => "open",
-        Reason::Line(_) => "line",
-        Reason::NoRule => "norule",
-        Reason::RobotsPath => "robots",
-    }
-}
-
-// The reply to BACK.
-fn back_pieces(number: PermitNo, reply: &Result<(), NotOut>) -> Pieces<'static>
+/// The reply to BACK.
+pub(crate) fn back_pieces(number: PermitNo, reply: &Result<(), NotOut>) -> Pieces<'static>
     ensures { pieces_text result ≡ back_text number reply.now }
 {
     match reply {
         Ok(()) => Pieces::two_words("BACK", Piece::Number(number.number())),
-        Err(NotOut) => Pieces::whole("ERR notout\n"),
+        Err(NotOut) => error_pieces("notout"),
     }
 }
 
-// The reply to DONE.
-fn finish_pieces(number: PermitNo, reply: &Result<(), NotOut>) -> Pieces<'static>
+/// The reply to DONE.
+pub(crate) fn finish_pieces(number: PermitNo, reply: &Result<(), NotOut>) -> Pieces<'static>
     ensures { pieces_text result ≡ finish_text number reply.now }
 {
     match reply {
         Ok(()) => Pieces::two_words("DONE", Piece::Number(number.number())),
-        Err(NotOut) => Pieces::whole("ERR notout\n"),
+        Err(NotOut) => error_pieces("notout"),
     }
 }
 
@@ -141,8 +130,8 @@ fn sweep_pieces(reply: &Result<u64, SweepRefusal>) -> Pieces<'static>
 {
     match reply {
         Ok(count) => Pieces::two_words("SWEPT", Piece::Number(*count)),
-        Err(SweepRefusal::LogFull) => Pieces::whole("ERR log\n"),
-        Err(SweepRefusal::NoMemory) => fault_pieces(LineFault::Memory),
+        Err(SweepRefusal::LogFull) => refusal_pieces(Refusal::LogFull),
+        Err(SweepRefusal::NoMemory) => refusal_pieces(Refusal::NoMemory),
     }
 }
 
@@ -164,25 +153,31 @@ pub(crate) fn bye_pieces() -> Pieces<'static>
 
 /// The reply to a line with a fault.
 pub(crate) fn fault_pieces(fault: LineFault) -> Pieces<'static>
-    ensures { pieces_text result ≡ fault_text fault }
+    ensures { pieces_text result ≡ line_fault_text fault }
 {
-    Pieces::whole(fault.text())
+    error_pieces(fault.words())
 }
 
+/// The line of a denial.
 pub(crate) fn denial_pieces(denial: &Denial) -> Pieces<'_>
     ensures { pieces_text result ≡ denial_text denial.now }
 {
-    let authority = Piece::Text(denial.authority());
-    let word = match denial.cause {
-        Cause::Spent => "spent",
-        Cause::Unknown => "unknown",
-        Cause::Expired => "expired",
-        Cause::Closed => "closed",
-        Cause::Line(line) => {
-            return Pieces::four_words("NO", authority, Piece::Text("line"), Piece::Number(line));
-        }
-    };
-    Pieces::three_words("NO", authority, Piece::Text(word))
+    worded(
+        "NO",
+        Piece::Text(denial.authority()),
+        denial.cause.wording(),
+    )
+}
+
+// A line of two words, and those of a reason or a cause.
+fn worded<'a>(first: &'a str, second: Piece<'a>, wording: Wording) -> Pieces<'a>
+    ensures { pieces_text result ≡ line_of (first.now ∷ piece_text second.entry ∷ words_in wording) }
+{
+    let word = Piece::Text(wording.word);
+    match wording.line {
+        Some(line) => Pieces::four_words(first, second, word, Piece::Number(line)),
+        None => Pieces::three_words(first, second, word),
+    }
 }
 
 fn standing_word(standing: Standing) -> &'static str

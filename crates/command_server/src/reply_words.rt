@@ -1,9 +1,9 @@
 //! The words of the replies that an ARRIVE line has: two a reply (docs/FORMATS.md).
 //! Read before any of the replies is walked over.
 ghost use Rattle.std.specs.Prelude.{◌≡◌, ◌↔◌, [], IfOk, IsTrue};
-ghost use Rattle.command_server.specs.Arrival.{has_rules, has_text, HasWords, head_of, is_none_word};
-ghost use Rattle.command_server.specs.Arrival.{lasting_of, may_have, plain_of, replies_fault, reply_words_of, response_of};
-ghost use Rattle.command_server.specs.Arrival.{status_of, TakesReply};
+ghost use Rattle.command_server.specs.Arrival.{has_rules, has_text, HasWords, head_written, is_none_word};
+ghost use Rattle.command_server.specs.Arrival.{lasting_of, may_have, plain_of, replies_fault, reply_words_of, response_written};
+ghost use Rattle.command_server.specs.Arrival.{status_written, TakesReply};
 ghost use Rattle.line_text.specs.Words.{words_left};
 
 use crate::fault::LineFault;
@@ -94,12 +94,12 @@ fn replies_fault(words: Words<'_>) -> Option<LineFault>
 
 impl Head {
     fn of(word: &str) -> Option<Head>
-        ensures { result ≡ head_of word.now }
+        ensures { result ≡ head_written word.now }
     {
         match word {
             "NET" => Some(Head::Network),
             "CODING" => Some(Head::Coding),
-            _ => response_of(word),
+            _ => response_written(word),
         }
     }
 
@@ -143,8 +143,8 @@ impl Head {
 }
 
 // A response: its status, and behind a `/` its life.
-fn response_of(word: &str) -> Option<Head>
-    ensures { result ≡ response_of word.now }
+fn response_written(word: &str) -> Option<Head>
+    ensures { result ≡ response_written word.now }
 {
     match word.split_once('/') {
         Some((status, life)) => lasting_of(status, life),
@@ -156,7 +156,7 @@ fn plain_of(word: &str) -> Option<Head>
     ensures { result ≡ plain_of word.now }
 {
     Some(Head::Status {
-        code: status_of(word)?,
+        code: status_written(word)?,
         max_age: None,
     })
 }
@@ -165,7 +165,7 @@ fn plain_of(word: &str) -> Option<Head>
 fn lasting_of(status: &str, life: &str) -> Option<Head>
     ensures { result ≡ lasting_of status.now life.now }
 {
-    let code = status_of(status)?;
+    let code = status_written(status)?;
     match class_of(code) {
         StatusClass::Successful => Some(Head::Status {
             code,
@@ -175,8 +175,8 @@ fn lasting_of(status: &str, life: &str) -> Option<Head>
     }
 }
 
-fn status_of(word: &str) -> Option<u16>
-    ensures { result ≡ status_of word.now }
+fn status_written(word: &str) -> Option<u16>
+    ensures { result ≡ status_written word.now }
 {
     if word.len() != 3 {
         return None;

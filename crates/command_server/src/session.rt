@@ -9,18 +9,19 @@ use crate::session_fault::SessionFault;
 use counted_io::{NextLine, Sink, Source};
 use std::alloc::Global;
 
-/// Reads lines of at most `limit` octets, has each answered in its turn, and writes the replies,
+/// Reads lines of at most `limit` octets, has each answered in its turn from the state, and writes the replies,
 /// before each read that may wait and at the end. It stops at the end of the input, at a line that
 /// ends the session, at a line over the limit, behind `most` lines, and at a fault.
-pub fn run_session<R: Source, W: Sink, A: Answerer>(
+pub fn run_session<R: Source, W: Sink, S, A: Answerer<S>>(
     alloc: Global,
     reader: &mut R,
     writer: &mut W,
-    answerer: &mut A,
+    answerer: &A,
+    state: &mut S,
     limit: usize,
     most: u64,
 ) -> Result<(), SessionFault>
-    ensures session { Session A.answers limit most answerer.old answerer.new
+    ensures session { Session (A.answers answerer.now) limit most state.old state.new
         (R.left reader.old) (R.left reader.new)
         (W.written writer.old) (W.written writer.new) result }
     ensures reads { R.failures reader.new ≡ failures_after_reads (R.failures reader.old) result }
@@ -30,12 +31,12 @@ pub fn run_session<R: Source, W: Sink, A: Answerer>(
     let mut buffers = Buffers::new(alloc)?;
     for taken in 0..most {
         match buffers.next(reader, writer, limit)? {
-            NextLine::Line => match buffers.answer(alloc, answerer, writer)? {
+            NextLine::Line => match buffers.answer(alloc, answerer, state, writer)? {
                 Flow::Goes => {}
                 Flow::Ends => return buffers.close(writer, Ok(())),
             },
             NextLine::Last => {
-                buffers.answer(alloc, answerer, writer)?;
+                buffers.answer(alloc, answerer, state, writer)?;
                 return buffers.close(writer, Ok(()));
             }
             NextLine::End => return buffers.close(writer, Ok(())),

@@ -1,7 +1,7 @@
 //! The table of the verbs: their names, and how many words follow each.
 //! Used by `command`; docs/FORMATS.md prints the same table.
 ghost use Rattle.std.specs.Prelude.{◌≡◌};
-ghost use Rattle.command_server.specs.Verbs.{row_of, verb_of};
+ghost use Rattle.command_server.specs.Verbs.{is_in, row_of, verb_of};
 
 /// A verb of a command line.
 #[derive(Clone, Copy, Debug, PartialEq, Eq)]
@@ -14,11 +14,12 @@ pub enum Verb {
     Done,
     State,
     Sweep,
+    Refresh,
+    Fetch,
     Quit,
 }
 
-// The verbs of a session.
-const VERBS: [Verb; 9] = [
+const VERBS: [Verb; 11] = [
     Verb::Begin,
     Verb::Arrive,
     Verb::Ask,
@@ -27,8 +28,20 @@ const VERBS: [Verb; 9] = [
     Verb::Done,
     Verb::State,
     Verb::Sweep,
+    Verb::Refresh,
+    Verb::Fetch,
     Verb::Quit,
 ];
+
+/// Who speaks in a session, and by which verbs.
+#[derive(Clone, Copy, Debug, PartialEq, Eq)]
+pub enum Dialogue {
+    /// A list of calls: each line begins with the moment of its call.
+    Replay,
+    /// A client, whose line has the moment at which it was taken; and whether robots files and pages are
+    /// fetched for it.
+    Client { moment: u64, fetches: bool },
+}
 
 /// What the table says of a verb.
 #[derive(Clone, Copy)]
@@ -42,11 +55,28 @@ pub struct VerbRow {
 }
 
 impl Verb {
-    /// The verb of this name.
-    pub fn of(name: &str) -> Option<Verb>
-        ensures { result ≡ verb_of name.now }
+    /// The verb of this name, where the dialogue has it.
+    pub fn of(dialogue: Dialogue, name: &str) -> Option<Verb>
+        ensures { result ≡ verb_of dialogue name.now }
     {
-        VERBS.iter().copied().find(|verb| verb.row().name == name)
+        VERBS
+            .iter()
+            .copied()
+            .find(|verb| verb.is_in(dialogue) && verb.row().name == name)
+    }
+
+    /// Whether the dialogue has the verb.
+    pub fn is_in(self, dialogue: Dialogue) -> bool
+        ensures { result ≡ is_in dialogue self }
+    {
+        match self {
+            Verb::Ask | Verb::Start | Verb::Back | Verb::Done | Verb::State | Verb::Quit => true,
+            Verb::Begin | Verb::Arrive | Verb::Sweep => dialogue == Dialogue::Replay,
+            Verb::Refresh | Verb::Fetch => match dialogue {
+                Dialogue::Replay => false,
+                Dialogue::Client { fetches, .. } => fetches,
+            },
+        }
     }
 
     /// The verb's row of the table.
@@ -64,6 +94,8 @@ impl Verb {
             Verb::Done => row("DONE", 1, 1),
             Verb::State => row("STATE", 1, 1),
             Verb::Sweep => row("SWEEP", 0, 0),
+            Verb::Refresh => row("REFRESH", 1, 1),
+            Verb::Fetch => row("FETCH", 2, 2),
             Verb::Quit => row("QUIT", 0, 0),
         }
     }

@@ -1,6 +1,6 @@
 //! A buffer before a sink.
 //! Everything that writes many short texts writes through it.
-ghost use Rattle.std.specs.Prelude.{◌≡◌, ◌<◌, ◌≤◌, ◌+◌, ◌-◌, ◌++◌, [], length, IfOk, OnOk, OnErr};
+ghost use Rattle.std.specs.Prelude.{◌≡◌, ◌↔◌, ◌<◌, ◌≤◌, ◌+◌, ◌-◌, ◌++◌, [], length, IfOk, IsTrue, OnOk, OnErr};
 ghost use Rattle.std.specs.Io.KnownBytes.{Appends};
 ghost use Rattle.counted_io.specs.Device.{failures_after, AppendsPrefix};
 ghost use Rattle.counted_io.specs.Limits.{output_buffer};
@@ -69,6 +69,14 @@ impl Output {
         }
         self.hold(bytes);
         Ok(())
+    }
+
+    /// Whether nothing is pending.
+    pub fn is_empty(&self) -> bool
+        ensures empty { IsTrue result ↔ (self.now ≡ []) }
+        ensures bound { length self.now ≤ output_buffer }
+    {
+        self.len == 0
     }
 
     /// Writes all that is pending.

@@ -14,7 +14,7 @@ use Rattle.robots_verdict.specs.declared.said.Said.TheVariants as says
 use Rattle.gate_history.specs.declared.entry.Entry.{Entry}
 use Rattle.gate_history.specs.declared.entry.Entry.TheVariants.{Begun, Arrived, Granted, AskDenied, Started, StartDenied, Returned, Finished, Swept}
 use Rattle.gate_history.specs.Base.{empty_base, IsBase}
-use Rattle.gate_history.specs.History.{History, ◌▸◌, followed_by, from, started_count}
+use Rattle.gate_history.specs.History.{History, ◌▸◌, followed_by, from, is_start, started_count}
 use Rattle.gate_history.specs.Legal.{IsLegal, MayFollow}
 use Rattle.gate_core.specs.Limits.{most_entries}
 use Rattle.crawl_audit.specs.declared.auditor.Auditor.{Auditor}
@@ -24,10 +24,10 @@ use Rattle.crawl_audit.specs.declared.fault.Audited.{Audited}
 use Rattle.crawl_audit.specs.declared.ledger.Ledger.{Ledger}
 use Rattle.crawl_audit.specs.declared.version.Version.{Version}
 use Rattle.crawl_audit.specs.declared.version.Version.TheVariants.{One, Two}
-use Rattle.crawl_audit.specs.Audit.{ContinuesNot, head_lines, Heard, Holds, IsAudited, IsBadAt, IsFault, is_start, line_limit, TakesLine}
+use Rattle.crawl_audit.specs.Audit.{ContinuesNot, head_lines, Heard, Holds, IsAudited, IsBadAt, IsFault, line_limit, TakesEntryLine}
 use Rattle.crawl_audit.specs.Entries.{HasLife, IsEntry}
 use Rattle.crawl_audit.specs.Exports.{history_of}
-use Rattle.crawl_audit.specs.Spell.{entry_line, entry_text, head_of, lines_of, spell}
+use Rattle.crawl_audit.specs.Spell.{entry_line, entry_text, version_line, entry_lines, spell}
 use Rattle.crawl_audit.specs.Tables.{Tells}
 use Rattle.crawl_audit.proofs.Spelling.{cut_lines, HasNoFeed, no_feed, one_entry, text_then}
 
@@ -95,7 +95,7 @@ holds_more a a' entries e holds is fit tells same events starts lines room =
     fewer false s = let w = holds.few_starts in omega (arith, s, events)
 
 pub spell_more : (version : Version) (entries : List Entry) (e : Entry) → spell version (entries ++ e ∷ []) ≡ spell version entries ++ (entry_line version e ++ 10 ∷ [])
-spell_more version entries e = sym (flat_map_more (entry_text version) (head_of version) entries e)
+spell_more version entries e = sym (flat_map_more (entry_text version) (version_line version) entries e)
 
 none_yet : (v : Version) (entries : List Entry) → 0 ≡ head_lines v + length entries → (v ≡ One) × (entries ≡ [])
 none_yet One [] is = (refl, refl)
@@ -159,11 +159,11 @@ head_feedless = All-cons (λ o. o ≢ 10) 86 (32 ∷ 50 ∷ []) (λ e. omega ari
 
 -- a text that begins with no entry begins with the head of version 2 only where what stands there does
 headless : (version : Version) (entries : List Entry) (text behind : List ℕ) → All (IsEntry version) entries → version ≡ One → text ≡ spell version entries ++ behind →
-    ((after : List ℕ) → length entries ≡ 0 → behind ≢ head_of Two ++ after) → (after : List ℕ) → text ≢ head_of Two ++ after
+    ((after : List ℕ) → length entries ≡ 0 → behind ≢ version_line Two ++ after) → (after : List ℕ) → text ≢ version_line Two ++ after
 headless One [] text behind all one is first after begins = first after refl (sym is ∙ begins)
 headless One (e ∷ entries) text behind all one is first after begins =
-    not_head One e (cut_lines (entry_line One e) (codes "V 2") (lines_of One entries ++ behind) after (no_feed One e (All-head (IsEntry One) e entries all)) (feedless (codes "V 2") head_feedless)
-    (sym (ap (λ k. k ++ behind) (text_then One e (lines_of One entries)) ∙ append_assoc (entry_line One e) (10 ∷ lines_of One entries) behind) ∙ sym is ∙ begins)).0
+    not_head One e (cut_lines (entry_line One e) (codes "V 2") (entry_lines One entries ++ behind) after (no_feed One e (All-head (IsEntry One) e entries all)) (feedless (codes "V 2") head_feedless)
+    (sym (ap (λ k. k ++ behind) (text_then One e (entry_lines One entries)) ∙ append_assoc (entry_line One e) (10 ∷ entry_lines One entries) behind) ∙ sym is ∙ begins)).0
 headless Two entries text behind all one is first after begins = absurd (clash one)
   where
     clash : Two ≡ One → ⊥
@@ -175,7 +175,7 @@ module _ (a : Auditor) (input : Option (List ℕ)) (entries : List Entry) (holds
   -- what stands behind the lines so far is something that does not go on
   bad_at : (behind : List ℕ) → text ≡ spell a.version entries ++ behind → 0 < length behind → (number : ℕ) → number ≡ a.lines + 1 →
       ContinuesNot a.version entries (λ e. (after : List ℕ) × (behind ≡ entry_text a.version e ++ after)) →
-      ((after : List ℕ) → length entries ≡ 0 → a.version ≡ One → behind ≢ head_of Two ++ after) → IsBadAt text number
+      ((after : List ℕ) → length entries ≡ 0 → a.version ≡ One → behind ≢ version_line Two ++ after) → IsBadAt text number
   bad_at behind is some number count bad first = record {
     version = a.version;
     entries = entries;
@@ -225,7 +225,7 @@ split_twice input behind after text front more is first then =
 
 module _ (a : Auditor) (input behind : Option (List ℕ)) (heard : Heard a input behind) where
   -- a whole line does not go on
-  pub line_fault : (line : List ℕ) (after : Option (List ℕ)) (fault : AuditFault) (a' : Auditor) → TakesLineTo Lf line_limit behind after line → TakesLine a heard.entries line (Err fault) a' →
+  pub line_fault : (line : List ℕ) (after : Option (List ℕ)) (fault : AuditFault) (a' : Auditor) → TakesLineTo Lf line_limit behind after line → TakesEntryLine a heard.entries line (Err fault) a' →
       (text : List ℕ) → input ≡ Some text → IsFault text fault
   line_fault line after (BadLine number) a' t b text is =
       let s = split_twice input behind after text (spell a.version heard.entries) (t.raw ++ 10 ∷ []) is heard.taken t.consumed in
@@ -251,7 +251,7 @@ module _ (a : Auditor) (input behind : Option (List ℕ)) (heard : Heard a input
       bad_part a input heard.entries heard.holds text t.raw s.0 s.2 t.no_line_feed (omega arith) number count (λ l r short same. omega arith)
 
   -- one more line was taken
-  pub line_heard : (line : List ℕ) (after : Option (List ℕ)) (a' : Auditor) → TakesLineTo Lf line_limit behind after line → TakesLine a heard.entries line (Ok tt) a' → Heard a' input after
+  pub line_heard : (line : List ℕ) (after : Option (List ℕ)) (a' : Auditor) → TakesLineTo Lf line_limit behind after line → TakesEntryLine a heard.entries line (Ok tt) a' → Heard a' input after
   line_heard line after a' t b = record {
     entries = b.0;
     holds = b.1.0;

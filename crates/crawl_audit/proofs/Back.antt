@@ -26,7 +26,8 @@ use Rattle.path_normal.specs.PageText.{authority_of}
 use Rattle.path_normal.specs.PageUrl.{IsPage, page_url_from}
 use Rattle.robots_text.specs.Lines.{kept}
 use Rattle.line_text.specs.Number.{is_number, is_numeral, is_small, number_of}
-use Rattle.crawl_audit.specs.Body.{body_word, escaped_body}
+use Rattle.crawl_audit.specs.Spell.{body_word}
+use Rattle.line_text.specs.Escapes.{escaped_body}
 use Rattle.crawl_audit.specs.Entries.{IsBody, IsNumber}
 use Rattle.crawl_audit.specs.Reading.{authority_named, body_named, page_named}
 

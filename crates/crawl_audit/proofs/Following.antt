@@ -1,10 +1,9 @@
 -- What each entry does to a ledger that says what the history does, and why an entry is not legal.
 -- Used by the calls of the ledger.
 use Rattle.std.proofs.Common.{◌≡◌, ℕ, ◌+◌, ◌<◌, ◌≤◌, Bool, true, false, max, List, refl, sym, ap, subst, ◌∙◌, arith, Ok, Err}
-use Rattle.std.specs.Prelude.{◌||◌, Option, Result, Some, None, is_err, is_some, unwrap_or}
+use Rattle.std.specs.Prelude.{◌||◌, Option, Result, Some, None, is_err, is_some}
 use Rattle.std.specs.Borrow.{Bor}
-use Rattle.std.specs.List.{find, list_any}
-use Rattle.std.specs.Option.{option_map, option_map_or}
+use Rattle.std.specs.List.{list_any}
 use Rattle.std.specs.Str.{bytes_eq}
 use Rattle.std.proofs.lemmas.Bool.{and_parts, true≢false}
 use Rattle.std.proofs.lemmas.Slice.Eq.{bytes_eq-Decides}
@@ -14,22 +13,18 @@ use Rattle.permit_book.specs.Table.{is_fetch_of}
 use Rattle.permit_book.proofs.Filters.{list_any-both, list_any-filter}
 use Rattle.robots_verdict.specs.declared.said.Said.{Said}
 use Rattle.authority_cache.specs.declared.site.Flight.{Flight}
-use Rattle.authority_cache.specs.declared.standing_answer.StandingAnswer.{StandingAnswer}
-use Rattle.authority_cache.specs.declared.turn.Turn.{Turn}
 use Rattle.authority_cache.specs.Calls.{Arrives, Begins, Changes, Sweeps}
-use Rattle.authority_cache.specs.declared.refusal.BeginRefusal.{BeginRefusal}
+use Rattle.authority_cache.specs.declared.refusal.FlightRefusal.{FlightRefusal}
 use Rattle.authority_cache.specs.declared.refusal.Stale.{Stale}
 use Rattle.authority_cache.specs.Laws.{ReadsAlike}
-use Rattle.authority_cache.specs.Lists.{answer_for, is_answer_for, TellsCache}
-use Rattle.authority_cache.specs.Lives.{life_of}
-use Rattle.authority_cache.specs.Sites.{Answered, arrived, has_past, has_turn as site_turn, is_flying, is_past, IsApart, Known, site_of, with_flight}
+use Rattle.authority_cache.specs.Lives.{life_of, Timed}
+use Rattle.authority_cache.specs.Sites.{arrived, has_turn as site_turn, is_flying, IsApart, Known, site_of, with_flight}
 use Rattle.authority_cache.proofs.Reading as reading
 use Rattle.authority_cache.proofs.Telling as telling
 use Rattle.gate_history.specs.declared.entry.Entry.TheVariants.{Begun, Arrived, Granted, Started, StartDenied, Returned, Finished, Swept}
 use Rattle.gate_history.specs.declared.outcome.Cause.{Cause}
-use Rattle.gate_history.specs.declared.outcome.Cause.TheVariants as causes
 use Rattle.gate_history.specs.declared.outcome.Reason.{Reason}
-use Rattle.gate_history.specs.Cause.{Decides, Judges, Says}
+use Rattle.gate_history.specs.Cause.{Decides}
 use Rattle.gate_history.specs.History.{History, ◌▸◌, now}
 use Rattle.gate_history.specs.Legal.{IsLegal, MayFollow, SpendsAs}
 use Rattle.gate_history.specs.Outstanding.{is_unspent, stands, unspent}
@@ -40,7 +35,7 @@ use Rattle.crawl_audit.specs.declared.ledger.Ledger.{Ledger}
 use Rattle.crawl_audit.specs.declared.numbers.Numbers.{Numbers}
 use Rattle.crawl_audit.specs.declared.numbers.Phase.{Phase}
 use Rattle.crawl_audit.specs.declared.numbers.Phase.TheVariants.{Unspent, Running, Ended}
-use Rattle.crawl_audit.specs.Tables.{GivesUnspent, is_running_in, is_unspent_in, Keeps, phases_of, Tells, unspent_under}
+use Rattle.crawl_audit.specs.Tables.{GivesUnspent, is_running_in, is_unspent_in, KeepsPhase, phases_of, Tells, unspent_under}
 use Rattle.crawl_audit.proofs.Numbering.{finished_tells, granted_tells, returned_tells, start_denied_tells, started_tells}
 
 -- ---- the moment
@@ -112,7 +107,7 @@ module _ (l : Ledger) (h : History) (t : Tells l h) where
   -- ---- grants
 
   pub granted_follows : (moment n : ℕ) (fetch : Fetch) (reason : Reason) (numbers : Numbers) → l.clock ≤ moment → is_some (phases_of l.numbers n) ≡ false → Decides h fetch.token fetch.url moment (Ok reason) →
-      Keeps (phases_of l.numbers) n (Some (Unspent fetch)) (phases_of numbers) →
+      KeepsPhase (phases_of l.numbers) n (Some (Unspent fetch)) (phases_of numbers) →
       MayFollow h (Granted moment n fetch) × Tells (record { clock = moment; begins = l.begins; cache = l.cache; numbers = numbers }) (h ▸ Granted moment n fetch)
   granted_follows moment n fetch reason numbers fit new decided keeps = (
     (omega (arith, t.clock_is), t.numbers_tell.granted_are n ∙ new, (reason, decided)),
@@ -205,7 +200,7 @@ module _ (l : Ledger) (h : History) (t : Tells l h) where
       by (Some Running) is = absurd (no_spend n moment outcome (ap is_unspent_in is) spends)
       by (Some Ended) is = absurd (no_spend n moment outcome (ap is_unspent_in is) spends)
 
-  pub started_follows : (moment n : ℕ) (reason : Reason) (numbers : Numbers) → l.clock ≤ moment → SpendsAs h n moment (Ok reason) → Keeps (phases_of l.numbers) n (Some Running) (phases_of numbers) →
+  pub started_follows : (moment n : ℕ) (reason : Reason) (numbers : Numbers) → l.clock ≤ moment → SpendsAs h n moment (Ok reason) → KeepsPhase (phases_of l.numbers) n (Some Running) (phases_of numbers) →
       MayFollow h (Started moment n reason) × Tells (record { clock = moment; begins = l.begins; cache = l.cache; numbers = numbers }) (h ▸ Started moment n reason)
   started_follows moment n reason numbers fit spends keeps =
       let fetch = fetch_spent n moment (Ok reason) spends in (
@@ -218,7 +213,7 @@ module _ (l : Ledger) (h : History) (t : Tells l h) where
         },
       )
 
-  pub start_denied_follows : (moment n : ℕ) (cause : Cause) (numbers : Numbers) → l.clock ≤ moment → SpendsAs h n moment (Err cause) → Keeps (phases_of l.numbers) n (Some Ended) (phases_of numbers) →
+  pub start_denied_follows : (moment n : ℕ) (cause : Cause) (numbers : Numbers) → l.clock ≤ moment → SpendsAs h n moment (Err cause) → KeepsPhase (phases_of l.numbers) n (Some Ended) (phases_of numbers) →
       MayFollow h (StartDenied moment n cause) × Tells (record { clock = moment; begins = l.begins; cache = l.cache; numbers = numbers }) (h ▸ StartDenied moment n cause)
   start_denied_follows moment n cause numbers fit spends keeps =
       let fetch = fetch_spent n moment (Err cause) spends in (
@@ -231,7 +226,7 @@ module _ (l : Ledger) (h : History) (t : Tells l h) where
         },
       )
 
-  pub returned_follows : (n : ℕ) (fetch : Fetch) (numbers : Numbers) → phases_of l.numbers n ≡ Some (Unspent fetch) → Keeps (phases_of l.numbers) n (Some Ended) (phases_of numbers) →
+  pub returned_follows : (n : ℕ) (fetch : Fetch) (numbers : Numbers) → phases_of l.numbers n ≡ Some (Unspent fetch) → KeepsPhase (phases_of l.numbers) n (Some Ended) (phases_of numbers) →
       MayFollow h (Returned n) × Tells (record { clock = l.clock; begins = l.begins; cache = l.cache; numbers = numbers }) (h ▸ Returned n)
   returned_follows n fetch numbers some keeps = (
     unspent_of n ∙ ap is_unspent_in some,
@@ -243,7 +238,7 @@ module _ (l : Ledger) (h : History) (t : Tells l h) where
     },
   )
 
-  pub finished_follows : (n : ℕ) (numbers : Numbers) → is_running_in (phases_of l.numbers n) ≡ true → Keeps (phases_of l.numbers) n (Some Ended) (phases_of numbers) →
+  pub finished_follows : (n : ℕ) (numbers : Numbers) → is_running_in (phases_of l.numbers n) ≡ true → KeepsPhase (phases_of l.numbers) n (Some Ended) (phases_of numbers) →
       MayFollow h (Finished n) × Tells (record { clock = l.clock; begins = l.begins; cache = l.cache; numbers = numbers }) (h ▸ Finished n)
   finished_follows n numbers runs keeps = (
     t.numbers_tell.running_are n ∙ runs,
@@ -263,20 +258,20 @@ module _ (l : Ledger) (h : History) (t : Tells l h) where
 
 -- ---- what calls answered
 
-pub begins_fine : {old new : Known} {authority : List ℕ} {flight : Flight} (r : Result (Unit {0}) BeginRefusal) → is_err r ≡ false → Begins old authority flight r new →
+pub begins_fine : {old new : Known} {authority : List ℕ} {flight : Flight} (r : Result (Unit {0}) FlightRefusal) → is_err r ≡ false → Begins old authority flight r new →
     (is_flying (site_of old authority) ≡ false) × Changes old authority (with_flight flight (site_of old authority)) new
 begins_fine (Ok _) is b = (b.0, b.2)
 begins_fine (Err e) is b = absurd (true≢false is)
 
-pub arrives_fine : (old new : Known) (authority : List ℕ) (turn life : ℕ) (says : Said) (r : Result (Unit {0}) Stale) → is_err r ≡ false → Arrives old authority turn says life r new →
-    (site_turn turn (site_of old authority) ≡ true) × Changes old authority (arrived turn says life (site_of old authority)) new
-arrives_fine old new authority turn life says (Ok _) is b = b
-arrives_fine old new authority turn life says (Err e) is b = absurd (true≢false is)
+pub arrives_fine : (old new : Known) (authority : List ℕ) (turn : ℕ) (answer : Timed) (r : Result (Unit {0}) Stale) → is_err r ≡ false → Arrives old authority turn answer r new →
+    (site_turn turn (site_of old authority) ≡ true) × Changes old authority (arrived turn answer.says answer.life (site_of old authority)) new
+arrives_fine old new authority turn answer (Ok _) is b = b
+arrives_fine old new authority turn answer (Err e) is b = absurd (true≢false is)
 
-pub arrives_stale : (old new : Known) (authority : List ℕ) (turn life : ℕ) (says : Said) (r : Result (Unit {0}) Stale) → is_err r ≡ true → Arrives old authority turn says life r new →
+pub arrives_stale : (old new : Known) (authority : List ℕ) (turn : ℕ) (answer : Timed) (r : Result (Unit {0}) Stale) → is_err r ≡ true → Arrives old authority turn answer r new →
     site_turn turn (site_of old authority) ≡ false
-arrives_stale old new authority turn life says (Ok _) is b = absurd (true≢false (sym is))
-arrives_stale old new authority turn life says (Err e) is b = b.0
+arrives_stale old new authority turn answer (Ok _) is b = absurd (true≢false (sym is))
+arrives_stale old new authority turn answer (Err e) is b = b.0
 
 pub allowed_by : (h : History) (token url : List ℕ) (moment : ℕ) (r : Result Reason Cause) → is_err r ≡ false → Decides h token url moment r → (reason : Reason) × Decides h token url moment (Ok reason)
 allowed_by h token url moment (Ok reason) is decided = (reason, decided)

@@ -7,4 +7,3 @@ pub mod Numbering
 pub mod Returning
 pub mod Shown
 pub mod Spelling
-pub mod Stripping

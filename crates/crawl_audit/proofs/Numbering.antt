@@ -16,7 +16,7 @@ use Rattle.gate_history.specs.History.{History, ◌▸◌}
 use Rattle.gate_history.specs.Outstanding.{is_running, running, unspent, was_granted}
 use Rattle.crawl_audit.specs.declared.numbers.Phase.{Phase}
 use Rattle.crawl_audit.specs.declared.numbers.Phase.TheVariants.{Unspent, Running, Ended}
-use Rattle.crawl_audit.specs.Tables.{is_running_in, Keeps, Phases, TellsNumbers, unspent_under}
+use Rattle.crawl_audit.specs.Tables.{is_running_in, KeepsPhase, Phases, TellsNumbers, unspent_under}
 
 -- numbers are listed alike where the permits of them are the same
 listed_same : (xs ys : List GrantedPermit) (m : ℕ) → filter (is_numbered m) xs ≡ filter (is_numbered m) ys → is_listed xs m ≡ is_listed ys m
@@ -32,7 +32,7 @@ listed_added [] p = rw (same_number p.number) refl
 listed_added (x ∷ xs) p = rw (listed_added xs p) (or_true (x.number == p.number))
 
 -- one number has something else under it
-step : (p p' : Phases) (h h' : History) (n : ℕ) (x : Option Phase) → TellsNumbers p h → Keeps p n x p' →
+step : (p p' : Phases) (h h' : History) (n : ℕ) (x : Option Phase) → TellsNumbers p h → KeepsPhase p n x p' →
     filter (is_numbered n) (unspent h') ≡ unspent_under n x → ((m : ℕ) → m ≢ n → filter (is_numbered m) (unspent h') ≡ filter (is_numbered m) (unspent h)) →
     is_running h' n ≡ is_running_in x → ((m : ℕ) → m ≢ n → is_running h' m ≡ is_running h m) →
     was_granted h' n ≡ is_some x → ((m : ℕ) → m ≢ n → was_granted h' m ≡ was_granted h m) → TellsNumbers p' h'
@@ -56,7 +56,7 @@ unequal n m apart = elim (eqb_tells n m) [ inl e ↦ absurd (apart (sym e.1)) | 
 
 module _ (p p' : Phases) (h : History) (n : ℕ) (tells : TellsNumbers p h) where
   -- a number was granted that is new
-  pub granted_tells : (moment : ℕ) (fetch : Fetch) → p n ≡ None → Keeps p n (Some (Unspent fetch)) p' → TellsNumbers p' (h ▸ Granted moment n fetch)
+  pub granted_tells : (moment : ℕ) (fetch : Fetch) → p n ≡ None → KeepsPhase p n (Some (Unspent fetch)) p' → TellsNumbers p' (h ▸ Granted moment n fetch)
   granted_tells moment fetch none keeps =
       step p p' h (h ▸ Granted moment n fetch) n (Some (Unspent fetch)) tells keeps
       (numbered-new (unspent h) (permit_for n fetch) (tells.unspent_are n ∙ ap (unspent_under n) none))
@@ -65,7 +65,7 @@ module _ (p p' : Phases) (h : History) (n : ℕ) (tells : TellsNumbers p h) wher
       (ap (λ b. b || was_granted h n) (same_number n)) (λ m apart. ap (λ b. b || was_granted h m) (unequal n m apart))
 
   -- an unspent permit was spent by a start
-  pub started_tells : (moment : ℕ) (reason : Reason) (fetch : Fetch) → p n ≡ Some (Unspent fetch) → Keeps p n (Some Running) p' → TellsNumbers p' (h ▸ Started moment n reason)
+  pub started_tells : (moment : ℕ) (reason : Reason) (fetch : Fetch) → p n ≡ Some (Unspent fetch) → KeepsPhase p n (Some Running) p' → TellsNumbers p' (h ▸ Started moment n reason)
   started_tells moment reason fetch some keeps =
       let permits : filter (is_numbered n) (unspent h) ≡ permit_for n fetch ∷ [] = tells.unspent_are n ∙ ap (unspent_under n) some in
       step p p' h (h ▸ Started moment n reason) n (Some Running) tells keeps
@@ -75,7 +75,7 @@ module _ (p p' : Phases) (h : History) (n : ℕ) (tells : TellsNumbers p h) wher
       (tells.granted_are n ∙ ap is_some some) (λ m apart. refl)
 
   -- a start was denied
-  pub start_denied_tells : (moment : ℕ) (cause : Cause) (fetch : Fetch) → p n ≡ Some (Unspent fetch) → Keeps p n (Some Ended) p' → TellsNumbers p' (h ▸ StartDenied moment n cause)
+  pub start_denied_tells : (moment : ℕ) (cause : Cause) (fetch : Fetch) → p n ≡ Some (Unspent fetch) → KeepsPhase p n (Some Ended) p' → TellsNumbers p' (h ▸ StartDenied moment n cause)
   start_denied_tells moment cause fetch some keeps =
       step p p' h (h ▸ StartDenied moment n cause) n (Some Ended) tells keeps
       (numbered-gone (unspent h) n) (λ m apart. numbered-without (unspent h) n m apart)
@@ -83,7 +83,7 @@ module _ (p p' : Phases) (h : History) (n : ℕ) (tells : TellsNumbers p h) wher
       (tells.granted_are n ∙ ap is_some some) (λ m apart. refl)
 
   -- an unspent permit was given back
-  pub returned_tells : (fetch : Fetch) → p n ≡ Some (Unspent fetch) → Keeps p n (Some Ended) p' → TellsNumbers p' (h ▸ Returned n)
+  pub returned_tells : (fetch : Fetch) → p n ≡ Some (Unspent fetch) → KeepsPhase p n (Some Ended) p' → TellsNumbers p' (h ▸ Returned n)
   returned_tells fetch some keeps =
       step p p' h (h ▸ Returned n) n (Some Ended) tells keeps
       (numbered-gone (unspent h) n) (λ m apart. numbered-without (unspent h) n m apart)
@@ -91,7 +91,7 @@ module _ (p p' : Phases) (h : History) (n : ℕ) (tells : TellsNumbers p h) wher
       (tells.granted_are n ∙ ap is_some some) (λ m apart. refl)
 
   -- a fetch that ran has ended
-  pub finished_tells : p n ≡ Some Running → Keeps p n (Some Ended) p' → TellsNumbers p' (h ▸ Finished n)
+  pub finished_tells : p n ≡ Some Running → KeepsPhase p n (Some Ended) p' → TellsNumbers p' (h ▸ Finished n)
   finished_tells some keeps =
       step p p' h (h ▸ Finished n) n (Some Ended) tells keeps
       (tells.unspent_are n ∙ ap (unspent_under n) some) (λ m apart. refl)

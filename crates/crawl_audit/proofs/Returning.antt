@@ -27,10 +27,11 @@ use Rattle.gate_history.specs.Legal.{IsLegal, MayFollow}
 use Rattle.crawl_audit.specs.declared.version.Version.{Version}
 use Rattle.crawl_audit.specs.declared.version.Version.TheVariants.{One, Two}
 use Rattle.crawl_audit.specs.Audit.{ContinuesNot, IsBadAt, line_limit}
-use Rattle.crawl_audit.specs.Body.{body_octet, body_word, escaped_body}
+use Rattle.line_text.specs.Escapes.{body_octet, escaped_body}
 use Rattle.crawl_audit.specs.Entries.{IsBody, IsCause, IsEntry, IsLife, IsNumber, IsReason, IsSaid}
 use Rattle.crawl_audit.specs.Exports.{IsExport}
-use Rattle.crawl_audit.specs.Spell.{answer_fields, cause_fields, entry_line, entry_text, head_of, lines_of, reason_fields, spaced_fields, spell}
+use Rattle.crawl_audit.specs.Spell.{answer_fields, body_word, entry_line, entry_text, version_line, entry_lines, spaced_fields, spell}
+use Rattle.gate_history.specs.Wording.{cause_words, reason_words}
 use Rattle.crawl_audit.proofs.Auditing.{feedless, head_feedless, not_head}
 use Rattle.crawl_audit.proofs.Exporting.{legal_before}
 use Rattle.crawl_audit.proofs.Spelling.{cut_lines, no_feed, not_empty, one_entry, text_then}
@@ -77,13 +78,13 @@ body_length text is = empty (length text == 0)
 more : (field : List ℕ) (fields : List (List ℕ)) → length (spaced_fields (field ∷ fields)) ≡ 1 + length field + length (spaced_fields fields)
 more field fields = omega (arith, length-append (32 ∷ field) (spaced_fields fields))
 
-reason_length : (reason : Reason) → IsReason reason → length (spaced_fields (reason_fields reason)) ≤ 40
+reason_length : (reason : Reason) → IsReason reason → length (spaced_fields (reason_words reason)) ≤ 40
 reason_length reasons.Open is = omega arith
 reason_length (reasons.Line line) is = omega (arith, digits line is, more (codes "line") (decimal line ∷ []), more (decimal line) [])
 reason_length reasons.NoRule is = omega arith
 reason_length reasons.RobotsPath is = omega arith
 
-cause_length : (cause : Cause) → IsCause cause → length (spaced_fields (cause_fields cause)) ≤ 40
+cause_length : (cause : Cause) → IsCause cause → length (spaced_fields (cause_words cause)) ≤ 40
 cause_length causes.Spent is = omega arith
 cause_length causes.Unknown is = omega arith
 cause_length causes.Expired is = omega arith
@@ -138,14 +139,14 @@ line_length version (AskDenied moment fetch cause) is =
       token_length fetch.token is.fields.1.token,
       is.fields.1.url.limit,
       cause_length cause is.fields.2,
-      more (decimal moment) (fetch.token ∷ fetch.url ∷ cause_fields cause),
-      more fetch.token (fetch.url ∷ cause_fields cause),
-      more fetch.url (cause_fields cause),
+      more (decimal moment) (fetch.token ∷ fetch.url ∷ cause_words cause),
+      more fetch.token (fetch.url ∷ cause_words cause),
+      more fetch.url (cause_words cause),
     )
 line_length version (Started moment number reason) is =
-    omega (arith, digits moment is.fields.0, digits number is.fields.1, reason_length reason is.fields.2, more (decimal moment) (decimal number ∷ reason_fields reason), more (decimal number) (reason_fields reason))
+    omega (arith, digits moment is.fields.0, digits number is.fields.1, reason_length reason is.fields.2, more (decimal moment) (decimal number ∷ reason_words reason), more (decimal number) (reason_words reason))
 line_length version (StartDenied moment number cause) is =
-    omega (arith, digits moment is.fields.0, digits number is.fields.1, cause_length cause is.fields.2, more (decimal moment) (decimal number ∷ cause_fields cause), more (decimal number) (cause_fields cause))
+    omega (arith, digits moment is.fields.0, digits number is.fields.1, cause_length cause is.fields.2, more (decimal moment) (decimal number ∷ cause_words cause), more (decimal number) (cause_words cause))
 line_length version (Returned number) is = omega (arith, digits number is.fields, more (decimal number) [])
 line_length version (Finished number) is = omega (arith, digits number is.fields, more (decimal number) [])
 line_length version (Swept moment count) is = omega (arith, digits moment is.fields.0, digits count is.fields.1, more (decimal moment) (decimal count ∷ []), more (decimal count) [])
@@ -160,24 +161,24 @@ record GoesOn (version : Version) (h : History) (behind : List ℕ) : Type 0 whe
   after : List ℕ
   text : behind ≡ entry_text version next ++ after
 
-goes_on : (version : Version) (h : History) (ds es : List Entry) (behind : List ℕ) → All (IsEntry version) ds → All (IsEntry version) es → lines_of version es ≡ lines_of version ds ++ behind → 0 < length behind →
+goes_on : (version : Version) (h : History) (ds es : List Entry) (behind : List ℕ) → All (IsEntry version) ds → All (IsEntry version) es → entry_lines version es ≡ entry_lines version ds ++ behind → 0 < length behind →
     IsLegal (followed_by h es) → GoesOn version (followed_by h ds) behind × (length ds < length es)
 goes_on version h [] [] behind all all' same some legal = absurd (omega (arith, ap length same))
 goes_on version h [] (e ∷ es) behind all all' same some legal =
-    (record { next = e; is = All-head (IsEntry version) e es all'; fit = (legal_before (h ▸ e) es legal).1; after = lines_of version es; text = sym same }, omega arith)
+    (record { next = e; is = All-head (IsEntry version) e es all'; fit = (legal_before (h ▸ e) es legal).1; after = entry_lines version es; text = sym same }, omega arith)
 goes_on version h (d ∷ ds) [] behind all all' same some legal =
-    absurd (not_empty (entry_line version d) (lines_of version ds ++ behind) (same ∙ append_assoc (entry_text version d) (lines_of version ds) behind ∙ text_then version d (lines_of version ds ++ behind)))
+    absurd (not_empty (entry_line version d) (entry_lines version ds ++ behind) (same ∙ append_assoc (entry_text version d) (entry_lines version ds) behind ∙ text_then version d (entry_lines version ds ++ behind)))
 goes_on version h (d ∷ ds) (e ∷ es) behind all all' same some legal =
     let is = All-head (IsEntry version) d ds all in
     let is' = All-head (IsEntry version) e es all' in
-    let cut = cut_lines (entry_line version e) (entry_line version d) (lines_of version es) (lines_of version ds ++ behind) (no_feed version e is') (no_feed version d is)
-    (sym (text_then version e (lines_of version es)) ∙ same ∙ append_assoc (entry_text version d) (lines_of version ds) behind ∙ text_then version d (lines_of version ds ++ behind)) in
+    let cut = cut_lines (entry_line version e) (entry_line version d) (entry_lines version es) (entry_lines version ds ++ behind) (no_feed version e is') (no_feed version d is)
+    (sym (text_then version e (entry_lines version es)) ∙ same ∙ append_assoc (entry_text version d) (entry_lines version ds) behind ∙ text_then version d (entry_lines version ds ++ behind)) in
     let first = one_entry version e d is' is cut.0 in
     let rest = goes_on version (h ▸ d) ds es behind (All-tail (IsEntry version) d ds all) (All-tail (IsEntry version) e es all') cut.1 some (subst (λ (x : Entry). IsLegal (followed_by (h ▸ x) es)) first legal) in
     (rest.0, let less = rest.1 in omega arith)
 
 -- an export goes on behind each front of its lines
-never_bad : (version : Version) (ds es : List Entry) (behind : List ℕ) → IsExport version ds → IsExport version es → lines_of version es ≡ lines_of version ds ++ behind → 0 < length behind →
+never_bad : (version : Version) (ds es : List Entry) (behind : List ℕ) → IsExport version ds → IsExport version es → entry_lines version es ≡ entry_lines version ds ++ behind → 0 < length behind →
     ContinuesNot version ds (λ e. (after : List ℕ) × (behind ≡ entry_text version e ++ after)) → ⊥
 never_bad version ds es behind front all same some bad =
     let on = goes_on version (from empty_base) ds es behind front.spelled all.spelled same some all.legal in
@@ -186,18 +187,18 @@ never_bad version ds es behind front all same some bad =
     bad on.0.next on.0.is on.0.fit (omega arith) (line_length version on.0.next on.0.is) (on.0.after, on.0.text)
 
 -- a text of version 1 does not begin with the head of version 2
-no_head : (es : List Entry) (after : List ℕ) → All (IsEntry One) es → lines_of One es ≡ codes "V 2" ++ 10 ∷ after → ⊥
+no_head : (es : List Entry) (after : List ℕ) → All (IsEntry One) es → entry_lines One es ≡ codes "V 2" ++ 10 ∷ after → ⊥
 no_head [] after all is = not_empty (codes "V 2") after is
 no_head (e ∷ es) after all is =
-    not_head One e (cut_lines (entry_line One e) (codes "V 2") (lines_of One es) after (no_feed One e (All-head (IsEntry One) e es all)) (feedless (codes "V 2") head_feedless) (sym (text_then One e (lines_of One es)) ∙ is)).0
+    not_head One e (cut_lines (entry_line One e) (codes "V 2") (entry_lines One es) after (no_feed One e (All-head (IsEntry One) e es all)) (feedless (codes "V 2") head_feedless) (sym (text_then One e (entry_lines One es)) ∙ is)).0
 
 right : (version version' : Version) (ds es : List Entry) (behind : List ℕ) → IsExport version es → IsExport version' ds → spell version es ≡ spell version' ds ++ behind → 0 < length behind →
-    ContinuesNot version' ds (λ e. (after : List ℕ) × (behind ≡ entry_text version' e ++ after)) → (version' ≡ One → (after : List ℕ) → spell version es ≢ head_of Two ++ after) → ⊥
+    ContinuesNot version' ds (λ e. (after : List ℕ) × (behind ≡ entry_text version' e ++ after)) → (version' ≡ One → (after : List ℕ) → spell version es ≢ version_line Two ++ after) → ⊥
 right One One ds es behind all front same some bad headless = never_bad One ds es behind front all same some bad
 right Two Two ds es behind all front same some bad headless =
-    never_bad Two ds es behind front all (append_cancel_left (head_of Two) (lines_of Two es) (lines_of Two ds ++ behind) (same ∙ append_assoc (head_of Two) (lines_of Two ds) behind)) some bad
-right Two One ds es behind all front same some bad headless = headless refl (lines_of Two es) refl
-right One Two ds es behind all front same some bad headless = no_head es (lines_of Two ds ++ behind) all.spelled same
+    never_bad Two ds es behind front all (append_cancel_left (version_line Two) (entry_lines Two es) (entry_lines Two ds ++ behind) (same ∙ append_assoc (version_line Two) (entry_lines Two ds) behind)) some bad
+right Two One ds es behind all front same some bad headless = headless refl (entry_lines Two es) refl
+right One Two ds es behind all front same some bad headless = no_head es (entry_lines Two ds ++ behind) all.spelled same
 
 pub export_is_right : (version : Version) (entries : List Entry) (line : ℕ) → IsExport version entries → IsBadAt (spell version entries) line → ⊥
 export_is_right version entries line all bad = right version bad.version bad.entries entries bad.behind all bad.legal bad.text_is bad.some bad.bad bad.headless

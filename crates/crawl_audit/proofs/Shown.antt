@@ -19,9 +19,9 @@ use Rattle.std.proofs.lemmas.Bool.Decides.{nat_tests}
 use Rattle.std.proofs.lemmas.List.Elements.{All-nil, All-cons, All-head, All-tail, All-append, All-from_get_or}
 use Rattle.std.proofs.lemmas.List.Splits.{slice_split_none, slice_split_at}
 use Rattle.line_text.specs.Words.{is_space, words_of}
-use Rattle.crawl_audit.specs.Body.{body_octet, body_word, escaped_body}
+use Rattle.line_text.specs.Escapes.{body_octet, escaped_body}
 use Rattle.crawl_audit.specs.Entries.{IsNumber}
-use Rattle.crawl_audit.specs.Spell.{spaced_fields}
+use Rattle.crawl_audit.specs.Spell.{body_word, spaced_fields}
 
 -- an octet above the space and below 128
 abbrev pub IsShownOctet : ℕ → Type 0

@@ -26,10 +26,10 @@ use Rattle.gate_history.specs.declared.outcome.Reason.{Reason}
 use Rattle.gate_history.specs.declared.outcome.Reason.TheVariants as reasons
 use Rattle.crawl_audit.specs.declared.version.Version.{Version}
 use Rattle.crawl_audit.specs.declared.version.Version.TheVariants.{One, Two}
-use Rattle.crawl_audit.specs.Body.{body_word}
 use Rattle.crawl_audit.specs.Entries.{HasLife, IsCause, IsEntry, IsLife, IsReason, IsSaid}
-use Rattle.crawl_audit.specs.Reading.{answer_named, cause_named, entry_behind, entry_named, head_word, Lasting, reason_named, tail_words}
-use Rattle.crawl_audit.specs.Spell.{answer_fields, cause_fields, entry_line, entry_text, fields_of, head_of, letter_of, line_end, lines_of, reason_fields, spaced_fields, spell}
+use Rattle.crawl_audit.specs.Reading.{answer_named, next_cause, entry_behind, entry_named, head_word, Lasting, next_reason, tail_words}
+use Rattle.crawl_audit.specs.Spell.{answer_fields, body_word, entry_line, entry_text, entry_fields, version_line, letter_of, line_end, entry_lines, spaced_fields, spell}
+use Rattle.gate_history.specs.Wording.{cause_words, reason_words}
 use Rattle.crawl_audit.proofs.Back.{authority_back, body_back, number_back, page_back}
 use Rattle.crawl_audit.proofs.Shown.{IsShown, IsShownOctet, shown_authority, shown_body, shown_decimal, shown_page, shown_token, weaker, words_of_fields}
 
@@ -55,14 +55,14 @@ two a b is is' = All-cons IsShown a (b ∷ []) is (one b is')
 three : (a b c : List ℕ) → IsShown a → IsShown b → IsShown c → All IsShown (a ∷ b ∷ c ∷ [])
 three a b c is is' is'' = All-cons IsShown a (b ∷ c ∷ []) is (two b c is' is'')
 
-shown_reason : (reason : Reason) → IsReason reason → All IsShown (reason_fields reason)
+shown_reason : (reason : Reason) → IsReason reason → All IsShown (reason_words reason)
 unfolding is_shown
 shown_reason reasons.Open is = one (codes "open") (shown_word (codes "open") refl)
 shown_reason (reasons.Line line) is = two (codes "line") (decimal line) (shown_word (codes "line") refl) (shown_decimal line is)
 shown_reason reasons.NoRule is = one (codes "norule") (shown_word (codes "norule") refl)
 shown_reason reasons.RobotsPath is = one (codes "robots") (shown_word (codes "robots") refl)
 
-shown_cause : (cause : Cause) → IsCause cause → All IsShown (cause_fields cause)
+shown_cause : (cause : Cause) → IsCause cause → All IsShown (cause_words cause)
 unfolding is_shown
 shown_cause causes.Spent is = one (codes "spent") (shown_word (codes "spent") refl)
 shown_cause causes.Unknown is = one (codes "unknown") (shown_word (codes "unknown") refl)
@@ -96,7 +96,7 @@ shown_letter (Returned _) = shown_word (codes "K") refl
 shown_letter (Finished _) = shown_word (codes "F") refl
 shown_letter (Swept _ _) = shown_word (codes "W") refl
 
-shown_fields : (version : Version) (e : Entry) → IsEntry version e → All IsShown (fields_of version e)
+shown_fields : (version : Version) (e : Entry) → IsEntry version e → All IsShown (entry_fields version e)
 shown_fields version (Begun moment authority turn) is =
     three (decimal moment) authority (decimal turn) (shown_decimal moment is.fields.0) (shown_authority authority is.fields.1) (shown_decimal turn is.fields.2)
 shown_fields version (Arrived moment authority turn said life) is =
@@ -107,14 +107,14 @@ shown_fields version (Granted moment number fetch) is =
     All-cons IsShown (decimal moment) (decimal number ∷ fetch.token ∷ fetch.url ∷ []) (shown_decimal moment is.fields.0)
     (three (decimal number) fetch.token fetch.url (shown_decimal number is.fields.1) (shown_token fetch.token is.fields.2.token) (shown_page fetch.url is.fields.2.url))
 shown_fields version (AskDenied moment fetch cause) is =
-    All-append IsShown (decimal moment ∷ fetch.token ∷ fetch.url ∷ []) (cause_fields cause)
+    All-append IsShown (decimal moment ∷ fetch.token ∷ fetch.url ∷ []) (cause_words cause)
     (three (decimal moment) fetch.token fetch.url (shown_decimal moment is.fields.0) (shown_token fetch.token is.fields.1.token) (shown_page fetch.url is.fields.1.url))
     (shown_cause cause is.fields.2)
 shown_fields version (Started moment number reason) is =
-    All-append IsShown (decimal moment ∷ decimal number ∷ []) (reason_fields reason)
+    All-append IsShown (decimal moment ∷ decimal number ∷ []) (reason_words reason)
     (two (decimal moment) (decimal number) (shown_decimal moment is.fields.0) (shown_decimal number is.fields.1)) (shown_reason reason is.fields.2)
 shown_fields version (StartDenied moment number cause) is =
-    All-append IsShown (decimal moment ∷ decimal number ∷ []) (cause_fields cause)
+    All-append IsShown (decimal moment ∷ decimal number ∷ []) (cause_words cause)
     (two (decimal moment) (decimal number) (shown_decimal moment is.fields.0) (shown_decimal number is.fields.1)) (shown_cause cause is.fields.2)
 shown_fields version (Returned number) is = one (decimal number) (shown_decimal number is.fields)
 shown_fields version (Finished number) is = one (decimal number) (shown_decimal number is.fields)
@@ -123,13 +123,13 @@ shown_fields version (Swept moment count) is =
 
 -- ---- what is read of an entry's line is the entry
 
-reason_back : (reason : Reason) → IsReason reason → reason_named (reason_fields reason) ≡ Some reason
+reason_back : (reason : Reason) → IsReason reason → next_reason (reason_words reason) ≡ Some reason
 reason_back reasons.Open is = refl
 reason_back (reasons.Line line) is = rw (number_back line is) refl
 reason_back reasons.NoRule is = refl
 reason_back reasons.RobotsPath is = refl
 
-cause_back : (cause : Cause) → IsCause cause → cause_named (cause_fields cause) ≡ Some cause
+cause_back : (cause : Cause) → IsCause cause → next_cause (cause_words cause) ≡ Some cause
 cause_back causes.Spent is = refl
 cause_back causes.Unknown is = refl
 cause_back causes.Expired is = refl
@@ -158,7 +158,7 @@ answer_back One (says.Closed closure) life body is = closed_back One closure lif
 answer_back Two (says.Closed closure) life body is = closed_back Two closure life is
 
 -- the entry behind its letter
-behind_back : (version : Version) (e : Entry) → IsEntry version e → entry_behind version (letter_of e) (fields_of version e) ≡ Some e
+behind_back : (version : Version) (e : Entry) → IsEntry version e → entry_behind version (letter_of e) (entry_fields version e) ≡ Some e
 behind_back version (Begun moment authority turn) is =
     rw (number_back moment is.fields.0, authority_back authority is.fields.1, number_back turn is.fields.2) refl
 behind_back version (Arrived moment authority turn said life) is =
@@ -177,7 +177,7 @@ behind_back version (Swept moment count) is = rw (number_back moment is.fields.0
 
 pub entry_back : (version : Version) (e : Entry) → IsEntry version e → entry_named version (entry_line version e) ≡ Some e
 entry_back version e is =
-    ap (λ words. entry_behind version (head_word words) (tail_words words)) (words_of_fields (letter_of e) (fields_of version e) (shown_letter e) (shown_fields version e is))
+    ap (λ words. entry_behind version (head_word words) (tail_words words)) (words_of_fields (letter_of e) (entry_fields version e) (shown_letter e) (shown_fields version e is))
     ∙ behind_back version e is
 
 -- a line is that of one entry
@@ -202,7 +202,7 @@ line_fields (field ∷ fields) all =
 
 pub line_octets : (version : Version) (e : Entry) → IsEntry version e → All IsLineOctet (entry_line version e)
 line_octets version e is =
-    All-append IsLineOctet (letter_of e) (spaced_fields (fields_of version e)) (line_field (letter_of e) (shown_letter e)) (line_fields (fields_of version e) (shown_fields version e is))
+    All-append IsLineOctet (letter_of e) (spaced_fields (entry_fields version e)) (line_field (letter_of e) (shown_letter e)) (line_fields (entry_fields version e) (shown_fields version e is))
 
 -- the line is a text
 pub utf8_line : (version : Version) (e : Entry) → IsEntry version e → IsUtf8 (entry_line version e)
@@ -231,15 +231,15 @@ pub not_empty : (line behind : List ℕ) → [] ≡ line ++ 10 ∷ behind → �
 not_empty [] behind e = cc
 not_empty (octet ∷ line) behind e = cc
 
-lines_once : (version : Version) (ds es : List Entry) → All (IsEntry version) ds → All (IsEntry version) es → lines_of version ds ≡ lines_of version es → ds ≡ es
+lines_once : (version : Version) (ds es : List Entry) → All (IsEntry version) ds → All (IsEntry version) es → entry_lines version ds ≡ entry_lines version es → ds ≡ es
 lines_once version [] [] all all' same = refl
-lines_once version [] (e ∷ es) all all' same = absurd (not_empty (entry_line version e) (lines_of version es) (same ∙ text_then version e (lines_of version es)))
-lines_once version (d ∷ ds) [] all all' same = absurd (not_empty (entry_line version d) (lines_of version ds) (sym same ∙ text_then version d (lines_of version ds)))
+lines_once version [] (e ∷ es) all all' same = absurd (not_empty (entry_line version e) (entry_lines version es) (same ∙ text_then version e (entry_lines version es)))
+lines_once version (d ∷ ds) [] all all' same = absurd (not_empty (entry_line version d) (entry_lines version ds) (sym same ∙ text_then version d (entry_lines version ds)))
 lines_once version (d ∷ ds) (e ∷ es) all all' same =
     let is = All-head (IsEntry version) d ds all in
     let is' = All-head (IsEntry version) e es all' in
-    let cut = cut_lines (entry_line version d) (entry_line version e) (lines_of version ds) (lines_of version es) (no_feed version d is) (no_feed version e is')
-    (sym (text_then version d (lines_of version ds)) ∙ same ∙ text_then version e (lines_of version es)) in
+    let cut = cut_lines (entry_line version d) (entry_line version e) (entry_lines version ds) (entry_lines version es) (no_feed version d is) (no_feed version e is')
+    (sym (text_then version d (entry_lines version ds)) ∙ same ∙ text_then version e (entry_lines version es)) in
     let first = one_entry version d e is is' cut.0 in
     let rest = lines_once version ds es (All-tail (IsEntry version) d ds all) (All-tail (IsEntry version) e es all') cut.1 in
     λ i. first i ∷ rest i
@@ -247,7 +247,7 @@ lines_once version (d ∷ ds) (e ∷ es) all all' same =
 -- a text is that of one history
 pub one_history : (version : Version) (ds es : List Entry) → All (IsEntry version) ds → All (IsEntry version) es → spell version ds ≡ spell version es → ds ≡ es
 one_history version ds es all all' same =
-    lines_once version ds es all all' (append_cancel_left (head_of version) (lines_of version ds) (lines_of version es) same)
+    lines_once version ds es all all' (append_cancel_left (version_line version) (entry_lines version ds) (entry_lines version es) same)
 
 -- ---- a line that is refused is that of no entry
 

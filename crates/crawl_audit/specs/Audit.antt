@@ -4,10 +4,10 @@ use Rattle.std.specs.Prelude.{◌≡◌, ◌≢◌, ℕ, ◌+◌, ◌<◌, ◌�
 use Rattle.std.specs.Io.KnownBytes.{Consumes, IsAtEnd}
 use Rattle.counted_io.specs.Device.{one_more}
 use Rattle.gate_history.specs.declared.entry.Entry.{Entry}
-use Rattle.gate_history.specs.declared.entry.Entry.TheVariants.{Started}
 use Rattle.gate_history.specs.History.{started_count}
 use Rattle.gate_history.specs.Legal.{IsLegal, MayFollow}
 use Rattle.gate_core.specs.Limits.{most_entries}
+use Rattle.line_text.specs.Limits.{max_long_line}
 use Rattle.crawl_audit.specs.declared.version.Version.{Version}
 use Rattle.crawl_audit.specs.declared.version.Version.TheVariants.{One, Two}
 use Rattle.crawl_audit.specs.declared.fault.AuditFault.{AuditFault}
@@ -16,17 +16,12 @@ use Rattle.crawl_audit.specs.declared.auditor.Auditor.{Auditor}
 use Rattle.crawl_audit.specs.declared.fault.Audited.{Audited}
 use Rattle.crawl_audit.specs.Entries.{IsEntry}
 use Rattle.crawl_audit.specs.Exports.{history_of, IsExport}
-use Rattle.crawl_audit.specs.Spell.{entry_line, entry_text, head_of, spell}
+use Rattle.crawl_audit.specs.Spell.{entry_line, entry_text, version_line, spell}
 use Rattle.crawl_audit.specs.Tables.{Tells}
 
 -- the most octets of a line, its end not counted
 abbrev pub line_limit : ℕ
-line_limit = 2097152
-
--- the entry is a fetch that was started
-abbrev pub is_start : Entry → Bool
-is_start (Started _ _ _) = true
-is_start _ = false
+line_limit = max_long_line
 
 -- how many lines stand before those of entries
 abbrev pub head_lines : Version → ℕ
@@ -59,7 +54,7 @@ pub record IsBadAt (text : List ℕ) (line : ℕ) : Type 0 where
   pub some : 0 < length behind
   pub line_is : line ≡ head_lines version + length entries + 1
   pub bad : ContinuesNot version entries (λ e. (after : List ℕ) × (behind ≡ entry_text version e ++ after))
-  pub headless : version ≡ One → (after : List ℕ) → text ≢ head_of Two ++ after
+  pub headless : version ≡ One → (after : List ℕ) → text ≢ version_line Two ++ after
 
 -- what a fault says of a text
 abbrev pub IsFault : List ℕ → AuditFault → Type 0
@@ -79,14 +74,14 @@ pub record Holds (a : Auditor) (entries : List Entry) : Type 0 where
   pub lines_are : a.lines ≡ head_lines a.version + length entries
 
 -- a line was taken, or does not continue the lines so far
-abbrev pub TakesLine : Auditor → List Entry → List ℕ → Result (Unit {0}) AuditFault → Auditor → Type 0
-TakesLine old entries line (Ok _) new =
+abbrev pub TakesEntryLine : Auditor → List Entry → List ℕ → Result (Unit {0}) AuditFault → Auditor → Type 0
+TakesEntryLine old entries line (Ok _) new =
     (entries' : List Entry) × (Holds new entries' × (spell new.version entries' ≡ spell old.version entries ++ (line ++ 10 ∷ []))
     × (new.lines ≡ old.lines + 1))
-TakesLine old entries line (Err (BadLine number)) new =
+TakesEntryLine old entries line (Err (BadLine number)) new =
     (number ≡ old.lines + 1) × ContinuesNot old.version entries (λ e. line ≡ entry_line old.version e)
     × (old.lines ≡ 0 → line ≢ codes "V 2")
-TakesLine old entries line (Err _) new = Unit {0}
+TakesEntryLine old entries line (Err _) new = Unit {0}
 
 -- the lines so far were the front of the input
 pub record Heard (a : Auditor) (input behind : Option (List ℕ)) : Type 0 where
@@ -95,10 +90,10 @@ pub record Heard (a : Auditor) (input behind : Option (List ℕ)) : Type 0 where
   pub taken : Consumes input behind (spell a.version entries)
 
 -- a step of an audit took a line, or found the end, or a fault
-abbrev pub Steps : Option (List ℕ) → Auditor → Result Bool AuditFault → Auditor → Option (List ℕ) → Type 0
-Steps input old (Ok true) new behind = Heard new input behind × (new.lines ≡ old.lines + 1)
-Steps input old (Ok false) new behind = Heard new input behind × IsAtEnd behind
-Steps input old (Err fault) new behind = (text : List ℕ) → input ≡ Some text → IsFault text fault
+abbrev pub TakesStep : Option (List ℕ) → Auditor → Result Bool AuditFault → Auditor → Option (List ℕ) → Type 0
+TakesStep input old (Ok true) new behind = Heard new input behind × (new.lines ≡ old.lines + 1)
+TakesStep input old (Ok false) new behind = Heard new input behind × IsAtEnd behind
+TakesStep input old (Err fault) new behind = (text : List ℕ) → input ≡ Some text → IsFault text fault
 
 -- the source's count of failures after an audit: it rises exactly where a read failed
 abbrev pub failures_after_audit : {T : Type 0} → ℕ → Result T AuditFault → ℕ

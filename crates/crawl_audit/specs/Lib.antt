@@ -1,12 +1,10 @@
 -- What the contracts of exports and audits cite.
 -- docs/FORMATS.md has the text.
 pub mod Audit
-pub mod Body
 pub mod Spell
 pub mod Entries
 pub mod Exports
 pub mod Laws
-pub mod Pieces
 pub mod Reading
-pub mod Strips
+pub mod Records
 pub mod Tables

@@ -23,17 +23,16 @@ use Rattle.authority_cache.specs.Lives.{greatest_life}
 use Rattle.gate_history.specs.declared.entry.Entry.{Entry}
 use Rattle.gate_history.specs.declared.entry.Entry.TheVariants.{Begun, Arrived, Granted, AskDenied, Started, StartDenied, Returned, Finished, Swept}
 use Rattle.gate_history.specs.declared.outcome.Cause.{Cause}
-use Rattle.gate_history.specs.declared.outcome.Cause.TheVariants as causes
 use Rattle.gate_history.specs.declared.outcome.Reason.{Reason}
-use Rattle.gate_history.specs.declared.outcome.Reason.TheVariants as reasons
+use Rattle.gate_history.specs.Wording.{cause_named, reason_named}
 use Rattle.line_text.specs.Number.{number_of}
 use Rattle.line_text.specs.Words.{words_of}
 use Rattle.crawl_audit.specs.declared.version.Version.{Version}
 use Rattle.crawl_audit.specs.declared.version.Version.TheVariants.{One, Two}
-use Rattle.crawl_audit.specs.declared.unread.Unread.{Unread}
-use Rattle.crawl_audit.specs.declared.unread.Unread.TheVariants.{NotOne, NoMemory}
+use Rattle.crawl_audit.specs.declared.unread_line.UnreadLine.{UnreadLine}
+use Rattle.crawl_audit.specs.declared.unread_line.UnreadLine.TheVariants.{NotOne, NoMemory}
 use Rattle.crawl_audit.specs.declared.record.Record.{Record}
-use Rattle.crawl_audit.specs.declared.record.Record.TheVariants as records
+use Rattle.crawl_audit.specs.Records.{entry_of}
 
 -- the first word, or the empty one where there is none
 abbrev pub head_word : List (List ℕ) → List ℕ
@@ -51,7 +50,7 @@ and_then None next = None
 and_then (Some value) next = next value
 
 -- the result is what was to be read, or says that nothing was, or that memory was refused
-abbrev pub Reads : {A : Type 0} → Result A Unread → Option A → Type 0
+abbrev pub Reads : {A : Type 0} → Result A UnreadLine → Option A → Type 0
 Reads (Ok value) expected = expected ≡ Some value
 Reads (Err NotOne) expected = expected ≡ None
 Reads (Err NoMemory) expected = Unit {0}
@@ -68,26 +67,13 @@ authority_named word = option_map authority_of (page_named (codes "http://" ++ w
 abbrev pub body_named : List ℕ → List ℕ
 body_named word = kept (if bytes_eq word (codes "-") then [] else percent_decode word)
 
--- the reason that words write
-abbrev pub reason_named : List (List ℕ) → Option Reason
-reason_named words =
-    let word = head_word words in
-    if bytes_eq word (codes "open") then Some reasons.Open
-    else (if bytes_eq word (codes "norule") then Some reasons.NoRule
-    else (if bytes_eq word (codes "robots") then Some reasons.RobotsPath
-    else (if bytes_eq word (codes "line") then option_map reasons.Line (number_of (head_word (tail_words words)))
-    else None)))
+-- the reason that the next words name
+abbrev pub next_reason : List (List ℕ) → Option Reason
+next_reason words = reason_named (head_word words) (number_of (head_word (tail_words words)))
 
--- the cause that words write
-abbrev pub cause_named : List (List ℕ) → Option Cause
-cause_named words =
-    let word = head_word words in
-    if bytes_eq word (codes "spent") then Some causes.Spent
-    else (if bytes_eq word (codes "unknown") then Some causes.Unknown
-    else (if bytes_eq word (codes "expired") then Some causes.Expired
-    else (if bytes_eq word (codes "closed") then Some causes.Closed
-    else (if bytes_eq word (codes "line") then option_map causes.Line (number_of (head_word (tail_words words)))
-    else None))))
+-- the cause that the next words name
+abbrev pub next_cause : List (List ℕ) → Option Cause
+next_cause words = cause_named (head_word words) (number_of (head_word (tail_words words)))
 
 -- the reason for an open answer that a word writes
 abbrev pub opening_named : List ℕ → Option Opening
@@ -113,12 +99,12 @@ pub record Lasting : Type 0 where
   pub life : ℕ
 
 -- an answer with the greatest life
-abbrev pub for_a_day : Said → Lasting
-for_a_day says = record { says = says; life = greatest_life }
+abbrev pub lasting_a_day : Said → Lasting
+lasting_a_day says = record { says = says; life = greatest_life }
 
 -- the rules that words write, with their life
 abbrev pub rules_named : Version → List (List ℕ) → Option Lasting
-rules_named One words = Some (for_a_day (says.Rules (body_named (head_word words))))
+rules_named One words = Some (lasting_a_day (says.Rules (body_named (head_word words))))
 rules_named Two words =
     and_then (number_of (head_word words)) (λ life.
     Some (record { says = says.Rules (body_named (head_word (tail_words words))); life = life }))
@@ -128,8 +114,8 @@ abbrev pub answer_named : Version → List (List ℕ) → Option Lasting
 answer_named version words =
     let word = head_word words in
     if bytes_eq word (codes "R") then rules_named version (tail_words words)
-    else (if bytes_eq word (codes "O") then option_map (λ opening. for_a_day (says.Open opening)) (opening_named (head_word (tail_words words)))
-    else (if bytes_eq word (codes "C") then option_map (λ closure. for_a_day (says.Closed closure)) (closure_named (head_word (tail_words words)))
+    else (if bytes_eq word (codes "O") then option_map (λ opening. lasting_a_day (says.Open opening)) (opening_named (head_word (tail_words words)))
+    else (if bytes_eq word (codes "C") then option_map (λ closure. lasting_a_day (says.Closed closure)) (closure_named (head_word (tail_words words)))
     else None))
 
 -- the entries that words behind each letter write
@@ -161,21 +147,21 @@ ask_denied_named words =
     and_then (number_of (head_word words)) (λ moment.
     and_then (token_of (head_word (tail_words words))) (λ token.
     and_then (page_named (head_word (tail_words (tail_words words)))) (λ url.
-    and_then (cause_named (tail_words (tail_words (tail_words words)))) (λ cause.
+    and_then (next_cause (tail_words (tail_words (tail_words words)))) (λ cause.
     Some (AskDenied moment (record { token = token; url = url }) cause)))))
 
 abbrev pub started_named : List (List ℕ) → Option Entry
 started_named words =
     and_then (number_of (head_word words)) (λ moment.
     and_then (number_of (head_word (tail_words words))) (λ number.
-    and_then (reason_named (tail_words (tail_words words))) (λ reason.
+    and_then (next_reason (tail_words (tail_words words))) (λ reason.
     Some (Started moment number reason))))
 
 abbrev pub start_denied_named : List (List ℕ) → Option Entry
 start_denied_named words =
     and_then (number_of (head_word words)) (λ moment.
     and_then (number_of (head_word (tail_words words))) (λ number.
-    and_then (cause_named (tail_words (tail_words words))) (λ cause.
+    and_then (next_cause (tail_words (tail_words words))) (λ cause.
     Some (StartDenied moment number cause))))
 
 abbrev pub returned_named : List (List ℕ) → Option Entry
@@ -208,26 +194,14 @@ entry_behind version letter words =
 abbrev pub entry_named : Version → List ℕ → Option Entry
 entry_named version line = entry_behind version (head_word (words_of line)) (tail_words (words_of line))
 
--- the entry that a record is
-abbrev pub entry_of : Record → Entry
-entry_of (records.Begun moment authority turn) = Begun moment authority turn
-entry_of (records.Arrived moment authority turn answer life) = Arrived moment authority turn (said answer) life
-entry_of (records.Granted moment number token url) = Granted moment number (record { token = token; url = url })
-entry_of (records.AskDenied moment token url cause) = AskDenied moment (record { token = token; url = url }) cause
-entry_of (records.Started moment number reason) = Started moment number reason
-entry_of (records.StartDenied moment number cause) = StartDenied moment number cause
-entry_of (records.Returned number) = Returned number
-entry_of (records.Finished number) = Finished number
-entry_of (records.Swept moment count) = Swept moment count
-
 -- the result is the entry that was to be read, or says that none was, or that memory was refused
-abbrev pub ReadsEntry : Result Record Unread → Option Entry → Type 0
+abbrev pub ReadsEntry : Result Record UnreadLine → Option Entry → Type 0
 ReadsEntry (Ok record_read) expected = expected ≡ Some (entry_of record_read)
 ReadsEntry (Err NotOne) expected = expected ≡ None
 ReadsEntry (Err NoMemory) expected = Unit {0}
 
 -- the same of an answer and its life
-abbrev pub ReadsAnswer : Result (Answer × ℕ) Unread → Option Lasting → Type 0
+abbrev pub ReadsAnswer : Result (Answer × ℕ) UnreadLine → Option Lasting → Type 0
 ReadsAnswer (Ok pair) expected = expected ≡ Some (record { says = said pair.0; life = pair.1 })
 ReadsAnswer (Err NotOne) expected = expected ≡ None
 ReadsAnswer (Err NoMemory) expected = Unit {0}

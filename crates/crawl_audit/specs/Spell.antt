@@ -1,6 +1,7 @@
 -- The spelling of entries, version 1 and version 2: each is one line, its fields with a space between.
 -- docs/FORMATS.md has both as tables.
-use Rattle.std.specs.Prelude.{ℕ, List, [], ◌∷◌, ◌++◌, codes, decimal, flat_map}
+use Rattle.std.specs.Prelude.{◌==◌, ℕ, List, [], ◌∷◌, ◌++◌, codes, decimal, flat_map, if◌then◌else◌, length}
+use Rattle.std.specs.Str.{bytes_eq}
 use Rattle.robots_verdict.specs.declared.answer.Closure.{Closure}
 use Rattle.robots_verdict.specs.declared.answer.Closure.TheVariants as closures
 use Rattle.robots_verdict.specs.declared.answer.Opening.{Opening}
@@ -9,32 +10,21 @@ use Rattle.robots_verdict.specs.declared.said.Said.{Said}
 use Rattle.robots_verdict.specs.declared.said.Said.TheVariants as says
 use Rattle.gate_history.specs.declared.entry.Entry.{Entry}
 use Rattle.gate_history.specs.declared.entry.Entry.TheVariants.{Begun, Arrived, Granted, AskDenied, Started, StartDenied, Returned, Finished, Swept}
-use Rattle.gate_history.specs.declared.outcome.Cause.{Cause}
-use Rattle.gate_history.specs.declared.outcome.Cause.TheVariants as causes
-use Rattle.gate_history.specs.declared.outcome.Reason.{Reason}
-use Rattle.gate_history.specs.declared.outcome.Reason.TheVariants as reasons
+use Rattle.gate_history.specs.Wording.{cause_words, reason_words}
+use Rattle.line_text.specs.Escapes.{escaped_body}
 use Rattle.crawl_audit.specs.declared.version.Version.{Version}
 use Rattle.crawl_audit.specs.declared.version.Version.TheVariants.{One, Two}
-use Rattle.crawl_audit.specs.Body.{body_word}
 
 -- LF, which ends each line
 abbrev pub line_end : List ℕ
 line_end = 10 ∷ []
 
--- why a fetch is allowed
-abbrev pub reason_fields : Reason → List (List ℕ)
-reason_fields reasons.Open = codes "open" ∷ []
-reason_fields (reasons.Line line) = codes "line" ∷ decimal line ∷ []
-reason_fields reasons.NoRule = codes "norule" ∷ []
-reason_fields reasons.RobotsPath = codes "robots" ∷ []
-
--- why it is denied
-abbrev pub cause_fields : Cause → List (List ℕ)
-cause_fields causes.Spent = codes "spent" ∷ []
-cause_fields causes.Unknown = codes "unknown" ∷ []
-cause_fields causes.Expired = codes "expired" ∷ []
-cause_fields causes.Closed = codes "closed" ∷ []
-cause_fields (causes.Line line) = codes "line" ∷ decimal line ∷ []
+-- the word of a body: a hyphen is the empty one, so a body of one hyphen is escaped
+abbrev pub body_word : List ℕ → List ℕ
+body_word text =
+    if length text == 0 then codes "-"
+    else (if bytes_eq text (codes "-") then codes "%2D"
+    else escaped_body text)
 
 -- why an answer is open
 abbrev pub opening_word : Opening → List ℕ
@@ -74,44 +64,44 @@ letter_of (Finished _) = codes "F"
 letter_of (Swept _ _) = codes "W"
 
 -- the fields behind the letter
-abbrev pub fields_of : Version → Entry → List (List ℕ)
-fields_of version (Begun moment authority turn) = decimal moment ∷ authority ∷ decimal turn ∷ []
-fields_of version (Arrived moment authority turn says life) =
+abbrev pub entry_fields : Version → Entry → List (List ℕ)
+entry_fields version (Begun moment authority turn) = decimal moment ∷ authority ∷ decimal turn ∷ []
+entry_fields version (Arrived moment authority turn says life) =
     decimal moment ∷ authority ∷ decimal turn ∷ answer_fields version says life
-fields_of version (Granted moment number fetch) =
+entry_fields version (Granted moment number fetch) =
     decimal moment ∷ decimal number ∷ fetch.token ∷ fetch.url ∷ []
-fields_of version (AskDenied moment fetch cause) = decimal moment ∷ fetch.token ∷ fetch.url ∷ cause_fields cause
-fields_of version (Started moment number reason) = decimal moment ∷ decimal number ∷ reason_fields reason
-fields_of version (StartDenied moment number cause) = decimal moment ∷ decimal number ∷ cause_fields cause
-fields_of version (Returned number) = decimal number ∷ []
-fields_of version (Finished number) = decimal number ∷ []
-fields_of version (Swept moment count) = decimal moment ∷ decimal count ∷ []
+entry_fields version (AskDenied moment fetch cause) = decimal moment ∷ fetch.token ∷ fetch.url ∷ cause_words cause
+entry_fields version (Started moment number reason) = decimal moment ∷ decimal number ∷ reason_words reason
+entry_fields version (StartDenied moment number cause) = decimal moment ∷ decimal number ∷ cause_words cause
+entry_fields version (Returned number) = decimal number ∷ []
+entry_fields version (Finished number) = decimal number ∷ []
+entry_fields version (Swept moment count) = decimal moment ∷ decimal count ∷ []
 
 -- a field behind a space
-abbrev pub spaced : List ℕ → List ℕ
-spaced field = 32 ∷ field
+abbrev pub spaced_field : List ℕ → List ℕ
+spaced_field field = 32 ∷ field
 
 -- the fields, each behind a space
 abbrev pub spaced_fields : List (List ℕ) → List ℕ
-spaced_fields fields = flat_map spaced fields
+spaced_fields fields = flat_map spaced_field fields
 
 -- the line of an entry, without its end
 abbrev pub entry_line : Version → Entry → List ℕ
-entry_line version e = letter_of e ++ spaced_fields (fields_of version e)
+entry_line version e = letter_of e ++ spaced_fields (entry_fields version e)
 
 -- the line of an entry, with its end
 abbrev pub entry_text : Version → Entry → List ℕ
 entry_text version e = entry_line version e ++ line_end
 
 -- the lines of entries, in their order
-abbrev pub lines_of : Version → List Entry → List ℕ
-lines_of version entries = flat_map (entry_text version) entries
+abbrev pub entry_lines : Version → List Entry → List ℕ
+entry_lines version entries = flat_map (entry_text version) entries
 
 -- what stands before the lines of entries
-abbrev pub head_of : Version → List ℕ
-head_of One = []
-head_of Two = codes "V 2" ++ line_end
+abbrev pub version_line : Version → List ℕ
+version_line One = []
+version_line Two = codes "V 2" ++ line_end
 
 -- the text of a history, by its entries
 abbrev pub spell : Version → List Entry → List ℕ
-spell version entries = head_of version ++ lines_of version entries
+spell version entries = version_line version ++ entry_lines version entries

@@ -28,8 +28,8 @@ abbrev pub phases_of : Numbers → Phases
 phases_of numbers number = get (λ one other. one == other) numbers.by_number number
 
 -- this is under the number now, and the others are as they were
-abbrev pub Keeps : Phases → ℕ → Option Phase → Phases → Type 0
-Keeps old number phase new = (other : ℕ) → new other ≡ (if number == other then phase else old other)
+abbrev pub KeepsPhase : Phases → ℕ → Option Phase → Phases → Type 0
+KeepsPhase old number phase new = (other : ℕ) → new other ≡ (if number == other then phase else old other)
 
 -- the permit of the number, where it is unspent
 abbrev pub unspent_under : ℕ → Option Phase → List GrantedPermit
@@ -66,7 +66,7 @@ pub record Tells (l : Ledger) (h : History) : Type 0 where
 
 -- the entry is legal after the history, and the tables say what the longer history does; or it is not
 -- legal; or memory was refused
-abbrev pub Follows : History → Entry → Result (Unit {0}) Unfit → Ledger → Type 0
-Follows h e (Ok _) new = MayFollow h e × Tells new (h ▸ e)
-Follows h e (Err Illegal) new = MayFollow h e → ⊥
-Follows h e (Err NoMemory) new = Unit {0}
+abbrev pub FollowsLegally : History → Entry → Result (Unit {0}) Unfit → Ledger → Type 0
+FollowsLegally h e (Ok _) new = MayFollow h e × Tells new (h ▸ e)
+FollowsLegally h e (Err Illegal) new = MayFollow h e → ⊥
+FollowsLegally h e (Err NoMemory) new = Unit {0}

@@ -3,23 +3,25 @@
 ghost use Rattle.std.specs.Prelude.{◌≡◌, ◌≢◌, ℕ, Err, IfOk, List, Option, codes};
 ghost use Rattle.std.specs.Io.KnownBytes.{prepend_known};
 ghost use Rattle.gate_history.specs.declared.entry.Entry.{Entry};
-ghost use Rattle.crawl_audit.specs.Audit.{Heard, Holds, Steps, TakesLine};
-ghost use Rattle.crawl_audit.specs.Audit.{failures_after_audit, is_start};
-ghost use Rattle.crawl_audit.specs.Reading.{entry_of};
+ghost use Rattle.crawl_audit.specs.Audit.{Heard, Holds, TakesStep, TakesEntryLine};
+ghost use Rattle.crawl_audit.specs.Audit.{failures_after_audit};
+ghost use Rattle.gate_history.specs.History.{is_start};
+ghost use Rattle.crawl_audit.specs.Records.{entry_of};
 
 use crate::fault::{AuditFault, Audited};
 use crate::ledger::{Ledger, Unfit};
 use crate::read::read_line;
 use crate::record::Record;
-use crate::unread::Unread;
+use crate::unread_line::UnreadLine;
 use crate::version::Version;
 use counted_io::{LineEnd, LineReader, NextLine, ReadLineFault, Source};
 use gate_core::MAX_LOG;
+use line_text::MAX_LONG_LINE;
 use std::alloc::{AllocError, Global};
 use std::hash::RandomState;
 
 /// The most octets of a line, its end not counted.
-pub const MAX_LINE: usize = 2_097_152;
+pub const MAX_LINE: usize = MAX_LONG_LINE;
 
 /// What was read so far.
 #[derive(Drop)]
@@ -59,7 +61,7 @@ impl Auditor {
     ) -> Result<bool, AuditFault>
         ensures steps { (input : Option (List ℕ))
             → Heard self.old input (prepend_known self.old.reader (R.left reader.old))
-            → Steps input self.old result self.new
+            → TakesStep input self.old result self.new
             (prepend_known self.new.reader (R.left reader.new)) }
         ensures reads { R.failures reader.new
             ≡ failures_after_audit (R.failures reader.old) result }
@@ -84,7 +86,7 @@ impl Auditor {
     // Takes the line: the head of version 2, or an entry that is legal after those so far.
     fn take_line(&mut self, alloc: Global) -> Result<(), AuditFault>
         ensures line { (entries : List Entry) → Holds self.old entries
-            → TakesLine self.old entries self.old.line.items result self.new }
+            → TakesEntryLine self.old entries self.old.line.items result self.new }
         ensures reader { self.new.reader ≡ self.old.reader }
         ensures faults { result ≢ Err AuditFault.Read }
     {
@@ -100,7 +102,7 @@ impl Auditor {
     fn take_entry(&mut self, alloc: Global) -> Result<(), AuditFault>
         requires { self.old.lines ≡ 0 → self.old.line.items ≢ codes "V 2" }
         ensures line { (entries : List Entry) → Holds self.old entries
-            → TakesLine self.old entries self.old.line.items result self.new }
+            → TakesEntryLine self.old entries self.old.line.items result self.new }
         ensures reader { self.new.reader ≡ self.old.reader }
         ensures faults { result ≢ Err AuditFault.Read }
     {
@@ -110,8 +112,8 @@ impl Auditor {
         }
         let found = match read_line(alloc, self.version, self.line.as_slice()) {
             Ok(found) => found,
-            Err(Unread::NotOne) => return Err(AuditFault::BadLine(number)),
-            Err(Unread::NoMemory) => return Err(AuditFault::NoMemory),
+            Err(UnreadLine::NotOne) => return Err(AuditFault::BadLine(number)),
+            Err(UnreadLine::NoMemory) => return Err(AuditFault::NoMemory),
         };
         let start = is_start(&found);
         match self.ledger.enter(found) {

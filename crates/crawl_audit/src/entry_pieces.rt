@@ -1,28 +1,23 @@
 //! The line of an entry, as pieces: of one that a history has, or that was read.
 //! docs/FORMATS.md has the kinds as a table.
-ghost use Rattle.std.specs.Prelude.{◌≡◌, ◌<◌, All};
+ghost use Rattle.std.specs.Prelude.{◌≡◌, ◌<◌, All, Some};
+ghost use Rattle.path_normal.specs.PageUrl.{IsPage};
+ghost use Rattle.robots_text.specs.Token.{token_of};
 ghost use Rattle.robots_verdict.specs.Answer.{said};
 ghost use Rattle.crawl_audit.specs.Entries.{HasFields, IsSaid};
-ghost use Rattle.crawl_audit.specs.Pieces.{pieces_text, told_said};
-ghost use Rattle.crawl_audit.specs.Reading.{entry_of};
+ghost use Rattle.line_text.specs.Pieces.{pieces_text};
+ghost use Rattle.crawl_audit.specs.Records.{entry_of, told_said};
 ghost use Rattle.crawl_audit.specs.Spell.{entry_line};
 
 use crate::kinds::{
-    arrived, ask_denied, begun, finished, granted, returned, start_denied, started, swept,
+    Told, arrived, ask_denied, begun, finished, granted, returned, start_denied, started, swept,
 };
-use crate::pieces::Pieces;
 use crate::record::Record;
 use crate::version::Version;
 use gate_history::Entry;
-use robots_verdict::{Answer, Closure, Opening, Said};
-
-/// What an answer says, with the octets of its rules.
-#[derive(Clone, Copy)]
-pub(crate) enum Told<'a> {
-    Rules(&'a [u8]),
-    Open(Opening),
-    Closed(Closure),
-}
+use line_text::Pieces;
+use permit_book::Fetch;
+use robots_verdict::{Answer, Said};
 
 /// The line of an entry.
 pub(crate) fn entry_pieces(version: Version, entry: &Entry) -> Pieces<'_>
@@ -34,44 +29,37 @@ pub(crate) fn entry_pieces(version: Version, entry: &Entry) -> Pieces<'_>
             moment,
             authority,
             turn,
-        } => begun(version, *moment, authority.text(), *turn),
+        } => begun(*moment, authority, *turn),
         Entry::Arrived {
             moment,
             authority,
             turn,
             says,
             life,
-        } => arrived(
-            version,
-            *moment,
-            authority.text(),
-            *turn,
-            told_in(says),
-            *life,
-        ),
+        } => arrived(version, *moment, authority, *turn, told_in(says), *life),
         Entry::Granted {
             moment,
             number,
             fetch,
-        } => granted(version, *moment, *number, fetch.token(), fetch.url()),
+        } => granted(*moment, *number, fetch.token(), fetch.url()),
         Entry::AskDenied {
             moment,
             fetch,
             cause,
-        } => ask_denied(version, *moment, fetch.token(), fetch.url(), *cause),
+        } => ask_denied(*moment, fetch.token(), fetch.url(), *cause),
         Entry::Started {
             moment,
             number,
             reason,
-        } => started(version, *moment, *number, *reason),
+        } => started(*moment, *number, *reason),
         Entry::StartDenied {
             moment,
             number,
             cause,
-        } => start_denied(version, *moment, *number, *cause),
-        Entry::Returned { number } => returned(version, *number),
-        Entry::Finished { number } => finished(version, *number),
-        Entry::Swept { moment, count } => swept(version, *moment, *count),
+        } => start_denied(*moment, *number, *cause),
+        Entry::Returned { number } => returned(*number),
+        Entry::Finished { number } => finished(*number),
+        Entry::Swept { moment, count } => swept(*moment, *count),
     }
 }
 
@@ -85,59 +73,52 @@ pub(crate) fn record_pieces(version: Version, found: &Record) -> Pieces<'_>
             moment,
             authority,
             turn,
-        } => begun(version, *moment, authority.text(), *turn),
+        } => begun(*moment, authority, *turn),
         Record::Arrived {
             moment,
             authority,
             turn,
             answer,
             life,
-        } => arrived(
-            version,
-            *moment,
-            authority.text(),
-            *turn,
-            told_by(answer),
-            *life,
-        ),
+        } => arrived(version, *moment, authority, *turn, told_by(answer), *life),
         Record::Granted {
             moment,
             number,
-            token,
-            url,
-        } => granted(
-            version,
-            *moment,
-            *number,
-            token.text().as_bytes(),
-            url.text().as_bytes(),
-        ),
+            fetch,
+        } => granted(*moment, *number, token_text(fetch), url_text(fetch)),
         Record::AskDenied {
             moment,
-            token,
-            url,
+            fetch,
             cause,
-        } => ask_denied(
-            version,
-            *moment,
-            token.text().as_bytes(),
-            url.text().as_bytes(),
-            *cause,
-        ),
+        } => ask_denied(*moment, token_text(fetch), url_text(fetch), *cause),
         Record::Started {
             moment,
             number,
             reason,
-        } => started(version, *moment, *number, *reason),
+        } => started(*moment, *number, *reason),
         Record::StartDenied {
             moment,
             number,
             cause,
-        } => start_denied(version, *moment, *number, *cause),
-        Record::Returned { number } => returned(version, *number),
-        Record::Finished { number } => finished(version, *number),
-        Record::Swept { moment, count } => swept(version, *moment, *count),
+        } => start_denied(*moment, *number, *cause),
+        Record::Returned { number } => returned(*number),
+        Record::Finished { number } => finished(*number),
+        Record::Swept { moment, count } => swept(*moment, *count),
     }
+}
+
+fn token_text(fetch: &Fetch) -> &[u8]
+    ensures value { result.now ≡ fetch.now.token }
+    ensures own { token_of fetch.now.token ≡ Some fetch.now.token }
+{
+    fetch.token.text().as_bytes()
+}
+
+fn url_text(fetch: &Fetch) -> &[u8]
+    ensures value { result.now ≡ fetch.now.url }
+    ensures page { IsPage fetch.now.url }
+{
+    fetch.url.text().as_bytes()
 }
 
 /// What an answer says.

@@ -7,7 +7,7 @@ ghost use Rattle.counted_io.specs.Output.{Pushes};
 ghost use Rattle.gate_history.specs.Base.{empty_base};
 ghost use Rattle.crawl_audit.specs.Entries.{HasFields};
 ghost use Rattle.crawl_audit.specs.Exports.{IsExport};
-ghost use Rattle.crawl_audit.specs.Spell.{lines_of, spell};
+ghost use Rattle.crawl_audit.specs.Spell.{entry_text, entry_lines, spell};
 
 use crate::entry_pieces::entry_pieces;
 use crate::version::Version;
@@ -53,11 +53,21 @@ fn push_entries<W: Sink>(
 ) -> Result<(), DeviceFault>
     ensures pushes { Pushes (W.written sink.old) (W.written sink.new)
         (W.failures sink.old) (W.failures sink.new) output.old output.new
-        (lines_of Version.Two entries.now) result }
+        (entry_lines Version.Two entries.now) result }
     ensures fields { OnOk result (All HasFields entries.now) }
 {
     for entry in entries {
-        entry_pieces(Version::Two, entry).push(output, sink)?;
+        push_entry(entry, output, sink)?;
     }
     Ok(())
+}
+
+fn push_entry<W: Sink>(entry: &Entry, output: &mut Output, sink: &mut W) -> Result<(), DeviceFault>
+    ensures pushes { Pushes (W.written sink.old) (W.written sink.new)
+        (W.failures sink.old) (W.failures sink.new) output.old output.new
+        (entry_text Version.Two entry.now) result }
+    ensures fields { HasFields entry.now }
+{
+    entry_pieces(Version::Two, entry).push(output, sink)?;
+    output.push(sink, b"\n")
 }

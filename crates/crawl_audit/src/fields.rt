@@ -1,14 +1,14 @@
 //! The words of a line, read one by one as numbers, tokens, URLs, authorities and bodies.
 //! Used by `read`.
-ghost use Rattle.std.specs.Prelude.{◌≡◌, ◌++◌, IfErr, IfOk, codes, string_bytes};
+ghost use Rattle.std.specs.Prelude.{◌≡◌, IfErr, IfOk};
 ghost use Rattle.line_text.specs.Number.{number_of};
 ghost use Rattle.line_text.specs.Words.{words_left};
 ghost use Rattle.robots_text.specs.Token.{token_of};
 ghost use Rattle.crawl_audit.specs.Reading.{Reads, authority_named, body_named, head_word, page_named, tail_words};
 
-use crate::unread::Unread;
+use crate::unread_line::UnreadLine;
 use line_text::{Words, number_of};
-use path_normal::{Authority, PageUrl, Unread as UnreadUrl};
+use path_normal::{Authority, PageUrl, Unread, root_text};
 use percent_encoding::percent_decode;
 use robots_text::{RobotsText, Token, TokenFault};
 use std::alloc::{AllocError, Global};
@@ -25,54 +25,45 @@ pub(crate) fn next_word<'a>(words: &mut Words<'a>) -> &'a str
 }
 
 /// The next word as a number.
-pub(crate) fn next_number(words: &mut Words<'_>) -> Result<u64, Unread>
+pub(crate) fn next_number(words: &mut Words<'_>) -> Result<u64, UnreadLine>
     ensures value { Reads result (number_of (head_word (words_left words.old))) }
     ensures rest { words_left words.new ≡ tail_words (words_left words.old) }
 {
     match number_of(next_word(words)) {
         Some(number) => Ok(number),
-        None => Err(Unread::NotOne),
+        None => Err(UnreadLine::NotOne),
     }
 }
 
 /// A word as a token.
-pub(crate) fn read_token(alloc: Global, word: &str) -> Result<Token, Unread>
+pub(crate) fn read_token(alloc: Global, word: &str) -> Result<Token, UnreadLine>
     ensures { Reads result (token_of word.now) }
 {
     match Token::new(alloc, word.as_bytes()) {
         Ok(token) => Ok(token),
-        Err(TokenFault::BadToken) => Err(Unread::NotOne),
-        Err(TokenFault::NoMemory) => Err(Unread::NoMemory),
+        Err(TokenFault::BadToken) => Err(UnreadLine::NotOne),
+        Err(TokenFault::NoMemory) => Err(UnreadLine::NoMemory),
     }
 }
 
 /// A word as the URL of a page.
-pub(crate) fn read_page(alloc: Global, word: &str) -> Result<PageUrl, Unread>
+pub(crate) fn read_page(alloc: Global, word: &str) -> Result<PageUrl, UnreadLine>
     ensures { Reads result (page_named word.now) }
 {
     match PageUrl::read(alloc, word) {
         Ok(url) => Ok(url),
-        Err(UnreadUrl::Fault(_)) => Err(Unread::NotOne),
-        Err(UnreadUrl::Overflow | UnreadUrl::NoMemory) => Err(Unread::NoMemory),
+        Err(Unread::Fault(_)) => Err(UnreadLine::NotOne),
+        Err(Unread::Overflow | Unread::NoMemory) => Err(UnreadLine::NoMemory),
     }
 }
 
 /// A word as an authority: that of the page at its root.
-pub(crate) fn read_authority(alloc: Global, word: &str) -> Result<Authority, Unread>
+pub(crate) fn read_authority(alloc: Global, word: &str) -> Result<Authority, UnreadLine>
     ensures { Reads result (authority_named word.now) }
 {
     let root = root_text(alloc, word)?;
     let url = read_page(alloc, root.as_str())?;
     Ok(Authority::of(&url)?)
-}
-
-fn root_text(alloc: Global, word: &str) -> Result<String, AllocError>
-    ensures { IfOk result (λ page. string_bytes page ≡ codes "http://" ++ word.now ++ codes "/") }
-{
-    let mut page = String::from_str(alloc, "http://")?;
-    page.push_str(word)?;
-    page.push_str("/")?;
-    Ok(page)
 }
 
 /// A word as a body, of which no more than the limit is kept.

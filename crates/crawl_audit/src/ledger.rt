@@ -8,17 +8,16 @@ ghost use Rattle.gate_history.specs.Base.{empty_base};
 ghost use Rattle.gate_history.specs.History.{History, from};
 ghost use Rattle.gate_history.specs.Legal.{IsLegal, SpendsAs};
 ghost use Rattle.crawl_audit.specs.Entries.{HasLife};
-ghost use Rattle.crawl_audit.specs.Reading.{entry_of};
-ghost use Rattle.crawl_audit.specs.Tables.{Follows, Tells};
+ghost use Rattle.crawl_audit.specs.Records.{entry_of};
+ghost use Rattle.crawl_audit.specs.Tables.{FollowsLegally, Tells};
 
 use crate::numbers::{Numbers, Phase};
 use crate::record::Record;
 use crate::version::Version;
-use authority_cache::{Cache, TurnNo};
+use authority_cache::{Cache, TimedAnswer, TurnNo};
 use gate_history::{Cause, Reason, decide};
-use path_normal::{Authority, PageUrl};
+use path_normal::Authority;
 use permit_book::{Fetch, PermitNo};
-use robots_text::Token;
 use robots_verdict::Answer;
 use std::alloc::{AllocError, Global};
 use std::hash::RandomState;
@@ -70,7 +69,7 @@ impl Ledger {
     pub(crate) fn enter(&mut self, found: Record) -> Result<(), Unfit>
         requires { HasLife Version.Two (entry_of found) }
         ensures { (h : History) → IsLegal h → Tells self.old h
-            → Follows h (entry_of found) result self.new }
+            → FollowsLegally h (entry_of found) result self.new }
     {
         match found {
             Record::Begun {
@@ -88,15 +87,13 @@ impl Ledger {
             Record::Granted {
                 moment,
                 number,
-                token,
-                url,
-            } => self.enter_granted(moment, number, token, url),
+                fetch,
+            } => self.enter_granted(moment, number, fetch),
             Record::AskDenied {
                 moment,
-                token,
-                url,
+                fetch,
                 cause,
-            } => self.enter_ask_denied(moment, &token, &url, cause),
+            } => self.enter_ask_denied(moment, &fetch, cause),
             Record::Started {
                 moment,
                 number,
@@ -115,7 +112,7 @@ impl Ledger {
 
     fn enter_begun(&mut self, moment: u64, authority: &Authority, turn: TurnNo) -> Result<(), Unfit>
         ensures { (h : History) → Tells self.old h
-            → Follows h (Begun moment authority.now turn) result self.new }
+            → FollowsLegally h (Begun moment authority.now turn) result self.new }
     {
         if moment < self.clock || self.cache.in_flight(authority.text()) || !self.is_next(turn) {
             return Err(Unfit::Illegal);
@@ -145,56 +142,42 @@ impl Ledger {
     ) -> Result<(), Unfit>
         requires { life_of (said answer) life ≡ life }
         ensures { (h : History) → IsLegal h → Tells self.old h
-            → Follows h (Arrived moment authority.now turn (said answer) life) result self.new }
+            → FollowsLegally h (Arrived moment authority.now turn (said answer) life) result self.new }
     {
         if moment < self.clock {
             return Err(Unfit::Illegal);
         }
-        if self.cache.arrive(authority, turn, answer, life).is_err() {
+        let brought = TimedAnswer::new(answer, life);
+        if self.cache.arrive(authority, turn, brought).is_err() {
             return Err(Unfit::Illegal);
         }
         self.clock = moment;
         Ok(())
     }
 
-    fn enter_granted(
-        &mut self,
-        moment: u64,
-        number: PermitNo,
-        token: Token,
-        url: PageUrl,
-    ) -> Result<(), Unfit>
+    fn enter_granted(&mut self, moment: u64, number: PermitNo, fetch: Fetch) -> Result<(), Unfit>
         ensures { (h : History) → Tells self.old h
-            → Follows h (Granted moment number (record { token = token; url = url })) result self.new }
+            → FollowsLegally h (Granted moment number fetch) result self.new }
     {
         if moment < self.clock || self.numbers.was_granted(number) {
             return Err(Unfit::Illegal);
         }
-        self.cache.make_index(url.authority());
-        if decide(&self.cache, &token, &url, None, moment).is_err() {
+        self.cache.make_index(fetch.url.authority());
+        if decide(&self.cache, &fetch.token, &fetch.url, None, moment).is_err() {
             return Err(Unfit::Illegal);
         }
-        self.numbers
-            .put(number, Phase::Unspent(Fetch { token, url }))?;
+        self.numbers.put(number, Phase::Unspent(fetch))?;
         self.clock = moment;
         Ok(())
     }
 
-    fn enter_ask_denied(
-        &mut self,
-        moment: u64,
-        token: &Token,
-        url: &PageUrl,
-        cause: Cause,
-    ) -> Result<(), Unfit>
+    fn enter_ask_denied(&mut self, moment: u64, fetch: &Fetch, cause: Cause) -> Result<(), Unfit>
         ensures { (h : History) → Tells self.old h
-            → Follows h (AskDenied moment (record { token = token.now; url = url.now }) cause) result
-            self.new }
+            → FollowsLegally h (AskDenied moment fetch.now cause) result self.new }
     {
-        self.cache.make_index(url.authority());
-        if moment < self.clock
-            || !is_same(decide(&self.cache, token, url, None, moment), Err(cause))
-        {
+        self.cache.make_index(fetch.url.authority());
+        let decided = decide(&self.cache, &fetch.token, &fetch.url, None, moment);
+        if moment < self.clock || !is_same(decided, Err(cause)) {
             return Err(Unfit::Illegal);
         }
         self.clock = moment;
@@ -203,7 +186,7 @@ impl Ledger {
 
     fn enter_started(&mut self, moment: u64, number: PermitNo, reason: Reason) -> Result<(), Unfit>
         ensures { (h : History) → Tells self.old h
-            → Follows h (Started moment number reason) result self.new }
+            → FollowsLegally h (Started moment number reason) result self.new }
     {
         if moment < self.clock || !self.decides(number, moment, Ok(reason)) {
             return Err(Unfit::Illegal);
@@ -220,7 +203,7 @@ impl Ledger {
         cause: Cause,
     ) -> Result<(), Unfit>
         ensures { (h : History) → Tells self.old h
-            → Follows h (StartDenied moment number cause) result self.new }
+            → FollowsLegally h (StartDenied moment number cause) result self.new }
     {
         if moment < self.clock || !self.decides(number, moment, Err(cause)) {
             return Err(Unfit::Illegal);
@@ -245,7 +228,7 @@ impl Ledger {
     }
 
     fn enter_returned(&mut self, number: PermitNo) -> Result<(), Unfit>
-        ensures { (h : History) → Tells self.old h → Follows h (Returned number) result self.new }
+        ensures { (h : History) → Tells self.old h → FollowsLegally h (Returned number) result self.new }
     {
         if self.numbers.unspent(number).is_none() {
             return Err(Unfit::Illegal);
@@ -255,7 +238,7 @@ impl Ledger {
     }
 
     fn enter_finished(&mut self, number: PermitNo) -> Result<(), Unfit>
-        ensures { (h : History) → Tells self.old h → Follows h (Finished number) result self.new }
+        ensures { (h : History) → Tells self.old h → FollowsLegally h (Finished number) result self.new }
     {
         if !self.numbers.is_running(number) {
             return Err(Unfit::Illegal);
@@ -265,7 +248,7 @@ impl Ledger {
     }
 
     fn enter_swept(&mut self, moment: u64, count: u64) -> Result<(), Unfit>
-        ensures { (h : History) → Tells self.old h → Follows h (Swept moment count) result self.new }
+        ensures { (h : History) → Tells self.old h → FollowsLegally h (Swept moment count) result self.new }
     {
         if moment < self.clock || self.cache.sweep(moment) != count {
             return Err(Unfit::Illegal);

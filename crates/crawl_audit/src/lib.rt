@@ -4,7 +4,6 @@
 
 mod audit_text;
 mod auditor;
-mod body;
 mod entry_pieces;
 mod export_text;
 mod fault;
@@ -13,10 +12,9 @@ mod kinds;
 pub mod laws;
 mod ledger;
 mod numbers;
-mod pieces;
 mod read;
 mod record;
-mod unread;
+mod unread_line;
 mod version;
 
 pub use audit_text::audit;

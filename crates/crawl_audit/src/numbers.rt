@@ -2,7 +2,7 @@
 //! RFC 9309 has no permits: they make each fetch look at the answer in force (2.4).
 ghost use Rattle.std.specs.Prelude.{◌≡◌, ℕ, None, OnOk, Some, is_some};
 ghost use Rattle.std.specs.Option.{option_copied};
-ghost use Rattle.crawl_audit.specs.Tables.{GivesUnspent, Keeps, is_running_in, phases_of};
+ghost use Rattle.crawl_audit.specs.Tables.{GivesUnspent, KeepsPhase, is_running_in, phases_of};
 
 use indexmap::IndexMap;
 use permit_book::{Fetch, PermitNo};
@@ -73,7 +73,7 @@ impl Numbers {
 
     /// Puts this under the number, in the place of what was there.
     pub(crate) fn put(&mut self, number: PermitNo, phase: Phase) -> Result<(), AllocError>
-        ensures { OnOk result (Keeps (phases_of self.old) number (Some phase) (phases_of self.new)) }
+        ensures { OnOk result (KeepsPhase (phases_of self.old) number (Some phase) (phases_of self.new)) }
     {
         match self.by_number.insert(number.number(), phase) {
             Ok(_) => Ok(()),

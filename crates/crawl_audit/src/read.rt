@@ -6,37 +6,42 @@ ghost use Rattle.line_text.specs.Words.{words_left, words_of};
 ghost use Rattle.robots_verdict.specs.Answer.{said};
 ghost use Rattle.gate_history.specs.declared.entry.Entry.{Entry};
 ghost use Rattle.crawl_audit.specs.Entries.{HasFields, HasLife, IsEntry, IsSaid};
-ghost use Rattle.crawl_audit.specs.Pieces.{pieces_text, told_said};
-ghost use Rattle.crawl_audit.specs.Reading.{Reads, ReadsAnswer, ReadsEntry, answer_named, arrived_named, ask_denied_named, begun_named, cause_named, closure_named, entry_behind, entry_named, entry_of, finished_named, granted_named, head_word, opening_named, reason_named, returned_named, rules_named, start_denied_named, started_named, swept_named, tail_words};
+ghost use Rattle.crawl_audit.specs.Reading.{Reads, ReadsAnswer, ReadsEntry, answer_named};
+ghost use Rattle.crawl_audit.specs.Reading.{arrived_named, ask_denied_named, begun_named};
+ghost use Rattle.crawl_audit.specs.Reading.{closure_named, entry_named, finished_named};
+ghost use Rattle.crawl_audit.specs.Reading.{granted_named, next_cause, next_reason, opening_named};
+ghost use Rattle.crawl_audit.specs.Reading.{returned_named, rules_named, start_denied_named};
+ghost use Rattle.crawl_audit.specs.Reading.{started_named, swept_named};
+ghost use Rattle.crawl_audit.specs.Records.{entry_of};
 ghost use Rattle.crawl_audit.specs.Spell.{entry_line};
 
 use crate::entry_pieces::record_pieces;
 use crate::fields::{next_number, next_word, read_authority, read_body, read_page, read_token};
 use crate::record::Record;
-use crate::unread::Unread;
+use crate::unread_line::UnreadLine;
 use crate::version::Version;
 use authority_cache::{LIFE, TurnNo, life_of};
 use gate_history::{Cause, Reason};
-use line_text::Words;
-use permit_book::PermitNo;
+use line_text::{Words, number_of};
+use permit_book::{Fetch, PermitNo};
 use robots_verdict::{Answer, Closure, Opening};
 use std::alloc::Global;
 
 /// Reads a line, without its end, as the entry that it spells.
-pub(crate) fn read_line(alloc: Global, version: Version, line: &[u8]) -> Result<Record, Unread>
+pub(crate) fn read_line(alloc: Global, version: Version, line: &[u8]) -> Result<Record, UnreadLine>
     ensures spelled { IfOk result (λ found. line.now ≡ entry_line version (entry_of found)) }
     ensures entry { IfOk result (λ found. IsEntry version (entry_of found)) }
-    ensures none { result ≡ Err Unread.NotOne
+    ensures none { result ≡ Err UnreadLine.NotOne
         → (e : Entry) → IsEntry version e → line.now ≢ entry_line version e }
 {
     let Ok(text) = str::from_utf8(line) else {
-        return Err(Unread::NotOne);
+        return Err(UnreadLine::NotOne);
     };
     let found = read_words(alloc, version, text)?;
     if is_spelled(version, &found, line) {
         Ok(found)
     } else {
-        Err(Unread::NotOne)
+        Err(UnreadLine::NotOne)
     }
 }
 
@@ -63,7 +68,7 @@ fn has_life(version: Version, found: &Record) -> bool
     }
 }
 
-fn read_words(alloc: Global, version: Version, text: &str) -> Result<Record, Unread>
+fn read_words(alloc: Global, version: Version, text: &str) -> Result<Record, UnreadLine>
     ensures { ReadsEntry result (entry_named version text.now) }
 {
     let mut words = Words::of(text);
@@ -78,11 +83,11 @@ fn read_words(alloc: Global, version: Version, text: &str) -> Result<Record, Unr
         "K" => read_returned(words),
         "F" => read_finished(words),
         "W" => read_swept(words),
-        _ => Err(Unread::NotOne),
+        _ => Err(UnreadLine::NotOne),
     }
 }
 
-fn read_begun(alloc: Global, words: Words<'_>) -> Result<Record, Unread>
+fn read_begun(alloc: Global, words: Words<'_>) -> Result<Record, UnreadLine>
     ensures { ReadsEntry result (begun_named (words_left words.entry)) }
 {
     let mut words = words;
@@ -96,7 +101,7 @@ fn read_begun(alloc: Global, words: Words<'_>) -> Result<Record, Unread>
     })
 }
 
-fn read_arrived(alloc: Global, version: Version, words: Words<'_>) -> Result<Record, Unread>
+fn read_arrived(alloc: Global, version: Version, words: Words<'_>) -> Result<Record, UnreadLine>
     ensures { ReadsEntry result (arrived_named version (words_left words.entry)) }
 {
     let mut words = words;
@@ -113,7 +118,7 @@ fn read_arrived(alloc: Global, version: Version, words: Words<'_>) -> Result<Rec
     })
 }
 
-fn read_granted(alloc: Global, words: Words<'_>) -> Result<Record, Unread>
+fn read_granted(alloc: Global, words: Words<'_>) -> Result<Record, UnreadLine>
     ensures { ReadsEntry result (granted_named (words_left words.entry)) }
 {
     let mut words = words;
@@ -124,34 +129,32 @@ fn read_granted(alloc: Global, words: Words<'_>) -> Result<Record, Unread>
     Ok(Record::Granted {
         moment,
         number,
-        token,
-        url,
+        fetch: Fetch { token, url },
     })
 }
 
-fn read_ask_denied(alloc: Global, words: Words<'_>) -> Result<Record, Unread>
+fn read_ask_denied(alloc: Global, words: Words<'_>) -> Result<Record, UnreadLine>
     ensures { ReadsEntry result (ask_denied_named (words_left words.entry)) }
 {
     let mut words = words;
     let moment = next_number(&mut words)?;
     let token = read_token(alloc, next_word(&mut words))?;
     let url = read_page(alloc, next_word(&mut words))?;
-    let cause = read_cause(words)?;
+    let cause = next_cause(&mut words)?;
     Ok(Record::AskDenied {
         moment,
-        token,
-        url,
+        fetch: Fetch { token, url },
         cause,
     })
 }
 
-fn read_started(words: Words<'_>) -> Result<Record, Unread>
+fn read_started(words: Words<'_>) -> Result<Record, UnreadLine>
     ensures { ReadsEntry result (started_named (words_left words.entry)) }
 {
     let mut words = words;
     let moment = next_number(&mut words)?;
     let number = PermitNo::new(next_number(&mut words)?);
-    let reason = read_reason(words)?;
+    let reason = next_reason(&mut words)?;
     Ok(Record::Started {
         moment,
         number,
@@ -159,13 +162,13 @@ fn read_started(words: Words<'_>) -> Result<Record, Unread>
     })
 }
 
-fn read_start_denied(words: Words<'_>) -> Result<Record, Unread>
+fn read_start_denied(words: Words<'_>) -> Result<Record, UnreadLine>
     ensures { ReadsEntry result (start_denied_named (words_left words.entry)) }
 {
     let mut words = words;
     let moment = next_number(&mut words)?;
     let number = PermitNo::new(next_number(&mut words)?);
-    let cause = read_cause(words)?;
+    let cause = next_cause(&mut words)?;
     Ok(Record::StartDenied {
         moment,
         number,
@@ -173,7 +176,7 @@ fn read_start_denied(words: Words<'_>) -> Result<Record, Unread>
     })
 }
 
-fn read_returned(words: Words<'_>) -> Result<Record, Unread>
+fn read_returned(words: Words<'_>) -> Result<Record, UnreadLine>
     ensures { ReadsEntry result (returned_named (words_left words.entry)) }
 {
     let mut words = words;
@@ -181,7 +184,7 @@ fn read_returned(words: Words<'_>) -> Result<Record, Unread>
     Ok(Record::Returned { number })
 }
 
-fn read_finished(words: Words<'_>) -> Result<Record, Unread>
+fn read_finished(words: Words<'_>) -> Result<Record, UnreadLine>
     ensures { ReadsEntry result (finished_named (words_left words.entry)) }
 {
     let mut words = words;
@@ -189,7 +192,7 @@ fn read_finished(words: Words<'_>) -> Result<Record, Unread>
     Ok(Record::Finished { number })
 }
 
-fn read_swept(words: Words<'_>) -> Result<Record, Unread>
+fn read_swept(words: Words<'_>) -> Result<Record, UnreadLine>
     ensures { ReadsEntry result (swept_named (words_left words.entry)) }
 {
     let mut words = words;
@@ -199,7 +202,11 @@ fn read_swept(words: Words<'_>) -> Result<Record, Unread>
 }
 
 // An answer, and its life in seconds.
-fn read_answer(alloc: Global, version: Version, words: Words<'_>) -> Result<(Answer, u64), Unread>
+fn read_answer(
+    alloc: Global,
+    version: Version,
+    words: Words<'_>,
+) -> Result<(Answer, u64), UnreadLine>
     ensures { ReadsAnswer result (answer_named version (words_left words.entry)) }
 {
     let mut words = words;
@@ -207,17 +214,21 @@ fn read_answer(alloc: Global, version: Version, words: Words<'_>) -> Result<(Ans
         "R" => read_rules(alloc, version, words),
         "O" => match opening_named(next_word(&mut words)) {
             Some(opening) => Ok((Answer::Open(opening), LIFE)),
-            None => Err(Unread::NotOne),
+            None => Err(UnreadLine::NotOne),
         },
         "C" => match closure_named(next_word(&mut words)) {
             Some(closure) => Ok((Answer::Closed(closure), LIFE)),
-            None => Err(Unread::NotOne),
+            None => Err(UnreadLine::NotOne),
         },
-        _ => Err(Unread::NotOne),
+        _ => Err(UnreadLine::NotOne),
     }
 }
 
-fn read_rules(alloc: Global, version: Version, words: Words<'_>) -> Result<(Answer, u64), Unread>
+fn read_rules(
+    alloc: Global,
+    version: Version,
+    words: Words<'_>,
+) -> Result<(Answer, u64), UnreadLine>
     ensures { ReadsAnswer result (rules_named version (words_left words.entry)) }
 {
     let mut words = words;
@@ -253,29 +264,22 @@ fn closure_named(word: &str) -> Option<Closure>
     }
 }
 
-fn read_reason(words: Words<'_>) -> Result<Reason, Unread>
-    ensures { Reads result (reason_named (words_left words.entry)) }
+fn next_reason(words: &mut Words<'_>) -> Result<Reason, UnreadLine>
+    ensures { Reads result (next_reason (words_left words.old)) }
 {
-    let mut words = words;
-    match next_word(&mut words) {
-        "open" => Ok(Reason::Open),
-        "norule" => Ok(Reason::NoRule),
-        "robots" => Ok(Reason::RobotsPath),
-        "line" => Ok(Reason::Line(next_number(&mut words)?)),
-        _ => Err(Unread::NotOne),
+    let word = next_word(words);
+    match Reason::named(word, number_of(next_word(words))) {
+        Some(reason) => Ok(reason),
+        None => Err(UnreadLine::NotOne),
     }
 }
 
-fn read_cause(words: Words<'_>) -> Result<Cause, Unread>
-    ensures { Reads result (cause_named (words_left words.entry)) }
+fn next_cause(words: &mut Words<'_>) -> Result<Cause, UnreadLine>
+    ensures { Reads result (next_cause (words_left words.old)) }
 {
-    let mut words = words;
-    match next_word(&mut words) {
-        "spent" => Ok(Cause::Spent),
-        "unknown" => Ok(Cause::Unknown),
-        "expired" => Ok(Cause::Expired),
-        "closed" => Ok(Cause::Closed),
-        "line" => Ok(Cause::Line(next_number(&mut words)?)),
-        _ => Err(Unread::NotOne),
+    let word = next_word(words);
+    match Cause::named(word, number_of(next_word(words))) {
+        Some(cause) => Ok(cause),
+        None => Err(UnreadLine::NotOne),
     }
 }

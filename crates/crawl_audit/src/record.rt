@@ -3,9 +3,8 @@
 
 use authority_cache::TurnNo;
 use gate_history::{Cause, Reason};
-use path_normal::{Authority, PageUrl};
-use permit_book::PermitNo;
-use robots_text::Token;
+use path_normal::Authority;
+use permit_book::{Fetch, PermitNo};
 use robots_verdict::Answer;
 
 /// An entry that was read.
@@ -26,13 +25,11 @@ pub(crate) enum Record {
     Granted {
         moment: u64,
         number: PermitNo,
-        token: Token,
-        url: PageUrl,
+        fetch: Fetch,
     },
     AskDenied {
         moment: u64,
-        token: Token,
-        url: PageUrl,
+        fetch: Fetch,
         cause: Cause,
     },
     Started {

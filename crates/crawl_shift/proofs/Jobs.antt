@@ -6,7 +6,7 @@ use Rattle.std.proofs.lemmas.Option.{none-some}
 use Rattle.path_normal.specs.Capacity.{IsRead}
 use Rattle.crawl_job.specs.declared.job.Job.{Job}
 use Rattle.counted_io.specs.Lines.{IsDrained}
-use Rattle.command_server.specs.Answers.{Answers}
+use Rattle.command_server.specs.Answers.{AnswersLines}
 use Rattle.command_server.specs.Input.{TakesLines}
 use Rattle.command_server.specs.JobWords.{job_of}
 use Rattle.command_server.specs.Session.{Meets, ResultsIn, Session, failures_after_reads}
@@ -15,9 +15,10 @@ use Rattle.command_server.specs.declared.fault.LineFault.TheVariants as faults
 use Rattle.command_server.specs.declared.session_fault.SessionFault.{SessionFault}
 use Rattle.command_server.specs.declared.session_fault.SessionFault.TheVariants.{LongLine, Lines, Write}
 use Rattle.crawl_shift.specs.declared.job_list.JobList.{JobList}
-use Rattle.crawl_shift.specs.declared.job_list.Unread.{Unread}
-use Rattle.crawl_shift.specs.declared.job_list.Unread.TheVariants as unread
-use Rattle.crawl_shift.specs.JobLists.{AreAllJobs, AreJobs, EndsBadly, EndsWell, FailsToRead, IsBadJobLine, IsUnread, MayFail, TakesJob, job_line_limit, most_job_lines}
+use Rattle.crawl_shift.specs.declared.job_list.JobsFault.{JobsFault}
+use Rattle.crawl_shift.specs.declared.job_list.JobsFault.TheVariants as jobs_fault
+use Rattle.crawl_shift.specs.JobLists.{AreAllJobs, AreJobs, EndsBadly, EndsWell, FailsToReadJobs, IsBadJobLine, IsJobsFault, MayFail, TakesJob, job_line_limit}
+use Rattle.job_line.specs.Limits.{max_jobs}
 
 -- each line added its job
 pub record Added (old new : JobList) (lines : List (List ℕ)) : Type 0 where
@@ -45,7 +46,7 @@ behind_one : (old mid new : List Job) (job : Job) (own : List Job) → mid ≡ o
 behind_one old mid new job own first later = later ∙ ap (λ (l : List Job). l ++ own) first ∙ append_assoc old (job ∷ []) own
 
 -- where no line ended the session
-pub added : (old new : JobList) (lines : List (List ℕ)) (text : List ℕ) → Answers TakesJob old lines text false new → Added old new lines
+pub added : (old new : JobList) (lines : List (List ℕ)) (text : List ℕ) → AnswersLines TakesJob old lines text false new → Added old new lines
 added old new [] text answered = record {
   own = [];
   jobs_are = ap (λ (l : JobList). l.jobs.items) answered.2 ∙ sym (append-nil old.jobs.items);
@@ -64,7 +65,7 @@ added old new (line ∷ lines) text (inr goes) =
     }
 
 -- where the last line did
-pub stopped : (old new : JobList) (lines : List (List ℕ)) (text : List ℕ) → Answers TakesJob old lines text true new → Stopped old new lines
+pub stopped : (old new : JobList) (lines : List (List ℕ)) (text : List ℕ) → AnswersLines TakesJob old lines text true new → Stopped old new lines
 stopped old new [] text answered = absurd (never (sym answered.1))
 stopped old new (line ∷ lines) text (inl ends) =
     let kept = ends.answered.1 in
@@ -105,23 +106,23 @@ one_each (line ∷ lines) (job ∷ jobs) read = ap suc (one_each lines jobs read
 abbrev pub Sessions : (old new : JobList) (input left written written_new : Option (List ℕ)) → Result (Unit {0}) SessionFault → Type 0
 Sessions old new input left written written_new result =
     (old.jobs.items ≡ []) × (old.fault ≡ None)
-    × Session TakesJob job_line_limit most_job_lines old new input left written written_new result
+    × Session TakesJob job_line_limit max_jobs old new input left written written_new result
 
 -- a list without a fault has the jobs of all lines that were taken
-goes_on : (ended : Bool) (old new : JobList) (lines : List (List ℕ)) (text : List ℕ) → new.fault ≡ None → Answers TakesJob old lines text ended new → Added old new lines
+goes_on : (ended : Bool) (old new : JobList) (lines : List (List ℕ)) (text : List ℕ) → new.fault ≡ None → AnswersLines TakesJob old lines text ended new → Added old new lines
 goes_on false old new lines text clean answered = added old new lines text answered
 goes_on true old new lines text clean answered =
     let end = stopped old new lines text answered in
     absurd (none-some end.fault (sym clean ∙ end.fault_is))
 
 -- one with a fault has the jobs of all but the last
-ends : (ended : Bool) (old new : JobList) (lines : List (List ℕ)) (text : List ℕ) (fault : LineFault) → old.fault ≡ None → new.fault ≡ Some fault → Answers TakesJob old lines text ended new → Stopped old new lines
+ends : (ended : Bool) (old new : JobList) (lines : List (List ℕ)) (text : List ℕ) (fault : LineFault) → old.fault ≡ None → new.fault ≡ Some fault → AnswersLines TakesJob old lines text ended new → Stopped old new lines
 ends true old new lines text fault clean bad answered = stopped old new lines text answered
 ends false old new lines text fault clean bad answered =
     let all = added old new lines text answered in
     absurd (none-some fault (sym clean ∙ sym all.fault_is ∙ bad))
 
-no_end : (ended : Bool) (old new : JobList) (lines : List (List ℕ)) (text : List ℕ) → new.fault ≡ None → Answers TakesJob old lines text ended new → ended ≡ false
+no_end : (ended : Bool) (old new : JobList) (lines : List (List ℕ)) (text : List ℕ) → new.fault ≡ None → AnswersLines TakesJob old lines text ended new → ended ≡ false
 no_end false old new lines text clean answered = refl
 no_end true old new lines text clean answered =
     let end = stopped old new lines text answered in
@@ -149,7 +150,7 @@ all_jobs old new input left written written_new result sessions clean well =
     let s = sessions.2 in
     let all = goes_on s.ended old new s.lines s.text clean s.answered in
     let met = met_ok s.met (subst (ResultsIn s.met) well s.results) in
-    let stop = subst (Meets job_line_limit most_job_lines (length s.lines) s.ended s.behind s.unread left) met s.stopped in
+    let stop = subst (Meets job_line_limit max_jobs (length s.lines) s.ended s.behind s.unread left) met s.stopped in
     record {
       lines = s.lines;
       behind = s.behind;
@@ -200,7 +201,7 @@ too_long old new input left written written_new result number sessions clean lon
     let s = sessions.2 in
     let all = goes_on s.ended old new s.lines s.text clean s.answered in
     let met = met_fault s.met LongLine (search rules) (subst (ResultsIn s.met) long s.results) in
-    let stop = subst (Meets job_line_limit most_job_lines (length s.lines) s.ended s.behind s.unread left) met s.stopped in
+    let stop = subst (Meets job_line_limit max_jobs (length s.lines) s.ended s.behind s.unread left) met s.stopped in
     record {
       lines = s.lines;
       jobs = all.own;
@@ -216,7 +217,7 @@ too_many old new input left written written_new result number sessions clean man
     let s = sessions.2 in
     let all = goes_on s.ended old new s.lines s.text clean s.answered in
     let met = met_fault s.met Lines (search rules) (subst (ResultsIn s.met) many s.results) in
-    let stop = subst (Meets job_line_limit most_job_lines (length s.lines) s.ended s.behind s.unread left) met s.stopped in
+    let stop = subst (Meets job_line_limit max_jobs (length s.lines) s.ended s.behind s.unread left) met s.stopped in
     record {
       lines = s.lines;
       jobs = all.own;
@@ -226,7 +227,7 @@ too_many old new input left written written_new result number sessions clean man
     }
 
 -- the jobs of a list that ended well
-pub read_well : {X : Type 0} (told : Result X Unread) (items : X → List Job) (old new : JobList) (input left written written_new : Option (List ℕ)) (result : Result (Unit {0}) SessionFault) →
+pub read_well : {X : Type 0} (told : Result X JobsFault) (items : X → List Job) (old new : JobList) (input left written written_new : Option (List ℕ)) (result : Result (Unit {0}) SessionFault) →
     Sessions old new input left written written_new result →
     IfOk told (λ jobs. EndsWell new result × (items jobs ≡ new.jobs.items)) → IfOk told (λ jobs. AreAllJobs input left (items jobs))
 read_well (Ok jobs) items old new input left written written_new result sessions well =
@@ -234,13 +235,13 @@ read_well (Ok jobs) items old new input left written written_new result sessions
 read_well (Err _) items old new input left written written_new result sessions well = tt
 
 -- why one ended badly
-pub read_badly : {X : Type 0} (told : Result X Unread) (old new : JobList) (input left written written_new : Option (List ℕ)) (result : Result (Unit {0}) SessionFault) →
+pub read_badly : {X : Type 0} (told : Result X JobsFault) (old new : JobList) (input left written written_new : Option (List ℕ)) (result : Result (Unit {0}) SessionFault) →
     Sessions old new input left written written_new result →
-    IfErr told (EndsBadly new result) → IfErr told (IsUnread input left)
+    IfErr told (EndsBadly new result) → IfErr told (IsJobsFault input left)
 read_badly (Ok jobs) old new input left written written_new result sessions bad = tt
-read_badly (Err unread.Read) old new input left written written_new result sessions bad = tt
-read_badly (Err unread.NoMemory) old new input left written written_new result sessions bad = tt
-read_badly (Err (unread.BadLine number)) old new input left written written_new result sessions bad =
+read_badly (Err jobs_fault.Read) old new input left written written_new result sessions bad = tt
+read_badly (Err jobs_fault.NoMemory) old new input left written written_new result sessions bad = tt
+read_badly (Err (jobs_fault.BadLine number)) old new input left written written_new result sessions bad =
     elim bad.1 [
       | inl fault ↦ bad_line old new input left written written_new result number fault.0 sessions fault.1.0 fault.1.1 bad.0
       | inr others ↦ elim others [
@@ -250,10 +251,10 @@ read_badly (Err (unread.BadLine number)) old new input left written written_new 
     ]
 
 -- a read failed where that is told
-pub read_failed : {X : Type 0} (told : Result X Unread) (new : JobList) (result : Result (Unit {0}) SessionFault) (failures failures' : ℕ) →
+pub read_failed : {X : Type 0} (told : Result X JobsFault) (new : JobList) (result : Result (Unit {0}) SessionFault) (failures failures' : ℕ) →
     failures' ≡ failures_after_reads failures result →
-    IfErr told (EndsBadly new result) → IfErr told (FailsToRead failures failures')
+    IfErr told (EndsBadly new result) → IfErr told (FailsToReadJobs failures failures')
 read_failed (Ok _) new result failures failures' count bad = tt
-read_failed (Err (unread.BadLine _)) new result failures failures' count bad = tt
-read_failed (Err unread.NoMemory) new result failures failures' count bad = tt
-read_failed (Err unread.Read) new result failures failures' count bad = count ∙ ap (failures_after_reads failures) bad
+read_failed (Err (jobs_fault.BadLine _)) new result failures failures' count bad = tt
+read_failed (Err jobs_fault.NoMemory) new result failures failures' count bad = tt
+read_failed (Err jobs_fault.Read) new result failures failures' count bad = count ∙ ap (failures_after_reads failures) bad

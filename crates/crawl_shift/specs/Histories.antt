@@ -1,5 +1,5 @@
 -- The history of a shift's gate, written as a text.
--- The contract of `shift_history`; docs/FORMATS.md has the lines.
+-- The contract of `Shift::history`; docs/FORMATS.md has the lines.
 use Rattle.std.specs.Prelude.{ℕ, List, Option}
 use Rattle.std.specs.Io.KnownBytes.{Appends}
 use Rattle.gate_core.specs.Gate.{Gate, HasLegalHistory}

@@ -11,17 +11,14 @@ use Rattle.command_server.specs.declared.fault.LineFault.{LineFault}
 use Rattle.command_server.specs.declared.fault.LineFault.TheVariants as faults
 use Rattle.command_server.specs.declared.session_fault.SessionFault.{SessionFault}
 use Rattle.command_server.specs.declared.session_fault.SessionFault.TheVariants as session
+use Rattle.job_line.specs.Limits.{max_jobs}
 use Rattle.crawl_shift.specs.declared.job_list.JobList.{JobList}
-use Rattle.crawl_shift.specs.declared.job_list.Unread.{Unread}
-use Rattle.crawl_shift.specs.declared.job_list.Unread.TheVariants.{BadLine, Read, NoMemory}
+use Rattle.crawl_shift.specs.declared.job_list.JobsFault.{JobsFault}
+use Rattle.crawl_shift.specs.declared.job_list.JobsFault.TheVariants.{BadLine, Read, NoMemory}
 
 -- the most octets of a line, its end not counted
 abbrev pub job_line_limit : ℕ
 job_line_limit = 8192
-
--- the most lines
-abbrev pub most_job_lines : ℕ
-most_job_lines = 4096
 
 -- the line has this fault, or memory was refused
 abbrev pub MayFail : List ℕ → LineFault → Type 0
@@ -58,7 +55,7 @@ pub record AreAllJobs (input left : Option (List ℕ)) (jobs : List Job) : Type 
   pub took : TakesLines job_line_limit input behind lines
   pub none : IsDrained unread left
   pub read : AreJobs lines jobs
-  pub few : length jobs ≤ most_job_lines
+  pub few : length jobs ≤ max_jobs
 
 -- behind these lines one was taken that has a fault
 pub record HasFault (input : Option (List ℕ)) (lines : List (List ℕ)) : Type 0 where
@@ -81,7 +78,7 @@ pub record IsTooMany (input left : Option (List ℕ)) (lines : List (List ℕ)) 
   pub behind : Option (List ℕ)
   pub unread : List ℕ
   pub took : TakesLines job_line_limit input behind lines
-  pub all : length lines ≡ most_job_lines
+  pub all : length lines ≡ max_jobs
   pub found : FindsLine job_line_limit behind unread left
 
 -- behind lines that read as jobs, the line of this number has a fault, or is too long, or one too many
@@ -93,15 +90,15 @@ pub record IsBadJobLine (input left : Option (List ℕ)) (number : ℕ) : Type 0
   pub bad : HasFault input lines ⊎ IsTooLong input left lines ⊎ IsTooMany input left lines
 
 -- why no jobs were read of the input
-abbrev pub IsUnread : Option (List ℕ) → Option (List ℕ) → Unread → Type 0
-IsUnread input left (BadLine number) = IsBadJobLine input left number
-IsUnread input left Read = Unit {0}
-IsUnread input left NoMemory = Unit {0}
+abbrev pub IsJobsFault : Option (List ℕ) → Option (List ℕ) → JobsFault → Type 0
+IsJobsFault input left (BadLine number) = IsBadJobLine input left number
+IsJobsFault input left Read = Unit {0}
+IsJobsFault input left NoMemory = Unit {0}
 
 -- a read is told to have failed only where one did
-abbrev pub FailsToRead : ℕ → ℕ → Unread → Type 0
-FailsToRead failures failures' Read = failures' ≡ one_more failures
-FailsToRead failures failures' _ = Unit {0}
+abbrev pub FailsToReadJobs : ℕ → ℕ → JobsFault → Type 0
+FailsToReadJobs failures failures' Read = failures' ≡ one_more failures
+FailsToReadJobs failures failures' _ = Unit {0}
 
 -- a session ended where its input did, and its list has no fault
 abbrev pub EndsWell : JobList → Result (Unit {0}) SessionFault → Type 0
@@ -112,7 +109,7 @@ abbrev pub IsLineFault : Option LineFault → Type 0
 IsLineFault fault = (f : LineFault) × ((fault ≡ Some f) × (f ≢ faults.Memory))
 
 -- or it did not, and why; the line is the one behind the jobs
-abbrev pub EndsBadly : JobList → Result (Unit {0}) SessionFault → Unread → Type 0
+abbrev pub EndsBadly : JobList → Result (Unit {0}) SessionFault → JobsFault → Type 0
 EndsBadly list end (BadLine number) =
     (number ≡ length list.jobs.items + 1)
     × (IsLineFault list.fault

@@ -1,11 +1,12 @@
 -- The lines of a table of hops, as docs/FORMATS.md has them.
 -- Cited by the contracts of `row` and `table`.
 use Rattle.std.specs.Prelude.{ℕ, Bool, true, false, List, [], ◌++◌, Option, None, Some, codes, decimal}
+use Rattle.gate_history.specs.Wording.{reason_words}
 use Rattle.tcp_wire.specs.declared.failure.Failure.{Failure}
 use Rattle.crawl_job.specs.declared.hop.Hop.{Hop}
 use Rattle.crawl_job.specs.declared.hop.Hop.TheVariants as hops
 use Rattle.crawl_workers.specs.declared.event.ClosedBy.{ClosedBy}
-use Rattle.crawl_shift.specs.Causes.{denial_text, fault_text, reason_text, refusal_text, stop_text}
+use Rattle.crawl_shift.specs.Causes.{denial_phrase, wire_fault_phrase, refusal_phrase, spaced_words, stop_phrase}
 use Rattle.crawl_shift.specs.declared.row.Row.{Row}
 
 -- what stands between two columns
@@ -26,9 +27,9 @@ outcome_word (hops.Refused refusal) = codes "ERR"
 outcome_word (hops.Stop stop) = codes "STOP"
 
 -- the status of a response, where there is one
-abbrev pub status_of : Hop → Option ℕ
-status_of (hops.Page number reason status size cut) = Some status
-status_of _ = None
+abbrev pub hop_status : Hop → Option ℕ
+hop_status (hops.Page number reason status size cut) = Some status
+hop_status _ = None
 
 -- how many octets of its body were taken
 abbrev pub octets_of : Hop → Option ℕ
@@ -43,7 +44,7 @@ number_text None = codes "-"
 -- what came of a hop, its status, its octets and the milliseconds of its fetch
 abbrev pub outcome_text : Hop → Option ℕ → List ℕ
 outcome_text hop milliseconds = outcome_word hop ++ (tab ++
-    (number_text (status_of hop) ++ (tab ++ (number_text (octets_of hop) ++ (tab ++ (number_text milliseconds ++ tab))))))
+    (number_text (hop_status hop) ++ (tab ++ (number_text (octets_of hop) ++ (tab ++ (number_text milliseconds ++ tab))))))
 
 -- whether more of a body came than was taken
 abbrev pub end_text : Bool → List ℕ
@@ -52,11 +53,11 @@ end_text false = []
 
 -- the cause of what came of a hop
 abbrev pub cause_text : Hop → Option Failure → Option ClosedBy → List ℕ
-cause_text (hops.Page number reason status size cut) _ _ = reason_text reason ++ end_text cut
-cause_text (hops.No denial) _ by = denial_text denial.cause by
-cause_text (hops.Fault number fault) failure _ = fault_text fault failure
-cause_text (hops.Refused refusal) _ _ = refusal_text refusal
-cause_text (hops.Stop stop) _ _ = stop_text stop
+cause_text (hops.Page number reason status size cut) _ _ = spaced_words (reason_words reason) ++ end_text cut
+cause_text (hops.No denial) _ by = denial_phrase denial.cause by
+cause_text (hops.Fault number fault) failure _ = wire_fault_phrase fault failure
+cause_text (hops.Refused refusal) _ _ = refusal_phrase refusal
+cause_text (hops.Stop stop) _ _ = stop_phrase stop
 
 -- the line of a hop
 abbrev pub row_text : Row → List ℕ

@@ -1,12 +1,14 @@
-//! The causes of a table of hops in words. This is the one place of these words (docs/FORMATS.md, the table of a
-//! shift).
+//! The causes of a table of hops in words. This is the one place of what faults and closed sites are called
+//! there (docs/FORMATS.md, the table of a shift).
 ghost use Rattle.std.specs.Prelude.{◌≡◌, ◌++◌, [], codes, decimal};
-ghost use Rattle.crawl_shift.specs.Causes.{closing_text, denial_text, failure_text, fault_text, past_text, reason_text};
-ghost use Rattle.crawl_shift.specs.Causes.{refusal_text, stop_text, words_text};
+ghost use Rattle.gate_history.specs.Wording.{words_in};
+ghost use Rattle.crawl_shift.specs.Causes.{closing_text, denial_phrase, failure_text, wire_fault_phrase, past_text};
+ghost use Rattle.crawl_shift.specs.Causes.{refusal_phrase, spaced_words, stop_phrase, words_text};
 
+use command_server::refusal_word;
 use crawl_job::Refusal;
 use crawl_workers::{ClosedBy, Failure};
-use gate_history::{Cause, Reason};
+use gate_history::{Cause, Wording};
 use http_wire::WireFault;
 use line_text::Piece;
 use robots_fetch::Stop;
@@ -45,37 +47,33 @@ impl Words {
     }
 }
 
-/// Why a page was allowed.
-pub(crate) fn reason_words(reason: Reason) -> Words
-    ensures { words_text result ≡ reason_text reason }
+/// The words of a reason or of a cause.
+pub(crate) fn worded(wording: Wording) -> Words
+    ensures { words_text result ≡ spaced_words (words_in wording) }
 {
-    match reason {
-        Reason::Open => Words::plain("", "open"),
-        Reason::Line(line) => Words::numbered("", "line ", line, ""),
-        Reason::NoRule => Words::plain("", "norule"),
-        Reason::RobotsPath => Words::plain("", "robots"),
+    match wording.line {
+        Some(line) => Words::numbered(wording.word, " ", line, ""),
+        None => Words::plain("", wording.word),
     }
 }
 
 /// Why a page was denied; of a closed site what closed it, where that is known.
+#[tactic(auto, using(crate::proofs::CauseLemmas::not_closed))]
 pub(crate) fn denial_words(cause: Cause, by: Option<ClosedBy>) -> Words
-    ensures { words_text result ≡ denial_text cause by }
+    ensures { words_text result ≡ denial_phrase cause by }
 {
     match cause {
-        Cause::Spent => Words::plain("", "spent"),
-        Cause::Unknown => Words::plain("", "unknown"),
-        Cause::Expired => Words::plain("", "expired"),
         Cause::Closed => match by {
             Some(by) => closing_words(by),
-            None => Words::plain("", "closed"),
+            None => worded(cause.wording()),
         },
-        Cause::Line(line) => Words::numbered("", "line ", line, ""),
+        _ => worded(cause.wording()),
     }
 }
 
 /// Why a fetch failed; at its device for this.
 pub(crate) fn fault_words(of: &'static str, fault: WireFault, failure: Option<Failure>) -> Words
-    ensures { words_text result ≡ of.now ++ fault_text fault failure }
+    ensures { words_text result ≡ of.now ++ wire_fault_phrase fault failure }
 {
     match fault {
         WireFault::EarlyEnd => Words::plain(of, "ended early"),
@@ -95,21 +93,19 @@ pub(crate) fn fault_words(of: &'static str, fault: WireFault, failure: Option<Fa
 }
 
 /// Why the gate had no permit.
+#[tactic(auto, using(crate::proofs::CauseLemmas::not_memory))]
 pub(crate) fn refusal_words(refusal: Refusal) -> Words
-    ensures { words_text result ≡ refusal_text refusal }
+    ensures { words_text result ≡ refusal_phrase refusal }
 {
     match refusal {
-        Refusal::AuthoritiesFull => Words::plain("", "authorities"),
-        Refusal::LogFull => Words::plain("", "log"),
-        Refusal::Busy => Words::plain("", "busy"),
-        Refusal::PermitsFull => Words::plain("", "permits"),
         Refusal::NoMemory => Words::plain("", "no memory"),
+        _ => Words::plain("", refusal_word(refusal)),
     }
 }
 
 /// Why a redirect is not followed.
 pub(crate) fn stop_words(stop: Stop) -> Words
-    ensures { words_text result ≡ stop_text stop }
+    ensures { words_text result ≡ stop_phrase stop }
 {
     match stop {
         Stop::TooManyRedirects => Words::plain("", "too many redirects"),

@@ -1,6 +1,6 @@
 //! The jobs of a shift, a line for each (docs/FORMATS.md, jobs).
 ghost use Rattle.std.specs.Prelude.{◌≡◌, IfErr, IfOk};
-ghost use Rattle.crawl_shift.specs.JobLists.{AddsJob, AreAllJobs, EndsBadly, EndsWell, FailsToRead, IsUnread};
+ghost use Rattle.crawl_shift.specs.JobLists.{AddsJob, AreAllJobs, EndsBadly, EndsWell, FailsToReadJobs, IsJobsFault};
 
 use command_server::{Answerer, Flow, LineFault, SessionFault, read_job, run_session};
 use counted_io::{Counted, DeviceFault, Output, Sink, Source};
@@ -14,7 +14,7 @@ pub const MAX_JOB_LINE: usize = 8192;
 
 /// Why no jobs were read. Lines count from 1.
 #[derive(Clone, Copy, Debug, PartialEq, Eq)]
-pub enum Unread {
+pub enum JobsFault {
     /// The line of this number can't be read, is longer than 8,192 octets, or is line 4,097.
     BadLine(u64),
     /// A read failed.
@@ -41,43 +41,46 @@ impl JobList {
     }
 
     // The jobs, where the reading came to the end of its input.
-    fn end(self, end: Result<(), SessionFault>) -> Result<Vec<Job>, Unread>
+    fn end(self, end: Result<(), SessionFault>) -> Result<Vec<Job>, JobsFault>
         ensures jobs { IfOk result (λ jobs. EndsWell self end × (jobs.items ≡ self.jobs.items)) }
         ensures fault { IfErr result (EndsBadly self end) }
     {
         let next_line = self.jobs.len() as u64 + 1;
         match self.fault {
-            Some(LineFault::Memory) => return Err(Unread::NoMemory),
-            Some(_) => return Err(Unread::BadLine(next_line)),
+            Some(LineFault::Memory) => return Err(JobsFault::NoMemory),
+            Some(_) => return Err(JobsFault::BadLine(next_line)),
             None => {}
         }
         match end {
             Ok(()) => Ok(self.jobs),
-            Err(SessionFault::LongLine | SessionFault::Lines) => Err(Unread::BadLine(next_line)),
-            Err(SessionFault::Read) => Err(Unread::Read),
+            Err(SessionFault::LongLine | SessionFault::Lines) => Err(JobsFault::BadLine(next_line)),
+            Err(SessionFault::Read) => Err(JobsFault::Read),
             // Nothing is written, so no write fails.
-            Err(SessionFault::Write | SessionFault::NoMemory) => Err(Unread::NoMemory),
+            Err(SessionFault::Write | SessionFault::NoMemory) => Err(JobsFault::NoMemory),
         }
     }
 }
 
-/// A list answers a line with nothing, and the first line with a fault is the last.
-impl Answerer for JobList {
+/// A line is answered with nothing, and the first line with a fault is the last.
+struct JobLines;
+
+impl Answerer<JobList> for JobLines {
     ghost use Rattle.crawl_shift.specs.JobLists.{TakesJob};
 
-    ghost answers = { TakesJob };
+    ghost answers = { λ _. TakesJob };
 
     fn answer<W: Sink>(
-        &mut self,
+        &self,
         alloc: Global,
+        list: &mut JobList,
         line: &[u8],
         output: &mut Output,
         sink: &mut W,
     ) -> Result<Flow, DeviceFault> {
-        match self.take(alloc, line) {
+        match list.take(alloc, line) {
             Ok(()) => Ok(Flow::Goes),
             Err(fault) => {
-                self.fault = Some(fault);
+                list.fault = Some(fault);
                 Ok(Flow::Ends)
             }
         }
@@ -85,10 +88,11 @@ impl Answerer for JobList {
 }
 
 /// Reads the jobs of a source to its end: at most 4,096 lines, which end with LF or CR LF.
-pub fn read_jobs<R: Source>(alloc: Global, reader: &mut R) -> Result<Vec<Job>, Unread>
-    ensures jobs { IfOk result (λ jobs. AreAllJobs (R.left reader.old) (R.left reader.new) jobs.items) }
-    ensures fault { IfErr result (IsUnread (R.left reader.old) (R.left reader.new)) }
-    ensures reads { IfErr result (FailsToRead (R.failures reader.old) (R.failures reader.new)) }
+pub fn read_jobs<R: Source>(alloc: Global, reader: &mut R) -> Result<Vec<Job>, JobsFault>
+    ensures jobs { IfOk result (λ jobs.
+        AreAllJobs (R.left reader.old) (R.left reader.new) jobs.items) }
+    ensures fault { IfErr result (IsJobsFault (R.left reader.old) (R.left reader.new)) }
+    ensures reads { IfErr result (FailsToReadJobs (R.failures reader.old) (R.failures reader.new)) }
 {
     let mut list = JobList {
         jobs: Vec::new(alloc),
@@ -99,6 +103,7 @@ pub fn read_jobs<R: Source>(alloc: Global, reader: &mut R) -> Result<Vec<Job>, U
         alloc,
         reader,
         &mut nowhere,
+        &JobLines,
         &mut list,
         MAX_JOB_LINE,
         MAX_JOBS,

@@ -1,5 +1,5 @@
 //! Why a shift has no whole report.
-use crate::job_list::Unread;
+use crate::job_list::JobsFault;
 use counted_io::DeviceFault;
 use crawl_workers::ShiftFault;
 use gate_lock::SettleFault;
@@ -16,17 +16,17 @@ pub enum NotShifted {
     Device,
 }
 
-impl From<Unread> for NotShifted {
+impl From<JobsFault> for NotShifted {
     ghost use Rattle.std.specs.Prelude.{◌≡◌};
     ghost use Rattle.crawl_shift.specs.NotShifted.{by_jobs};
 
-    ghost from_gives = { λ unread told. told ≡ by_jobs unread };
+    ghost from_gives = { λ fault told. told ≡ by_jobs fault };
 
-    fn from(unread: Unread) -> NotShifted {
-        match unread {
-            Unread::BadLine(number) => NotShifted::BadLine(number),
-            Unread::Read => NotShifted::Device,
-            Unread::NoMemory => NotShifted::NoMemory,
+    fn from(fault: JobsFault) -> NotShifted {
+        match fault {
+            JobsFault::BadLine(number) => NotShifted::BadLine(number),
+            JobsFault::Read => NotShifted::Device,
+            JobsFault::NoMemory => NotShifted::NoMemory,
         }
     }
 }

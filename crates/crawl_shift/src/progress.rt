@@ -1,9 +1,11 @@
 //! The report of a shift, written while its workers work: each job's lines as soon as those of all jobs
 //! before it are written.
-use crate::report_text::{push_hops, sums};
+use crate::report_text::sums;
+use command_server::push_hops;
 use counted_io::{Counted, DeviceFault, Output, Sink};
 use crawl_job::{Hop, Job, Outcome};
 use crawl_workers::{Crawled, Event, Fetcher, Watcher};
+use line_text::Piece;
 use std::alloc::{AllocError, Global};
 use std::sync::{Mutex, Wait};
 
@@ -93,7 +95,7 @@ impl<W: Sink> Lines<'_, W> {
     // Writes the lines of the next job, and those that waited for it.
     fn write(&mut self, hops: &[Hop]) -> Result<(), DeviceFault> {
         let behind = self.next.saturating_add(1);
-        push_hops(behind, 1, hops, &mut self.output, self.sink)?;
+        push_hops(Piece::Number(behind), 1, hops, &mut self.output, self.sink)?;
         self.next = behind;
         for number in behind..self.waiting.len() as u64 {
             let Some(text) = self.waiting[number as usize].take() else {
@@ -109,7 +111,7 @@ impl<W: Sink> Lines<'_, W> {
     fn spell(&mut self, number: u64, hops: &[Hop]) -> Result<Vec<u8>, DeviceFault> {
         let mut text = Counted::new(Vec::new(*self.waiting.allocator()));
         push_hops(
-            number.saturating_add(1),
+            Piece::Number(number.saturating_add(1)),
             1,
             hops,
             &mut self.spelling,
@@ -127,7 +129,8 @@ impl<W: Sink> Lines<'_, W> {
         for (number, crawled) in outcomes.iter().enumerate() {
             let own = crawled.hops.as_slice();
             if self.next <= number as u64 {
-                push_hops(number as u64 + 1, 1, own, &mut self.output, self.sink)?;
+                let lead = Piece::Number(number as u64 + 1);
+                push_hops(lead, 1, own, &mut self.output, self.sink)?;
             }
             hops = hops.saturating_add(own.len() as u64);
         }

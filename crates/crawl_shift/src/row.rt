@@ -4,9 +4,9 @@ ghost use Rattle.counted_io.specs.Output.{Pushes};
 ghost use Rattle.line_text.specs.Pieces.{piece_text, pieces_text};
 ghost use Rattle.crawl_shift.specs.Causes.{words_text};
 ghost use Rattle.crawl_shift.specs.TableText.{cause_text, columns_text, number_text, octets_of, outcome_text};
-ghost use Rattle.crawl_shift.specs.TableText.{outcome_word, place_text, row_text, status_of};
+ghost use Rattle.crawl_shift.specs.TableText.{outcome_word, place_text, row_text, hop_status};
 
-use crate::causes::{Words, denial_words, fault_words, reason_words, refusal_words, stop_words};
+use crate::causes::{Words, denial_words, fault_words, refusal_words, stop_words, worded};
 use counted_io::{DeviceFault, Output, Sink};
 use crawl_job::Hop;
 use crawl_workers::{ClosedBy, Failure};
@@ -51,17 +51,19 @@ impl Row<'_> {
         ensures { Pushes (W.written sink.old) (W.written sink.new)
             (W.failures sink.old) (W.failures sink.new) output.old output.new
             (outcome_text self.now.end.now self.now.milliseconds
-            ++ (cause_text self.now.end.now self.now.failure self.now.closed_by ++ codes "\n")) result }
+            ++ (cause_text self.now.end.now self.now.failure self.now.closed_by
+            ++ codes "\n")) result }
     {
         self.outcome().push(output, sink)?;
         self.cause().push(output, sink)
     }
 
     fn place(&self) -> Pieces<'_>
-        ensures { pieces_text result ≡ place_text self.now.job self.now.hop self.now.token.now self.now.url.now }
+        ensures { pieces_text result
+            ≡ place_text self.now.job self.now.hop self.now.token.now self.now.url.now }
     {
         let tab = Piece::Text("\t");
-        Pieces::joined([
+        Pieces::of(&[
             Piece::Number(self.job),
             tab,
             Piece::Number(self.hop),
@@ -77,10 +79,10 @@ impl Row<'_> {
         ensures { pieces_text result ≡ outcome_text self.now.end.now self.now.milliseconds }
     {
         let tab = Piece::Text("\t");
-        Pieces::joined([
+        Pieces::of(&[
             Piece::Text(outcome_word(self.end)),
             tab,
-            number(status_of(self.end)),
+            number(hop_status(self.end)),
             tab,
             number(octets_of(self.end)),
             tab,
@@ -90,15 +92,16 @@ impl Row<'_> {
     }
 
     fn cause(&self) -> Pieces<'static>
-        ensures { pieces_text result ≡ cause_text self.now.end.now self.now.failure self.now.closed_by ++ codes "\n" }
+        ensures { pieces_text result
+            ≡ cause_text self.now.end.now self.now.failure self.now.closed_by ++ codes "\n" }
     {
         match self.end {
             Hop::Page {
                 reason,
                 cut: true,
                 ..
-            } => ended(reason_words(*reason), ", cut\n"),
-            Hop::Page { reason, .. } => ended(reason_words(*reason), "\n"),
+            } => ended(worded(reason.wording()), ", cut\n"),
+            Hop::Page { reason, .. } => ended(worded(reason.wording()), "\n"),
             Hop::No(denial) => ended(denial_words(denial.cause, self.closed_by), "\n"),
             Hop::Fault { fault, .. } => ended(fault_words("", *fault, self.failure), "\n"),
             Hop::Refused(refusal) => ended(refusal_words(*refusal), "\n"),
@@ -111,16 +114,12 @@ impl Row<'_> {
 fn ended(words: Words, end: &'static str) -> Pieces<'static>
     ensures { pieces_text result ≡ words_text words ++ end.now }
 {
-    let none = Piece::Text("");
-    Pieces::joined([
+    Pieces::of(&[
         Piece::Text(words.of),
         Piece::Text(words.text),
         words.number,
         Piece::Text(words.unit),
         Piece::Text(end),
-        none,
-        none,
-        none,
     ])
 }
 
@@ -136,8 +135,8 @@ fn outcome_word(hop: &Hop) -> &'static str
     }
 }
 
-fn status_of(hop: &Hop) -> Option<u64>
-    ensures { result ≡ status_of hop.now }
+fn hop_status(hop: &Hop) -> Option<u64>
+    ensures { result ≡ hop_status hop.now }
 {
     match hop {
         Hop::Page { status, .. } => Some(u64::from(*status)),

@@ -1,4 +1,4 @@
-//! `shift`: jobs, a line for each, done by several workers, and the report of what came of them.
+//! A shift: jobs, a line for each, done by several workers, and what is told of them.
 //! `crawlgate shift` runs it over standard input and output.
 ghost use Rattle.std.specs.Prelude.{◌≡◌, ◌≤◌, [], OnOk, length};
 ghost use Rattle.gate_history.specs.Base.{empty_base};
@@ -22,226 +22,149 @@ use std::sync::Wait;
 use std::thread::Threads;
 use std::time;
 
-/// `shift` over a new gate.
-pub fn shift_over<
-    G: Gate + Send + Sync,
-    S: Source,
-    W: Sink + Send,
-    E: Sink + Send,
-    F: Fetcher + Sync,
-    C: Clock + Sync,
-    R: Threads + Wait + time::Clock + Sync,
->(
-    rt: &R,
-    alloc: Global,
-    reader: &mut S,
-    writer: &mut W,
-    status: &StatusLine<'_, E, R>,
-    workers: u64,
-    book: Book,
-    blanks: Blanks,
-    fetcher: &F,
-    clock: &C,
-) -> Result<(), NotShifted>
-    requires workers { IsCrew workers }
-    requires book { (book.base ≡ empty_base) × (book.entries ≡ []) }
-    requires blanks { blanks ≡ G.ledgers }
-{
-    let gate: GateLock<G> = GateLock::new(book, blanks);
-    shift(
-        rt, alloc, reader, writer, status, workers, &gate, fetcher, clock,
-    )
+/// How a shift is done: so many workers fetch with `fetcher` by `clock`, and `status` is written meanwhile.
+#[derive(Drop)]
+pub struct Shift<'a, 's, E: Sink, F, C, R: Wait + time::Clock> {
+    pub rt: &'a R,
+    pub alloc: Global,
+    pub workers: u64,
+    pub fetcher: &'a F,
+    pub clock: &'a C,
+    pub status: &'a StatusLine<'s, E, R>,
 }
 
-/// Reads the jobs to the end of the input, has so many workers do them over the gate, and writes the
-/// report. Once a write of it has failed nothing more is fetched. `status` is written meanwhile.
-pub fn shift<
-    G: Gate + Send + Sync,
-    S: Source,
-    W: Sink + Send,
+impl<
     E: Sink + Send,
     F: Fetcher + Sync,
     C: Clock + Sync,
     R: Threads + Wait + time::Clock + Sync,
->(
-    rt: &R,
-    alloc: Global,
-    reader: &mut S,
-    writer: &mut W,
-    status: &StatusLine<'_, E, R>,
-    workers: u64,
-    gate: &GateLock<G>,
-    fetcher: &F,
-    clock: &C,
-) -> Result<(), NotShifted>
-    requires { IsCrew workers }
-{
-    let jobs = read_jobs(alloc, reader)?;
-    let progress = Progress::new(rt, alloc, writer, fetcher, jobs.len())?;
-    let jobs = jobs.as_slice();
-    let report = run_told(
-        rt, alloc, jobs, workers, gate, fetcher, clock, &progress, status,
-    )?;
-    progress.finish(report.outcomes.as_slice(), report.settled.starts)?;
-    Ok(())
-}
+> Shift<'_, '_, E, F, C, R> {
+    /// `report` over a new gate.
+    pub fn report_over<G: Gate + Send + Sync, S: Source, W: Sink + Send>(
+        &self,
+        reader: &mut S,
+        writer: &mut W,
+        book: Book,
+        blanks: Blanks,
+    ) -> Result<(), NotShifted>
+        requires workers { IsCrew self.now.workers }
+        requires book { (book.base ≡ empty_base) × (book.entries ≡ []) }
+        requires blanks { blanks ≡ G.ledgers }
+    {
+        let gate: GateLock<G> = GateLock::new(book, blanks);
+        self.report(reader, writer, &gate)
+    }
 
-/// `shift_table` over a new gate.
-pub fn table_over<
-    G: Gate + Send + Sync,
-    S: Source,
-    W: Sink + Send,
-    E: Sink + Send,
-    F: Fetcher + Sync,
-    C: Clock + Sync,
-    R: Threads + Wait + time::Clock + Sync,
->(
-    rt: &R,
-    alloc: Global,
-    reader: &mut S,
-    writer: &mut W,
-    status: &StatusLine<'_, E, R>,
-    workers: u64,
-    book: Book,
-    blanks: Blanks,
-    fetcher: &F,
-    clock: &C,
-) -> Result<(), NotShifted>
-    requires workers { IsCrew workers }
-    requires book { (book.base ≡ empty_base) × (book.entries ≡ []) }
-    requires blanks { blanks ≡ G.ledgers }
-{
-    let gate: GateLock<G> = GateLock::new(book, blanks);
-    shift_table(
-        rt, alloc, reader, writer, status, workers, &gate, fetcher, clock,
-    )
-}
+    /// Reads the jobs to the end of the input, has the workers do them over the gate, and writes the
+    /// report. Once a write of it has failed nothing more is fetched.
+    pub fn report<G: Gate + Send + Sync, S: Source, W: Sink + Send>(
+        &self,
+        reader: &mut S,
+        writer: &mut W,
+        gate: &GateLock<G>,
+    ) -> Result<(), NotShifted>
+        requires { IsCrew self.now.workers }
+    {
+        let jobs = read_jobs(self.alloc, reader)?;
+        let progress = Progress::new(self.rt, self.alloc, writer, self.fetcher, jobs.len())?;
+        let report = self.run_told(jobs.as_slice(), gate, &progress)?;
+        progress.finish(report.outcomes.as_slice(), report.settled.starts)?;
+        Ok(())
+    }
 
-/// The same, but what is written is a table with a line for each hop, as soon as the hop has ended.
-pub fn shift_table<
-    G: Gate + Send + Sync,
-    S: Source,
-    W: Sink + Send,
-    E: Sink + Send,
-    F: Fetcher + Sync,
-    C: Clock + Sync,
-    R: Threads + Wait + time::Clock + Sync,
->(
-    rt: &R,
-    alloc: Global,
-    reader: &mut S,
-    writer: &mut W,
-    status: &StatusLine<'_, E, R>,
-    workers: u64,
-    gate: &GateLock<G>,
-    fetcher: &F,
-    clock: &C,
-) -> Result<(), NotShifted>
-    requires { IsCrew workers }
-{
-    let jobs = read_jobs(alloc, reader)?;
-    let table = Table::new(rt, alloc, writer, fetcher)?;
-    let jobs = jobs.as_slice();
-    run_told(
-        rt, alloc, jobs, workers, gate, fetcher, clock, &table, status,
-    )?;
-    table.finish()?;
-    Ok(())
-}
+    /// `table` over a new gate.
+    pub fn table_over<G: Gate + Send + Sync, S: Source, W: Sink + Send>(
+        &self,
+        reader: &mut S,
+        writer: &mut W,
+        book: Book,
+        blanks: Blanks,
+    ) -> Result<(), NotShifted>
+        requires workers { IsCrew self.now.workers }
+        requires book { (book.base ≡ empty_base) × (book.entries ≡ []) }
+        requires blanks { blanks ≡ G.ledgers }
+    {
+        let gate: GateLock<G> = GateLock::new(book, blanks);
+        self.table(reader, writer, &gate)
+    }
 
-/// `shift_history` over a new gate.
-pub fn history_over<
-    G: Gate + Send + Sync,
-    S: Source,
-    W: Sink,
-    E: Sink + Send,
-    F: Fetcher + Sync,
-    C: Clock + Sync,
-    R: Threads + Wait + time::Clock + Sync,
->(
-    rt: &R,
-    alloc: Global,
-    reader: &mut S,
-    writer: &mut W,
-    status: &StatusLine<'_, E, R>,
-    workers: u64,
-    book: Book,
-    blanks: Blanks,
-    fetcher: &F,
-    clock: &C,
-) -> Result<(), NotShifted>
-    requires workers { IsCrew workers }
-    requires book { (book.base ≡ empty_base) × (book.entries ≡ []) }
-    requires blanks { blanks ≡ G.ledgers }
-    ensures { OnOk result (WritesHistory (W.written writer.old) (W.written writer.new)) }
-{
-    let gate: GateLock<G> = GateLock::new(book, blanks);
-    shift_history(
-        rt, alloc, reader, writer, status, workers, &gate, fetcher, clock,
-    )
-}
+    /// The same, but what is written is a table with a line for each hop, as soon as the hop has ended.
+    pub fn table<G: Gate + Send + Sync, S: Source, W: Sink + Send>(
+        &self,
+        reader: &mut S,
+        writer: &mut W,
+        gate: &GateLock<G>,
+    ) -> Result<(), NotShifted>
+        requires { IsCrew self.now.workers }
+    {
+        let jobs = read_jobs(self.alloc, reader)?;
+        let table = Table::new(self.rt, self.alloc, writer, self.fetcher)?;
+        self.run_told(jobs.as_slice(), gate, &table)?;
+        table.finish()?;
+        Ok(())
+    }
 
-/// Reads the jobs to the end of the input, has so many workers do them over the gate, and writes the
-/// history of the gate, which an audit takes: that each page was allowed when its fetch began. Nothing
-/// is written where the jobs were not all done.
-pub fn shift_history<
-    G: Gate + Send + Sync,
-    S: Source,
-    W: Sink,
-    E: Sink + Send,
-    F: Fetcher + Sync,
-    C: Clock + Sync,
-    R: Threads + Wait + time::Clock + Sync,
->(
-    rt: &R,
-    alloc: Global,
-    reader: &mut S,
-    writer: &mut W,
-    status: &StatusLine<'_, E, R>,
-    workers: u64,
-    gate: &GateLock<G>,
-    fetcher: &F,
-    clock: &C,
-) -> Result<(), NotShifted>
-    requires { IsCrew workers }
-    ensures { OnOk result (WritesHistory (W.written writer.old) (W.written writer.new)) }
-{
-    let jobs = read_jobs(alloc, reader)?;
-    let mut output = Output::new(alloc)?;
-    let jobs = jobs.as_slice();
-    run_told(rt, alloc, jobs, workers, gate, fetcher, clock, &(), status)?;
-    export(gate.lend(rt).book(), &mut output, writer)?;
-    Ok(())
-}
+    /// `history` over a new gate.
+    pub fn history_over<G: Gate + Send + Sync, S: Source, W: Sink>(
+        &self,
+        reader: &mut S,
+        writer: &mut W,
+        book: Book,
+        blanks: Blanks,
+    ) -> Result<(), NotShifted>
+        requires workers { IsCrew self.now.workers }
+        requires book { (book.base ≡ empty_base) × (book.entries ≡ []) }
+        requires blanks { blanks ≡ G.ledgers }
+        ensures { OnOk result (WritesHistory (W.written writer.old) (W.written writer.new)) }
+    {
+        let gate: GateLock<G> = GateLock::new(book, blanks);
+        self.history(reader, writer, &gate)
+    }
 
-// Does the jobs, and has both told of them.
-fn run_told<
-    G: Gate + Send + Sync,
-    E: Sink + Send,
-    F: Fetcher + Sync,
-    C: Clock + Sync,
-    V: Watcher + Sync,
-    R: Threads + Wait + time::Clock + Sync,
->(
-    rt: &R,
-    alloc: Global,
-    jobs: &[Job],
-    workers: u64,
-    gate: &GateLock<G>,
-    fetcher: &F,
-    clock: &C,
-    watcher: &V,
-    status: &StatusLine<'_, E, R>,
-) -> Result<Report<G>, ShiftFault>
-    requires jobs { length jobs.now ≤ max_jobs }
-    requires workers { IsCrew workers }
-{
-    status.expect(jobs.len() as u64);
-    let both = Both {
-        first: watcher,
-        second: status,
-    };
-    let report = run_shift(rt, alloc, jobs, workers, gate, fetcher, clock, &both);
-    status.erase();
-    report
+    /// Reads the jobs to the end of the input, has the workers do them over the gate, and writes the
+    /// history of the gate, which an audit takes: that each page was allowed when its fetch began.
+    /// Nothing is written where the jobs were not all done.
+    pub fn history<G: Gate + Send + Sync, S: Source, W: Sink>(
+        &self,
+        reader: &mut S,
+        writer: &mut W,
+        gate: &GateLock<G>,
+    ) -> Result<(), NotShifted>
+        requires { IsCrew self.now.workers }
+        ensures { OnOk result (WritesHistory (W.written writer.old) (W.written writer.new)) }
+    {
+        let jobs = read_jobs(self.alloc, reader)?;
+        let mut output = Output::new(self.alloc)?;
+        self.run_told(jobs.as_slice(), gate, &())?;
+        export(gate.lend(self.rt).book(), &mut output, writer)?;
+        Ok(())
+    }
+
+    // Does the jobs, and has the watcher and the status line told of them.
+    fn run_told<G: Gate + Send + Sync, V: Watcher + Sync>(
+        &self,
+        jobs: &[Job],
+        gate: &GateLock<G>,
+        watcher: &V,
+    ) -> Result<Report<G>, ShiftFault>
+        requires jobs { length jobs.now ≤ max_jobs }
+        requires workers { IsCrew self.now.workers }
+    {
+        self.status.expect(jobs.len() as u64);
+        let both = Both {
+            first: watcher,
+            second: self.status,
+        };
+        let Shift {
+            rt,
+            alloc,
+            workers,
+            fetcher,
+            clock,
+            ..
+        } = *self;
+        let report = run_shift(rt, alloc, jobs, workers, gate, fetcher, clock, &both);
+        self.status.erase();
+        report
+    }
 }

@@ -140,30 +140,21 @@ impl<W: Sink> Status<'_, W> {
 
 impl Counts {
     fn of_jobs(self) -> Pieces<'static> {
-        let none = Piece::Text("");
-        Pieces::joined([
+        Pieces::of(&[
             Piece::Text("\r"),
             Piece::Number(self.done),
             Piece::Text(" of "),
             Piece::Number(self.jobs),
             Piece::Text(" jobs done, "),
-            none,
-            none,
-            none,
         ])
     }
 
     fn of_fetches(self) -> Pieces<'static> {
-        let none = Piece::Text("");
-        Pieces::joined([
+        Pieces::of(&[
             Piece::Number(self.fetches),
             Piece::Text(" fetches under way, "),
             Piece::Number(self.closed),
             Piece::Text(" sites closed\x1b[K"),
-            none,
-            none,
-            none,
-            none,
         ])
     }
 }

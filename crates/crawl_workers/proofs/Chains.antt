@@ -6,7 +6,7 @@ use Rattle.gate_history.specs.declared.entry.Entry.{Entry}
 use Rattle.robots_fetch.specs.Redirects.{most_redirects}
 use Rattle.crawl_job.specs.declared.hop.Hop.{Hop}
 use Rattle.crawl_workers.specs.declared.way_on.WayOn.TheVariants as ways
-use Rattle.crawl_workers.specs.Outcomes.{AfterRefresh, AreHops, Follows, IsFollowed, IsLast, IsStopped}
+use Rattle.crawl_workers.specs.Outcomes.{AfterRefresh, AreHops, FollowsHops, IsFollowed, IsLastHop, IsStopped}
 use Rattle.crawl_workers.specs.Refreshes.{entries_of}
 use Rattle.crawl_workers.specs.WaysOn.{AddsEntries, TellsWay}
 use Rattle.crawl_workers.specs.World.{World}
@@ -18,9 +18,9 @@ empty_front own = sym (append-nil own)
 
 -- one redirect more is followed
 follows_more : (world : World) (token url mid next : List ℕ) (way : List Hop)
-    (hop : Hop) (front own : List Entry) → Follows world token url way mid front →
+    (hop : Hop) (front own : List Entry) → FollowsHops world token url way mid front →
     AfterRefresh world mid (IsFollowed world token mid hop next) own →
-    Follows world token url (way ++ hop ∷ []) next (front ++ own)
+    FollowsHops world token url (way ++ hop ∷ []) next (front ++ own)
 follows_more world token url mid next [] hop front own follows after = (
   next,
   (
@@ -59,7 +59,7 @@ pub record HasCome
     : Type 0 where
   pub own : List Entry
   pub adds : entries_of now.marks ≡ entries_of old.marks ++ own
-  pub follows : Follows world token url way end own
+  pub follows : FollowsHops world token url way end own
   pub few : length way ≤ most_redirects
 
 -- it begins
@@ -88,7 +88,7 @@ come_on world token url mid next way all hop followed old now new count is come 
 -- it ends with one hop
 pub come_to_end : (world : World) (token url mid : List ℕ) (way : List Hop)
     (hop : Hop) (body : List ℕ) (old now new : DeskView) → HasCome world token url way mid old now →
-    AddsEntries (AfterRefresh world mid (IsLast world token mid hop body)) now new →
+    AddsEntries (AfterRefresh world mid (IsLastHop world token mid hop body)) now new →
     AddsEntries (AreHops world token url (way ++ hop ∷ []) body) old new
 come_to_end world token url mid way hop body old now new come added = record {
   own = come.own ++ added.own;

@@ -9,7 +9,7 @@ use Rattle.gate_lock.specs.declared.mark.Mark.{Mark}
 use Rattle.crawl_workers.specs.declared.crew.Done.{Done}
 use Rattle.crawl_job.specs.declared.job.Job.{Job}
 use Rattle.crawl_workers.specs.declared.report.ShiftFault.{ShiftFault}
-use Rattle.crawl_workers.specs.Crews.{AreAllDone, EachHasDone, Ends, HandoverView, HandsOver, HasDone, TakesIn, MemberView, newcomer}
+use Rattle.crawl_workers.specs.Crews.{AreAllDone, EachHasDone, HasEnded, HandoverView, HandsOver, HasDone, TakesIn, MemberView, newcomer}
 use Rattle.crawl_workers.specs.World.{World}
 
 -- the end of a worker with these marks
@@ -28,25 +28,25 @@ hands_more workers h worker after so_far this = record {
 
 -- each worker has ended
 pub ends_each : (world : World) (jobs : List Job) (new : List MemberView)
-    → ((i : ℕ) (d : MemberView) → i < length new → Ends world jobs (slice_index_or new i d)) → All (Ends world jobs) new
-ends_each world jobs [] each = All-nil (Ends world jobs)
+    → ((i : ℕ) (d : MemberView) → i < length new → HasEnded world jobs (slice_index_or new i d)) → All (HasEnded world jobs) new
+ends_each world jobs [] each = All-nil (HasEnded world jobs)
 ends_each world jobs (w ∷ ws) each =
-    All-cons (Ends world jobs) w ws (each 0 w (omega arith)) (ends_each world jobs ws (λ i d within. each (suc i) d (omega (arith, within))))
+    All-cons (HasEnded world jobs) w ws (each 0 w (omega arith)) (ends_each world jobs ws (λ i d within. each (suc i) d (omega (arith, within))))
 
 some_end : (P : Result (List Mark) ShiftFault → Type 0) (end : Option (Result (List Mark) ShiftFault)) → IsSomeAnd end P → IsSome end
 some_end P None ends = absurd ends
 some_end P (Some end) ends = refl
 
 -- so none has no end
-pub all_ended : (world : World) (jobs : List Job) (new : List MemberView) → All (Ends world jobs) new → All (λ worker. IsSome worker.end) new
+pub all_ended : (world : World) (jobs : List Job) (new : List MemberView) → All (HasEnded world jobs) new → All (λ worker. IsSome worker.end) new
 all_ended world jobs [] ends = All-nil (λ (worker : MemberView). IsSome worker.end)
 all_ended world jobs (w ∷ ws) ends =
-    All-cons (λ (worker : MemberView). IsSome worker.end) w ws (some_end (λ end. IfOk end (HasDone world jobs w.drawn w.done)) w.end (All-head (Ends world jobs) w ws ends))
-    (all_ended world jobs ws (All-tail (Ends world jobs) w ws ends))
+    All-cons (λ (worker : MemberView). IsSome worker.end) w ws (some_end (λ end. IfOk end (HasDone world jobs w.drawn w.done)) w.end (All-head (HasEnded world jobs) w ws ends))
+    (all_ended world jobs ws (All-tail (HasEnded world jobs) w ws ends))
 
 -- workers that have receipts did what they drew
 each_did : (world : World) (jobs : List Job) (workers : List MemberView) (receipts : List (List Mark))
-    → All (Ends world jobs) workers → map end_of receipts ≡ map (λ (worker : MemberView). worker.end) workers
+    → All (HasEnded world jobs) workers → map end_of receipts ≡ map (λ (worker : MemberView). worker.end) workers
     → EachHasDone world jobs (map (λ (worker : MemberView). worker.drawn) workers) (map (λ (worker : MemberView). worker.done) workers) receipts
 each_did world jobs [] [] ends same = tt
 each_did world jobs [] (ms ∷ mss) ends same = absurd (omega (arith, ap length same))
@@ -54,12 +54,12 @@ each_did world jobs (w ∷ ws) [] ends same = absurd (omega (arith, ap length sa
 each_did world jobs (w ∷ ws) (ms ∷ mss) ends same =
     let this : w.end ≡ end_of ms = cc in
     let later : map end_of mss ≡ map (λ (worker : MemberView). worker.end) ws = cc in
-    let did : HasDone world jobs w.drawn w.done ms = subst (λ (end : Option (Result (List Mark) ShiftFault)). IsSomeAnd end (λ end. IfOk end (HasDone world jobs w.drawn w.done))) this (All-head (Ends world jobs) w ws ends) in
-    (did, each_did world jobs ws mss (All-tail (Ends world jobs) w ws ends) later)
+    let did : HasDone world jobs w.drawn w.done ms = subst (λ (end : Option (Result (List Mark) ShiftFault)). IsSomeAnd end (λ end. IfOk end (HasDone world jobs w.drawn w.done))) this (All-head (HasEnded world jobs) w ws ends) in
+    (did, each_did world jobs ws mss (All-tail (HasEnded world jobs) w ws ends) later)
 
 -- and hand it over
 pub all_did : (world : World) (jobs : List Job) (members : ℕ) (workers : List MemberView) (h : HandoverView)
-    → length workers ≡ members → All (Ends world jobs) workers → HandsOver workers h → AreAllDone world jobs members h
+    → length workers ≡ members → All (HasEnded world jobs) workers → HandsOver workers h → AreAllDone world jobs members h
 all_did world jobs members workers h many ends hands = record {
   all_workers = ap length hands.drawn_are ∙ length-map workers (λ (worker : MemberView). worker.drawn) ∙ many;
   have_done = subst (λ (ns : List (List ℕ)). EachHasDone world jobs ns h.done h.receipts) (sym hands.drawn_are)
@@ -70,7 +70,7 @@ all_did world jobs members workers h many ends hands = record {
 -- the same of workers that worked in a slice of a list
 pub did_all : (world : World) (jobs : List Job) (members : ℕ) (new : List MemberView) (len : ℕ) (rest : List MemberView) (h : HandoverView)
     → length new ≡ members → members ≡ len
-    → ((i : ℕ) (d : MemberView) → i < length new → Ends world jobs (slice_index_or new i d))
+    → ((i : ℕ) (d : MemberView) → i < length new → HasEnded world jobs (slice_index_or new i d))
     → HandsOver (take len (new ++ rest)) h → AreAllDone world jobs members h
 did_all world jobs members new len rest h many same each hands =
     all_did world jobs members new h many (ends_each world jobs new each)

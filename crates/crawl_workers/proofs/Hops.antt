@@ -25,13 +25,12 @@ use Rattle.crawl_job.specs.declared.hop.Hop.TheVariants as hops
 use Rattle.crawl_job.specs.declared.hop.Refusal.{Refusal}
 use Rattle.crawl_workers.specs.declared.way_on.WayOn.{WayOn}
 use Rattle.crawl_workers.specs.declared.way_on.WayOn.TheVariants as ways
-use Rattle.crawl_workers.specs.Outcomes.{AfterRefresh, IsFetch, IsLast, IsRedirect, MayRefresh, body_of, hop_of, location_of}
+use Rattle.crawl_workers.specs.Outcomes.{AfterRefresh, IsFetch, IsLastHop, IsRedirect, MayRefresh, body_given, hop_of, location_given}
 use Rattle.crawl_workers.specs.Limits.{page_limit, robots_limit}
 use Rattle.crawl_workers.specs.Refreshes.{BeginsStale, Brings, DoesNothing, IsBrought, entries_of}
 use Rattle.crawl_workers.specs.WaysOn.{AddsEntries, GoesOn, TellsWay, ask_hop}
 use Rattle.crawl_workers.specs.World.{IsSinceRead, World}
 use Rattle.crawl_workers.proofs.OwnEntries.{appended, looked, made}
-use Rattle.crawl_workers.proofs.Fetching.{brought_life}
 
 -- no entry, and so no turn
 nothing_made : (world : World) (authority : List ℕ) (old new : DeskView) →
@@ -52,25 +51,23 @@ pub refreshed : (world : World) (authority : List ℕ) (turn : Errand) (word : S
     BeginsStale world authority turn old mid → Brings world turn word mid new → AddsEntries (MayRefresh world authority) old new
 refreshed world authority turn word old mid new begins brings =
     let h = brings.arrives.0 in
-    let other = made mid h _ new brings.arrives.1.1.2.1 in
+    let other = made mid h _ new brings.arrives.1.1.1.1 in
     let its_authority : turn.authority ≡ authority = ap (λ (t : Errand). t.authority) begins.turn_is in
-    let P : List ℕ → Type 0 = λ name. IsBrought (world.gives robots_limit) name brings.says brings.life in
+    let P : List ℕ → Type 0 = λ name. IsBrought (world.gives robots_limit) name brings.answer.says brings.answer.life in
     let brought = subst P its_authority brings.brings in
-    let life = brought_life (world.gives robots_limit) authority brings.says brings.life brought in
     record {
       own = entries.Begun begins.begun authority turn.turn
-          ∷ entries.Arrived (moment_at h brings.arrived) authority turn.turn brings.says brings.life ∷ [];
+          ∷ entries.Arrived (moment_at h brings.arrived) authority turn.turn brings.answer.says brings.answer.life ∷ [];
       adds = appended (entries_of old.marks) (entries_of mid.marks) (entries_of new.marks) _
-          (entries.Arrived (moment_at h brings.arrived) authority turn.turn brings.says brings.life ∷ []) begins.adds
-          (subst (λ name. entries_of new.marks ≡ entries_of mid.marks ++ entries.Arrived (moment_at h brings.arrived) name turn.turn brings.says brings.life ∷ [])
-          its_authority
-          (subst (λ n. entries_of new.marks ≡ entries_of mid.marks ++ entries.Arrived (moment_at h brings.arrived) turn.authority turn.turn brings.says n ∷ []) life other));
+          (entries.Arrived (moment_at h brings.arrived) authority turn.turn brings.answer.says brings.answer.life ∷ []) begins.adds
+          (subst (λ name. entries_of new.marks ≡ entries_of mid.marks ++ entries.Arrived (moment_at h brings.arrived) name turn.turn brings.answer.says brings.answer.life ∷ [])
+          its_authority other);
       tells = inr (record {
         begun = begins.begun;
         turn = turn.turn;
         arrived = moment_at h brings.arrived;
-        says = brings.says;
-        life = brings.life;
+        says = brings.answer.says;
+        life = brings.answer.life;
         since_begun = begins.since_begun;
         since_arrived = since world h brings.arrived brings.read_arrived;
         stale = begins.stale;
@@ -91,7 +88,7 @@ behind_refresh world url Tells old mid new before behind = record {
 
 -- a refusal makes no entry
 pub refused : (world : World) (token url : List ℕ) (refusal : Refusal)
-    (body : List ℕ) (desk : DeskView) → body ≡ [] → AddsEntries (IsLast world token url (hops.Refused refusal) body) desk desk
+    (body : List ℕ) (desk : DeskView) → body ≡ [] → AddsEntries (IsLastHop world token url (hops.Refused refusal) body) desk desk
 refused world token url refusal body desk empty =
     record { own = []; adds = sym (append-nil (entries_of desk.marks)); tells = (refl, empty) }
 
@@ -99,24 +96,24 @@ refused world token url refusal body desk empty =
 pub ask_refused : (world : World) (token url : List ℕ) (m : ℕ)
     (refusal : AskRefusal) (body : List ℕ) (old new : DeskView) → world.reads m → body ≡ [] →
     Somewhere old (λ g g2. DeskAsks old g token url m (Err refusal) g2 new) →
-    AddsEntries (IsLast world token url (ask_hop refusal) body) old new
+    AddsEntries (IsLastHop world token url (ask_hop refusal) body) old new
 ask_refused world token url m (asks.Denied denial) body old new reads empty step = record {
   own = entries.AskDenied (moment_at step.0 m) (record { token = token; url = url }) denial.cause ∷ [];
-  adds = made old step.0 (entries.AskDenied (moment_at step.0 m) (record { token = token; url = url }) denial.cause) new step.1.1.2.1;
+  adds = made old step.0 (entries.AskDenied (moment_at step.0 m) (record { token = token; url = url }) denial.cause) new step.1.1.1.1;
   tells = (
-    step.1.1.2.0.1,
+    step.1.1.1.0.1,
     inl (record { denied = moment_at step.0 m; since_denied = since world step.0 m reads; own_is = refl }),
     empty,
   );
 }
 ask_refused world token url m asks.LogFull body old new reads empty step =
-    record { own = []; adds = looked old step.0 new step.1.1.2.1; tells = (refl, empty) }
+    record { own = []; adds = looked old step.0 new step.1.1.1.1; tells = (refl, empty) }
 ask_refused world token url m asks.Busy body old new reads empty step =
-    record { own = []; adds = looked old step.0 new step.1.1.2.1; tells = (refl, empty) }
+    record { own = []; adds = looked old step.0 new step.1.1.1.1; tells = (refl, empty) }
 ask_refused world token url m asks.PermitsFull body old new reads empty step =
-    record { own = []; adds = looked old step.0 new step.1.1.2.1; tells = (refl, empty) }
+    record { own = []; adds = looked old step.0 new step.1.1.1.1; tells = (refl, empty) }
 ask_refused world token url m asks.NoMemory body old new reads empty step =
-    record { own = []; adds = looked old step.0 new step.1.1.2.1; tells = (refl, empty) }
+    record { own = []; adds = looked old step.0 new step.1.1.1.1; tells = (refl, empty) }
 
 -- what is true of a grant's entries, whatever its moment, behind the grant
 pub ask_granted : (world : World) (token url : List ℕ) (m followed : ℕ)
@@ -133,22 +130,22 @@ ask_granted world token url m followed permit way old mid new reads step behind 
       own = entries.Granted (moment_at g m) permit.number (record { token = token; url = url }) ∷ behind.own;
       adds = appended (entries_of old.marks) (entries_of mid.marks) (entries_of new.marks)
           (entries.Granted (moment_at g m) permit.number (record { token = token; url = url }) ∷ []) behind.own
-          (made old g (entries.Granted (moment_at g m) permit.number (record { token = token; url = url })) mid step.1.1.2.2)
+          (made old g (entries.Granted (moment_at g m) permit.number (record { token = token; url = url })) mid step.1.1.1.2)
           behind.adds;
-      tells = subst P step.1.1.2.1 (behind.tells (moment_at g m) (since world g m reads));
+      tells = subst P step.1.1.1.1 (behind.tells (moment_at g m) (since world g m reads));
     }
 
 -- a start that is denied
 pub start_denied : (world : World) (permit : Pass) (m followed : ℕ)
     (denial : Denial) (body : List ℕ) (old new : DeskView) → world.reads m → body ≡ [] →
     Somewhere old (λ g g2. DeskStarts old g permit m (Err denial) g2 new) →
-    AddsEntries (λ (own : List Entry). (granted : ℕ) → IsSinceRead world granted → IsLast world permit.token permit.url (hops.No denial) body
+    AddsEntries (λ (own : List Entry). (granted : ℕ) → IsSinceRead world granted → IsLastHop world permit.token permit.url (hops.No denial) body
     (entries.Granted granted permit.number (record { token = permit.token; url = permit.url }) ∷ own)) old new
 start_denied world permit m followed denial body old new reads empty step = record {
   own = entries.StartDenied (moment_at step.0 m) permit.number denial.cause ∷ [];
-  adds = made old step.0 (entries.StartDenied (moment_at step.0 m) permit.number denial.cause) new step.1.1.2.2;
+  adds = made old step.0 (entries.StartDenied (moment_at step.0 m) permit.number denial.cause) new step.1.1.1.2;
   tells = λ granted since_granted. (
-    step.1.1.2.1.0,
+    step.1.1.1.1.0,
     inr (record {
       number = permit.number;
       granted = granted;
@@ -180,8 +177,8 @@ led followed url location next is =
 -- a hop of a fetch that gave no redirect is the last
 last_fetch : (world : World) (token url : List ℕ) (number : ℕ) (reason : Reason)
     (given : Result HttpReply WireFault) (body : List ℕ) (own : List Entry) →
-    IsFetch world token url (hop_of number reason given) given own → (IsRedirect given → ⊥) → body ≡ body_of given →
-    IsLast world token url (hop_of number reason given) body own
+    IsFetch world token url (hop_of number reason given) given own → (IsRedirect given → ⊥) → body ≡ body_given given →
+    IsLastHop world token url (hop_of number reason given) body own
 last_fetch world token url number reason (Ok reply) body own fetch ends is =
     record { given = Ok reply; fetch = fetch; ends = ends; body_is = is }
 last_fetch world token url number reason (Err fault) body own fetch ends is =
@@ -198,12 +195,12 @@ pub fetch_tells : (world : World) (token url : List ℕ) (number : ℕ)
 fetch_tells world token url number reason granted started followed given (ways.Ends hop body) since_granted since_started is goes =
     let own : List Entry = entries.Granted granted number (record { token = token; url = url }) ∷ entries.Started started number reason
     ∷ entries.Finished number ∷ [] in
-    subst (λ (h : Hop). IsLast world token url h body.items own) (sym goes.0)
+    subst (λ (h : Hop). IsLastHop world token url h body.items own) (sym goes.0)
     (last_fetch world token url number reason given body.items own
     (record { number = number; reason = reason; granted = granted; started = started; since_granted = since_granted; since_started = since_started; is_given = is; own_is = refl; tells = refl })
     goes.1 goes.2)
 fetch_tells world token url number reason granted started followed given (ways.Leads hop next) since_granted since_started is goes =
-    let on = led followed url (location_of given) next goes.1.1 in (
+    let on = led followed url (location_given given) next goes.1.1 in (
       record {
         given = given;
         fetch = record { number = number; reason = reason; granted = granted; started = started; since_granted = since_granted; since_started = since_started; is_given = is; own_is = refl; tells = goes.1.0 };
@@ -233,8 +230,8 @@ fetched_once world permit m followed run given way old mid new reads starts is g
   own = entries.Started (moment_at starts.0 m) permit.number run.reason ∷ entries.Finished permit.number ∷ [];
   adds = appended (entries_of old.marks) (entries_of mid.marks) (entries_of new.marks)
       (entries.Started (moment_at starts.0 m) permit.number run.reason ∷ []) (entries.Finished permit.number ∷ [])
-      (made old starts.0 (entries.Started (moment_at starts.0 m) permit.number run.reason) mid starts.1.1.2.3)
-      (made mid finishes.0 (entries.Finished permit.number) new finishes.1.1.2.1);
+      (made old starts.0 (entries.Started (moment_at starts.0 m) permit.number run.reason) mid starts.1.1.1.3)
+      (made mid finishes.0 (entries.Finished permit.number) new finishes.1.1.1.1);
   tells = λ granted since_granted. fetch_tells world permit.token permit.url permit.number run.reason granted (moment_at starts.0 m) followed given way
       since_granted (since world starts.0 m reads) is goes;
 }

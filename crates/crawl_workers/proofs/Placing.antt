@@ -7,7 +7,7 @@ use Rattle.std.proofs.lemmas.Bool.Decides.{nat_tests}
 use Rattle.job_line.specs.Sums.{weigh, weigh_all, weigh_below}
 use Rattle.crawl_workers.specs.declared.crew.Done.{Done}
 use Rattle.crawl_workers.specs.declared.report.Crawled.{Crawled}
-use Rattle.crawl_workers.specs.Crews.{AllPlaced, all_numbers, one_below, one_for}
+use Rattle.crawl_workers.specs.Crews.{AllPlaced, all_numbers, one_below, one_at_number}
 use Rattle.crawl_workers.specs.Shifts.{ArePlaced, numbers_of}
 
 -- what stands at a place after it was put there, and at every other place
@@ -24,10 +24,10 @@ get_other (y ∷ ys) (suc place) zero x differ = refl
 get_other (y ∷ ys) (suc place) (suc other) x differ = get_other ys place other x (λ same. differ (ap suc same))
 
 -- a number counts one for itself, and two that differ count nothing for each other
-pub one_for_itself : (n : ℕ) → one_for n n ≡ 1
+pub one_for_itself : (n : ℕ) → one_at_number n n ≡ 1
 one_for_itself n = grind (arith, nat_tests)
 
-pub none_for_other : (n m : ℕ) → one_for n m ≡ 0 → n ≢ m
+pub none_for_other : (n m : ℕ) → one_at_number n m ≡ 0 → n ≢ m
 none_for_other n m none = grind (arith, nat_tests)
 
 pub weigh-append : (weight : ℕ → ℕ) (xs ys : List ℕ) → weigh weight (xs ++ ys) ≡ weigh weight xs + weigh weight ys
@@ -35,7 +35,7 @@ weigh-append weight [] ys = omega arith
 weigh-append weight (x ∷ xs) ys = let later = weigh-append weight xs ys in omega (arith, later)
 
 -- the jobs stay at their places where each of these stays as it is
-pub placed_kept : (old new : List Crawled) (done : List Done) → ((n : ℕ) → 0 < weigh (one_for n) (numbers_of done) → slice_get new n ≡ slice_get old n)
+pub placed_kept : (old new : List Crawled) (done : List Done) → ((n : ℕ) → 0 < weigh (one_at_number n) (numbers_of done) → slice_get new n ≡ slice_get old n)
     → ArePlaced old done → ArePlaced new done
 placed_kept old new [] keeps placed = tt
 placed_kept old new (done ∷ later) keeps placed =
@@ -53,12 +53,12 @@ numbers_more [] last = refl
 numbers_more (done ∷ later) last = ap (λ numbers. done.number ∷ numbers) (numbers_more later last)
 
 -- one job more is put at a place of its own
-pub put_one : (outcomes : List Crawled) (done : List Done) (last : Done) → last.number < length outcomes → weigh (one_for last.number) (numbers_of done) ≡ 0
+pub put_one : (outcomes : List Crawled) (done : List Done) (last : Done) → last.number < length outcomes → weigh (one_at_number last.number) (numbers_of done) ≡ 0
     → ArePlaced outcomes done → ArePlaced (slice_set outcomes last.number last.crawled) (done ++ last ∷ [])
 put_one outcomes done last within none placed =
     placed_more _ done last
     (placed_kept outcomes (slice_set outcomes last.number last.crawled) done
-    (λ n some. get_other outcomes last.number n last.crawled (λ same. absurd (omega (arith, some, none, ap (λ m. weigh (one_for m) (numbers_of done)) same)))) placed)
+    (λ n some. get_other outcomes last.number n last.crawled (λ same. absurd (omega (arith, some, none, ap (λ m. weigh (one_at_number m) (numbers_of done)) same)))) placed)
     (get_put outcomes last.number last.crawled within)
 
 -- one below a count
@@ -69,11 +69,11 @@ pub one_below_some : (count n : ℕ) → 0 < one_below count n → n < count
 one_below_some count n some = grind (arith, nat_tests)
 
 -- the numbers below a count have each number below it once
-pub weigh_below-one_for : (n count : ℕ) → weigh_below (one_for n) count ≡ one_below count n
+pub weigh_below-one_for : (n count : ℕ) → weigh_below (one_at_number n) count ≡ one_below count n
 weigh_below-one_for n zero = grind (arith, nat_tests)
 weigh_below-one_for n (suc count) = below_more n count (weigh_below-one_for n count)
   where
-    below_more : (n count : ℕ) → weigh_below (one_for n) count ≡ one_below count n → weigh_below (one_for n) count + one_for n count ≡ one_below (suc count) n
+    below_more : (n count : ℕ) → weigh_below (one_at_number n) count ≡ one_below count n → weigh_below (one_at_number n) count + one_at_number n count ≡ one_below (suc count) n
     below_more n count so_far = grind (arith, nat_tests)
 
 -- what the numbers of some jobs, of one, and of others weigh
@@ -84,16 +84,16 @@ weigh_middle weight (done ∷ more) this later = let rest = weigh_middle weight 
 
 -- where no number comes twice, one job's place is a place of its own
 pub own_place : (done : List Done) (this : Done) (later : List Done) (count : ℕ)
-    → weigh (one_for this.number) (numbers_of (done ++ this ∷ later)) ≤ one_below count this.number
-    → (this.number < count) × (weigh (one_for this.number) (numbers_of done) ≡ 0)
+    → weigh (one_at_number this.number) (numbers_of (done ++ this ∷ later)) ≤ one_below count this.number
+    → (this.number < count) × (weigh (one_at_number this.number) (numbers_of done) ≡ 0)
 own_place done this later count few =
-    let middle = weigh_middle (one_for this.number) done this later in
+    let middle = weigh_middle (one_at_number this.number) done this later in
     let one = one_for_itself this.number in
     let at_most = one_below_few count this.number in
     (one_below_some count this.number (omega (arith, few, middle, one)), omega (arith, few, middle, one, at_most))
 
 -- the jobs of all workers stay at their places where each of these stays as it is
-pub all_placed_kept : (old new : List Crawled) (lists : List (List Done)) → ((n : ℕ) → 0 < weigh_all (one_for n) (all_numbers lists) → slice_get new n ≡ slice_get old n)
+pub all_placed_kept : (old new : List Crawled) (lists : List (List Done)) → ((n : ℕ) → 0 < weigh_all (one_at_number n) (all_numbers lists) → slice_get new n ≡ slice_get old n)
     → AllPlaced old lists → AllPlaced new lists
 all_placed_kept old new [] keeps placed = tt
 all_placed_kept old new (done ∷ lists) keeps placed =
@@ -112,15 +112,15 @@ all_weigh_middle weight (done ∷ more) this later = let rest = all_weigh_middle
 
 -- one worker's jobs are put at places of their own
 pub places_one : (old new : List Crawled) (lists : List (List Done)) (this : List Done) (later : List (List Done)) (count : ℕ)
-    → ((n : ℕ) → weigh_all (one_for n) (all_numbers (lists ++ this ∷ later)) ≤ one_below count n)
-    → ((n : ℕ) → weigh (one_for n) (numbers_of this) ≡ 0 → slice_get new n ≡ slice_get old n)
+    → ((n : ℕ) → weigh_all (one_at_number n) (all_numbers (lists ++ this ∷ later)) ≤ one_below count n)
+    → ((n : ℕ) → weigh (one_at_number n) (numbers_of this) ≡ 0 → slice_get new n ≡ slice_get old n)
     → AllPlaced old lists → ArePlaced new this → AllPlaced new (lists ++ this ∷ [])
 places_one old new lists this later count once others placed here =
     all_placed_more new lists this
-    (all_placed_kept old new lists (λ n some. others n (none n some (once n) (all_weigh_middle (one_for n) lists this later) (one_below_few count n))) placed)
+    (all_placed_kept old new lists (λ n some. others n (none n some (once n) (all_weigh_middle (one_at_number n) lists this later) (one_below_few count n))) placed)
     here
   where
-    none : (n : ℕ) → 0 < weigh_all (one_for n) (all_numbers lists) → weigh_all (one_for n) (all_numbers (lists ++ this ∷ later)) ≤ one_below count n
-        → weigh_all (one_for n) (all_numbers (lists ++ this ∷ later)) ≡ weigh_all (one_for n) (all_numbers lists) + (weigh (one_for n) (numbers_of this) + weigh_all (one_for n) (all_numbers later))
-        → one_below count n ≤ 1 → weigh (one_for n) (numbers_of this) ≡ 0
+    none : (n : ℕ) → 0 < weigh_all (one_at_number n) (all_numbers lists) → weigh_all (one_at_number n) (all_numbers (lists ++ this ∷ later)) ≤ one_below count n
+        → weigh_all (one_at_number n) (all_numbers (lists ++ this ∷ later)) ≡ weigh_all (one_at_number n) (all_numbers lists) + (weigh (one_at_number n) (numbers_of this) + weigh_all (one_at_number n) (all_numbers later))
+        → one_below count n ≤ 1 → weigh (one_at_number n) (numbers_of this) ≡ 0
     none n some once middle few = omega (arith, some, once, middle, few)

@@ -12,7 +12,7 @@ use Rattle.job_line.specs.Sums.{weigh_all, weigh_below}
 use Rattle.crawl_workers.specs.declared.crew.Done.{Done}
 use Rattle.crawl_job.specs.declared.job.Job.{Job}
 use Rattle.crawl_workers.specs.declared.report.Crawled.{Crawled}
-use Rattle.crawl_workers.specs.Crews.{AllPlaced, EachHasDone, all_numbers, one_below, one_for}
+use Rattle.crawl_workers.specs.Crews.{AllPlaced, EachHasDone, all_numbers, one_below, one_at_number}
 use Rattle.crawl_workers.specs.Shifts.{IsShift, Worked}
 use Rattle.crawl_workers.specs.World.{World}
 use Rattle.crawl_workers.proofs.Placing.{weigh_below-one_for}
@@ -31,9 +31,9 @@ numbers_drawn world jobs (ns ∷ nss) (ds ∷ dss) (ms ∷ mss) did = λ i. did.
 -- no job was done twice
 pub done_once : (world : World) (jobs : List Job) (drawn : List (List ℕ)) (lists : List (List Done)) (receipts : List (List Mark)) (count : ℕ)
     → EachHasDone world jobs drawn lists receipts → ((weight : ℕ → ℕ) → weigh_all weight drawn ≡ weigh_below weight count)
-    → (n : ℕ) → weigh_all (one_for n) (all_numbers lists) ≤ one_below count n
+    → (n : ℕ) → weigh_all (one_at_number n) (all_numbers lists) ≤ one_below count n
 done_once world jobs drawn lists receipts count did each n =
-    omega (arith, ap (weigh_all (one_for n)) (numbers_drawn world jobs drawn lists receipts did), each (one_for n), weigh_below-one_for n count)
+    omega (arith, ap (weigh_all (one_at_number n)) (numbers_drawn world jobs drawn lists receipts did), each (one_at_number n), weigh_below-one_for n count)
 
 -- each worker's jobs stand in the report
 pub all_worked : (world : World) (jobs : List Job) (outcomes : List Crawled) (drawn : List (List ℕ)) (lists : List (List Done)) (receipts : List (List Mark))

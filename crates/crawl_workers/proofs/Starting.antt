@@ -16,7 +16,7 @@ use Rattle.crawl_job.specs.declared.hop.Refusal.TheVariants as refusals
 use Rattle.crawl_job.specs.declared.job.Job.{Job}
 use Rattle.crawl_job.specs.declared.job.Outcome.{Outcome}
 use Rattle.crawl_workers.specs.OutcomeLaws.{FetchesAreCounted, FetchesAreStarted, numbers_fetched, numbers_started}
-use Rattle.crawl_workers.specs.Outcomes.{AfterRefresh, AreHops, Follows, IsEnd, IsFetch, IsFollowed, IsLast, IsStop, IsStopped, MayRefresh, Works, fetches_in, hop_of}
+use Rattle.crawl_workers.specs.Outcomes.{AfterRefresh, AreHops, FollowsHops, IsEnd, IsFetch, IsFollowed, IsLastHop, IsStop, IsStopped, MayRefresh, Works, fetches_in, hop_of}
 use Rattle.crawl_workers.specs.Refreshes.{entries_of}
 use Rattle.crawl_workers.specs.World.{World}
 
@@ -69,7 +69,7 @@ fetch_starts world token url hop given own fetch =
 
 -- the last hop by itself is started by its number, where it is a fetch
 last_starts : (world : World) (token url : List ℕ) (hop : Hop) (body : List ℕ)
-    (own : List Entry) → IsLast world token url hop body own → numbers_started own ≡ numbers_fetched (hop ∷ [])
+    (own : List Entry) → IsLastHop world token url hop body own → numbers_started own ≡ numbers_fetched (hop ∷ [])
 last_starts world token url (hops.Page number reason status size cut) body own last =
     fetch_starts world token url (hops.Page number reason status size cut) last.given own last.fetch
 last_starts world token url (hops.Fault number fault) body own last =
@@ -95,7 +95,7 @@ end_starts : (world : World) (token url : List ℕ) (followed : ℕ) (last : Lis
     numbers_started own ≡ numbers_fetched last
 end_starts world token url followed [] body own end = absurd end
 end_starts world token url followed (hop ∷ []) body own end =
-    after_start world url (IsLast world token url hop body) own (numbers_fetched (hop ∷ [])) end
+    after_start world url (IsLastHop world token url hop body) own (numbers_fetched (hop ∷ [])) end
     (λ behind last. last_starts world token url hop body behind last)
 end_starts world token url followed (hop ∷ (stop ∷ [])) body own end =
     after_start world url (IsStopped world token url followed hop stop body) own (numbers_fetched (hop ∷ (stop ∷ []))) end
@@ -107,7 +107,7 @@ end_starts world token url followed (hop ∷ (stop ∷ (other ∷ later))) body 
 
 -- so are the redirects that were followed
 follow_starts : (world : World) (token url end : List ℕ) (way : List Hop)
-    (own : List Entry) → Follows world token url way end own → numbers_started own ≡ numbers_fetched way
+    (own : List Entry) → FollowsHops world token url way end own → numbers_started own ≡ numbers_fetched way
 follow_starts world token url end [] own follows = ap numbers_started follows.1
 follow_starts world token url end (hop ∷ later) own follows =
     let first = follows.1.0 in

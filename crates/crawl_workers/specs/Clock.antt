@@ -4,6 +4,6 @@ use Rattle.std.specs.Time.{system_time_nanos}
 use Rattle.std.specs.declared.time.SystemTime.{SystemTime}
 
 -- the whole seconds of a reading, and 0 where there is none
-abbrev pub seconds_of : {E : Type 0} → Result SystemTime E → ℕ
-seconds_of (Ok time) = system_time_nanos time / 1_000_000_000
-seconds_of (Err error) = 0
+abbrev pub seconds_read : {E : Type 0} → Result SystemTime E → ℕ
+seconds_read (Ok time) = system_time_nanos time / 1_000_000_000
+seconds_read (Err error) = 0

@@ -3,7 +3,7 @@
 use Rattle.std.specs.Prelude.{◌≡◌, ℕ, suc, ◌+◌, ◌++◌, ◌==◌, nat_lt, Bool, true, false, List, [], ◌∷◌, length, map, Option, None, Some, Ok, Result, IfOk}
 use Rattle.std.specs.Option.{IsSomeAnd}
 use Rattle.gate_lock.specs.Desks.{DeskView}
-use Rattle.gate_lock.specs.Settling.{one_if}
+use Rattle.authority_cache.specs.Calls.{one_if}
 use Rattle.gate_history.specs.declared.entry.Entry.{Entry}
 use Rattle.gate_lock.specs.declared.mark.Mark.{Mark}
 use Rattle.crawl_workers.specs.declared.crew.Done.{Done}
@@ -35,8 +35,8 @@ abbrev pub newcomer : MemberView
 newcomer = record { drawn = []; done = []; end = None }
 
 -- a worker has ended; and where it has receipts, it did the jobs that it drew
-abbrev pub Ends : World → List Job → MemberView → Type 0
-Ends world jobs worker = IsSomeAnd worker.end (λ end. IfOk end (HasDone world jobs worker.drawn worker.done))
+abbrev pub HasEnded : World → List Job → MemberView → Type 0
+HasEnded world jobs worker = IsSomeAnd worker.end (λ end. IfOk end (HasDone world jobs worker.drawn worker.done))
 
 -- what workers hand over: what they drew, the jobs that they did, and the marks of their desks
 pub record HandoverView : Type 0 where
@@ -84,8 +84,8 @@ AllPlaced outcomes [] = Unit {0}
 AllPlaced outcomes (done ∷ lists) = ArePlaced outcomes done × AllPlaced outcomes lists
 
 -- one for this number, and nothing for every other one
-abbrev pub one_for : ℕ → ℕ → ℕ
-one_for n m = one_if (m == n)
+abbrev pub one_at_number : ℕ → ℕ → ℕ
+one_at_number n m = one_if (m == n)
 
 -- one for a number below the count, and nothing for every other one
 abbrev pub one_below : ℕ → ℕ → ℕ

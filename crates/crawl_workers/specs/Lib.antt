@@ -7,7 +7,7 @@ pub mod Network
 pub mod OutcomeLaws
 pub mod Outcomes
 pub mod Refreshes
+pub mod ScriptedSites
 pub mod Shifts
-pub mod Sites
 pub mod WaysOn
 pub mod World

@@ -30,14 +30,14 @@ hop_of number reason (Ok reply) = hops.Page number reason reply.status (length r
 hop_of number reason (Err fault) = hops.Fault number fault
 
 -- the body that was given
-abbrev pub body_of : Result HttpReply WireFault → List ℕ
-body_of (Ok reply) = reply.body.items
-body_of (Err fault) = []
+abbrev pub body_given : Result HttpReply WireFault → List ℕ
+body_given (Ok reply) = reply.body.items
+body_given (Err fault) = []
 
 -- the Location that was given
-abbrev pub location_of : Result HttpReply WireFault → Option (List ℕ)
-location_of (Ok reply) = option_map string_bytes reply.location
-location_of (Err fault) = None
+abbrev pub location_given : Result HttpReply WireFault → Option (List ℕ)
+location_given (Ok reply) = option_map string_bytes reply.location
+location_given (Err fault) = None
 
 -- a reply was given whose status is that of a redirect
 abbrev pub IsRedirect : Result HttpReply WireFault → Type 0
@@ -116,7 +116,7 @@ pub record IsLastFetch
   pub given : Result HttpReply WireFault
   pub fetch : IsFetch world token url hop given own
   pub ends : IsRedirect given → ⊥
-  pub body_is : body ≡ body_of given
+  pub body_is : body ≡ body_given given
 
 -- a fetch behind which a hop comes at another URL: a redirect leads there
 pub record IsFollowed
@@ -126,7 +126,7 @@ pub record IsFollowed
   pub given : Result HttpReply WireFault
   pub fetch : IsFetch world token url hop given own
   pub redirects : IsRedirect given
-  pub leads : location_target url (location_of given) ≡ Ok next
+  pub leads : location_target url (location_given given) ≡ Ok next
 
 -- why a redirect is not followed, with so many followed before it: it leads nowhere, or there is no memory
 -- for where it leads
@@ -143,40 +143,40 @@ pub record IsStopped
   pub given : Result HttpReply WireFault
   pub fetch : IsFetch world token url hop given own
   pub redirects : IsRedirect given
-  pub stops : IsStop followed (redirect_target followed url (location_of given)) stop
+  pub stops : IsStop followed (redirect_target followed url (location_given given)) stop
   pub body_is : body ≡ []
 
 -- the last hop by itself: a fetch that gave no redirect, a denial, or a refusal
-abbrev pub IsLast :
+abbrev pub IsLastHop :
     World → List ℕ → List ℕ → Hop → List ℕ → List Entry → Type 0
-IsLast world token url (hops.Page number reason status size cut) body own =
+IsLastHop world token url (hops.Page number reason status size cut) body own =
     IsLastFetch world token url (hops.Page number reason status size cut) body own
-IsLast world token url (hops.Fault number fault) body own =
+IsLastHop world token url (hops.Fault number fault) body own =
     IsLastFetch world token url (hops.Fault number fault) body own
-IsLast world token url (hops.No denial) body own =
+IsLastHop world token url (hops.No denial) body own =
     (denial.url ≡ url) × (IsAskDenied world token url denial.cause own ⊎ IsStartDenied world token url denial.cause own)
     × (body ≡ [])
-IsLast world token url (hops.Refused refusal) body own = (own ≡ []) × (body ≡ [])
-IsLast world token url (hops.Stop stop) body own = ⊥
+IsLastHop world token url (hops.Refused refusal) body own = (own ≡ []) × (body ≡ [])
+IsLastHop world token url (hops.Stop stop) body own = ⊥
 
 -- the last hops at a URL, with so many redirects followed to it: the last by itself, or a redirect and why
 -- it is not followed
 abbrev pub IsEnd :
     World → List ℕ → List ℕ → ℕ → List Hop → List ℕ → List Entry → Type 0
 IsEnd world token url followed [] body own = ⊥
-IsEnd world token url followed (hop ∷ []) body own = AfterRefresh world url (IsLast world token url hop body) own
+IsEnd world token url followed (hop ∷ []) body own = AfterRefresh world url (IsLastHop world token url hop body) own
 IsEnd world token url followed (hop ∷ (stop ∷ [])) body own =
     AfterRefresh world url (IsStopped world token url followed hop stop body) own
 IsEnd world token url followed (hop ∷ (stop ∷ (other ∷ later))) body own = ⊥
 
 -- the hops are redirects from the one URL to the other, each followed from where the one before it led
-abbrev pub Follows :
+abbrev pub FollowsHops :
     World → List ℕ → List ℕ → List Hop → List ℕ → List Entry → Type 0
-Follows world token url [] end own = (url ≡ end) × (own ≡ [])
-Follows world token url (hop ∷ later) end own =
+FollowsHops world token url [] end own = (url ≡ end) × (own ≡ [])
+FollowsHops world token url (hop ∷ later) end own =
     (next : List ℕ) × ((first : List Entry) × ((rest : List Entry) ×
     (AfterRefresh world url (IsFollowed world token url hop next) first
-    × Follows world token next later end rest × (own ≡ first ++ rest))))
+    × FollowsHops world token next later end rest × (own ≡ first ++ rest))))
 
 -- hops and a body for a token and a URL: redirects, at most five, that are followed, and how they end
 pub record AreHops
@@ -190,7 +190,7 @@ pub record AreHops
   pub back : List Entry
   pub are_all : all ≡ way ++ last
   pub are_few : length way ≤ most_redirects
-  pub follows : Follows world token url way end front
+  pub follows : FollowsHops world token url way end front
   pub ends : IsEnd world token end (length way) last body back
   pub own_is : own ≡ front ++ back
 

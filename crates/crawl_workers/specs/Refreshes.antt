@@ -5,7 +5,7 @@ use Rattle.path_normal.specs.PageText.{robots_url_of}
 use Rattle.robots_verdict.specs.declared.answer.Closure.TheVariants as closures
 use Rattle.robots_verdict.specs.declared.said.Said.{Said}
 use Rattle.robots_verdict.specs.declared.said.Said.TheVariants.{Closed}
-use Rattle.authority_cache.specs.Lives.{greatest_life}
+use Rattle.authority_cache.specs.Lives.{greatest_life, Timed}
 use Rattle.gate_history.specs.History.{begins}
 use Rattle.gate_core.specs.declared.refusal.BeginRefusal.{BeginRefusal}
 use Rattle.gate_core.specs.declared.state.Standing.{Standing}
@@ -32,16 +32,16 @@ abbrev pub entries_of : List Mark → List Entry
 entries_of ms = map (λ m. m.entry) ms
 
 -- what came of a fetch of a robots file, as a walk reads it
-abbrev pub reply_of : Result HttpReply WireFault → RobotsReply
-reply_of (Ok reply) = Status reply.status reply.location reply.body reply.max_age
-reply_of (Err faults.Coding) = CodingFault
-reply_of (Err fault) = NetworkFault
+abbrev pub robots_reply_of : Result HttpReply WireFault → RobotsReply
+robots_reply_of (Ok reply) = Status reply.status reply.location reply.body reply.max_age
+robots_reply_of (Err faults.Coding) = CodingFault
+robots_reply_of (Err fault) = NetworkFault
 
 -- the results are redirects from the one URL to the other, each given for the URL to which the one before it led
 abbrev pub AreLed : (List ℕ → Result HttpReply WireFault → Type 0) → List ℕ → List (Result HttpReply WireFault) → List ℕ → Type 0
 AreLed gives url [] end = url ≡ end
 AreLed gives url (given ∷ later) end =
-    gives url given × ((next : List ℕ) × (Leads url (reply_of given) next × AreLed gives next later end))
+    gives url given × ((next : List ℕ) × (Leads url (robots_reply_of given) next × AreLed gives next later end))
 
 -- fetches led to this URL from that of the authority's robots file
 abbrev pub IsOnWalk : (List ℕ → Result HttpReply WireFault → Type 0) → List ℕ → List ℕ → Type 0
@@ -57,7 +57,7 @@ pub record IsFetched
   pub last : Result HttpReply WireFault
   pub are_led : AreLed gives (robots_url_of authority) way url
   pub is_given : gives url last
-  pub decided : AnswerOf authority (map reply_of (way ++ last ∷ [])) says life
+  pub decided : AnswerOf authority (map robots_reply_of (way ++ last ∷ [])) says life
 
 -- where memory is refused, the answer is closed, for the greatest life
 abbrev pub IsUndecided : Said → ℕ → Type 0
@@ -97,20 +97,19 @@ pub record DoesNothing (old new : DeskView) : Type 0 where
   pub out : KeepsOut old new
 
 -- a turn begins where no answer is in force, and nothing is done where one is or the begin is refused
-abbrev pub MayBegin : World → List ℕ → Result (Option Errand) BeginRefusal → DeskView → DeskView → Type 0
-MayBegin world authority (Ok (Some turn)) old new = BeginsStale world authority turn old new
-MayBegin world authority (Ok None) old new = DoesNothing old new
-MayBegin world authority (Err refusal) old new = DoesNothing old new
+abbrev pub MayBeginErrand : World → List ℕ → Result (Option Errand) BeginRefusal → DeskView → DeskView → Type 0
+MayBeginErrand world authority (Ok (Some turn)) old new = BeginsStale world authority turn old new
+MayBeginErrand world authority (Ok None) old new = DoesNothing old new
+MayBeginErrand world authority (Err refusal) old new = DoesNothing old new
 
 -- a turn brings the answer that fetches decide: a step of the desk, and the answer's word
 pub record Brings (world : World) (turn : Errand) (word : Standing) (old new : DeskView) : Type 0 where
-  pub says : Said
-  pub life : ℕ
+  pub answer : Timed
   pub arrived : ℕ
   pub read_arrived : world.reads arrived
-  pub brings : IsBrought (world.gives robots_limit) turn.authority says life
-  pub arrives : Somewhere old (λ before behind. DeskArrives old before turn says life arrived behind new)
-  pub word_is : word ≡ standing_as says
+  pub brings : IsBrought (world.gives robots_limit) turn.authority answer.says answer.life
+  pub arrives : Somewhere old (λ before behind. DeskArrives old before turn answer arrived behind new)
+  pub word_is : word ≡ standing_as answer.says
 
 -- a turn of the authority began, and brought such an answer
 pub record IsRefreshed (world : World) (authority : List ℕ) (word : Standing) (old new : DeskView) : Type 0 where

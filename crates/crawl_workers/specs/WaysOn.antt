@@ -15,7 +15,7 @@ use Rattle.crawl_job.specs.declared.hop.Hop.TheVariants as hops
 use Rattle.crawl_job.specs.declared.hop.Refusal.TheVariants as refusals
 use Rattle.crawl_workers.specs.declared.way_on.WayOn.{WayOn}
 use Rattle.crawl_workers.specs.declared.way_on.WayOn.TheVariants as ways
-use Rattle.crawl_workers.specs.Outcomes.{IsFollowed, IsLast, IsRedirect, IsStop, IsStopped, body_of, hop_of, location_of}
+use Rattle.crawl_workers.specs.Outcomes.{IsFollowed, IsLastHop, IsRedirect, IsStop, IsStopped, body_given, hop_of, location_given}
 use Rattle.crawl_workers.specs.Refreshes.{entries_of}
 use Rattle.crawl_workers.specs.World.{World}
 
@@ -42,18 +42,18 @@ LeadsOn followed target page (ways.Stops hop stop) = (hop ≡ page) × IsStop fo
 -- what comes behind a fetch: nothing behind what is no redirect, else where it leads
 abbrev pub GoesOn : ℕ → Reason → ℕ → List ℕ → Result HttpReply WireFault → WayOn → Type 0
 GoesOn number reason followed url given (ways.Ends hop body) =
-    (hop ≡ hop_of number reason given) × (IsRedirect given → ⊥) × (body.items ≡ body_of given)
+    (hop ≡ hop_of number reason given) × (IsRedirect given → ⊥) × (body.items ≡ body_given given)
 GoesOn number reason followed url given (ways.Leads hop next) =
     IsRedirect given
-    × LeadsOn followed (redirect_target followed url (location_of given)) (hop_of number reason given) (ways.Leads hop next)
+    × LeadsOn followed (redirect_target followed url (location_given given)) (hop_of number reason given) (ways.Leads hop next)
 GoesOn number reason followed url given (ways.Stops hop stop) =
     IsRedirect given
-    × LeadsOn followed (redirect_target followed url (location_of given)) (hop_of number reason given) (ways.Stops hop stop)
+    × LeadsOn followed (redirect_target followed url (location_given given)) (hop_of number reason given) (ways.Stops hop stop)
 
 -- the entries of a hop, behind a refresh of its authority
 abbrev pub TellsWay :
     World → List ℕ → List ℕ → ℕ → WayOn → List Entry → Type 0
-TellsWay world token url followed (ways.Ends hop body) own = IsLast world token url hop body.items own
+TellsWay world token url followed (ways.Ends hop body) own = IsLastHop world token url hop body.items own
 TellsWay world token url followed (ways.Leads hop next) own =
     IsFollowed world token url hop next own × (followed < most_redirects)
 TellsWay world token url followed (ways.Stops hop stop) own = IsStopped world token url followed hop stop [] own

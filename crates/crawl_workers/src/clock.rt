@@ -1,6 +1,6 @@
 //! The clock that a gate's moments are read from.
 ghost use Rattle.std.specs.Prelude.{◌≡◌};
-ghost use Rattle.crawl_workers.specs.Clock.{seconds_of};
+ghost use Rattle.crawl_workers.specs.Clock.{seconds_read};
 
 use std::time::{SystemTime, UNIX_EPOCH};
 use std::{io, time};
@@ -39,7 +39,7 @@ impl<R: time::Clock> Clock for SystemClock<R> {
 
 // The whole seconds of a reading of the system's clock.
 fn whole_seconds(reading: io::Result<SystemTime>) -> u64
-    ensures { result ≡ seconds_of reading }
+    ensures { result ≡ seconds_read reading }
 {
     let Ok(time) = reading else {
         return 0;

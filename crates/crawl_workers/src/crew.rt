@@ -3,7 +3,7 @@
 ghost use Rattle.std.specs.Prelude.{◌≡◌, [], IfOk, OnOk, Some};
 ghost use Rattle.std.specs.List.{slice_get};
 ghost use Rattle.gate_lock.specs.Desks.{KeepsOut};
-ghost use Rattle.crawl_workers.specs.Crews.{DoesJob, Ends, HasDone, newcomer};
+ghost use Rattle.crawl_workers.specs.Crews.{DoesJob, HasEnded, HasDone, newcomer};
 ghost use Rattle.crawl_workers.specs.World.{world_of};
 
 use crate::clock::Clock;
@@ -87,7 +87,8 @@ impl<F: Fetcher, C: Clock, W: Watcher> Crew<'_, F, C, W> {
         worker: &mut Member<G>,
     )
         requires new { worker.old ≡ newcomer }
-        ensures { Ends (world_of (F.gives self.now.fetcher.now) (C.reads self.now.clock.now)) self.now.jobs.now worker.new }
+        ensures { HasEnded (world_of (F.gives self.now.fetcher.now) (C.reads self.now.clock.now))
+            self.now.jobs.now worker.new }
     {
         let end = self.man_desk(rt, alloc, gate, &mut worker.drawn, &mut worker.done);
         worker.end = Some(end);
@@ -103,7 +104,8 @@ impl<F: Fetcher, C: Clock, W: Watcher> Crew<'_, F, C, W> {
         done: &mut Vec<Done>,
     ) -> Result<Receipts<G>, ShiftFault>
         requires new { (drawn.old.items ≡ []) × (done.old.items ≡ []) }
-        ensures ok { IfOk result (λ marks. HasDone (world_of (F.gives self.now.fetcher.now) (C.reads self.now.clock.now))
+        ensures ok { IfOk result (λ marks. HasDone
+            (world_of (F.gives self.now.fetcher.now) (C.reads self.now.clock.now))
             self.now.jobs.now drawn.new.items done.new.items marks) }
     {
         let mut desk = gate.desk(rt, alloc)?;
@@ -125,7 +127,8 @@ impl<F: Fetcher, C: Clock, W: Watcher> Crew<'_, F, C, W> {
     ) -> Result<(), AllocError>
         requires new { (drawn.old.items ≡ []) × (done.old.items ≡ []) × (desk.old.marks ≡ []) }
         ensures out { KeepsOut desk.old desk.new }
-        ensures ok { OnOk result (HasDone (world_of (F.gives self.now.fetcher.now) (C.reads self.now.clock.now))
+        ensures ok { OnOk result (HasDone
+            (world_of (F.gives self.now.fetcher.now) (C.reads self.now.clock.now))
             self.now.jobs.now drawn.new.items done.new.items desk.new.marks) }
     {
         'draws: for _ in rt.forever() {
@@ -149,10 +152,12 @@ impl<F: Fetcher, C: Clock, W: Watcher> Crew<'_, F, C, W> {
         drawn: &mut Vec<u64>,
         done: &mut Vec<Done>,
     ) -> Result<(), AllocError>
-        requires so_far { HasDone (world_of (F.gives self.now.fetcher.now) (C.reads self.now.clock.now))
+        requires so_far { HasDone
+            (world_of (F.gives self.now.fetcher.now) (C.reads self.now.clock.now))
             self.now.jobs.now drawn.old.items done.old.items desk.old.marks }
         ensures out { KeepsOut desk.old desk.new }
-        ensures ok { OnOk result (HasDone (world_of (F.gives self.now.fetcher.now) (C.reads self.now.clock.now))
+        ensures ok { OnOk result (HasDone
+            (world_of (F.gives self.now.fetcher.now) (C.reads self.now.clock.now))
             self.now.jobs.now drawn.new.items done.new.items desk.new.marks) }
     {
         let Some(job) = self.jobs.get(number as usize) else {
@@ -178,7 +183,8 @@ impl<F: Fetcher, C: Clock, W: Watcher> Crew<'_, F, C, W> {
         requires { slice_get self.now.jobs.now number ≡ Some job.now }
         ensures number { IfOk result (λ done. done.number ≡ number) }
         ensures out { KeepsOut desk.old desk.new }
-        ensures ok { IfOk result (λ done. DoesJob (world_of (F.gives self.now.fetcher.now) (C.reads self.now.clock.now))
+        ensures ok { IfOk result (λ done. DoesJob
+            (world_of (F.gives self.now.fetcher.now) (C.reads self.now.clock.now))
             self.now.jobs.now done desk.old desk.new) }
     {
         let worker = Worker {

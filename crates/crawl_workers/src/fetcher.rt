@@ -63,10 +63,13 @@ pub trait Fetcher {
 
     /// The time that the fetches of one walk over the redirects of a robots file may take together, which
     /// begins now; none where they have no limit, or no clock can be read.
-    fn begin_walk(&self) -> Option<Deadline>;
+    fn begin_walk(&self) -> Option<Deadline> {
+        None
+    }
 
-    /// Has all fetches fail from now on, those under way as soon as that can be.
-    fn stop(&self);
+    /// Has all fetches fail from now on, those under way as soon as that can be. Fetches that take no
+    /// time need not be stopped.
+    fn stop(&self) {}
 
     /// Fetches a page, and gives at most `limit` octets of its body.
     fn load_page(

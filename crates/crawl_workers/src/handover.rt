@@ -34,9 +34,9 @@ impl<G: Gate> Model for Handover<G> {
       receipts = h.receipts.items;
     } };
 
-    ghost invariant = { λ h. (max_workers ≤ vec_capacity h.drawn) × (max_workers ≤ vec_capacity h.done)
-        × (max_workers ≤ vec_capacity h.receipts) × (vec_len h.done ≡ vec_len h.drawn)
-        × (vec_len h.receipts ≡ vec_len h.drawn) };
+    ghost invariant = { λ h. (max_workers ≤ vec_capacity h.drawn)
+        × (max_workers ≤ vec_capacity h.done) × (max_workers ≤ vec_capacity h.receipts)
+        × (vec_len h.done ≡ vec_len h.drawn) × (vec_len h.receipts ≡ vec_len h.drawn) };
 }
 
 impl<G: Gate> Handover<G> {

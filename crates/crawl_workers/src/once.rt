@@ -8,7 +8,8 @@ ghost use Rattle.crawl_workers.specs.Crews.{weigh_taken};
 pub(crate) fn are_all_once(lists: &[Vec<u64>], places: &mut [bool]) -> bool
     requires { places.old ≡ replicate (length places.old) false }
     ensures { IsTrue result → (weight : ℕ → ℕ) →
-        weigh_all weight (map (λ list. list.items) lists.now) ≡ weigh_below weight (length places.old) }
+        weigh_all weight (map (λ list. list.items) lists.now)
+        ≡ weigh_below weight (length places.old) }
 {
     for list in lists {
         if !take_each(list.as_slice(), places) {
@@ -36,7 +37,8 @@ fn take_each(list: &[u64], places: &mut [bool]) -> bool
 
 // Whether each place is taken.
 fn are_taken(places: &[bool]) -> bool
-    ensures { IsTrue result → (weight : ℕ → ℕ) → weigh_taken weight 0 places.now ≡ weigh_below weight (length places.now) }
+    ensures { IsTrue result → (weight : ℕ → ℕ) →
+        weigh_taken weight 0 places.now ≡ weigh_below weight (length places.now) }
 {
     for place in places {
         if !*place {

@@ -1,18 +1,16 @@
 //! `refresh`: a robots answer of an authority, fetched anew.
 //! RFC 9309, sections 2.3.1 and 2.4.
 ghost use Rattle.std.specs.Prelude.{◌≡◌};
-ghost use Rattle.robots_verdict.specs.Answer.{said, spares_of};
-ghost use Rattle.gate_core.specs.States.{standing_as};
 ghost use Rattle.gate_lock.specs.Desks.{HasOut, KeepsOut};
 ghost use Rattle.crawl_workers.specs.Limits.{robots_limit};
-ghost use Rattle.crawl_workers.specs.Refreshes.{Brings, IsBrought, IsUndecided, Refreshes, reply_of};
+ghost use Rattle.crawl_workers.specs.Refreshes.{Brings, IsBrought, IsUndecided, Refreshes, robots_reply_of};
 ghost use Rattle.crawl_workers.specs.World.{world_of};
 
 use crate::clock::Clock;
 use crate::event::{ClosedBy, Event};
 use crate::fetcher::Fetcher;
 use crate::worker::Notes;
-use authority_cache::LIFE;
+use authority_cache::{LIFE, TimedAnswer};
 use gate_core::{BeginRefusal, Standing};
 use gate_lock::{Desk, Gate, RobotsTurn};
 use http_wire::{HttpReply, WireFault};
@@ -35,7 +33,8 @@ pub fn refresh<G: Gate, F: Fetcher, C: Clock, R: Wait>(
     fetcher: &F,
     clock: &C,
 ) -> Result<Standing, BeginRefusal>
-    ensures refreshes { Refreshes (world_of (F.gives fetcher.now) (C.reads clock.now)) authority.now result desk.old desk.new }
+    ensures refreshes { Refreshes (world_of (F.gives fetcher.now) (C.reads clock.now))
+        authority.now result desk.old desk.new }
     ensures no { desk.new.no ≡ desk.old.no }
     ensures out { KeepsOut desk.old desk.new }
 {
@@ -54,32 +53,34 @@ pub(crate) fn bring_answer<G: Gate, F: Fetcher, C: Clock, N: Notes, R: Wait>(
     notes: &N,
 ) -> Standing
     requires own { turn.desk ≡ desk.old.no }
-    ensures brings { Brings (world_of (F.gives fetcher.now) (C.reads clock.now)) turn result desk.old desk.new }
+    ensures brings { Brings (world_of (F.gives fetcher.now) (C.reads clock.now))
+        turn result desk.old desk.new }
     ensures no { desk.new.no ≡ desk.old.no }
     ensures out { HasOut desk.old desk.new 0 0 0 0 0 1 }
 {
     let mut why = ClosedBy::NoMemory;
-    let (answer, life) = fetch_answer(alloc, &turn, fetcher, &mut why);
-    let closed_by = match &answer {
+    let answer = fetch_answer(alloc, &turn, fetcher, &mut why);
+    let closed_by = match answer.answer() {
         Answer::Closed(_) => Some(why),
         Answer::Rules(_) | Answer::Open(_) => None,
     };
     notes.sees(Event::Brought(turn.authority().text(), closed_by));
-    let word = word_of(&answer);
-    desk.arrive(rt, turn, answer, life, clock.now());
+    let word = Standing::of(answer.answer());
+    desk.arrive(rt, turn, answer, clock.now());
     word
 }
 
-// The answer that the authority's robots file gives, and its life in seconds. `why` is told what decided
-// it, where that was a reply.
+// The answer that the authority's robots file gives, with its life. `why` is told what decided it, where
+// that was a reply.
 fn fetch_answer<G: Gate, F: Fetcher>(
     alloc: Global,
     turn: &RobotsTurn<G>,
     fetcher: &F,
     why: &mut ClosedBy,
-) -> (Answer, u64)
-    ensures brings { IsBrought (F.gives fetcher.now robots_limit) turn.now.authority (said result.0) result.1 }
-    ensures spares { spares_of result.0 ≡ 2 }
+) -> TimedAnswer
+    ensures brings { IsBrought (F.gives fetcher.now robots_limit)
+        turn.now.authority result.says result.life }
+    ensures spares { result.spares ≡ 2 }
 {
     let Ok(mut walk) = Walk::new(turn.authority()) else {
         return undecided();
@@ -92,9 +93,9 @@ fn fetch_answer<G: Gate, F: Fetcher>(
         let reply = robots_reply(given);
         walk = match walk.step(alloc, &reply) {
             Step::Go(next) => next,
-            Step::Done(answer, life) => {
-                *why = met.decided(&reply, &answer);
-                return (answer, life);
+            Step::Done(answer) => {
+                *why = met.decided(&reply, answer.answer());
+                return answer;
             }
             Step::NoMemory(_) => return undecided(),
         };
@@ -102,15 +103,15 @@ fn fetch_answer<G: Gate, F: Fetcher>(
 }
 
 // The answer where memory is refused: a closed site is the safe side.
-fn undecided() -> (Answer, u64)
-    ensures undecided { IsUndecided (said result.0) result.1 }
-    ensures spares { spares_of result.0 ≡ 2 }
+fn undecided() -> TimedAnswer
+    ensures undecided { IsUndecided result.says result.life }
+    ensures spares { result.spares ≡ 2 }
 {
-    (Answer::Closed(Closure::Other), LIFE)
+    TimedAnswer::new(Answer::Closed(Closure::Other), LIFE)
 }
 
 fn robots_reply(given: Result<HttpReply, WireFault>) -> RobotsReply
-    ensures { result ≡ reply_of given }
+    ensures { result ≡ robots_reply_of given }
 {
     match given {
         Ok(reply) => RobotsReply::Status {
@@ -121,15 +122,5 @@ fn robots_reply(given: Result<HttpReply, WireFault>) -> RobotsReply
         },
         Err(WireFault::Coding) => RobotsReply::CodingFault,
         Err(_) => RobotsReply::NetworkFault,
-    }
-}
-
-fn word_of(answer: &Answer) -> Standing
-    ensures { result ≡ standing_as (said answer.now) }
-{
-    match answer {
-        Answer::Rules(_) => Standing::Rules,
-        Answer::Open(_) => Standing::Open,
-        Answer::Closed(_) => Standing::Closed,
     }
 }

@@ -2,7 +2,7 @@
 //! RFC 9309, sections 2.2 to 2.4, in the profile of docs/POLICY.md.
 ghost use Rattle.std.specs.Prelude.{◌≡◌, ◌≤◌, ◌<◌, ◌↔◌, ℕ, [], All, IfOk, IsTrue, OnOk, length, replicate, slice_index_or, vec_len};
 ghost use Rattle.job_line.specs.Limits.{max_jobs, max_workers};
-ghost use Rattle.crawl_workers.specs.Crews.{AreAllDone, Ends, MemberView, newcomer, nothing_handed};
+ghost use Rattle.crawl_workers.specs.Crews.{AreAllDone, HasEnded, MemberView, newcomer, nothing_handed};
 ghost use Rattle.crawl_workers.specs.Shifts.{IsShift};
 ghost use Rattle.crawl_workers.specs.World.{world_of};
 
@@ -51,7 +51,8 @@ pub fn run_shift<
 ) -> Result<Report<G>, ShiftFault>
     requires jobs { length jobs.now ≤ max_jobs }
     requires workers { (1 ≤ workers) × (workers ≤ max_workers) }
-    ensures { IfOk result (IsShift (world_of (F.gives fetcher.now) (C.reads clock.now)) jobs.now workers) }
+    ensures { IfOk result (IsShift (world_of (F.gives fetcher.now) (C.reads clock.now))
+        jobs.now workers) }
 {
     let mut outcomes = no_outcomes(alloc, jobs.len())?;
     let mut places = vec![in alloc; false; jobs.len()]?;
@@ -113,7 +114,8 @@ fn do_all<
 ) -> Result<(), ShiftFault>
     requires few { workers ≤ max_workers }
     requires new { handover.old ≡ nothing_handed }
-    ensures { OnOk result (AreAllDone (world_of (F.gives crew.now.fetcher.now) (C.reads crew.now.clock.now))
+    ensures { OnOk result (AreAllDone
+        (world_of (F.gives crew.now.fetcher.now) (C.reads crew.now.clock.now))
         crew.now.jobs.now workers handover.new) }
 {
     let mut members = hire(alloc, workers)?;
@@ -147,7 +149,8 @@ fn employ_all<
 >(rt: &R, alloc: Global, gate: &GateLock<G>, crew: &Crew<'_, F, C, W>, members: &mut [Member<G>])
     requires new { All (λ member. member ≡ newcomer) members.old }
     ensures { (i : ℕ) (d : MemberView) → i < length members.old →
-        Ends (world_of (F.gives crew.now.fetcher.now) (C.reads crew.now.clock.now)) crew.now.jobs.now (slice_index_or members.new i d) }
+        HasEnded (world_of (F.gives crew.now.fetcher.now) (C.reads crew.now.clock.now))
+        crew.now.jobs.now (slice_index_or members.new i d) }
 {
     thread::for_each_mut(
         rt,
@@ -155,7 +158,8 @@ fn employ_all<
         MAX_WORKERS as usize,
         &|_: usize, member: &mut Member<G>|
             requires { member.old ≡ newcomer }
-            ensures { Ends (world_of (F.gives crew.entry.now.fetcher.now) (C.reads crew.entry.now.clock.now))
+            ensures { HasEnded
+                (world_of (F.gives crew.entry.now.fetcher.now) (C.reads crew.entry.now.clock.now))
                 crew.entry.now.jobs.now member.new }
         { crew.employ(rt, alloc, gate, member) },
     );

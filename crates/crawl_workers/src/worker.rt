@@ -6,7 +6,7 @@ ghost use Rattle.gate_lock.specs.Desks.{HasOut, KeepsOut};
 ghost use Rattle.gate_history.specs.declared.entry.Entry.{Entry};
 ghost use Rattle.crawl_workers.specs.Limits.{max_hops};
 ghost use Rattle.crawl_workers.specs.Outcomes.{AfterRefresh, AreHops, MayRefresh};
-ghost use Rattle.crawl_workers.specs.Refreshes.{MayBegin};
+ghost use Rattle.crawl_workers.specs.Refreshes.{MayBeginErrand};
 ghost use Rattle.crawl_workers.specs.WaysOn.{AddsEntries, TellsWay, ask_hop};
 ghost use Rattle.crawl_workers.specs.World.{IsSinceRead, world_of};
 
@@ -58,8 +58,9 @@ impl<F: Fetcher, C: Clock, N: Notes, R: Wait> Worker<'_, F, C, N, R> {
     ) -> Outcome
         requires empty { room.items ≡ [] }
         requires room { max_hops ≤ vec_capacity room }
-        ensures tells { AddsEntries (AreHops (world_of (F.gives self.now.fetcher.now) (C.reads self.now.clock.now)) token.now url
-            result.hops.items result.body.items) desk.old desk.new }
+        ensures tells { AddsEntries (AreHops
+            (world_of (F.gives self.now.fetcher.now) (C.reads self.now.clock.now))
+            token.now url result.hops.items result.body.items) desk.old desk.new }
         ensures no { desk.new.no ≡ desk.old.no }
         ensures out { KeepsOut desk.old desk.new }
     {
@@ -97,8 +98,10 @@ impl<F: Fetcher, C: Clock, N: Notes, R: Wait> Worker<'_, F, C, N, R> {
         followed: u64,
         desk: &mut Desk<'_, G>,
     ) -> WayOn
-        ensures tells { AddsEntries (AfterRefresh (world_of (F.gives self.now.fetcher.now) (C.reads self.now.clock.now)) url
-            (TellsWay (world_of (F.gives self.now.fetcher.now) (C.reads self.now.clock.now)) token.now url followed result)) desk.old desk.new }
+        ensures tells { AddsEntries (AfterRefresh
+            (world_of (F.gives self.now.fetcher.now) (C.reads self.now.clock.now)) url
+            (TellsWay (world_of (F.gives self.now.fetcher.now) (C.reads self.now.clock.now))
+            token.now url followed result)) desk.old desk.new }
         ensures no { desk.new.no ≡ desk.old.no }
         ensures out { KeepsOut desk.old desk.new }
     {
@@ -160,7 +163,8 @@ impl<F: Fetcher, C: Clock, N: Notes, R: Wait> Worker<'_, F, C, N, R> {
         moment: u64,
     ) -> Result<Option<RobotsTurn<G>>, BeginRefusal>
         requires { C.reads self.now.clock.now moment }
-        ensures begins { MayBegin (world_of (F.gives self.now.fetcher.now) (C.reads self.now.clock.now))
+        ensures begins { MayBeginErrand
+            (world_of (F.gives self.now.fetcher.now) (C.reads self.now.clock.now))
             (authority_of url.now) result desk.old desk.new }
         ensures no { desk.new.no ≡ desk.old.no }
     {
@@ -188,8 +192,9 @@ impl<F: Fetcher, C: Clock, N: Notes, R: Wait> Worker<'_, F, C, N, R> {
         followed: u64,
         desk: &mut Desk<'_, G>,
     ) -> WayOn
-        ensures tells { AddsEntries (TellsWay (world_of (F.gives self.now.fetcher.now) (C.reads self.now.clock.now)) token url followed result)
-            desk.old desk.new }
+        ensures tells { AddsEntries (TellsWay
+            (world_of (F.gives self.now.fetcher.now) (C.reads self.now.clock.now))
+            token url followed result) desk.old desk.new }
         ensures no { desk.new.no ≡ desk.old.no }
         ensures out { KeepsOut desk.old desk.new }
     {
@@ -208,11 +213,12 @@ impl<F: Fetcher, C: Clock, N: Notes, R: Wait> Worker<'_, F, C, N, R> {
     ) -> WayOn
         requires { permit.desk ≡ desk.old.no }
         ensures tells { AddsEntries (λ (own : List Entry). (granted : ℕ) →
-            IsSinceRead (world_of (F.gives self.now.fetcher.now) (C.reads self.now.clock.now)) granted →
+            IsSinceRead (world_of (F.gives self.now.fetcher.now) (C.reads self.now.clock.now))
+            granted →
             TellsWay (world_of (F.gives self.now.fetcher.now) (C.reads self.now.clock.now))
             permit.token permit.url followed result
-            (Entry.Granted granted permit.number (record { token = permit.token; url = permit.url }) ∷ own))
-            desk.old desk.new }
+            (Entry.Granted granted permit.number
+            (record { token = permit.token; url = permit.url }) ∷ own)) desk.old desk.new }
         ensures no { desk.new.no ≡ desk.old.no }
         ensures out { HasOut desk.old desk.new 0 1 0 0 0 0 }
     {

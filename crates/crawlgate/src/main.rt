@@ -2,13 +2,16 @@
 //! docs/crawlgate.1.md is its manual page.
 #![tactic(auto)]
 
+mod serving;
+
 ghost use Rattle.std.specs.Prelude.{◌≡◌, []};
 ghost use Rattle.gate_history.specs.Base.{empty_base};
 ghost use Rattle.job_line.specs.Limits.{IsCrew};
 ghost use Rattle.program_words.specs.Options.{AreForShift};
 
+use crate::serving::serve;
 use counted_io::{Counted, Sink};
-use crawl_shift::{NotShifted, StatusLine, history_over, shift_over, table_over};
+use crawl_shift::{NotShifted, Shift, StatusLine};
 use crawl_workers::{Clock, Fetcher, SystemClock, TcpFetcher};
 use gate_core::Book;
 use gate_lock::Blanks;
@@ -22,28 +25,37 @@ use std::thread::Threads;
 use std::time;
 
 // Robots files are fetched under this name, pages under the token of their job (RFC 9309, 2.2.1).
-const AGENT: &[u8] = b"crawlgate";
+pub(crate) const AGENT: &[u8] = b"crawlgate";
 
 fn main(rt: HostRuntime) -> ExitCode {
     let ending = match run(&rt) {
         Next::Ends(ending) => ending,
-        Next::Shift(options) => {
-            match TcpFetcher::with_limits(rt.alloc(), rt, AGENT, options.times) {
-                Ok(fetcher) => {
-                    let clock = SystemClock::new(rt);
-                    let end = shift_by(&rt, &rt, options, &fetcher, &clock);
-                    shift_ending(&rt, end)
-                }
-                Err(_) => Ending::NoMemory,
-            }
-        }
+        Next::Shift(options) => shift(&rt, &rt, options),
+        Next::Serve(options) => serve(&rt, &rt, options),
     };
     tell_ending(&rt, ending);
     ExitCode::from(ending.status())
 }
 
-// Does a shift of these options over a new gate. The first handle is for threads, the second for the
-// streams.
+// Does a shift of these options. The first handle is for threads, the second for the streams.
+fn shift<R: Threads + Wait + time::Clock + Sync>(
+    rt: &R,
+    host: &HostRuntime,
+    options: ShiftOptions,
+) -> Ending
+    requires { AreForShift options }
+{
+    match TcpFetcher::with_limits(host.alloc(), *host, AGENT, options.times) {
+        Ok(fetcher) => {
+            let clock = SystemClock::new(*host);
+            let end = shift_by(rt, host, options, &fetcher, &clock);
+            shift_ending(host, end)
+        }
+        Err(_) => Ending::NoMemory,
+    }
+}
+
+// Does it over a new gate.
 fn shift_by<F: Fetcher + Sync, C: Clock + Sync, R: Threads + Wait + time::Clock + Sync>(
     rt: &R,
     host: &HostRuntime,
@@ -107,22 +119,22 @@ fn shift_told<
     requires workers { IsCrew options.workers }
     requires book { (book.base ≡ empty_base) × (book.entries ≡ []) }
 {
-    let alloc = host.alloc();
-    let workers = options.workers;
+    let shift = Shift {
+        rt,
+        alloc: host.alloc(),
+        workers: options.workers,
+        fetcher,
+        clock,
+        status,
+    };
     let blanks = Blanks::new();
     let mut reader = Counted::new(host.stdin());
     let mut writer = Counted::new(host.stdout());
     let (input, output) = (&mut reader, &mut writer);
     match options.told {
-        Told::Outcomes => shift_over::<Brand, _, _, _, _, _, _>(
-            rt, alloc, input, output, status, workers, book, blanks, fetcher, clock,
-        ),
-        Told::Table => table_over::<Brand, _, _, _, _, _, _>(
-            rt, alloc, input, output, status, workers, book, blanks, fetcher, clock,
-        ),
-        Told::History => history_over::<Brand, _, _, _, _, _, _>(
-            rt, alloc, input, output, status, workers, book, blanks, fetcher, clock,
-        ),
+        Told::Outcomes => shift.report_over::<Brand, _, _>(input, output, book, blanks),
+        Told::Table => shift.table_over::<Brand, _, _>(input, output, book, blanks),
+        Told::History => shift.history_over::<Brand, _, _>(input, output, book, blanks),
     }
 }
 

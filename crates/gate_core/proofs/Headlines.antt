@@ -10,7 +10,7 @@ use Rattle.robots_verdict.specs.declared.decision.Verdict.{Verdict}
 use Rattle.robots_verdict.specs.declared.decision.Verdict.TheVariants.{Allow, Deny}
 use Rattle.robots_verdict.specs.declared.said.Said.{Said}
 use Rattle.robots_verdict.specs.declared.said.Said.TheVariants as says
-use Rattle.robots_verdict.specs.Answer.{said}
+use Rattle.authority_cache.specs.Lives.{Timed}
 use Rattle.authority_cache.specs.declared.standing_answer.StandingAnswer.{StandingAnswer}
 use Rattle.authority_cache.specs.Lists.{is_past_answer}
 use Rattle.gate_history.specs.declared.entry.Entry.{Entry}
@@ -203,10 +203,10 @@ begins_legal old new authority m (Err begin.LogFull) legal is = stays_legal old 
 begins_legal old new authority m (Err begin.AuthoritiesFull) legal is = stays_legal old new legal is.3
 begins_legal old new authority m (Err begin.NoMemory) legal is = stays_legal old new legal is.2
 
-arrives_legal : (old new : Gate) (authority : List ℕ) (turn : ℕ) (brought : Said) (life m : ℕ) (r : Result Unit Stale) → IsLegal (history old) →
-    Arrives old authority turn brought life m r new → IsLegal (history new)
-arrives_legal old new authority turn brought life m (Ok _) legal is = added_legal old new _ legal is.1
-arrives_legal old new authority turn brought life m (Err _) legal is = stays_legal old new legal is.1
+arrives_legal : (old new : Gate) (authority : List ℕ) (turn : ℕ) (answer : Timed) (m : ℕ) (r : Result Unit Stale) → IsLegal (history old) →
+    Arrives old authority turn answer m r new → IsLegal (history new)
+arrives_legal old new authority turn answer m (Ok _) legal is = added_legal old new _ legal is.1
+arrives_legal old new authority turn answer m (Err _) legal is = stays_legal old new legal is.1
 
 asks_legal : (old new : Gate) (token url : List ℕ) (m : ℕ) (r : Result ℕ AskRefusal) → IsLegal (history old) → Asks old token url m r new → IsLegal (history new)
 asks_legal old new token url m (Ok number) legal is = added_legal old new _ legal is.4
@@ -241,7 +241,7 @@ sweeps_legal old new m (Err sweep.NoMemory) legal is = stays_legal old new legal
 
 pub step_legal : (old : Gate) (call : Call) (reply : Reply) (new : Gate) → IsLegal (history old) → Step old call reply new → IsLegal (history new)
 step_legal old (calls.Begin authority m) (replies.Begin _ r) new legal step = begins_legal old new authority m r legal step.1
-step_legal old (calls.Arrive authority turn answer life m) (replies.Arrive _ _ r) new legal step = arrives_legal old new authority turn (said answer) life m r legal step.2
+step_legal old (calls.Arrive authority turn answer m) (replies.Arrive _ _ r) new legal step = arrives_legal old new authority turn answer m r legal step.2
 step_legal old (calls.Ask token url m) (replies.Ask r) new legal step = asks_legal old new token url m r legal step
 step_legal old (calls.Start number token url m) (replies.Start r) new legal step = starts_legal old new number token url m r legal step
 step_legal old (calls.Back number) (replies.Back _ r) new legal step = returns_legal old new number r legal step.1

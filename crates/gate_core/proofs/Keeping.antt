@@ -10,13 +10,11 @@ use Rattle.std.proofs.lemmas.List.{length-replicate, length-set}
 use Rattle.std.proofs.lemmas.List.Elements.{All-cons, All-contains, All-head, All-push, All-tail}
 use Rattle.std.proofs.lemmas.Slice.Eq.{bytes_eq-Decides}
 use Rattle.path_normal.specs.PageText.{authority_of}
-use Rattle.robots_verdict.specs.declared.said.Said.{Said}
-use Rattle.robots_verdict.specs.declared.said.Said.TheVariants as says
 use Rattle.authority_cache.specs.declared.site.Flight.{Flight}
 use Rattle.authority_cache.specs.declared.turn.Turn.{Turn}
-use Rattle.authority_cache.specs.Lists.{TellsCache, has_number, is_turn_of, turn_for}
-use Rattle.authority_cache.specs.Lives.{life_of}
-use Rattle.authority_cache.specs.Sites.{IsApart, Known, arrived, flight_count, has_turn, is_flying, site_of, with_flight}
+use Rattle.authority_cache.specs.Lists.{TellsCache, has_number, is_turn_of, known_by, turn_for}
+use Rattle.authority_cache.specs.Lives.{IsOwnLife, Timed}
+use Rattle.authority_cache.specs.Sites.{IsApart, Known, arrived, flight_count, has_turn, is_flying, known_count, site_of, with_flight}
 use Rattle.authority_cache.specs.Calls.{Changes, Sweeps}
 use Rattle.authority_cache.proofs.Reading as reading
 use Rattle.authority_cache.proofs.Telling as telling
@@ -46,13 +44,13 @@ use Rattle.gate_history.proofs.Soundness.{leads_to_base, stands_once}
 use Rattle.gate_history.specs.Base.{Base, empty_base, IsBase}
 use Rattle.gate_core.specs.declared.book.Book.TheInside.{Inside}
 use Rattle.gate_core.specs.declared.config.Limits.{Limits}
-use Rattle.gate_core.specs.declared.names.Names.{Names}
+use Rattle.gate_core.specs.declared.turn_names.TurnNames.{TurnNames}
 use Rattle.gate_core.specs.declared.places.Places.{Places}
 use Rattle.gate_core.specs.Gate.{Adds, Gate, held, history, promised}
 use Rattle.gate_core.specs.Kept.{gate_of, IsKept}
 use Rattle.gate_core.specs.Limits.{AreLimits}
-use Rattle.gate_core.specs.Names.{HasNames, Keeps, names_by, NamesBy}
-use Rattle.gate_core.specs.Places.{AddsOne, held_by, HeldBy, Leaves, one_at}
+use Rattle.gate_core.specs.TurnNames.{HasNames, KeepsName, names_by, NamesBy}
+use Rattle.gate_core.specs.Places.{AddsOne, held_by, HeldBy, LeavesPlace, one_at}
 
 pub followed_push : (h : History) (es : List Entry) (e : Entry) → followed_by h (es ++ e ∷ []) ≡ followed_by h es ▸ e
 followed_push h [] e = refl
@@ -142,7 +140,7 @@ module _ (b : Inside) (kept : IsKept b) (entries : Vec Entry Global) where
 
   -- what has ended is held no more
   ends_held : (number : ℕ) (permits : Table) (places : Places) → is_nothing (out_under b.permits number) ≡ false → permits ≡ with_out b.permits number Nothing →
-      Leaves (held_by b.places) (out_under b.permits number) (held_by places) → (authority : List ℕ) → held_by places authority ≡ held_count permits authority
+      LeavesPlace (held_by b.places) (out_under b.permits number) (held_by places) → (authority : List ℕ) → held_by places authority ≡ held_count permits authority
   ends_held number permits places some is left authority =
       let ended = holds.ended b.permits number authority some in
       let was = kept.places authority in
@@ -180,7 +178,7 @@ module _ (b : Inside) (kept : IsKept b) (entries : Vec Entry Global) where
   pub denied_kept : (moment number : ℕ) (cause : Cause) (permits : Table) (places : Places) → MayFollow (told b) (StartDenied moment number cause) → is_unspent b.permits number ≡ true →
       entries.items ≡ b.entries.items ++ StartDenied moment number cause ∷ [] → vec_capacity entries ≡ vec_capacity b.entries →
       permits ≡ with_out b.permits number (decided false (out_under b.permits number)) →
-      Leaves (held_by b.places) (out_under b.permits number) (held_by places) → IsKept (after b entries moment b.starts permits places)
+      LeavesPlace (held_by b.places) (out_under b.permits number) (held_by places) → IsKept (after b entries moment b.starts permits places)
   denied_kept moment number cause permits places fit out more room is left =
       let e : Entry = StartDenied moment number cause in
       let counts = each_entry_counts (told b) e kept.legal fit in
@@ -198,7 +196,7 @@ module _ (b : Inside) (kept : IsKept b) (entries : Vec Entry Global) where
   pub returned_kept : (number : ℕ) (permits : Table) (places : Places) → is_unspent b.permits number ≡ true →
       entries.items ≡ b.entries.items ++ Returned number ∷ [] → vec_capacity entries ≡ vec_capacity b.entries →
       permits ≡ with_out b.permits number Nothing →
-      Leaves (held_by b.places) (out_under b.permits number) (held_by places) → IsKept (after b entries b.clock b.starts permits places)
+      LeavesPlace (held_by b.places) (out_under b.permits number) (held_by places) → IsKept (after b entries b.clock b.starts permits places)
   returned_kept number permits places out more room is left =
       let e : Entry = Returned number in
       let fit = sym (reads.unspent_numbers number) ∙ out in
@@ -217,7 +215,7 @@ module _ (b : Inside) (kept : IsKept b) (entries : Vec Entry Global) where
   pub finished_kept : (number : ℕ) (permits : Table) (places : Places) → is_running b.permits number ≡ true →
       entries.items ≡ b.entries.items ++ Finished number ∷ [] → vec_capacity entries ≡ vec_capacity b.entries →
       permits ≡ with_out b.permits number Nothing →
-      Leaves (held_by b.places) (out_under b.permits number) (held_by places) → IsKept (after b entries b.clock b.starts permits places)
+      LeavesPlace (held_by b.places) (out_under b.permits number) (held_by places) → IsKept (after b entries b.clock b.starts permits places)
   finished_kept number permits places out more room is left =
       let e : Entry = Finished number in
       let fit = sym (reads.running_numbers number) ∙ out in
@@ -287,6 +285,9 @@ module _ (b : Inside) (kept : IsKept b) where
   pub flights_many : IsApart b.cache → flight_count b.cache ≡ length (in_flight (told b))
   flights_many apart = (telling.counts_alike b.cache (standing (told b)) (in_flight (told b)) kept.cache apart).flights
 
+  pub authorities_many : IsApart b.cache → known_count b.cache ≡ known_by (standing (told b)) (in_flight (told b))
+  authorities_many apart = (telling.counts_alike b.cache (standing (told b)) (in_flight (told b)) kept.cache apart).known
+
   pub unspent_many : unspent_count b.permits ≡ length (unspent (told b))
   unspent_many = (reads b kept b.entries).unspent_many
 
@@ -306,7 +307,7 @@ module _ (b : Inside) (kept : IsKept b) where
 
 -- ---- a book that is new
 
-pub kept_new : (limits : Limits) (base : Base) (entries : Vec Entry Global) (cache : Known) (permits : Table) (names : Names) (places : Places) → AreLimits limits → base ≡ empty_base → IsBase base →
+pub kept_new : (limits : Limits) (base : Base) (entries : Vec Entry Global) (cache : Known) (permits : Table) (names : TurnNames) (places : Places) → AreLimits limits → base ≡ empty_base → IsBase base →
     entries.items ≡ [] → cache.limit ≡ limits.authority_limit → cache.sites ≡ [] → permits.slots ≡ replicate limits.slots unused → permits.first_generation ≡ limits.first_generation →
     ((authority : List ℕ) → held_by places authority ≡ 0) →
     IsKept (record { limits = limits; base = base; entries = entries; clock = 0; begins = 0; starts = 0; cache = cache; permits = permits; names = names; places = places })
@@ -341,7 +342,7 @@ kept_new limits base entries cache permits names places are base_is is_base none
 -- ---- entries of turns and answers
 
 -- the book after an entry of the cache
-abbrev pub after_turn : Inside → Vec Entry Global → ℕ → ℕ → Known → Names → Inside
+abbrev pub after_turn : Inside → Vec Entry Global → ℕ → ℕ → Known → TurnNames → Inside
 after_turn b entries clock begins cache names = record {
   limits = b.limits;
   base = b.base;
@@ -359,7 +360,7 @@ after_turn b entries clock begins cache names = record {
 abbrev NoneOf : ℕ → List Turn → Type 0
 NoneOf turn turns = All (λ t. (turn == t.turn) ≡ false) turns
 
-kept_others : (old new : NamesBy) (turn : ℕ) (name : Option (List ℕ)) (turns : List Turn) → Keeps old turn name new → NoneOf turn turns → HasNames old turns → HasNames new turns
+kept_others : (old new : NamesBy) (turn : ℕ) (name : Option (List ℕ)) (turns : List Turn) → KeepsName old turn name new → NoneOf turn turns → HasNames old turns → HasNames new turns
 kept_others old new turn name [] keeps none has = λ k d low. absurd (omega (arith, low))
 kept_others old new turn name (t ∷ turns) keeps none has =
     All-cons (λ t. new t.turn ≡ Some t.authority) t turns
@@ -410,19 +411,14 @@ names_left names test (t ∷ turns) has = by (test t) (names_left names test tur
     by true rest = All-cons (λ t. names t.turn ≡ Some t.authority) t (filter test turns) (All-head (λ t. names t.turn ≡ Some t.authority) t turns has) rest
     by false rest = rest
 
-pub life_again : (says : Said) (asked : ℕ) → life_of says (life_of says asked) ≡ life_of says asked
-life_again (says.Rules text) asked = omega arith
-life_again (says.Open opening) asked = refl
-life_again (says.Closed closure) asked = refl
-
-module _ (b : Inside) (kept : IsKept b) (entries : Vec Entry Global) (cache : Known) (names : Names) where
+module _ (b : Inside) (kept : IsKept b) (entries : Vec Entry Global) (cache : Known) (names : TurnNames) where
   once : StandsOnce (told b)
   once = stands_once (told b) kept.legal
 
   -- a turn has begun
   pub begun_kept : (moment : ℕ) (authority : List ℕ) → now (told b) ≤ moment → is_fetching (told b) authority ≡ false →
       is_flying (site_of b.cache authority) ≡ false → Changes b.cache authority (with_flight (record { turn = b.begins + 1; begun = moment }) (site_of b.cache authority)) cache →
-      Keeps (names_by b.names) (b.begins + 1) (Some authority) (names_by names) →
+      KeepsName (names_by b.names) (b.begins + 1) (Some authority) (names_by names) →
       entries.items ≡ b.entries.items ++ Begun moment authority (b.begins + 1) ∷ [] → length b.entries.items + 2 + promised (told b) ≤ vec_capacity entries →
       length b.entries.items + promised (told b) + 2 ≤ b.limits.log_limit → IsKept (after_turn b entries moment (b.begins + 1) cache names)
   begun_kept moment authority late idle flying changes keeps more room free =
@@ -443,20 +439,19 @@ module _ (b : Inside) (kept : IsKept b) (entries : Vec Entry Global) (cache : Kn
       (omega (arith, free, counts.unspent_are, counts.running_are, counts.flights_are)) (omega (arith, room, counts.unspent_are, counts.running_are, counts.flights_are))
 
   -- an answer has arrived, with a life of its kind
-  pub arrived_kept : (moment turn : ℕ) (authority : List ℕ) (says : Said) (asked : ℕ) → now (told b) ≤ moment → has_turn turn (site_of b.cache authority) ≡ true →
-      Changes b.cache authority (arrived turn says (life_of says asked) (site_of b.cache authority)) cache → Keeps (names_by b.names) turn None (names_by names) →
-      entries.items ≡ b.entries.items ++ Arrived moment authority turn says (life_of says asked) ∷ [] → vec_capacity entries ≡ vec_capacity b.entries →
+  pub arrived_kept : (moment turn : ℕ) (authority : List ℕ) (answer : Timed) → IsOwnLife answer → now (told b) ≤ moment → has_turn turn (site_of b.cache authority) ≡ true →
+      Changes b.cache authority (arrived turn answer.says answer.life (site_of b.cache authority)) cache → KeepsName (names_by b.names) turn None (names_by names) →
+      entries.items ≡ b.entries.items ++ Arrived moment authority turn answer.says answer.life ∷ [] → vec_capacity entries ≡ vec_capacity b.entries →
       IsKept (after_turn b entries moment b.begins cache names)
-  arrived_kept moment turn authority says asked late flying changes keeps more room =
-      let life = life_of says asked in
-      let e : Entry = Arrived moment authority turn says life in
+  arrived_kept moment turn authority answer own late flying changes keeps more room =
+      let e : Entry = Arrived moment authority turn answer.says answer.life in
       let stands = sym ((reading.reads_alike b.cache (standing (told b)) (in_flight (told b)) kept.cache).turns authority turn) ∙ flying in
-      let fit : MayFollow (told b) e = (late, stands, life_again says asked) in
+      let fit : MayFollow (told b) e = (late, stands, own) in
       let counts = each_entry_counts (told b) e kept.legal fit in
       let logged = kept.logged in
       let entry_room = kept.entry_room in
       kept_after b (after_turn b entries moment b.begins cache names) e kept fit refl refl more (late_is moment (now (told b)) late) kept.begins (let few = kept.few_begins in omega arith) kept.starts
-      (telling.arrives b.cache cache (standing (told b)) (in_flight (told b)) authority turn life says kept.cache flying (once.own_turn authority turn stands) changes) changes.limit
+      (telling.arrives b.cache cache (standing (told b)) (in_flight (told b)) authority turn answer.life answer.says kept.cache flying (once.own_turn authority turn stands) changes) changes.limit
       kept.permits refl refl
       (kept_others (names_by b.names) (names_by names) turn None (filter (λ t. not (has_number turn t)) (in_flight (told b))) keeps (others_left turn (in_flight (told b)))
       (names_left (names_by b.names) (λ t. not (has_number turn t)) (in_flight (told b)) kept.names))
@@ -482,7 +477,7 @@ pub swept_many : (b : Inside) → IsKept b → (moment count : ℕ) (cache : Kno
 swept_many b kept moment count cache sweeps apart = sweeps.dropped ∙ (telling.counts_alike b.cache (standing (told b)) (in_flight (told b)) kept.cache apart).past moment
 
 -- nothing but room for entries and a name for no turn: the book is kept as it was
-pub kept_unchanged : (b : Inside) → IsKept b → (entries : Vec Entry Global) (cache : Known) (names : Names) → entries.items ≡ b.entries.items → vec_capacity b.entries ≤ vec_capacity entries →
+pub kept_unchanged : (b : Inside) → IsKept b → (entries : Vec Entry Global) (cache : Known) (names : TurnNames) → entries.items ≡ b.entries.items → vec_capacity b.entries ≤ vec_capacity entries →
     cache ≡ b.cache → HasNames (names_by names) (in_flight (told b)) → IsKept (after_turn b entries b.clock b.begins cache names)
 kept_unchanged b kept entries cache names same room still named =
     let h : followed_by (from b.base) entries.items ≡ told b = ap (followed_by (from b.base)) same in
@@ -534,7 +529,7 @@ kept_refused b kept entries permits places same room still counted =
     })
 
 -- the turns in flight keep their names where the next turn's is kept too
-pub still_named : (b : Inside) → IsKept b → (names : Names) (name : Option (List ℕ)) → Keeps (names_by b.names) (b.begins + 1) name (names_by names) →
+pub still_named : (b : Inside) → IsKept b → (names : TurnNames) (name : Option (List ℕ)) → KeepsName (names_by b.names) (b.begins + 1) name (names_by names) →
     HasNames (names_by names) (in_flight (told b))
 still_named b kept names name keeps =
     kept_others (names_by b.names) (names_by names) (b.begins + 1) name (in_flight (told b)) keeps

@@ -3,13 +3,13 @@
 use Rattle.std.proofs.Common.{◌≡◌, ◌<◌, ◌≤◌, ℕ, false, List, sym, ap, ◌∙◌, subst, arith}
 use Rattle.std.specs.Prelude.{◌&&◌, nat_le, not, IsErr, IsErrAnd, Result, Ok, Err}
 use Rattle.std.proofs.lemmas.Bool.{true≢false}
-use Rattle.authority_cache.specs.declared.refusal.BeginRefusal.{BeginRefusal as CacheRefusal}
-use Rattle.authority_cache.specs.declared.refusal.BeginRefusal.TheVariants as cache
+use Rattle.authority_cache.specs.declared.refusal.FlightRefusal.{FlightRefusal}
+use Rattle.authority_cache.specs.declared.refusal.FlightRefusal.TheVariants as cache
 use Rattle.authority_cache.specs.declared.site.Flight.{Flight}
 use Rattle.authority_cache.specs.Calls.{Begins as CacheBegins, cannot_know as CacheCannot}
 use Rattle.authority_cache.specs.declared.refusal.Stale.{Stale}
 use Rattle.authority_cache.specs.Sites.{has_turn, IsApart, Known, site_of}
-use Rattle.robots_verdict.specs.declared.said.Said.{Said}
+use Rattle.authority_cache.specs.Lives.{Timed}
 use Rattle.authority_cache.proofs.Reading as reading
 use Rattle.authority_cache.proofs.Telling as telling
 use Rattle.gate_history.specs.Cause.{Decides}
@@ -59,7 +59,7 @@ grant_fits b kept g is moment number fetch late decided next = (
 )
 
 -- the cache has refused a begin, and has not changed
-pub cache_same : (old : Known) (authority : List ℕ) (flight : Flight) (x : CacheRefusal) (new : Known) → CacheBegins old authority flight (Err x) new → new ≡ old
+pub cache_same : (old : Known) (authority : List ℕ) (flight : Flight) (x : FlightRefusal) (new : Known) → CacheBegins old authority flight (Err x) new → new ≡ old
 cache_same old authority flight cache.InFlight new is = is.1
 cache_same old authority flight cache.AuthoritiesFull new is = is.2
 cache_same old authority flight cache.NoMemory new is = is.2
@@ -72,7 +72,7 @@ cannot_is b kept apart authority =
     λ i. not (read.known authority i) && nat_le (kept.authorities i) (count.known i)
 
 -- what the cache answers to a begin of an authority that is idle, as the last step of a begin
-pub opens_refused : (b : Inside) → IsKept b → (g : Gate) → gate_of b ≡ g → IsApart b.cache → (authority : List ℕ) (moment turn : ℕ) (x : CacheRefusal) (new : Known) →
+pub opens_refused : (b : Inside) → IsKept b → (g : Gate) → gate_of b ≡ g → IsApart b.cache → (authority : List ℕ) (moment turn : ℕ) (x : FlightRefusal) (new : Known) →
     is_fetching (history g) authority ≡ false → CacheBegins b.cache authority (record { turn = turn; begun = moment }) (Err x) new → OpensTurn g authority moment (Err (begin_refusal x)) (gate_of b)
 opens_refused b kept g is apart authority moment turn cache.InFlight new idle refused =
     let flying = (reading.reads_alike b.cache (standing (told b)) (in_flight (told b)) kept.cache).flying authority in
@@ -84,10 +84,10 @@ opens_refused b kept g is apart authority moment turn cache.NoMemory new idle re
 pub may_open : (b : Inside) → IsKept b → (g : Gate) → gate_of b ≡ g → IsApart b.cache → (authority : List ℕ) → CacheCannot b.cache authority ≡ false → cannot_know g authority ≡ false
 may_open b kept g is apart authority may = ap (λ (g : Gate). cannot_know g authority) (sym is) ∙ sym (cannot_is b kept apart authority) ∙ may
 
-pub arrives_refused : (b : Inside) → IsKept b → (g : Gate) → gate_of b ≡ g → (authority : List ℕ) (turn : ℕ) (says : Said) (life moment : ℕ) (r : Result Unit Stale) → IsErr r →
-    has_turn turn (site_of b.cache authority) ≡ false → Arrives g authority turn says life moment r (gate_of b)
-arrives_refused b kept g is authority turn says life moment (Ok done) err none = absurd (true≢false (sym err))
-arrives_refused b kept g is authority turn says life moment (Err stale) err none = (
+pub arrives_refused : (b : Inside) → IsKept b → (g : Gate) → gate_of b ≡ g → (authority : List ℕ) (turn : ℕ) (answer : Timed) (moment : ℕ) (r : Result Unit Stale) → IsErr r →
+    has_turn turn (site_of b.cache authority) ≡ false → Arrives g authority turn answer moment r (gate_of b)
+arrives_refused b kept g is authority turn answer moment (Ok done) err none = absurd (true≢false (sym err))
+arrives_refused b kept g is authority turn answer moment (Err stale) err none = (
   subst (λ (g : Gate). standing_turn (history g) authority turn ≡ false) is
       (sym ((reading.reads_alike b.cache (standing (told b)) (in_flight (told b)) kept.cache).turns authority turn) ∙ none),
   is,

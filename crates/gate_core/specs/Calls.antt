@@ -1,7 +1,6 @@
 -- What a call that is given as a value may be replied, and what lists of calls are.
 -- The contracts of `calls.rt`; the refusals are those of `Replies`.
 use Rattle.std.specs.Prelude.{◌≡◌, ◌<◌, List, [], ◌∷◌}
-use Rattle.robots_verdict.specs.Answer.{said, spares_of}
 use Rattle.gate_core.specs.declared.call.Call.{Call}
 use Rattle.gate_core.specs.declared.call.Call.TheVariants as calls
 use Rattle.gate_core.specs.declared.call.Reply.{Reply}
@@ -12,14 +11,14 @@ use Rattle.gate_core.specs.States.{standing_as}
 
 -- an answer that is brought has a spare, from which the history's own is made without memory
 abbrev pub HasSpare : Call → Type 0
-HasSpare (calls.Arrive authority turn answer life m) = 0 < spares_of answer
+HasSpare (calls.Arrive authority turn answer m) = 0 < answer.spares
 HasSpare _ = Unit {0}
 
 -- a call has a reply of its own kind, which names what its line names
 abbrev pub Step : Gate → Call → Reply → Gate → Type 0
 Step old (calls.Begin authority m) (replies.Begin named r) new = (named ≡ authority) × Begins old authority m r new
-Step old (calls.Arrive authority turn answer life m) (replies.Arrive named brought r) new =
-    (named ≡ authority) × (brought ≡ standing_as (said answer)) × Arrives old authority turn (said answer) life m r new
+Step old (calls.Arrive authority turn answer m) (replies.Arrive named brought r) new =
+    (named ≡ authority) × (brought ≡ standing_as answer.says) × Arrives old authority turn answer m r new
 Step old (calls.Ask token url m) (replies.Ask r) new = Asks old token url m r new
 Step old (calls.Start number token url m) (replies.Start r) new = Starts old number token url m r new
 Step old (calls.Back number) (replies.Back named r) new = (named ≡ number) × Returns old number r new

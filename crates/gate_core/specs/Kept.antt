@@ -11,7 +11,7 @@ use Rattle.gate_history.specs.Standing.{in_flight, standing}
 use Rattle.gate_core.specs.declared.book.Book.TheInside.{Inside}
 use Rattle.gate_core.specs.Gate.{Gate, history, promised}
 use Rattle.gate_core.specs.Limits.{AreLimits, greatest_number}
-use Rattle.gate_core.specs.Names.{HasNames, names_by}
+use Rattle.gate_core.specs.TurnNames.{HasNames, names_by}
 use Rattle.gate_core.specs.Places.{held_by}
 
 -- the book as its callers see it

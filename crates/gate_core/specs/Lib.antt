@@ -2,7 +2,7 @@
 -- RFC 9309, sections 2.2 to 2.4.
 pub mod Limits
 pub mod Gate
-pub mod Names
+pub mod TurnNames
 pub mod Places
 pub mod Refused
 pub mod Kept

@@ -1,8 +1,10 @@
 -- The last steps of a begin and of an ask, once all that comes before them was found.
 -- Cited by `grant`, and by the proof of `Book::begin`.
 use Rattle.std.specs.Prelude.{◌≡◌, ℕ, ◌+◌, ◌<◌, ◌≤◌, true, false, List, Result, Ok, Err}
-use Rattle.permit_book.specs.Next.{NoneFree as NoneFreeIn}
-use Rattle.permit_book.specs.Table.{Table}
+use Rattle.path_normal.specs.PageText.{authority_of}
+use Rattle.permit_book.specs.declared.out.Out.TheVariants.{Unspent}
+use Rattle.permit_book.specs.Next.{IsNext as IsNextIn, NoneFree as NoneFreeIn}
+use Rattle.permit_book.specs.Table.{Table, with_out}
 use Rattle.gate_history.specs.declared.entry.Entry.TheVariants.{Begun, Granted}
 use Rattle.gate_history.specs.History.{begins}
 use Rattle.gate_core.specs.declared.refusal.AskRefusal.{AskRefusal}
@@ -10,6 +12,7 @@ use Rattle.gate_core.specs.declared.refusal.AskRefusal.TheVariants as ask
 use Rattle.gate_core.specs.declared.refusal.BeginRefusal.{BeginRefusal}
 use Rattle.gate_core.specs.declared.refusal.BeginRefusal.TheVariants as begin
 use Rattle.gate_core.specs.Gate.{Adds, Gate, history, Stays}
+use Rattle.gate_core.specs.Places.{AddsOne}
 use Rattle.gate_core.specs.Replies.{cannot_know, HasPlace, IsBusy, IsNext, NoneFree}
 
 -- the turn begins at this moment of the gate, or the authority may not be known, or memory was refused
@@ -37,3 +40,19 @@ RefusesGrant t held most ask.Busy = most ≤ held
 RefusesGrant t held most ask.PermitsFull = (held < most) × NoneFreeIn t
 RefusesGrant t held most ask.NoMemory = Unit {0}
 RefusesGrant t held most _ = ⊥
+
+-- the next permit of a table is granted for the URL under the token, and counted at its authority, which had
+-- a place
+pub record TakesPermit (t : Table) (held : List ℕ → ℕ) (most : ℕ) (token url : List ℕ) (number : ℕ)
+    (t2 : Table) (held2 : List ℕ → ℕ) : Type 0 where
+  pub place : held (authority_of url) < most
+  pub next : IsNextIn t number
+  pub granted : t2 ≡ with_out t number (Unspent (record { token = token; url = url }))
+  pub counted : AddsOne held (authority_of url) held2
+
+-- none is granted, for this reason, and nothing is counted
+pub record TakesNone (t : Table) (held : List ℕ → ℕ) (most : ℕ) (url : List ℕ) (refusal : AskRefusal)
+    (t2 : Table) (held2 : List ℕ → ℕ) : Type 0 where
+  pub refused : RefusesGrant t (held (authority_of url)) most refusal
+  pub same : t2 ≡ t
+  pub uncounted : held2 ≡ held

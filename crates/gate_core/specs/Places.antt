@@ -7,7 +7,7 @@ use Rattle.std.specs.declared.string.String.{String}
 use Rattle.std.specs.declared.alloc.Global.{Global}
 use Rattle.permit_book.specs.declared.out.Out.{Out}
 use Rattle.permit_book.specs.Table.{one_for}
-use Rattle.gate_core.specs.declared.places.Held.{Held}
+use Rattle.gate_core.specs.declared.places.Count.{Count}
 use Rattle.gate_core.specs.declared.places.Places.{Places}
 
 -- the counts by authority: how many permits are out for each
@@ -19,7 +19,7 @@ abbrev pub held_by : Places → HeldBy
 held_by places authority = unwrap_or (get_by_text places.by_authority authority) 0
 
 -- where an authority stands among the counts and how many are counted for it, or that it stands nowhere
-pub record IsHeld (places : Places) (authority : List ℕ) (held : Held) : Type 0 where
+pub record IsCount (places : Places) (authority : List ℕ) (held : Count) : Type 0 where
   pub some : IfSome held.index (λ i. (name : String Global) × (slice_get places.by_authority.entries i ≡ Some (name, held.count)) × (string_bytes name ≡ authority))
   pub none : IfNone held.index (get_by_text places.by_authority authority ≡ None)
   pub count : held.count ≡ held_by places authority
@@ -37,5 +37,5 @@ abbrev pub TakesOne : HeldBy → List ℕ → HeldBy → Type 0
 TakesOne old authority new = (other : List ℕ) → new other ≡ old other - one_at authority other
 
 -- what is out is counted no more
-abbrev pub Leaves : HeldBy → Out → HeldBy → Type 0
-Leaves old out new = (authority : List ℕ) → new authority ≡ old authority - one_for authority out
+abbrev pub LeavesPlace : HeldBy → Out → HeldBy → Type 0
+LeavesPlace old out new = (authority : List ℕ) → new authority ≡ old authority - one_for authority out

@@ -2,9 +2,8 @@
 -- reply leaves the gate as it was, and NoMemory is such a reply where the relation names it.
 use Rattle.std.specs.Prelude.{◌≡◌, ℕ, ◌+◌, ◌<◌, ◌≤◌, Bool, true, false, not, ◌&&◌, nat_le, List, Result, Ok, Err, MatchBool}
 use Rattle.path_normal.specs.PageText.{authority_of}
-use Rattle.robots_verdict.specs.declared.said.Said.{Said}
 use Rattle.authority_cache.specs.declared.refusal.Stale.{Stale}
-use Rattle.authority_cache.specs.Lives.{life_of}
+use Rattle.authority_cache.specs.Lives.{Timed}
 use Rattle.permit_book.specs.declared.refusal.NotOut.{NotOut}
 use Rattle.permit_book.specs.Outstanding.{IsNextBy, NoneFreeBy}
 use Rattle.gate_history.specs.declared.entry.Entry.TheVariants.{Begun, Arrived, Granted, AskDenied, Started, StartDenied, Returned, Finished, Swept}
@@ -46,11 +45,11 @@ Begins old authority m (Err begin.NoMemory) new =
     (is_fetching (history old) authority ≡ false) × HasRoom old 2 × Stays old new
 
 -- arrive: Stale, where that turn is not in flight for the authority
-abbrev pub Arrives : Gate → List ℕ → ℕ → Said → ℕ → ℕ → Result Unit Stale → Gate → Type 0
-Arrives old authority turn says life m (Ok _) new =
+abbrev pub Arrives : Gate → List ℕ → ℕ → Timed → ℕ → Result Unit Stale → Gate → Type 0
+Arrives old authority turn answer m (Ok _) new =
     (has_turn (history old) authority turn ≡ true)
-    × Adds old (Arrived (moment_at old m) authority turn says (life_of says life)) new
-Arrives old authority turn says life m (Err _) new = (has_turn (history old) authority turn ≡ false) × Stays old new
+    × Adds old (Arrived (moment_at old m) authority turn answer.says answer.life) new
+Arrives old authority turn answer m (Err _) new = (has_turn (history old) authority turn ≡ false) × Stays old new
 
 -- the fetch is allowed at the moment of a call
 abbrev pub IsAllowed : Gate → List ℕ → List ℕ → ℕ → Type 0

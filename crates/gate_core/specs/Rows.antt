@@ -2,15 +2,14 @@
 -- The contracts of `rows.rt`.
 use Rattle.std.specs.Prelude.{ℕ, List, [], ◌∷◌, codes}
 use Rattle.permit_book.specs.declared.refusal.NotOut.{NotOut}
-use Rattle.robots_verdict.specs.declared.answer.Opening.TheVariants.{Unavailable}
-use Rattle.robots_verdict.specs.declared.said.Said.{Said}
-use Rattle.robots_verdict.specs.declared.said.Said.TheVariants as says
+use Rattle.authority_cache.specs.Lives.{Timed}
 use Rattle.gate_history.specs.declared.entry.Entry.{Entry}
 use Rattle.gate_history.specs.declared.entry.Entry.TheVariants.{Begun, Arrived, Granted, Started, StartDenied, Returned, Finished}
 use Rattle.gate_history.specs.declared.outcome.Cause.{Cause}
 use Rattle.gate_history.specs.declared.outcome.Cause.TheVariants as causes
 use Rattle.gate_history.specs.declared.outcome.Reason.TheVariants as reasons
 use Rattle.gate_history.specs.Base.{empty_base}
+use Rattle.gate_history.specs.Rows.{foobot, no_file, page, site}
 use Rattle.gate_core.specs.declared.refusal.Denial.{Denial}
 use Rattle.gate_core.specs.declared.refusal.Started.{Started as Start}
 use Rattle.gate_core.specs.Gate.{Gate}
@@ -36,29 +35,17 @@ one_place entries = record {
   entries = entries;
 }
 
--- the site of the rows
-abbrev pub site : List ℕ
-site = codes "a.example"
-
--- the page of the rows
-abbrev pub page : List ℕ
-page = codes "http://a.example/x"
-
 -- another page of the site
 abbrev pub other_page : List ℕ
 other_page = codes "http://a.example/y"
-
--- the crawler of the rows
-abbrev pub foobot : List ℕ
-foobot = codes "foobot"
 
 -- another crawler
 abbrev pub barbot : List ℕ
 barbot = codes "barbot"
 
--- the answer of a site without a robots file
-abbrev pub no_file : Said
-no_file = says.Open Unavailable
+-- the same with its life, as a turn brings it
+abbrev pub no_file_brought : Timed
+no_file_brought = record { says = no_file; spares = 2; life = 86400 }
 
 -- the site's first turn has begun
 abbrev pub begun : List Entry

@@ -1,18 +1,14 @@
 //! `Book::ask` and `Book::ask_judged`: a permit for one fetch of a URL under a token.
 //! RFC 9309, sections 2.2 and 2.3.1.
-ghost use Rattle.std.specs.Prelude.{◌≡◌, ◌+◌, ◌<◌, ◌≤◌, Err, IfErr, IfOk, length, OnErr, OnOk, Ok, vec_capacity};
-ghost use Rattle.path_normal.specs.PageText.{authority_of};
-ghost use Rattle.permit_book.specs.declared.out.Out.TheVariants.{Unspent};
-ghost use Rattle.permit_book.specs.Next.{IsNext};
-ghost use Rattle.permit_book.specs.Table.{with_out};
+ghost use Rattle.std.specs.Prelude.{◌≡◌, ◌≤◌, Err, IfErr, IfOk, OnErr, OnOk, Ok};
 ghost use Rattle.gate_history.specs.declared.entry.Entry.TheVariants.{AskDenied};
 ghost use Rattle.gate_history.specs.declared.outcome.Reason.{Reason as Why};
 ghost use Rattle.gate_history.specs.Cause.{Decides};
 ghost use Rattle.gate_history.specs.History.{now};
 ghost use Rattle.gate_core.specs.Gate.{Adds, HasRoom, history, Stays};
 ghost use Rattle.gate_core.specs.Limits.{most_places};
-ghost use Rattle.gate_core.specs.Opened.{Grants, RefusesGrant};
-ghost use Rattle.gate_core.specs.Places.{AddsOne, held_by};
+ghost use Rattle.gate_core.specs.Opened.{Grants, TakesNone, TakesPermit};
+ghost use Rattle.gate_core.specs.Places.{held_by};
 ghost use Rattle.gate_core.specs.Replies.{Asks};
 
 use crate::book::Book;
@@ -30,11 +26,15 @@ impl Book {
     pub fn ask(&mut self, token: Token, url: PageUrl, moment: u64) -> Result<PermitNo, AskRefusal>
         ensures { Asks self.old token url moment result self.new }
     {
+        if !self.has_room(3) {
+            return Err(AskRefusal::LogFull);
+        }
         self.cache.make_index(url.authority());
-        self.ask_judged(Judged::new(None, token, url), moment)
+        let judged = Judged::new(*self.entries.allocator(), token, url)?;
+        self.ask_judged(judged, moment)
     }
 
-    /// The same, where the verdict may be at hand. It counts only where the answer then in force has
+    /// The same, with all that it takes at hand. A verdict counts only where the answer then in force has
     /// the text of the policy that was judged by.
     pub fn ask_judged(&mut self, judged: Judged, moment: u64) -> Result<PermitNo, AskRefusal>
         ensures { Asks self.old judged.token judged.url moment result self.new }
@@ -43,14 +43,19 @@ impl Book {
             return Err(AskRefusal::LogFull);
         }
         let moment = self.moment_of_call(moment);
-        let Judged { token, url, ruling } = judged;
+        let Judged {
+            token,
+            url,
+            fetch,
+            ruling,
+        } = judged;
         let decided = self.decide(&token, &url, ruling.as_ref(), moment);
         self.take_index(url.authority(), ruling);
         match decided {
-            Ok(_) => self.grant(token, url, moment),
+            Ok(_) => self.grant(token, url, fetch, moment),
             Err(cause) => {
-                let denial = self.deny(token, url, cause, moment)?;
-                Err(AskRefusal::Denied(denial))
+                self.deny(fetch, cause, moment)?;
+                Err(AskRefusal::Denied(Denial { url, cause }))
             }
         }
     }
@@ -65,22 +70,14 @@ impl Book {
     }
 
     // Enters a denied ask.
-    fn deny(
-        &mut self,
-        token: Token,
-        url: PageUrl,
-        cause: Cause,
-        moment: u64,
-    ) -> Result<Denial, AllocError>
+    fn deny(&mut self, fetch: FetchText, cause: Cause, moment: u64) -> Result<(), AllocError>
         requires room { HasRoom self.old 3 }
         requires late { now (history self.old) ≤ moment }
-        requires decided { Decides (history self.old) token url moment (Err cause) }
-        ensures ok { IfOk result (λ denial. (denial.url ≡ url) × (denial.cause ≡ cause)
-            × Adds self.old (AskDenied moment (record { token = token; url = url }) cause) self.new) }
+        requires decided { Decides (history self.old) fetch.token fetch.url moment (Err cause) }
+        ensures ok { OnOk result (Adds self.old (AskDenied moment fetch cause) self.new) }
         ensures err { OnErr result (Stays self.old self.new) }
     {
         let promised = self.promised();
-        let fetch = FetchText::of(*self.entries.allocator(), &token, &url)?;
         self.entries.reserve(promised as usize + 1)?;
         self.entries.push_reserved(Entry::AskDenied {
             moment,
@@ -88,26 +85,28 @@ impl Book {
             cause,
         });
         self.clock = moment;
-        Ok(Denial { url, cause })
+        Ok(())
     }
 
     // Makes room for the permit, its start and its end, and enters the grant, where the authority has a place.
-    fn grant(&mut self, token: Token, url: PageUrl, moment: u64) -> Result<PermitNo, AskRefusal>
+    fn grant(
+        &mut self,
+        token: Token,
+        url: PageUrl,
+        fetch: FetchText,
+        moment: u64,
+    ) -> Result<PermitNo, AskRefusal>
         requires room { HasRoom self.old 3 }
         requires late { now (history self.old) ≤ moment }
-        requires decided { (reason : Why) × Decides (history self.old) token url moment (Ok reason) }
+        requires decided { (reason : Why)
+            × Decides (history self.old) token url moment (Ok reason) }
+        requires fetch { fetch ≡ record { token = token; url = url } }
         ensures { Grants self.old token url moment result self.new }
     {
-        let room = self.promised() as usize + 3;
-        let (number, fetch) = take_permit(
-            &mut self.permits,
-            &mut self.places,
-            &mut self.entries,
-            self.limits.places,
-            room,
-            token,
-            url,
-        )?;
+        let promised = self.promised();
+        self.entries.reserve(promised as usize + 3)?;
+        let most = self.limits.places;
+        let number = take_permit(&mut self.permits, &mut self.places, most, token, url)?;
         self.entries.push_reserved(Entry::Granted {
             moment,
             number,
@@ -118,42 +117,30 @@ impl Book {
     }
 }
 
-// Grants the next permit of the table and counts it, where fewer than the most are out for the authority,
-// a slot is free and memory suffices for that and for its entries. The draft leaves the table as it is
-// where memory is refused.
+// Grants the next permit of the table and counts it, where fewer than the most are out for the authority
+// and a slot is free. The draft leaves the table as it is where memory is refused.
 fn take_permit(
     permits: &mut Permits,
     places: &mut Places,
-    entries: &mut Vec<Entry>,
     most: u64,
-    room: usize,
     token: Token,
     url: PageUrl,
-) -> Result<(PermitNo, FetchText), AskRefusal>
+) -> Result<PermitNo, AskRefusal>
     requires { most ≤ most_places }
-    ensures place { OnOk result (held_by places.old (authority_of url) < most) }
-    ensures next { IfOk result (λ taken. IsNext permits.old taken.0) }
-    ensures granted { IfOk result (λ taken. permits.new
-        ≡ with_out permits.old taken.0 (Unspent (record { token = token; url = url }))) }
-    ensures fetch { IfOk result (λ taken. taken.1 ≡ record { token = token; url = url }) }
-    ensures refused { IfErr result (RefusesGrant permits.old (held_by places.old (authority_of url)) most) }
-    ensures same { OnErr result (permits.new ≡ permits.old) }
-    ensures counted { OnOk result (AddsOne (held_by places.old) (authority_of url) (held_by places.new)) }
-    ensures uncounted { OnErr result (held_by places.new ≡ held_by places.old) }
-    ensures items { entries.new.items ≡ entries.old.items }
-    ensures room { OnOk result (length entries.old.items + room ≤ vec_capacity entries.new) }
-    ensures capacity { vec_capacity entries.old ≤ vec_capacity entries.new }
+    ensures ok { IfOk result (λ number.
+        TakesPermit permits.old (held_by places.old) most token url number permits.new
+        (held_by places.new)) }
+    ensures err { IfErr result (λ refusal.
+        TakesNone permits.old (held_by places.old) most url refusal permits.new
+        (held_by places.new)) }
 {
-    let held = places.find(url.authority());
-    if held.count >= most {
+    let found = places.find(url.authority());
+    if found.count >= most {
         return Err(AskRefusal::Busy);
     }
-    let alloc = *entries.allocator();
     let Ok(draft) = permits.draft() else {
         return Err(AskRefusal::PermitsFull);
     };
-    let fetch = FetchText::of(alloc, &token, &url)?;
-    entries.reserve(room)?;
-    places.add(held, url.authority())?;
-    Ok((draft.commit(token, url), fetch))
+    places.add(found, url.authority())?;
+    Ok(draft.commit(token, url))
 }

@@ -1,12 +1,12 @@
 //! `Book::begin`: a turn to fetch an authority's robots file.
 //! RFC 9309, section 2.3.
 ghost use Rattle.std.specs.Prelude.{◌≡◌, ◌+◌, ◌≤◌, IfOk, OnErr, OnOk, Some, length, vec_capacity};
-ghost use Rattle.gate_core.specs.Names.{Keeps, names_by};
+ghost use Rattle.gate_core.specs.TurnNames.{KeepsName, names_by};
 ghost use Rattle.gate_core.specs.Replies.{Begins};
 
 use crate::book::Book;
-use crate::names::Names;
 use crate::refusal::BeginRefusal;
+use crate::turn_names::TurnNames;
 use authority_cache::TurnNo;
 use gate_history::Entry;
 use path_normal::Authority;
@@ -44,14 +44,15 @@ impl Book {
 // Keeps the authority's name for the turn's arrival, makes room for the two entries of the turn, and
 // hands out the name once more for the first of them.
 fn name_turn(
-    names: &mut Names,
+    names: &mut TurnNames,
     entries: &mut Vec<Entry>,
     room: usize,
     turn: TurnNo,
     authority: &Authority,
 ) -> Result<Authority, AllocError>
     ensures name { IfOk result (λ name. name ≡ authority.now) }
-    ensures kept { OnOk result (Keeps (names_by names.old) turn (Some authority.now) (names_by names.new)) }
+    ensures kept { OnOk result (KeepsName (names_by names.old) turn (Some authority.now)
+        (names_by names.new)) }
     ensures same { OnErr result (names_by names.new ≡ names_by names.old) }
     ensures items { entries.new.items ≡ entries.old.items }
     ensures room { OnOk result (length entries.old.items + room ≤ vec_capacity entries.new) }

@@ -7,9 +7,9 @@ ghost use Rattle.gate_core.specs.Gate.{HasLegalHistory, HasRoom, history, promis
 ghost use Rattle.gate_core.specs.Limits.{AreLimits, most_entries};
 
 use crate::config::{Config, Limits};
-use crate::names::Names;
 use crate::places::Places;
 use crate::refusal::NoMemory;
+use crate::turn_names::TurnNames;
 use authority_cache::Cache;
 use gate_history::{Base, Entry};
 use permit_book::Permits;
@@ -30,7 +30,7 @@ pub struct Book {
     pub(crate) cache: Cache,
     pub(crate) permits: Permits,
     // The names of the turns' authorities once more, and how many permits are out for each authority.
-    pub(crate) names: Names,
+    pub(crate) names: TurnNames,
     pub(crate) places: Places,
 }
 
@@ -65,7 +65,7 @@ impl Book {
             starts: 0,
             cache: Cache::new(alloc, limits.authority_limit, keys),
             permits,
-            names: Names::new(alloc, keys),
+            names: TurnNames::new(alloc, keys),
             places: Places::new(alloc, keys),
         })
     }

@@ -3,11 +3,10 @@
 
 use crate::refusal::{AskRefusal, BeginRefusal, Denial, Started, SweepRefusal};
 use crate::state::Standing;
-use authority_cache::{Stale, TurnNo};
+use authority_cache::{Stale, TimedAnswer, TurnNo};
 use path_normal::{Authority, PageUrl};
 use permit_book::{NotOut, PermitNo};
 use robots_text::Token;
-use robots_verdict::Answer;
 
 /// A call of a book. Moments are seconds, any that a u64 has.
 #[derive(Drop)]
@@ -17,12 +16,11 @@ pub enum Call {
         authority: Authority,
         moment: u64,
     },
-    /// Brings the answer of a turn, with the life in seconds that its reply asked for.
+    /// Brings the answer of a turn, with its life.
     Arrive {
         authority: Authority,
         turn: TurnNo,
-        answer: Answer,
-        life: u64,
+        answer: TimedAnswer,
         moment: u64,
     },
     /// Asks for a permit.

@@ -1,7 +1,6 @@
 //! A list of calls, answered one after another.
 //! RFC 9309, sections 2.2.2, 2.3.1 and 2.4.
 ghost use Rattle.std.specs.Prelude.{◌≡◌, ◌<◌, All, IfOk, OnErr};
-ghost use Rattle.robots_verdict.specs.Answer.{spares_of};
 ghost use Rattle.gate_core.specs.declared.call.Call.TheVariants.{Arrive};
 ghost use Rattle.gate_core.specs.Calls.{HasSpare, Replies, Step};
 ghost use Rattle.gate_core.specs.Gate.{history};
@@ -10,10 +9,9 @@ ghost use Rattle.gate_core.specs.Headline.{IsTold, RunTells};
 use crate::book::Book;
 use crate::call::{Call, Reply};
 use crate::refusal::NoMemory;
-use crate::state::standing_as;
-use authority_cache::TurnNo;
+use crate::state::Standing;
+use authority_cache::{TimedAnswer, TurnNo};
 use path_normal::Authority;
-use robots_verdict::Answer;
 use std::alloc::Global;
 
 impl Book {
@@ -41,9 +39,8 @@ impl Book {
                 authority,
                 turn,
                 answer,
-                life,
                 moment,
-            } => self.bring(authority, turn, answer, life, moment),
+            } => self.bring(authority, turn, answer, moment),
             Call::Ask { token, url, moment } => Reply::Ask {
                 result: self.ask(token, url, moment),
             },
@@ -74,15 +71,14 @@ impl Book {
         &mut self,
         authority: Authority,
         turn: TurnNo,
-        answer: Answer,
-        life: u64,
+        answer: TimedAnswer,
         moment: u64,
     ) -> Reply
-        requires { 0 < spares_of answer }
-        ensures { Step self.old (Arrive authority turn answer life moment) result self.new }
+        requires { 0 < answer.spares }
+        ensures { Step self.old (Arrive authority turn answer moment) result self.new }
     {
-        let brought = standing_as(&answer);
-        let result = self.arrive(&authority, turn, answer, life, moment);
+        let brought = Standing::of(answer.answer());
+        let result = self.arrive(&authority, turn, answer, moment);
         Reply::Arrive {
             authority,
             brought,

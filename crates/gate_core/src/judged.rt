@@ -1,24 +1,27 @@
-//! A verdict that is found before the book is at hand, for an ask or a start: matching a path takes time, and another
-//! caller may have the book meanwhile. RFC 9309, section 2.2.2.
-ghost use Rattle.std.specs.Prelude.{◌≡◌};
+//! An ask with all that it takes made before the book is at hand: another caller may have the book meanwhile.
+//! RFC 9309, section 2.2.2.
+ghost use Rattle.std.specs.Prelude.{◌≡◌, IfOk};
 
-use gate_history::Ruling;
+use gate_history::{FetchText, Ruling};
 use path_normal::PageUrl;
 use robots_text::Token;
 use robots_verdict::Policy;
+use std::alloc::{AllocError, Global};
 use std::marker::Model;
 use std::sync::Arc;
 
-/// A token and a URL to ask for, with the verdict of the policy that was thought to be in force.
+/// A token and a URL to ask for, with the texts of the ask's entry, and with the verdict of the policy that
+/// was thought to be in force, where one was found.
 #[derive(Drop)]
 pub struct Judged {
     pub(crate) token: Token,
     pub(crate) url: PageUrl,
+    pub(crate) fetch: FetchText,
     pub(crate) ruling: Option<Ruling>,
 }
 
 impl Model for Judged {
-    ghost use Rattle.std.specs.Prelude.{IfSome};
+    ghost use Rattle.std.specs.Prelude.{◌≡◌, IfSome};
     ghost use Rattle.gate_history.specs.Ruling.{IsRuling};
     ghost use Rattle.gate_core.specs.Judged.{Asked};
 
@@ -29,16 +32,43 @@ impl Model for Judged {
       url = judged.url;
     } };
 
-    ghost invariant = { λ judged. IfSome judged.ruling (IsRuling judged.token judged.url) };
+    ghost invariant = { λ judged. (judged.fetch ≡ record {
+      token = judged.token;
+      url = judged.url;
+    }) × IfSome judged.ruling (IsRuling judged.token judged.url) };
 }
 
 impl Judged {
-    /// Judges by the policy, if there is one. It takes no memory.
-    pub fn new(policy: Option<Arc<Policy>>, token: Token, url: PageUrl) -> Judged
-        ensures { result ≡ record { token = token; url = url } }
+    /// An ask of which no verdict was found.
+    pub fn new(alloc: Global, token: Token, url: PageUrl) -> Result<Judged, AllocError>
+        ensures { IfOk result (λ judged. judged ≡ record { token = token; url = url }) }
     {
+        let fetch = FetchText::of(alloc, &token, &url)?;
+        Ok(Judged {
+            token,
+            url,
+            fetch,
+            ruling: None,
+        })
+    }
+
+    /// The same ask, judged by a policy. It takes no memory.
+    pub fn judged_by(self, policy: Arc<Policy>) -> Judged
+        ensures { result ≡ self }
+    {
+        let Judged {
+            token,
+            url,
+            fetch,
+            ..
+        } = self;
         let ruling = Ruling::of(policy, &token, &url);
-        Judged { token, url, ruling }
+        Judged {
+            token,
+            url,
+            fetch,
+            ruling: Some(ruling),
+        }
     }
 
     /// The token that is asked for.

@@ -12,7 +12,6 @@ mod config;
 mod decide;
 mod end;
 mod judged;
-mod names;
 mod places;
 mod readers;
 mod refusal;
@@ -20,6 +19,7 @@ pub mod rows;
 mod start;
 mod state;
 mod sweep;
+mod turn_names;
 
 pub use book::Book;
 pub use call::{Call, Reply};

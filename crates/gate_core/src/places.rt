@@ -3,7 +3,7 @@
 ghost use Rattle.std.specs.Prelude.{◌≡◌, ◌^◌, ◌<◌, ℕ, List, None, OnErr, OnOk};
 ghost use Rattle.std.specs.HashMap.{get_by_text};
 ghost use Rattle.permit_book.specs.Table.{out_under};
-ghost use Rattle.gate_core.specs.Places.{AddsOne, held_by, IsHeld, Leaves, TakesOne};
+ghost use Rattle.gate_core.specs.Places.{AddsOne, held_by, IsCount, LeavesPlace, TakesOne};
 
 use indexmap::IndexMap;
 use permit_book::{PermitNo, Permits};
@@ -18,7 +18,7 @@ pub(crate) struct Places {
 
 /// Where an authority stands in the counts, until they change, and how many permits are out for it.
 #[derive(Clone, Copy)]
-pub(crate) struct Held {
+pub(crate) struct Count {
     pub index: Option<usize>,
     pub count: u64,
 }
@@ -33,15 +33,15 @@ impl Places {
     }
 
     /// Finds an authority among the counts.
-    pub(crate) fn find(&self, authority: &str) -> Held
-        ensures { IsHeld self.now authority.now result }
+    pub(crate) fn find(&self, authority: &str) -> Count
+        ensures { IsCount self.now authority.now result }
     {
         match self.by_authority.get_full(authority) {
-            Some((index, _authority, count)) => Held {
+            Some((index, _authority, count)) => Count {
                 index: Some(index),
                 count: *count,
             },
-            None => Held {
+            None => Count {
                 index: None,
                 count: 0,
             },
@@ -49,9 +49,9 @@ impl Places {
     }
 
     /// Counts a permit for the authority that was found.
-    pub(crate) fn add(&mut self, held: Held, authority: &str) -> Result<(), AllocError>
+    pub(crate) fn add(&mut self, held: Count, authority: &str) -> Result<(), AllocError>
         requires few { held.count < 2 ^ 32 }
-        requires held { IsHeld self.old authority.now held }
+        requires held { IsCount self.old authority.now held }
         ensures ok { OnOk result (AddsOne (held_by self.old) authority.now (held_by self.new)) }
         ensures err { OnErr result (held_by self.new ≡ held_by self.old) }
     {
@@ -67,7 +67,7 @@ impl Places {
 
     /// Counts the permit no more that is out under the number, which ends. It takes no memory.
     pub(crate) fn leave(&mut self, permits: &Permits, number: PermitNo)
-        ensures { Leaves (held_by self.old) (out_under permits.now number) (held_by self.new) }
+        ensures { LeavesPlace (held_by self.old) (out_under permits.now number) (held_by self.new) }
     {
         if let Some(url) = permits.url_of(number) {
             self.take(url.authority());

@@ -3,7 +3,7 @@
 ghost use Rattle.std.specs.Prelude.{◌≡◌, length};
 ghost use Rattle.gate_history.specs.History.{entry_count, started_count};
 ghost use Rattle.gate_history.specs.Outstanding.{is_running, is_unspent, running, stands, unspent};
-ghost use Rattle.gate_history.specs.Standing.{has_turn, in_flight, is_fetching};
+ghost use Rattle.gate_history.specs.Standing.{has_turn, in_flight, is_fetching, known_count};
 ghost use Rattle.gate_core.specs.Gate.{history};
 
 use crate::book::Book;
@@ -61,6 +61,13 @@ impl Book {
         ensures { result ≡ started_count (history self.now) }
     {
         self.starts
+    }
+
+    /// How many authorities have an answer or a turn.
+    pub fn known_count(&self) -> u64
+        ensures { result ≡ known_count (history self.now) }
+    {
+        self.cache.known_count()
     }
 
     /// How many unspent permits are out.

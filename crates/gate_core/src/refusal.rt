@@ -122,17 +122,17 @@ impl From<AllocError> for SweepRefusal {
     }
 }
 
-impl From<authority_cache::BeginRefusal> for BeginRefusal {
+impl From<authority_cache::FlightRefusal> for BeginRefusal {
     ghost use Rattle.std.specs.Prelude.{◌≡◌};
     ghost use Rattle.gate_core.specs.Refused.{begin_refusal};
 
     ghost from_gives = { λ refusal result. result ≡ begin_refusal refusal };
 
-    fn from(refusal: authority_cache::BeginRefusal) -> BeginRefusal {
+    fn from(refusal: authority_cache::FlightRefusal) -> BeginRefusal {
         match refusal {
-            authority_cache::BeginRefusal::InFlight => BeginRefusal::InFlight,
-            authority_cache::BeginRefusal::AuthoritiesFull => BeginRefusal::AuthoritiesFull,
-            authority_cache::BeginRefusal::NoMemory => BeginRefusal::NoMemory,
+            authority_cache::FlightRefusal::InFlight => BeginRefusal::InFlight,
+            authority_cache::FlightRefusal::AuthoritiesFull => BeginRefusal::AuthoritiesFull,
+            authority_cache::FlightRefusal::NoMemory => BeginRefusal::NoMemory,
         }
     }
 }

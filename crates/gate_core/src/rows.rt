@@ -4,14 +4,15 @@ ghost use Rattle.std.specs.Prelude.{Ok, Err, []};
 ghost use Rattle.gate_core.specs.Replies.{Begins, Arrives, Asks, Starts, Returns, Finishes, IsNext, NoneFree};
 ghost use Rattle.gate_core.specs.declared.refusal.AskRefusal.TheVariants as refusals;
 ghost use Rattle.gate_history.specs.declared.outcome.Cause.TheVariants as causes;
-ghost use Rattle.gate_core.specs.Rows.{book, usual, one_place, site, page, other_page, foobot, barbot, no_file};
+ghost use Rattle.gate_history.specs.Rows.{foobot, page, site};
+ghost use Rattle.gate_core.specs.Rows.{book, usual, one_place, other_page, barbot, no_file_brought};
 ghost use Rattle.gate_core.specs.Rows.{begun, open_site, granted, started_at, go, no, two_granted, one_expired};
 ghost use Rattle.gate_core.specs.Rows.{finished, not_out, last_number, last_returned};
 
 /// A site without a robots file: its turn, its answer, a permit, and the start of its fetch.
 pub fn missing_robots()
     ensures begin { Begins (usual []) site 100 (Ok 1) (usual begun) }
-    ensures arrive { Arrives (usual begun) site 1 no_file 86400 105 (Ok tt) (usual open_site) }
+    ensures arrive { Arrives (usual begun) site 1 no_file_brought 105 (Ok tt) (usual open_site) }
     ensures ask { Asks (usual open_site) foobot page 110 (Ok 65536) (usual granted) }
     ensures start { Starts (usual granted) 65536 foobot page 120 (Ok (go 65536 page))
         (usual (started_at 120)) }
@@ -43,7 +44,8 @@ pub fn spent_once()
 
 /// One place for an authority: it is taken from the grant to the end of the fetch.
 pub fn one_place_for_a_site()
-    ensures unspent { Asks (one_place granted) barbot other_page 111 (Err refusals.Busy) (one_place granted) }
+    ensures unspent { Asks (one_place granted) barbot other_page 111 (Err refusals.Busy)
+        (one_place granted) }
     ensures running { Asks (one_place (started_at 112)) foobot page 116 (Err refusals.Busy)
         (one_place (started_at 112)) }
 {}

@@ -1,9 +1,10 @@
-//! `Book::start` and `Book::start_ruled`: a permit is spent, and its fetch begins or is denied.
+//! `Book::start` and `Book::start_standing`: a permit is spent, and its fetch begins or is denied.
 //! RFC 9309, section 2.4.
-ghost use Rattle.std.specs.Prelude.{◌≡◌, ◌≤◌, Err, IfSome, Ok};
+ghost use Rattle.std.specs.Prelude.{◌≡◌, ◌≤◌, Err, IfSome, Ok, true};
 ghost use Rattle.gate_history.specs.declared.entry.Entry.TheVariants.{StartDenied, Started as Allowed};
 ghost use Rattle.gate_history.specs.History.{now};
 ghost use Rattle.gate_history.specs.Legal.{SpendsAs};
+ghost use Rattle.gate_history.specs.Outstanding.{stands};
 ghost use Rattle.gate_core.specs.Gate.{Adds, history};
 ghost use Rattle.gate_history.specs.Ruling.{IsRuling};
 ghost use Rattle.gate_core.specs.Replies.{Starts};
@@ -28,12 +29,18 @@ impl Book {
     ) -> Result<Started, Denial>
         ensures { Starts self.old number token.now url moment result self.new }
     {
-        self.start_ruled(number, token, url, None, moment)
+        if !self.stands(number, token, &url) {
+            return Err(Denial {
+                url,
+                cause: Cause::Spent,
+            });
+        }
+        self.start_standing(number, token, url, None, moment)
     }
 
-    /// The same, where the verdict may be at hand. It counts only where the answer then in force has
-    /// the text of the policy that was judged by.
-    pub fn start_ruled(
+    /// The same, where a permit of that number, token and URL is known to stand and the verdict may be at
+    /// hand. It counts only where the answer then in force has the text of the policy that was judged by.
+    pub fn start_standing(
         &mut self,
         number: PermitNo,
         token: &Token,
@@ -41,15 +48,10 @@ impl Book {
         ruling: Option<&Ruling>,
         moment: u64,
     ) -> Result<Started, Denial>
-        requires { IfSome ruling (λ ruling. IsRuling token.now url ruling.now) }
+        requires stands { stands (history self.old) number token.now url ≡ true }
+        requires ruled { IfSome ruling (λ ruling. IsRuling token.now url ruling.now) }
         ensures { Starts self.old number token.now url moment result self.new }
     {
-        if !self.permits.stands(number, token, &url) {
-            return Err(Denial {
-                url,
-                cause: Cause::Spent,
-            });
-        }
         let moment = self.moment_of_call(moment);
         match self.decide(token, &url, ruling, moment) {
             Ok(reason) => {

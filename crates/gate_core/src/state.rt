@@ -36,6 +36,19 @@ pub struct State {
     pub fetching: bool,
 }
 
+impl Standing {
+    /// What stands while an answer is in force.
+    pub fn of(answer: &Answer) -> Standing
+        ensures { result ≡ standing_as (said answer.now) }
+    {
+        match answer {
+            Answer::Rules(_) => Standing::Rules,
+            Answer::Open(_) => Standing::Open,
+            Answer::Closed(_) => Standing::Closed,
+        }
+    }
+}
+
 impl Book {
     /// What is known of an authority at the moment of the call. It takes no memory.
     pub fn state_of(&self, authority: &str, moment: u64) -> State
@@ -46,12 +59,21 @@ impl Book {
         let standing = match self.cache.look_at(found, moment) {
             Look::Unknown => Standing::Unknown,
             Look::Expired => Standing::Expired,
-            Look::InForce(answer) => standing_as(answer),
+            Look::InForce(answer) => Standing::of(answer),
         };
         State {
             standing,
             fetching: found.is_fetching(),
         }
+    }
+
+    /// A handle of the policy whose rules are in force, where a verdict by it takes long, unless one was refused.
+    pub fn dear_hint(&self, authority: &str, moment: u64) -> Option<Arc<Policy>>
+        ensures { IfSome result (λ policy. HasRulesInForce (history self.now) authority.now
+            (moment_at self.now moment) (arc_value policy)) }
+    {
+        let policy = self.hint(authority, moment)?;
+        if policy.is_dear() { Some(policy) } else { None }
     }
 
     /// A handle of the policy whose rules are in force, unless one was refused.
@@ -64,15 +86,5 @@ impl Book {
             Look::InForce(Answer::Rules(rules)) => rules.handle().ok(),
             _ => None,
         }
-    }
-}
-
-pub(crate) fn standing_as(answer: &Answer) -> Standing
-    ensures { result ≡ standing_as (said answer.now) }
-{
-    match answer {
-        Answer::Rules(_) => Standing::Rules,
-        Answer::Open(_) => Standing::Open,
-        Answer::Closed(_) => Standing::Closed,
     }
 }

@@ -205,8 +205,7 @@ turns-arrived standing in_flight begins m late authority turn says life later fo
   lives =
       all-append has_its_life kept added (all-filter has_its_life (λ s. not (is_answer_for authority s)) standing are.lives)
       (all-of_map has_its_life (answered says life) (filter (has_number turn) in_flight)
-      (all-same (life_of says (life_of says life) == life_of says life) (filter (has_number turn) in_flight)
-      (ap (λ n. life_of says n == n) lives ∙ (ap (λ n. n == life) lives ∙ same_number life))));
+      (all-same (life_of says life == life) (filter (has_number turn) in_flight) (ap (λ n. n == life) lives ∙ same_number life)));
 }
   where
     kept : List StandingAnswer

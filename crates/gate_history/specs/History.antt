@@ -1,6 +1,6 @@
 -- A history of the gate: a base and the entries since, the last of them outermost; its moment and its
 -- counts. Answers age by its moments (RFC 9309, 2.4).
-use Rattle.std.specs.Prelude.{ℕ, ◌+◌, max, List, [], ◌∷◌}
+use Rattle.std.specs.Prelude.{ℕ, ◌+◌, max, Bool, true, false, List, [], ◌∷◌}
 use Rattle.gate_history.specs.declared.entry.Entry.{Entry}
 use Rattle.gate_history.specs.declared.entry.Entry.TheVariants.{Begun, Arrived, Granted, AskDenied, Started, StartDenied, Returned, Finished, Swept}
 use Rattle.gate_history.specs.Base.{Base}
@@ -47,6 +47,11 @@ begins (h ▸ _) = begins h
 abbrev pub entry_count : History → ℕ
 entry_count (from base) = base.entries
 entry_count (h ▸ _) = entry_count h + 1
+
+-- the entry is a fetch that was started
+abbrev pub is_start : Entry → Bool
+is_start (Started _ _ _) = true
+is_start _ = false
 
 -- how many Started entries there were
 abbrev pub started_count : History → ℕ

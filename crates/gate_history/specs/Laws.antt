@@ -20,7 +20,7 @@ use Rattle.gate_history.specs.Standing.{has_turn, in_flight, is_known, known_cou
 use Rattle.gate_history.specs.Cause.{Decides}
 use Rattle.gate_history.specs.Legal.{AllRise, IsLegal, MayFollow}
 use Rattle.gate_history.specs.LeftOpen.{answers_opened, closes_answer, closes_permit, closes_run, closes_turn, left_open, permits_opened, runs_opened, turns_opened}
-use Rattle.gate_history.specs.Seal.{AnswersAlike, ReadsAs, SaysAs, base_after}
+use Rattle.gate_history.specs.Seal.{AnswersAlike, SaysAs, base_after}
 
 -- a history with one more entry at the end of its list
 abbrev pub OneMore : Type 0
@@ -41,10 +41,6 @@ NoLaterEntryCloses = (h : History) (later : List Entry) → IsLeftOpen h later
 -- a legal history leads to a base
 abbrev pub LeadsToBase : Type 0
 LeadsToBase = (h : History) → IsLegal h → IsBase (base_after h)
-
--- from the base that a history leads to, the same is read as from the history, whatever comes after it
-abbrev pub SealReadsAlike : Type 0
-SealReadsAlike = (h : History) (later : List Entry) → ReadsAs (followed_by (from (base_after h)) later) (followed_by h later)
 
 -- the base that a history leads to says what the history does
 abbrev pub SealSaysAlike : Type 0

@@ -7,6 +7,7 @@ pub mod History
 pub mod Outstanding
 pub mod Standing
 pub mod Cause
+pub mod Wording
 pub mod Ruling
 pub mod Legal
 pub mod LeftOpen

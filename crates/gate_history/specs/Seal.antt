@@ -23,22 +23,6 @@ base_after h = record {
   started = started_count h;
 }
 
--- each list and each number of the one history is that of the other, and what the second one granted
--- the first one did
-pub record ReadsAs (g h : History) : Type 0 where
-  pub standing : standing g ≡ standing h
-  pub in_flight : in_flight g ≡ in_flight h
-  pub known : known_count g ≡ known_count h
-  pub unspent : unspent g ≡ unspent h
-  pub running : running g ≡ running h
-  pub grants : grants g ≡ grants h
-  pub greatest : (slot : ℕ) → greatest_in g slot ≡ greatest_in h slot
-  pub granted : (number : ℕ) → was_granted h number ≡ true → was_granted g number ≡ true
-  pub begins : begins g ≡ begins h
-  pub now : now g ≡ now h
-  pub entries : entry_count g ≡ entry_count h
-  pub started : started_count g ≡ started_count h
-
 -- two lists say the same in whatever order: of each key the same, and of each test as many
 pub record SaySame {K X : Type 0} (is_of : K → X → Bool) (xs ys : List X) : Type 0 where
   pub each : (key : K) → filter (is_of key) xs ≡ filter (is_of key) ys

@@ -9,9 +9,11 @@ pub mod laws;
 mod outcome;
 pub mod rows;
 mod ruling;
+mod wording;
 
 pub use base::{Base, SlotGrant};
 pub use entry::Entry;
 pub use fetch_text::FetchText;
 pub use outcome::{Cause, Reason};
 pub use ruling::{Ruling, decide};
+pub use wording::Wording;

@@ -27,17 +27,12 @@ pub struct Ruling {
 }
 
 impl Ruling {
-    /// Judges by the policy, if there is one. It takes no memory.
-    pub fn of(policy: Option<Arc<Policy>>, token: &Token, url: &PageUrl) -> Option<Ruling>
-        ensures { IfSome result (IsRuling token.now url.now) }
+    /// The policy's verdict on the fetch. It takes no memory.
+    pub fn of(policy: Arc<Policy>, token: &Token, url: &PageUrl) -> Ruling
+        ensures { IsRuling token.now url.now result }
     {
-        match policy {
-            Some(policy) => {
-                let verdict = policy.verdict(token, url.path_to_match());
-                Some(Ruling { policy, verdict })
-            }
-            None => None,
-        }
+        let verdict = policy.verdict(token, url.path_to_match());
+        Ruling { policy, verdict }
     }
 
     /// The policy.

@@ -1,18 +1,32 @@
 -- What the book's replies come to where a permit stands.
--- Used by `Round::start` and `Desk::start`.
+-- Used by `Round::start` and `Desk::start`, and by `Desk::ask` where memory is refused.
 use Rattle.std.proofs.Common.{◌≡◌, ℕ, Bool, true, false, List, sym}
 use Rattle.std.specs.Prelude.{MatchBool, Err}
 use Rattle.std.proofs.lemmas.Bool.{true≢false}
 use Rattle.gate_history.specs.declared.entry.Entry.TheVariants.{StartDenied}
 use Rattle.gate_history.specs.Outstanding.{stands}
+use Rattle.gate_core.specs.declared.refusal.AskRefusal.{AskRefusal}
+use Rattle.gate_core.specs.declared.refusal.AskRefusal.TheVariants as ask
 use Rattle.gate_core.specs.declared.refusal.Denial.{Denial}
 use Rattle.gate_core.specs.Gate.{Adds, Gate, history}
-use Rattle.gate_core.specs.Replies.{moment_at, Starts}
+use Rattle.gate_core.specs.Replies.{Asks, moment_at, Starts}
+use Rattle.gate_lock.specs.Desks.{DeskView, Looks}
+use Rattle.gate_lock.specs.Results.{is_denial}
+use Rattle.gate_lock.specs.Steps.{DeskAsks}
 
 -- the arm of a test that holds
 pub arm : (b : Bool) (P Q : Type 0) → b ≡ true → MatchBool b P Q → P
 arm true P Q is both = both
 arm false P Q is both = absurd (true≢false (sym is))
+
+-- an ask that is refused without an entry
+pub refused : (d : DeskView) (old : Gate) (token url : List ℕ) (m : ℕ) (refusal : AskRefusal) (new : Gate) (d2 : DeskView) →
+    Asks old token url m (Err refusal) new → is_denial refusal ≡ false → Looks d old d2 → DeskAsks d old token url m (Err refusal) new d2
+refused d old token url m (ask.Denied denial) new d2 asks none looks = absurd (true≢false none)
+refused d old token url m ask.LogFull new d2 asks none looks = (asks, looks)
+refused d old token url m ask.Busy new d2 asks none looks = (asks, looks)
+refused d old token url m ask.PermitsFull new d2 asks none looks = (asks, looks)
+refused d old token url m ask.NoMemory new d2 asks none looks = (asks, looks)
 
 -- a denied start of a permit that stands is an entry
 pub denied : (old new : Gate) (number : ℕ) (token url : List ℕ) (m : ℕ) (d : Denial) → stands (history old) number token url ≡ true →

@@ -7,11 +7,12 @@ use Rattle.std.proofs.lemmas.Bool.{cases_eq, cases_lt, eq-eqb, lt-ltb, ne_eqb}
 use Rattle.gate_history.specs.declared.entry.Entry.{Entry}
 use Rattle.gate_history.specs.declared.entry.Entry.TheVariants as entries
 use Rattle.gate_history.specs.Base.{Base, empty_base}
-use Rattle.gate_history.specs.History.{History, ◌▸◌, followed_by, from, started_count}
+use Rattle.gate_history.specs.History.{History, ◌▸◌, followed_by, from, is_start, started_count}
 use Rattle.gate_core.specs.Gate.{Gate, history}
 use Rattle.gate_lock.specs.declared.mark.Mark.{Mark}
-use Rattle.gate_lock.specs.Marks.{is_start, starts_in, starts_in_all}
-use Rattle.gate_lock.specs.Settling.{AreEntries, EachFits, MarksFit, one_if, times_in, times_in_all}
+use Rattle.gate_lock.specs.Marks.{starts_in, starts_in_all}
+use Rattle.authority_cache.specs.Calls.{one_if}
+use Rattle.gate_lock.specs.Settling.{AreEntries, EachFits, MarksFit, times_in, times_in_all}
 
 -- a number where the test holds
 abbrev where_so : Bool → ℕ → ℕ

@@ -30,8 +30,8 @@ abbrev pub no_ledgers : Ledgers
 no_ledgers = record { entries = 0; starts = 0; unspent = 0; running = 0; turns = 0 }
 
 -- nothing is counted yet
-abbrev pub nothing : Balance
-nothing = record { entries = 0; starts = 0; unspent = 0; running = 0; turns = 0; desks = 0 }
+abbrev pub nothing_counted : Balance
+nothing_counted = record { entries = 0; starts = 0; unspent = 0; running = 0; turns = 0; desks = 0 }
 
 -- the most desks of a gate
 abbrev pub most_desks : ℕ

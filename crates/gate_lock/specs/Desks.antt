@@ -4,7 +4,9 @@ use Rattle.std.specs.Prelude.{◌≡◌, ℕ, ◌+◌, ◌*◌, ◌≤◌, List,
 use Rattle.gate_history.specs.declared.entry.Entry.{Entry}
 use Rattle.gate_history.specs.declared.entry.Entry.TheVariants.{Begun, Arrived, Granted, AskDenied, Started, StartDenied, Returned, Finished, Swept}
 use Rattle.gate_history.specs.declared.outcome.Reason.{Reason}
+use Rattle.gate_history.specs.Base.{empty_base}
 use Rattle.gate_history.specs.History.{entry_count}
+use Rattle.gate_core.specs.declared.config.Limits.{Limits}
 use Rattle.gate_core.specs.Gate.{Gate, HasLegalHistory, history}
 use Rattle.gate_lock.specs.declared.mark.Mark.{Mark}
 use Rattle.gate_lock.specs.Marks.{mark_at, starts_in}
@@ -33,15 +35,24 @@ pub record Shares : Type 0 where
   pub entries : ℕ
   pub starts : ℕ
 
--- a desk: its number; how many entries the history had when it last looked; how many permits, running
+-- a desk: the limits of its gate; its number; how many entries the history had when it last looked; how many permits, running
 -- fetches and turns it must still spend; and the marks of the entries that it made
 pub record DeskView : Type 0 where
+  pub limits : Limits
   pub no : ℕ
   pub seen : ℕ
   pub permits : ℕ
   pub runs : ℕ
   pub turns : ℕ
   pub marks : List Mark
+
+-- a gate that a lock of these limits kept: its history begins with nothing, is legal, and has at least the
+-- entries that were seen
+pub record IsGateOf (limits : Limits) (seen : ℕ) (g : Gate) : Type 0 where
+  pub limits_are : g.limits ≡ limits
+  pub base_is : g.base ≡ empty_base
+  pub legal : HasLegalHistory g
+  pub seen_are : seen ≤ entry_count (history g)
 
 -- what a desk must still spend: permits, runs and turns more and less
 pub record HasOut (d d2 : DeskView) (permits permits_less runs runs_less turns turns_less : ℕ) : Type 0 where
@@ -67,6 +78,7 @@ HasOutBy (Swept _ _) d d2 = KeepsOut d d2
 
 -- the desk made an entry in a gate: it has seen the history behind it, and has its mark, at its place
 pub record Makes (d : DeskView) (g : Gate) (e : Entry) (d2 : DeskView) : Type 0 where
+  pub limits_are : d2.limits ≡ d.limits
   pub no_is : d2.no ≡ d.no
   pub seen_is : d2.seen ≡ entry_count (history g) + 1
   pub out_is : HasOutBy e d d2
@@ -74,6 +86,7 @@ pub record Makes (d : DeskView) (g : Gate) (e : Entry) (d2 : DeskView) : Type 0 
 
 -- the desk made no entry, and has seen the history of a gate
 pub record Looks (d : DeskView) (g : Gate) (d2 : DeskView) : Type 0 where
+  pub limits_are : d2.limits ≡ d.limits
   pub no_is : d2.no ≡ d.no
   pub seen_is : d2.seen ≡ entry_count (history g)
   pub out_is : KeepsOut d d2
@@ -91,8 +104,16 @@ pub record IsDesk (view : DeskView) (shares : Shares) (room : ℕ) : Type 0 wher
   pub few : length view.marks ≤ view.seen
   pub fits : length view.marks + (2 * view.permits + view.runs + view.turns) ≤ room
 
--- a new desk, which has looked at the history of some gate
-abbrev pub IsNew : DeskView → Type 0
-IsNew d =
-    (g : Gate) × (HasLegalHistory g
-    × (d ≡ record { no = d.no; seen = entry_count (history g); permits = 0; runs = 0; turns = 0; marks = [] }))
+-- a new desk of a lock of these limits, which has looked at the history of some gate that the lock kept
+abbrev pub IsNew : Limits → DeskView → Type 0
+IsNew limits d =
+    (g : Gate) × (IsGateOf limits 0 g
+    × (d ≡ record {
+      limits = limits;
+      no = d.no;
+      seen = entry_count (history g);
+      permits = 0;
+      runs = 0;
+      turns = 0;
+      marks = [];
+    }))

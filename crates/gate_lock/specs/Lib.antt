@@ -4,6 +4,7 @@ pub mod Balance
 pub mod Results
 pub mod Marks
 pub mod Desks
+pub mod Awaiting
 pub mod Steps
 pub mod Bags
 pub mod Settling

@@ -1,18 +1,13 @@
 -- The marks of a desk: the entries that it made, each with its place.
 -- A place is how many entries were before it, counted from the first one ever.
-use Rattle.std.specs.Prelude.{ℕ, ◌+◌, Bool, true, false, List, [], ◌∷◌, if◌then◌else◌}
+use Rattle.std.specs.Prelude.{ℕ, ◌+◌, List, [], ◌∷◌, if◌then◌else◌}
 use Rattle.gate_history.specs.declared.entry.Entry.{Entry}
-use Rattle.gate_history.specs.declared.entry.Entry.TheVariants.{Started}
+use Rattle.gate_history.specs.History.{is_start}
 use Rattle.gate_lock.specs.declared.mark.Mark.{Mark}
 
 -- the mark of an entry at a place
 abbrev pub mark_at : ℕ → Entry → Mark
 mark_at place e = record { place = place; entry = e }
-
--- the entry is a started fetch
-abbrev pub is_start : Entry → Bool
-is_start (Started moment number reason) = true
-is_start _ = false
 
 -- how many of the marks are started fetches
 abbrev pub starts_in : List Mark → ℕ

@@ -30,7 +30,7 @@ entries_of_ok (Ok _) = 1
 entries_of_ok (Err _) = 0
 
 -- it has the place and the moment of the entry by which a gate came to be, whichever it was
-abbrev pub IsLast : Gate → Last → Type 0
-IsLast g last =
+abbrev pub IsLastEntry : Gate → Last → Type 0
+IsLastEntry g last =
     (old : Gate) (e : Entry) → Adds old e g
     → (last.place ≡ entry_count (history old)) × (entry_count (history g) ≡ last.place + 1) × (last.moment ≡ moment_of e)

@@ -1,7 +1,8 @@
 -- When a gate is settled: nothing is out, and the receipts of its desks are its history.
 -- The contracts of `marks_fit` and `settle`.
-use Rattle.std.specs.Prelude.{◌≡◌, ℕ, ◌+◌, ◌-◌, ◌<◌, ◌≤◌, ◌==◌, Bool, false, nat_lt, List, [], ◌∷◌, if◌then◌else◌, length, Ok, Err, Result, Some}
+use Rattle.std.specs.Prelude.{◌≡◌, ℕ, ◌+◌, ◌-◌, ◌<◌, ◌≤◌, ◌==◌, Bool, false, nat_lt, List, [], ◌∷◌, length, Ok, Err, Result, Some}
 use Rattle.std.specs.List.{slice_get, slice_index_or}
+use Rattle.authority_cache.specs.Calls.{one_if}
 use Rattle.gate_history.specs.declared.entry.Entry.{Entry}
 use Rattle.gate_history.specs.Base.{empty_base}
 use Rattle.gate_history.specs.History.{History, entry_count, started_count}
@@ -12,10 +13,6 @@ use Rattle.gate_lock.specs.declared.mark.Mark.{Mark}
 use Rattle.gate_lock.specs.declared.settlement.Settled.{Settled}
 use Rattle.gate_lock.specs.declared.settlement.SettleFault.{SettleFault}
 use Rattle.gate_lock.specs.declared.settlement.SettleFault.TheVariants.{Mismatch, NoMemory, StillOut}
-
--- one where a test holds
-abbrev pub one_if : Bool → ℕ
-one_if test = if test then 1 else 0
 
 -- the mark's place is before that of the next one
 abbrev pub IsBefore : Mark → List Mark → Type 0

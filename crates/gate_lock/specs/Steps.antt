@@ -1,10 +1,8 @@
 -- What each call of a desk does: it makes the book's call of the same name, and what that replies is its
 -- reply; an entry that it makes is the desk's. The contracts of the desk.
-use Rattle.std.specs.Prelude.{◌≡◌, ℕ, ◌≤◌, true, List, Result, Ok, Err}
-use Rattle.robots_verdict.specs.declared.said.Said.{Said}
-use Rattle.authority_cache.specs.Lives.{life_of}
+use Rattle.std.specs.Prelude.{◌≡◌, ℕ, true, List, Result, Ok, Err}
+use Rattle.authority_cache.specs.Lives.{Timed}
 use Rattle.gate_history.specs.declared.entry.Entry.TheVariants.{Begun, Arrived, Granted, AskDenied, Started, StartDenied, Returned, Finished, Swept}
-use Rattle.gate_history.specs.History.{entry_count}
 use Rattle.gate_history.specs.Outstanding.{stands}
 use Rattle.gate_core.specs.declared.refusal.AskRefusal.{AskRefusal}
 use Rattle.gate_core.specs.declared.refusal.AskRefusal.TheVariants as ask
@@ -12,15 +10,14 @@ use Rattle.gate_core.specs.declared.refusal.BeginRefusal.{BeginRefusal}
 use Rattle.gate_core.specs.declared.refusal.Denial.{Denial}
 use Rattle.gate_core.specs.declared.refusal.SweepRefusal.{SweepRefusal}
 use Rattle.gate_core.specs.declared.state.State.{State}
-use Rattle.gate_core.specs.Gate.{Gate, HasLegalHistory, history}
+use Rattle.gate_core.specs.Gate.{Gate, history}
 use Rattle.gate_core.specs.Replies.{Arrives, Asks, Begins, Finishes, moment_at, Returns, Starts, Sweeps}
 use Rattle.gate_core.specs.States.{IsState}
-use Rattle.gate_lock.specs.Desks.{DeskView, Errand, Looks, Makes, Pass, Run}
+use Rattle.gate_lock.specs.Desks.{DeskView, Errand, IsGateOf, Looks, Makes, Pass, Run}
 
--- a step of a desk at some gate that a lock kept: its history is legal, and has at least the entries
--- that the desk had seen
+-- a step of a desk at some gate that its lock kept
 abbrev pub Somewhere : DeskView → (Gate → Gate → Type 0) → Type 0
-Somewhere d Step = (old : Gate) × ((new : Gate) × (HasLegalHistory old × (d.seen ≤ entry_count (history old)) × Step old new))
+Somewhere d Step = (old : Gate) × ((new : Gate) × (IsGateOf d.limits d.seen old × Step old new))
 
 -- ask: a permit of the number that is granted, for this token and URL and of this desk
 abbrev pub DeskAsks : DeskView → Gate → List ℕ → List ℕ → ℕ → Result Pass AskRefusal → Gate → DeskView → Type 0
@@ -62,10 +59,10 @@ DeskBegins d old authority m (Ok t) new d2 =
 DeskBegins d old authority m (Err refusal) new d2 = Begins old authority m (Err refusal) new × Looks d old d2
 
 -- arrive: the answer that the turn brought stands
-abbrev pub DeskArrives : DeskView → Gate → Errand → Said → ℕ → ℕ → Gate → DeskView → Type 0
-DeskArrives d old t says life m new d2 =
-    Arrives old t.authority t.turn says life m (Ok tt) new
-    × Makes d old (Arrived (moment_at old m) t.authority t.turn says (life_of says life)) d2
+abbrev pub DeskArrives : DeskView → Gate → Errand → Timed → ℕ → Gate → DeskView → Type 0
+DeskArrives d old t answer m new d2 =
+    Arrives old t.authority t.turn answer m (Ok tt) new
+    × Makes d old (Arrived (moment_at old m) t.authority t.turn answer.says answer.life) d2
 
 -- sweep: how many answers it ended
 abbrev pub DeskSweeps : DeskView → Gate → ℕ → Result ℕ SweepRefusal → Gate → DeskView → Type 0

@@ -87,7 +87,8 @@ impl<G: Gate> Sought<Permit<G>> for For<'_> {
     ghost use Rattle.std.specs.Prelude.{◌&&◌};
     ghost use Rattle.std.specs.Str.{bytes_eq};
 
-    ghost accepts = { λ sought permit. bytes_eq permit.token sought.token.now && bytes_eq permit.url sought.url.now };
+    ghost accepts = { λ sought permit. bytes_eq permit.token sought.token.now
+        && bytes_eq permit.url sought.url.now };
 
     fn is(&self, kept: &Permit<G>) -> bool {
         kept.token() == self.token && kept.url() == self.url
@@ -97,7 +98,8 @@ impl<G: Gate> Sought<Permit<G>> for For<'_> {
 impl<G: Gate> Bag<G> {
     /// An empty bag of the desk.
     pub fn new(alloc: Global, desk: &Desk<'_, G>) -> Result<Bag<G>, AllocError>
-        ensures { IfOk result (λ bag. (bag.desk ≡ desk.now.no) × (bag.permits ≡ []) × (bag.runs ≡ [])) }
+        ensures { IfOk result
+            (λ bag. (bag.desk ≡ desk.now.no) × (bag.permits ≡ []) × (bag.runs ≡ [])) }
     {
         let permits = Store::new(alloc)?;
         match Store::new(alloc) {
@@ -155,7 +157,8 @@ impl<G: Gate> Bag<G> {
         ensures own { IfSome result (λ p. p.desk ≡ self.old.desk) }
         ensures count { IfSome result (λ _. held_in self.new + 1 ≡ held_in self.old) }
         ensures desk { self.new.desk ≡ self.old.desk }
-        ensures none { IfNone result ((has_permit self.old number ≡ false) × HoldsSame self.old self.new) }
+        ensures none { IfNone result ((has_permit self.old number ≡ false)
+            × HoldsSame self.old self.new) }
     {
         let Some(spot) = self.permits.find(number.number(), &Any) else {
             return None;
@@ -175,7 +178,8 @@ impl<G: Gate> Bag<G> {
         moment: u64,
     ) -> Result<Reason, Denial>
         requires { desk.old.no ≡ self.old.desk }
-        ensures step { BagStarts self.old desk.old number token.now url moment result self.new desk.new }
+        ensures step { BagStarts self.old desk.old number token.now url
+            moment result self.new desk.new }
         ensures no { desk.new.no ≡ desk.old.no }
         ensures desk { self.new.desk ≡ self.old.desk }
         ensures out { KeepsBalance self.old desk.old self.new desk.new }

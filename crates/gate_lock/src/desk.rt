@@ -1,10 +1,11 @@
 //! A desk: one thread's part of a gate. It makes the book's calls, and keeps a mark of each entry that it made.
 //! RFC 9309, sections 2.2 to 2.4.
-ghost use Rattle.std.specs.Prelude.{◌≡◌, ◌+◌, ◌≤◌, IfOk, length};
-ghost use Rattle.gate_history.specs.History.{entry_count};
-ghost use Rattle.gate_core.specs.Gate.{HasLegalHistory, history};
-ghost use Rattle.gate_lock.specs.Desks.{IsNew, out_of};
+ghost use Rattle.std.specs.Prelude.{◌≡◌, ◌≤◌, IfOk, length};
+ghost use Rattle.gate_core.specs.Gate.{history};
+ghost use Rattle.gate_lock.specs.Awaiting.{IsMet};
+ghost use Rattle.gate_lock.specs.Desks.{IsGateOf, IsNew, out_of};
 
+use crate::awaited::Awaited;
 use crate::ledgers::Gate;
 use crate::lock::{GateLock, Held};
 use crate::mark::Mark;
@@ -36,6 +37,7 @@ impl<'a, G: Gate> Model for Desk<'a, G> {
     ghost Value = { DeskView };
 
     ghost view = { λ desk. record {
+      limits = desk.gate.now;
       no = desk.mine.no;
       seen = desk.seen;
       permits = desk.permits;
@@ -45,6 +47,7 @@ impl<'a, G: Gate> Model for Desk<'a, G> {
     } };
 
     ghost invariant = { λ desk. IsDesk (record {
+      limits = desk.gate.now;
       no = desk.mine.no;
       seen = desk.seen;
       permits = desk.permits;
@@ -57,7 +60,7 @@ impl<'a, G: Gate> Model for Desk<'a, G> {
 impl<G: Gate> GateLock<G> {
     /// One more desk, with a number of its own from 1.
     pub fn desk<R: Wait>(&self, rt: &R, alloc: Global) -> Result<Desk<'_, G>, DesksFull>
-        ensures new { IfOk result IsNew }
+        ensures new { IfOk result (IsNew self.now) }
         ensures out { IfOk result (λ desk. out_of desk ≡ 0) }
     {
         let mut held = self.lend(rt);
@@ -106,10 +109,17 @@ impl<'a, G: Gate> Desk<'a, G> {
 
     /// The lock, once the history has the entries that this desk has seen: for the calls that end in `_in`.
     pub fn lend<R: Wait>(&self, rt: &R) -> Held<'a, G>
-        ensures legal { HasLegalHistory result }
-        ensures seen { self.now.seen ≤ entry_count (history result) }
+        ensures { IsGateOf self.now.limits self.now.seen result }
     {
-        self.gate.lend_from(rt, self.seen)
+        self.lend_when(rt, &Awaited::Nothing)
+    }
+
+    // The same, once what is awaited is so.
+    pub(crate) fn lend_when<'b, R: Wait>(&self, rt: &R, awaited: &'b Awaited<'b>) -> Held<'a, G>
+        ensures gate { IsGateOf self.now.limits self.now.seen result }
+        ensures met { IsMet awaited.now (history result) }
+    {
+        self.gate.lend_when(rt, self.seen, awaited)
     }
 
     /// Closes a desk that has nothing out.

@@ -1,7 +1,8 @@
 //! `marks_fit`: whether the marks of receipts are a history.
 //! Each mark is compared with its entry, and each place is found once.
 ghost use Rattle.std.specs.Prelude.{◌≡◌, ◌+◌, ◌^◌, ◌<◌, ◌↔◌, ◌==◌, IfOk, IsTrue, false, length, nat_lt, true, ℕ};
-ghost use Rattle.gate_lock.specs.Settling.{AreEntries, Ascend, EachFits, EachOnce, IsBefore, IsEntryAt, MarksFit, TooOften, found_at, one_if, times_in, times_in_all};
+ghost use Rattle.authority_cache.specs.Calls.{one_if};
+ghost use Rattle.gate_lock.specs.Settling.{AreEntries, Ascend, EachFits, EachOnce, IsBefore, IsEntryAt, MarksFit, TooOften, found_at, times_in, times_in_all};
 
 use crate::ledgers::Gate;
 use crate::mark::Mark;
@@ -106,7 +107,8 @@ fn find_each<G: Gate>(found: &mut [bool], all: &[Receipts<G>]) -> bool
     ensures len { length found.new ≡ length found.old }
     ensures yes { result ≡ true → ((place : ℕ) →
         found_at found.new place ≡ found_at found.old place + times_in_all place all.now) }
-    ensures no { result ≡ false → TooOften found.old (length found.old) (λ place. times_in_all place all.now) }
+    ensures no { result ≡ false → TooOften found.old (length found.old)
+        (λ place. times_in_all place all.now) }
 {
     let mut rest = all;
     while let [receipts, after @ ..] = rest {
@@ -123,7 +125,8 @@ fn find_marks(found: &mut [bool], marks: &[Mark]) -> bool
     ensures len { length found.new ≡ length found.old }
     ensures yes { result ≡ true → ((place : ℕ) →
         found_at found.new place ≡ found_at found.old place + times_in place marks.now) }
-    ensures no { result ≡ false → TooOften found.old (length found.old) (λ place. times_in place marks.now) }
+    ensures no { result ≡ false → TooOften found.old (length found.old)
+        (λ place. times_in place marks.now) }
 {
     let mut rest = marks;
     while let [mark, after @ ..] = rest {
@@ -140,7 +143,8 @@ fn find(found: &mut [bool], place: u64) -> bool
     ensures len { length found.new ≡ length found.old }
     ensures yes { result ≡ true → ((other : ℕ) →
         found_at found.new other ≡ found_at found.old other + one_if (place == other)) }
-    ensures no { result ≡ false → one_if (nat_lt place (length found.old)) < found_at found.old place + 1 }
+    ensures no { result ≡ false → one_if (nat_lt place (length found.old))
+        < found_at found.old place + 1 }
 {
     let place = place as usize;
     if place >= found.len() || found[place] {
@@ -152,7 +156,8 @@ fn find(found: &mut [bool], place: u64) -> bool
 
 // Whether each place was found.
 fn are_found(found: &[bool]) -> bool
-    ensures { IsTrue result ↔ ((place : ℕ) → found_at found.now place ≡ one_if (nat_lt place (length found.now))) }
+    ensures { IsTrue result
+        ↔ ((place : ℕ) → found_at found.now place ≡ one_if (nat_lt place (length found.now))) }
 {
     found.iter().all(|found| *found)
 }

@@ -3,8 +3,10 @@
 #![tactic(auto)]
 
 mod ask;
+mod awaited;
 mod bag;
 mod desk;
+mod desk_ask;
 mod fit;
 mod ledgers;
 mod lock;
@@ -23,6 +25,7 @@ mod visit;
 
 pub use bag::Bag;
 pub use desk::Desk;
+pub use desk_ask::DeskAsk;
 pub use fit::marks_fit;
 pub use ledgers::{Blanks, Gate};
 pub use lock::{GateLock, Held, vouch};

@@ -1,34 +1,37 @@
 //! The lock of a gate, and the hold of it that can be lent.
 //! Each call here takes the one lock once; none fetches or matches under it.
-ghost use Rattle.std.specs.Prelude.{◌≡◌, ◌<◌, ◌≤◌, [], false, length, true};
+ghost use Rattle.std.specs.Prelude.{◌≡◌, ◌<◌, [], length};
 ghost use Rattle.gate_history.specs.Base.{empty_base};
-ghost use Rattle.gate_history.specs.History.{entry_count};
-ghost use Rattle.gate_history.specs.Outstanding.{is_running, is_unspent, stands, unspent};
-ghost use Rattle.gate_history.specs.Standing.{has_turn, is_fetching};
+ghost use Rattle.gate_history.specs.Outstanding.{unspent};
 ghost use Rattle.gate_core.specs.Gate.{HasLegalHistory, history};
+ghost use Rattle.gate_lock.specs.Awaiting.{IsMet};
+ghost use Rattle.gate_lock.specs.Desks.{IsGateOf};
 
+use crate::awaited::Awaited;
 use crate::ledgers::{Blanks, Gate};
 use crate::round::Round;
 use crate::tally::Tally;
-use crate::tokens::{Permit, RobotsTurn};
-use gate_core::Book;
-use permit_book::PermitNo;
-use robots_verdict::Policy;
+use crate::tokens::Permit;
+use gate_core::{Book, Limits};
 use std::marker::Model;
-use std::sync::{Arc, Condvar, Mutex, MutexGuard, Wait};
+use std::sync::{Condvar, Mutex, MutexGuard, Wait};
 
 /// One gate for several threads: a book under a lock, with the ledgers of what is out.
 #[derive(Drop)]
 pub struct GateLock<G: Gate> {
     round: Mutex<Round<G>>,
+    // Those of the book.
+    limits: Limits,
     // Told of each answer that arrives: whoever waits until a turn is over looks again.
     moved: Condvar,
 }
 
 impl<G: Gate> Model for GateLock<G> {
-    ghost Value = { Unit {0} };
+    ghost use Rattle.gate_core.specs.declared.config.Limits.{Limits};
 
-    ghost view = { λ _. tt };
+    ghost Value = { Limits };
+
+    ghost view = { λ lock. lock.limits };
 }
 
 /// The lock, while it lives. A clause sees it as the book that lies under it.
@@ -73,158 +76,43 @@ impl<G: Gate> GateLock<G> {
     pub fn new(book: Book, blanks: Blanks) -> GateLock<G>
         requires book { (book.base ≡ empty_base) × (book.entries ≡ []) }
         requires blanks { blanks ≡ G.ledgers }
+        ensures { result ≡ book.limits }
     {
+        let limits = book.limits();
         let tally = Tally::open(blanks);
         GateLock {
             round: Mutex::new(Round::new(book, tally)),
+            limits,
             moved: Condvar::new(),
         }
     }
 
     /// The lock, until it is dropped. Whoever has it must not take it again.
     pub fn lend<R: Wait>(&self, rt: &R) -> Held<'_, G>
-        ensures legal { HasLegalHistory result }
-        ensures base { result.base ≡ empty_base }
+        ensures { IsGateOf self.now 0 result }
     {
-        let held = Held {
-            guard: self.round.lock(rt),
-        };
-        let _legal = held.book();
-        held
+        self.lend_when(rt, 0, &Awaited::Nothing)
     }
 
-    // The lock, once the history has so many entries.
-    pub(crate) fn lend_from<R: Wait>(&self, rt: &R, seen: u64) -> Held<'_, G>
-        ensures legal { HasLegalHistory result }
-        ensures seen { seen ≤ entry_count (history result) }
-    {
-        let round = self.round.lock(rt);
-        let guard = self
-            .moved
-            .wait_while(rt, round, |round| round.entry_count() < seen);
-        let held = Held { guard };
-        let _legal = held.book();
-        held
-    }
-
-    // The same, once the permit stands and one is out.
-    pub(crate) fn lend_permit<R: Wait>(
+    // The lock, once the history has so many entries and what is awaited is so.
+    pub(crate) fn lend_when<'b, R: Wait>(
         &self,
         rt: &R,
         seen: u64,
-        permits: u64,
-        permit: &Permit<G>,
+        awaited: &'b Awaited<'b>,
     ) -> Held<'_, G>
-        ensures legal { HasLegalHistory result }
-        ensures seen { seen ≤ entry_count (history result) }
-        ensures some { 0 < permits }
-        ensures stands { stands (history result) permit.now.number permit.now.token permit.now.url ≡ true }
+        ensures gate { IsGateOf self.now seen result }
+        ensures met { IsMet awaited.now (history result) }
     {
-        let number = permit.number();
-        let token = permit.token();
-        let url = permit.url();
+        let limits = self.limits;
         let round = self.round.lock(rt);
         let guard = self.moved.wait_while(rt, round, |round| {
             let book = round.book();
-            round.entry_count() < seen || permits == 0 || !book.stands(number, token, url)
+            book.limits() != limits || book.entry_count() < seen || !awaited.is_met(book)
         });
         let held = Held { guard };
         let _legal = held.book();
         held
-    }
-
-    // The same, once a permit of the number is unspent and one is out.
-    pub(crate) fn lend_unspent<R: Wait>(
-        &self,
-        rt: &R,
-        seen: u64,
-        permits: u64,
-        number: PermitNo,
-    ) -> Held<'_, G>
-        ensures legal { HasLegalHistory result }
-        ensures seen { seen ≤ entry_count (history result) }
-        ensures some { 0 < permits }
-        ensures unspent { is_unspent (history result) number ≡ true }
-    {
-        let round = self.round.lock(rt);
-        let guard = self.moved.wait_while(rt, round, |round| {
-            round.entry_count() < seen || permits == 0 || !round.book().is_unspent(number)
-        });
-        let held = Held { guard };
-        let _legal = held.book();
-        held
-    }
-
-    // The same, once the number is running and one is.
-    pub(crate) fn lend_running<R: Wait>(
-        &self,
-        rt: &R,
-        seen: u64,
-        runs: u64,
-        number: PermitNo,
-    ) -> Held<'_, G>
-        ensures legal { HasLegalHistory result }
-        ensures seen { seen ≤ entry_count (history result) }
-        ensures some { 0 < runs }
-        ensures running { is_running (history result) number ≡ true }
-    {
-        let round = self.round.lock(rt);
-        let guard = self.moved.wait_while(rt, round, |round| {
-            round.entry_count() < seen || runs == 0 || !round.book().is_running(number)
-        });
-        let held = Held { guard };
-        let _legal = held.book();
-        held
-    }
-
-    // The same, once the turn is in flight and one is out.
-    pub(crate) fn lend_turn<R: Wait>(
-        &self,
-        rt: &R,
-        seen: u64,
-        turns: u64,
-        turn: &RobotsTurn<G>,
-    ) -> Held<'_, G>
-        ensures legal { HasLegalHistory result }
-        ensures seen { seen ≤ entry_count (history result) }
-        ensures some { 0 < turns }
-        ensures turn { has_turn (history result) turn.now.authority turn.now.turn ≡ true }
-    {
-        let authority = turn.authority().text();
-        let number = turn.number();
-        let round = self.round.lock(rt);
-        let guard = self.moved.wait_while(rt, round, |round| {
-            let book = round.book();
-            round.entry_count() < seen || turns == 0 || !book.has_turn(authority, number)
-        });
-        let held = Held { guard };
-        let _legal = held.book();
-        held
-    }
-
-    // The same, once no turn of the authority is in flight.
-    pub(crate) fn lend_idle<R: Wait>(&self, rt: &R, seen: u64, authority: &str) -> Held<'_, G>
-        ensures legal { HasLegalHistory result }
-        ensures seen { seen ≤ entry_count (history result) }
-        ensures idle { is_fetching (history result) authority.now ≡ false }
-    {
-        let round = self.round.lock(rt);
-        let guard = self.moved.wait_while(rt, round, |round| {
-            round.entry_count() < seen || round.book().is_fetching(authority)
-        });
-        let held = Held { guard };
-        let _legal = held.book();
-        held
-    }
-
-    // A handle of the policy that is in force now, unless one was refused.
-    pub(crate) fn hint<R: Wait>(
-        &self,
-        rt: &R,
-        authority: &str,
-        moment: u64,
-    ) -> Option<Arc<Policy>> {
-        self.round.lock(rt).book().hint(authority, moment)
     }
 
     // Wakes all that wait until a turn is over.

@@ -6,6 +6,7 @@ ghost use Rattle.gate_core.specs.Gate.{history};
 ghost use Rattle.gate_lock.specs.Desks.{KeepsOut};
 ghost use Rattle.gate_lock.specs.Steps.{DeskReads, DeskSweeps, Somewhere};
 
+use crate::awaited::Awaited;
 use crate::desk::Desk;
 use crate::ledgers::Gate;
 use crate::lock::Held;
@@ -17,12 +18,12 @@ use std::sync::Wait;
 impl<'a, G: Gate> Desk<'a, G> {
     /// Drops the answers that are older than their lives, and tells how many they were.
     pub fn sweep<R: Wait>(&mut self, rt: &R, moment: u64) -> Result<u64, SweepRefusal>
-        ensures step { Somewhere self.old (λ old new. DeskSweeps self.old old moment result new self.new) }
+        ensures step { Somewhere self.old
+            (λ old new. DeskSweeps self.old old moment result new self.new) }
         ensures no { self.new.no ≡ self.old.no }
         ensures out { KeepsOut self.old self.new }
     {
-        let gate = self.gate;
-        let mut held = gate.lend_from(rt, self.seen);
+        let mut held = self.lend(rt);
         self.sweep_in(&mut held, moment)
     }
 
@@ -54,12 +55,12 @@ impl<'a, G: Gate> Desk<'a, G> {
 
     /// What is known of an authority at the moment of the call. It takes no memory.
     pub fn state_of<R: Wait>(&mut self, rt: &R, authority: &str, moment: u64) -> State
-        ensures step { Somewhere self.old (λ old new. DeskReads self.old old authority.now moment result new self.new) }
+        ensures step { Somewhere self.old
+            (λ old new. DeskReads self.old old authority.now moment result new self.new) }
         ensures no { self.new.no ≡ self.old.no }
         ensures out { KeepsOut self.old self.new }
     {
-        let gate = self.gate;
-        let mut held = gate.lend_from(rt, self.seen);
+        let mut held = self.lend(rt);
         self.state_in(&mut held, authority, moment)
     }
 
@@ -75,13 +76,13 @@ impl<'a, G: Gate> Desk<'a, G> {
     /// Waits while a turn of the authority is in flight, and tells what is known of it then. The lock is
     /// not held meanwhile, and each arrival wakes those that wait.
     pub fn wait_answer<R: Wait>(&mut self, rt: &R, authority: &str, moment: u64) -> State
-        ensures step { Somewhere self.old (λ old new. DeskReads self.old old authority.now moment result new self.new) }
+        ensures step { Somewhere self.old
+            (λ old new. DeskReads self.old old authority.now moment result new self.new) }
         ensures no { self.new.no ≡ self.old.no }
         ensures out { KeepsOut self.old self.new }
         ensures idle { result.fetching ≡ false }
     {
-        let gate = self.gate;
-        let mut held = gate.lend_idle(rt, self.seen, authority);
+        let mut held = self.lend_when(rt, &Awaited::Idle { authority });
         self.state_in(&mut held, authority, moment)
     }
 }

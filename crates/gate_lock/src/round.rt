@@ -1,7 +1,6 @@
 //! What lies under the lock: the book, and the ledgers that count what is out.
 //! Each change is one call of the book with the shares that it moves; RFC 9309, sections 2.3.1 and 2.4.
-ghost use Rattle.std.specs.Prelude.{◌≡◌, ◌+◌, ◌<◌, ◌≤◌, ◌↔◌, [], Err, IfOk, IfSome, IsTrue, length, Ok, true, false};
-ghost use Rattle.robots_verdict.specs.Answer.{said, spares_of};
+ghost use Rattle.std.specs.Prelude.{◌≡◌, ◌+◌, ◌<◌, ◌≤◌, ◌↔◌, [], Err, IfOk, IfSome, IsTrue, length, List, Ok, true, false, ℕ};
 ghost use Rattle.gate_history.specs.Base.{empty_base};
 ghost use Rattle.gate_history.specs.History.{entry_count, moment_of};
 ghost use Rattle.gate_history.specs.Outstanding.{is_running, is_unspent, stands, unspent};
@@ -9,14 +8,14 @@ ghost use Rattle.gate_history.specs.Standing.{has_turn};
 ghost use Rattle.gate_core.specs.Gate.{HasRoom, history};
 ghost use Rattle.gate_history.specs.Ruling.{IsRuling};
 ghost use Rattle.gate_core.specs.Replies.{Arrives, Asks, Begins, Finishes, Returns, Starts, Sweeps};
-ghost use Rattle.gate_lock.specs.Balance.{nothing};
-ghost use Rattle.gate_lock.specs.Results.{IsLast, entries_of_ask, entries_of_ok, is_denial, reply_in};
+ghost use Rattle.gate_lock.specs.Balance.{nothing_counted};
+ghost use Rattle.gate_lock.specs.Results.{IsLastEntry, entries_of_ask, entries_of_ok, is_denial, reply_in};
 
 use crate::ledgers::{Gate, RunningLedger, TurnLedger, UnspentLedger};
 use crate::mark::Mark;
 use crate::shares::{Mine, One};
 use crate::tally::{DesksFull, Tally};
-use authority_cache::TurnNo;
+use authority_cache::{TimedAnswer, TurnNo};
 use gate_core::{AskRefusal, BeginRefusal, Book, Denial, Judged, Started, SweepRefusal};
 use gate_history::laws::{each_entry_counts, no_later_entry_closes};
 use gate_history::{Entry, Ruling};
@@ -67,7 +66,7 @@ impl<G: Gate> Round<G> {
     // A book that has made no entry.
     pub fn new(book: Book, tally: Tally<G>) -> Round<G>
         requires book { (book.base ≡ empty_base) × (book.entries ≡ []) }
-        requires tally { tally ≡ nothing }
+        requires tally { tally ≡ nothing_counted }
         ensures { result ≡ book }
     {
         Round { book, tally }
@@ -84,7 +83,8 @@ impl<G: Gate> Round<G> {
     // The shares of one more desk.
     pub fn desk(&mut self) -> Result<Mine<G>, DesksFull>
         ensures same { self.new ≡ self.old }
-        ensures share { IfOk result (λ mine. mine ≡ record { no = mine.no; entries = 0; starts = 0 }) }
+        ensures share { IfOk result
+            (λ mine. mine ≡ record { no = mine.no; entries = 0; starts = 0 }) }
     {
         self.tally.desk()
     }
@@ -144,7 +144,7 @@ impl<G: Gate> Round<G> {
         each_entry_counts();
         let _legal = self.book.history();
         let _limits = self.book.limits();
-        let result = self.book.start_ruled(number, token, url, ruling, moment);
+        let result = self.book.start_standing(number, token, url, ruling, moment);
         self.tally.enter(mine);
         self.tally.spend(one);
         match result {
@@ -216,24 +216,30 @@ impl<G: Gate> Round<G> {
         authority: &Authority,
         turn: TurnNo,
         one: One<TurnLedger<G>>,
-        answer: Answer,
-        life: u64,
+        answer: TimedAnswer,
         moment: u64,
         mine: &mut Mine<G>,
     )
-        requires spare { 0 < spares_of answer }
+        requires spare { 0 < answer.spares }
         requires turn { has_turn (history self.old) authority.now turn ≡ true }
-        ensures reply { Arrives self.old authority.now turn (said answer) life moment (Ok tt) self.new }
+        ensures reply { Arrives self.old authority.now turn answer moment (Ok tt) self.new }
         ensures share { mine.new ≡ record mine.old { entries = mine.old.entries + 1 } }
     {
         no_later_entry_closes();
         each_entry_counts();
         let _legal = self.book.history();
-        let Ok(()) = self.book.arrive(authority, turn, answer, life, moment) else {
+        let Ok(()) = self.book.arrive(authority, turn, answer, moment) else {
             unreachable!()
         };
         self.tally.enter(mine);
         self.tally.arrive(one);
+    }
+
+    // The answer that the last arrival replaced.
+    pub fn take_replaced(&mut self) -> Option<Answer>
+        ensures { self.new ≡ self.old }
+    {
+        self.book.take_replaced()
     }
 
     // Makes the book's sweep.
@@ -272,7 +278,7 @@ impl<G: Gate> Round<G> {
 
     // The place and the moment of the last entry.
     pub fn last(&self) -> Last
-        ensures { IsLast self.now result }
+        ensures { IsLastEntry self.now result }
     {
         no_later_entry_closes();
         let moment = match self.book.history().last() {
@@ -286,8 +292,9 @@ impl<G: Gate> Round<G> {
     }
 
     // What an ask is answered for which memory was refused before it was made.
-    pub fn refuse_ask(&self, judged: &Judged, moment: u64) -> AskRefusal
-        ensures reply { Asks self.now judged.now.token judged.now.url moment (Err result) self.now }
+    pub fn refuse_ask(&self, moment: u64) -> AskRefusal
+        ensures reply { (token url : List ℕ)
+            → Asks self.now token url moment (Err result) self.now }
         ensures no_entry { is_denial result ≡ false }
     {
         if self.book.has_room(3) {

@@ -6,9 +6,10 @@ ghost use Rattle.gate_history.specs.History.{entry_count};
 ghost use Rattle.gate_history.specs.Outstanding.{is_running, is_unspent, stands};
 ghost use Rattle.gate_core.specs.Gate.{history};
 ghost use Rattle.gate_history.specs.Ruling.{IsRuling};
-ghost use Rattle.gate_lock.specs.Desks.{HasOut};
+ghost use Rattle.gate_lock.specs.Desks.{HasOut, IsGateOf};
 ghost use Rattle.gate_lock.specs.Steps.{DeskFinishes, DeskReturns, DeskStarts, Somewhere};
 
+use crate::awaited::Awaited;
 use crate::desk::Desk;
 use crate::ledgers::Gate;
 use crate::lock::Held;
@@ -20,8 +21,8 @@ use std::sync::Wait;
 #[tactic(auto, using(std::proofs::lemmas::Grind::common_steps, crate::proofs::Starts::starts_in_push))]
 impl<'a, G: Gate> Desk<'a, G> {
     /// Starts the fetch of a permit of this desk. The answer in force at this start decides, and a denied
-    /// start spends the permit too. Its cause is never `Spent`. As for an ask, the verdict is found with no
-    /// lock taken, and counts only where the answer in force under the lock has the same text.
+    /// start spends the permit too. Its cause is never `Spent`. As for an ask, a verdict that takes long is
+    /// found with no lock taken.
     pub fn start<R: Wait>(
         &mut self,
         rt: &R,
@@ -29,40 +30,76 @@ impl<'a, G: Gate> Desk<'a, G> {
         moment: u64,
     ) -> Result<Running<G>, Denial>
         requires { permit.desk ≡ self.old.no }
-        ensures step { Somewhere self.old (λ old new. DeskStarts self.old old permit moment result new self.new) }
+        ensures step { Somewhere self.old
+            (λ old new. DeskStarts self.old old permit moment result new self.new) }
         ensures no { self.new.no ≡ self.old.no }
         ensures ok { IfOk result (λ r. (r.pass ≡ permit) × HasOut self.old self.new 0 1 1 0 0 0) }
         ensures err { OnErr result (HasOut self.old self.new 0 1 0 0 0 0) }
         ensures cause { IfErr result (λ denial. denial.cause ≢ Spent) }
     {
-        let gate = self.gate;
-        let policy = gate.hint(rt, permit.url.authority(), moment);
+        let policy = {
+            let mut held = self.lend_permit(rt, &permit);
+            match held.book().dear_hint(permit.url.authority(), moment) {
+                Some(policy) => policy,
+                None => return self.start_in(&mut held, permit, None, moment),
+            }
+        };
         let ruling = Ruling::of(policy, &permit.token, &permit.url);
-        let mut held = gate.lend_permit(rt, self.seen, self.permits, &permit);
-        self.start_in(&mut held, permit, ruling.as_ref(), moment)
+        let mut held = self.lend_permit(rt, &permit);
+        self.start_in(&mut held, permit, Some(&ruling), moment)
+    }
+
+    // The lock, once the permit stands and the desk has one out.
+    fn lend_permit<R: Wait>(&self, rt: &R, permit: &Permit<G>) -> Held<'a, G>
+        ensures gate { IsGateOf self.now.limits self.now.seen result }
+        ensures some { 0 < self.now.permits }
+        ensures stands { stands (history result) permit.now.number permit.now.token
+            permit.now.url ≡ true }
+    {
+        self.lend_when(
+            rt,
+            &Awaited::Permit {
+                out: self.permits,
+                number: permit.number(),
+                token: permit.token(),
+                url: permit.url(),
+            },
+        )
     }
 
     /// Gives a permit of this desk back.
     pub fn back<R: Wait>(&mut self, rt: &R, permit: Permit<G>)
         requires { permit.desk ≡ self.old.no }
-        ensures step { Somewhere self.old (λ old new. DeskReturns self.old old permit.number new self.new) }
+        ensures step { Somewhere self.old
+            (λ old new. DeskReturns self.old old permit.number new self.new) }
         ensures no { self.new.no ≡ self.old.no }
         ensures out { HasOut self.old self.new 0 1 0 0 0 0 }
     {
-        let gate = self.gate;
-        let mut held = gate.lend_unspent(rt, self.seen, self.permits, permit.number);
+        let mut held = self.lend_when(
+            rt,
+            &Awaited::Unspent {
+                out: self.permits,
+                number: permit.number,
+            },
+        );
         self.back_in(&mut held, permit);
     }
 
     /// Ends a fetch that this desk started.
     pub fn finish<R: Wait>(&mut self, rt: &R, fetched: Fetched<G>)
         requires { fetched.desk ≡ self.old.no }
-        ensures step { Somewhere self.old (λ old new. DeskFinishes self.old old fetched.number new self.new) }
+        ensures step { Somewhere self.old
+            (λ old new. DeskFinishes self.old old fetched.number new self.new) }
         ensures no { self.new.no ≡ self.old.no }
         ensures out { HasOut self.old self.new 0 0 0 1 0 0 }
     {
-        let gate = self.gate;
-        let mut held = gate.lend_running(rt, self.seen, self.runs, fetched.number);
+        let mut held = self.lend_when(
+            rt,
+            &Awaited::Running {
+                out: self.runs,
+                number: fetched.number,
+            },
+        );
         self.finish_in(&mut held, fetched);
     }
 

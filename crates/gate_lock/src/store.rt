@@ -104,9 +104,12 @@ impl<T: Numbered> Store<T> {
 
     // Where one of the number is kept that is sought.
     pub fn find<S: Sought<T>>(&self, number: u64, sought: &S) -> Option<Spot>
-        ensures some { IfSome result (λ spot. IfSome (kept_at self.now spot) (λ kept. is_sought T.named (S.accepts sought.now) number kept ≡ true)) }
+        ensures some { IfSome result
+            (λ spot. IfSome (kept_at self.now spot)
+            (λ kept. is_sought T.named (S.accepts sought.now) number kept ≡ true)) }
         ensures there { IfSome result (λ spot. IsSome (kept_at self.now spot)) }
-        ensures none { IfNone result (list_any (is_sought T.named (S.accepts sought.now) number) (kept_in self.now) ≡ false) }
+        ensures none { IfNone result (list_any (is_sought T.named (S.accepts sought.now) number)
+            (kept_in self.now) ≡ false) }
     {
         let _unique = self.first.len();
         let Some((place, _, kept)) = self.first.get_full(&number) else {
@@ -120,9 +123,12 @@ impl<T: Numbered> Store<T> {
 
     // The same, of those that are not the first of their numbers.
     fn find_twin<S: Sought<T>>(&self, number: u64, sought: &S) -> Option<Spot>
-        ensures some { IfSome result (λ spot. IfSome (kept_at self.now spot) (λ kept. is_sought T.named (S.accepts sought.now) number kept ≡ true)) }
+        ensures some { IfSome result
+            (λ spot. IfSome (kept_at self.now spot)
+            (λ kept. is_sought T.named (S.accepts sought.now) number kept ≡ true)) }
         ensures there { IfSome result (λ spot. IsSome (kept_at self.now spot)) }
-        ensures none { IfNone result (list_any (is_sought T.named (S.accepts sought.now) number) self.now.twins ≡ false) }
+        ensures none { IfNone result (list_any (is_sought T.named (S.accepts sought.now) number)
+            self.now.twins ≡ false) }
     {
         let place = find_among(self.twins.as_slice(), number, sought)?;
         Some(Spot::Twin(place))
@@ -188,9 +194,12 @@ impl<T: Numbered> Store<T> {
 
 // The place of one of the number that is sought.
 fn find_among<T: Numbered, S: Sought<T>>(all: &[T], number: u64, sought: &S) -> Option<usize>
-    ensures some { IfSome result (λ place. IfSome (slice_get all.now place) (λ kept. is_sought T.named (S.accepts sought.now) number kept ≡ true)) }
+    ensures some { IfSome result
+        (λ place. IfSome (slice_get all.now place)
+        (λ kept. is_sought T.named (S.accepts sought.now) number kept ≡ true)) }
     ensures there { IfSome result (λ place. IsSome (slice_get all.now place)) }
-    ensures none { IfNone result (list_any (is_sought T.named (S.accepts sought.now) number) all.now ≡ false) }
+    ensures none { IfNone result (list_any (is_sought T.named (S.accepts sought.now) number)
+        all.now ≡ false) }
 {
     let mut rest = all;
     let mut place = 0;

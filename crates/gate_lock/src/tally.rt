@@ -1,7 +1,7 @@
 //! The ledgers of a gate with their totals, and what is left of them to hand out.
 //! They take no memory: a share is a value of no octets, and only proofs see its amount.
 ghost use Rattle.std.specs.Prelude.{◌≡◌, ◌+◌, ◌<◌, IfOk, OnErr};
-ghost use Rattle.gate_lock.specs.Balance.{Loses, all_out_parts, most_desks, nothing};
+ghost use Rattle.gate_lock.specs.Balance.{Loses, all_out_parts, most_desks, nothing_counted};
 
 use crate::ledgers::{
     Blanks, EntryLedger, Gate, RunningLedger, StartLedger, TurnLedger, UnspentLedger,
@@ -59,7 +59,7 @@ impl<G: Gate> Tally<G> {
     // New ledgers, by which nothing is counted yet.
     pub fn open(blanks: Blanks) -> Tally<G>
         requires { blanks ≡ G.ledgers }
-        ensures { result ≡ nothing }
+        ensures { result ≡ nothing_counted }
     {
         let Blanks {
             entries,
@@ -90,7 +90,8 @@ impl<G: Gate> Tally<G> {
 
     // The shares of one more desk, which is numbered from 1.
     pub fn desk(&mut self) -> Result<Mine<G>, DesksFull>
-        ensures ok { IfOk result (λ mine. (mine ≡ record { no = self.old.desks + 1; entries = 0; starts = 0 })
+        ensures ok { IfOk result
+            (λ mine. (mine ≡ record { no = self.old.desks + 1; entries = 0; starts = 0 })
             × (self.new ≡ record self.old { desks = self.old.desks + 1 })) }
         ensures full { OnErr result ((self.old.desks ≡ most_desks) × (self.new ≡ self.old)) }
     {

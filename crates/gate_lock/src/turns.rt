@@ -1,23 +1,22 @@
 //! `Desk::begin` and `arrive`: a turn to fetch a robots file, and the answer that it brings.
 //! RFC 9309, section 2.3.
 ghost use Rattle.std.specs.Prelude.{◌≡◌, ◌+◌, ◌^◌, ◌<◌, ◌≤◌, IfOk, OnErr, OnOk, length, true, vec_capacity};
-ghost use Rattle.robots_verdict.specs.Answer.{said, spares_of};
 ghost use Rattle.gate_history.specs.History.{entry_count};
 ghost use Rattle.gate_history.specs.Standing.{has_turn};
 ghost use Rattle.gate_core.specs.Gate.{history};
 ghost use Rattle.gate_lock.specs.Desks.{HasOut, KeepsOut};
 ghost use Rattle.gate_lock.specs.Steps.{DeskArrives, DeskBegins, Somewhere};
 
+use crate::awaited::Awaited;
 use crate::desk::Desk;
 use crate::ledgers::Gate;
 use crate::lock::Held;
 use crate::mark::Mark;
 use crate::tokens::RobotsTurn;
-use authority_cache::life_of;
+use authority_cache::TimedAnswer;
 use gate_core::BeginRefusal;
 use gate_history::Entry;
 use path_normal::Authority;
-use robots_verdict::Answer;
 use std::alloc::AllocError;
 use std::sync::Wait;
 
@@ -30,14 +29,14 @@ impl<'a, G: Gate> Desk<'a, G> {
         authority: &Authority,
         moment: u64,
     ) -> Result<RobotsTurn<G>, BeginRefusal>
-        ensures step { Somewhere self.old (λ old new. DeskBegins self.old old authority.now moment result new self.new) }
+        ensures step { Somewhere self.old
+            (λ old new. DeskBegins self.old old authority.now moment result new self.new) }
         ensures no { self.new.no ≡ self.old.no }
         ensures ok { IfOk result (λ t. (t.desk ≡ self.old.no) × (t.authority ≡ authority.now)
             × HasOut self.old self.new 0 0 0 0 1 0) }
         ensures err { OnErr result (KeepsOut self.old self.new) }
     {
-        let gate = self.gate;
-        let mut held = gate.lend_from(rt, self.seen);
+        let mut held = self.lend(rt);
         self.begin_in(&mut held, authority, moment)
     }
 
@@ -80,25 +79,30 @@ impl<'a, G: Gate> Desk<'a, G> {
         }
     }
 
-    /// Brings the answer of a turn of this desk, which stands from now on. Of rules a life of so many
-    /// seconds was asked. It takes no memory, but two spares of the answer.
-    pub fn arrive<R: Wait>(
-        &mut self,
-        rt: &R,
-        turn: RobotsTurn<G>,
-        answer: Answer,
-        life: u64,
-        moment: u64,
-    )
+    /// Brings the answer of a turn of this desk, which stands from now on. It takes no memory, but two spares
+    /// of the answer.
+    pub fn arrive<R: Wait>(&mut self, rt: &R, turn: RobotsTurn<G>, answer: TimedAnswer, moment: u64)
         requires own { turn.desk ≡ self.old.no }
-        requires spares { 1 < spares_of answer }
-        ensures step { Somewhere self.old (λ old new. DeskArrives self.old old turn (said answer) life moment new self.new) }
+        requires spares { 1 < answer.spares }
+        ensures step { Somewhere self.old
+            (λ old new. DeskArrives self.old old turn answer moment new self.new) }
         ensures no { self.new.no ≡ self.old.no }
         ensures out { HasOut self.old self.new 0 0 0 0 0 1 }
     {
         let gate = self.gate;
-        let mut held = gate.lend_turn(rt, self.seen, self.turns, &turn);
-        self.arrive_in(&mut held, turn, answer, life, moment);
+        // An index has megabytes: it is freed behind the lock.
+        let _replaced = {
+            let mut held = self.lend_when(
+                rt,
+                &Awaited::Turn {
+                    out: self.turns,
+                    authority: turn.authority().text(),
+                    turn: turn.number(),
+                },
+            );
+            self.arrive_in(&mut held, turn, answer, moment);
+            held.guard.take_replaced()
+        };
         gate.tell();
     }
 
@@ -106,15 +110,14 @@ impl<'a, G: Gate> Desk<'a, G> {
         &mut self,
         held: &mut Held<'_, G>,
         turn: RobotsTurn<G>,
-        answer: Answer,
-        life: u64,
+        answer: TimedAnswer,
         moment: u64,
     )
         requires seen { self.old.seen ≤ entry_count (history held.old) }
         requires some { 0 < self.old.turns }
         requires turn { has_turn (history held.old) turn.authority turn.turn ≡ true }
-        requires spares { 1 < spares_of answer }
-        ensures { DeskArrives self.old held.old turn (said answer) life moment held.new self.new }
+        requires spares { 1 < answer.spares }
+        ensures { DeskArrives self.old held.old turn answer moment held.new self.new }
     {
         let round = &mut *held.guard;
         let RobotsTurn {
@@ -124,17 +127,10 @@ impl<'a, G: Gate> Desk<'a, G> {
             one,
         } = turn;
         let mut standing = answer;
-        let says = standing.twin().into_said();
-        let kept = life_of(&standing, life);
-        round.arrive(
-            &authority,
-            turn,
-            one,
-            standing,
-            life,
-            moment,
-            &mut self.mine,
-        );
+        let twin = standing.twin();
+        let life = twin.life();
+        let says = twin.into_said();
+        round.arrive(&authority, turn, one, standing, moment, &mut self.mine);
         self.seen = round.entry_count();
         self.turns -= 1;
         let last = round.last();
@@ -143,7 +139,7 @@ impl<'a, G: Gate> Desk<'a, G> {
             authority,
             turn,
             says,
-            life: kept,
+            life,
         }));
     }
 }
@@ -159,7 +155,8 @@ fn prepare(
     ensures items { marks.new.items ≡ marks.old.items }
     ensures capacity { vec_capacity marks.old ≤ vec_capacity marks.new }
     ensures room { OnOk result (length marks.old.items + promised + 2 ≤ vec_capacity marks.new) }
-    ensures copies { IfOk result (λ copies. (copies.0 ≡ authority.now) × (copies.1 ≡ authority.now)) }
+    ensures copies { IfOk result
+        (λ copies. (copies.0 ≡ authority.now) × (copies.1 ≡ authority.now)) }
 {
     marks.reserve(promised as usize + 2)?;
     Ok((authority.copy()?, authority.copy()?))

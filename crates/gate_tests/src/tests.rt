@@ -9,6 +9,7 @@ mod indexes;
 mod judged;
 mod limits;
 mod sessions;
+mod states;
 mod threads;
 mod verdicts;
 mod wakes;

@@ -15,7 +15,7 @@ use Rattle.http_wire.specs.Limits.{max_raw}
 use Rattle.http_wire.specs.Bodies.{Gives, GivesCounted, IsBodyPrefix, IsBadBody}
 use Rattle.http_wire.specs.Chunks.{IsBadChunked}
 use Rattle.http_wire.specs.Reading.{HasBody, GoesOn, HasNoBody}
-use Rattle.http_wire.specs.Seeing.{GivesBody, IsFull, IsOpen, SeesBody, SeesPrefix, IsGiven, Refuses}
+use Rattle.http_wire.specs.Seeing.{GivesBody, HasFullTrailers, IsOpen, SeesBody, SeesPrefix, IsGiven, Refuses}
 use Rattle.http_wire.proofs.ChunkLaws.{bad_append}
 
 -- ---- the octets that are given
@@ -112,7 +112,7 @@ open_prefix (Counted size) limit text open' = open'
 open_prefix Chunked limit text open' = inl open'
 open_prefix ToEnd limit text open' = open'
 
-full_prefix : (framing : Framing) (limit : ℕ) (text : List ℕ) → IsFull framing limit text → IsBodyPrefix framing limit text
+full_prefix : (framing : Framing) (limit : ℕ) (text : List ℕ) → HasFullTrailers framing limit text → IsBodyPrefix framing limit text
 full_prefix (Counted size) limit text full = absurd full
 full_prefix Chunked limit text full = inr full
 full_prefix ToEnd limit text full = absurd full
@@ -133,5 +133,5 @@ open_past framing limit start bytes more full some open' = goes_on framing limit
 
 -- and so does one with as many lines as trailers may have
 pub full_past : (framing : Framing) (limit start : ℕ) (bytes more : List ℕ) → length bytes ≡ max_raw → 0 < length more
-    → IsFull framing limit (drop start bytes) → GoesOn framing limit start (bytes ++ more)
+    → HasFullTrailers framing limit (drop start bytes) → GoesOn framing limit start (bytes ++ more)
 full_past framing limit start bytes more full some lines = goes_on framing limit start bytes more full some (full_prefix framing limit (drop start bytes) lines)

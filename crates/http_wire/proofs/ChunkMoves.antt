@@ -4,8 +4,8 @@ use Rattle.std.proofs.Common.{◌≡◌, ℕ, ◌+◌, ◌-◌, ◌<◌, ◌≤�
 use Rattle.std.proofs.lemmas.List.{drop-drop, take_rest, length-drop}
 use Rattle.httparse.specs.Grammar.{ChunkLine, print_chunk_line, IsChunkLine, ReadsChunkLine, chunk_size, print_extension, print_end, crlf}
 use Rattle.httparse.specs.Spans.{IsChunkLineAt}
-use Rattle.http_wire.specs.declared.look.Look.{Look}
-use Rattle.http_wire.specs.declared.look.Look.TheVariants.{Whole, Cut, Bad, Full, More}
+use Rattle.http_wire.specs.declared.part_seen.PartSeen.{PartSeen}
+use Rattle.http_wire.specs.declared.part_seen.PartSeen.TheVariants.{Whole, Cut, Bad, Full, More}
 use Rattle.http_wire.specs.declared.chunked.Place.{Place}
 use Rattle.http_wire.specs.declared.chunked.Place.TheVariants as places
 use Rattle.http_wire.specs.declared.chunked.ChunkDecoder.{ChunkDecoder}
@@ -80,7 +80,7 @@ text_behind P bytes at size p =
     subst P (take_rest (drop at bytes) size) behind
 
 -- what the trailers tell of the body
-pub end_decodes : (decoder : ChunkDecoder) (bytes : List ℕ) (last : Bool) (look : Look) → Stands decoder bytes → decoder.place ≡ places.Trailers
+pub end_decodes : (decoder : ChunkDecoder) (bytes : List ℕ) (last : Bool) (look : PartSeen) → Stands decoder bytes → decoder.place ≡ places.Trailers
     → TrailersTell (drop decoder.at bytes) last look → Decodes bytes last decoder look
 end_decodes decoder bytes last Whole s is tells =
     (tells.0, trailers_whole _ _ _ _ tells.0 (at_place decoder bytes places.Trailers s is) tells.1)

@@ -9,7 +9,7 @@ use Rattle.std.proofs.lemmas.List.Elements.{All-push}
 use Rattle.std.proofs.lemmas.List.{flat_map_more}
 use Rattle.httparse.specs.Grammar.{ResponseHead, print_response, status_code, ReadsResponse, HasNoResponse, NeverHasResponse, MayBecomeResponse}
 use Rattle.httparse.specs.Spans.{header_bytes, ResponseOverflows, ResponseExceeds}
-use Rattle.http_wire.specs.Heads.{AfterInterims, fields_of, HasFinal, HasInterims, HasHead, HasTooManyInterim, IsBadHead, IsInterim, IsLongHead, line_ends, is_interim, is_final}
+use Rattle.http_wire.specs.Heads.{AfterInterims, head_fields, HasFinal, HasInterims, HasHead, HasTooManyInterim, IsBadHead, IsInterim, IsLongHead, line_ends, is_interim, is_final}
 use Rattle.http_wire.specs.Finding.{Passes, IsHeadPrefix, IsHeadAt, IsPlan, IsFound, HasNoPlan, Faults}
 use Rattle.http_wire.specs.Fields.{Pair}
 use Rattle.http_wire.specs.Response.{Cause}
@@ -208,9 +208,9 @@ final_append text head after more final = record {
 -- the fields that the spans cover, and the status
 told : (Fact : ℕ → List Pair → Type 0) (prefix : List ℕ) (headers : List HeaderSpan) (spans : ResponseSpans) (head : ResponseHead) → IsHeadAt prefix headers spans head
     → Fact spans.code (map (header_bytes prefix) (take spans.headers headers))
-    → Fact (status_code head) (fields_of head)
+    → Fact (status_code head) (head_fields head)
 told Fact prefix headers spans head found fact =
-    subst (λ code. Fact code (fields_of head)) found.at.code (subst (Fact spans.code) found.at.fields fact)
+    subst (λ code. Fact code (head_fields head)) found.at.code (subst (Fact spans.code) found.at.fields fact)
 
 -- what was read off the final head
 pub planned : (finder : HeadFinder) (bytes : List ℕ) (headers : List HeaderSpan) (spans : ResponseSpans) (head : ResponseHead)
@@ -219,7 +219,7 @@ pub planned : (finder : HeadFinder) (bytes : List ℕ) (headers : List HeaderSpa
     → IsPlan spans.code (map (header_bytes (take max_head (drop finder.at bytes))) (take spans.headers headers)) (finder.at + spans.len) plan
     → IsFound bytes plan
 planned finder bytes headers spans head plan passes found final is =
-    let own : IsPlan (status_code head) (fields_of head) (finder.at + spans.len) plan =
+    let own : IsPlan (status_code head) (head_fields head) (finder.at + spans.len) plan =
     told (λ code fields. IsPlan code fields (finder.at + spans.len) plan)
     (take max_head (drop finder.at bytes)) headers spans head found is in
     let len = length-take max_head (drop finder.at bytes) in
@@ -250,7 +250,7 @@ unplanned finder bytes headers spans head fault passes found final none more lim
     whole : HasFinal (bytes ++ more) head after
     whole = final_append bytes head (drop (finder.at + spans.len) bytes) more (final_found finder bytes headers spans head passes found final)
 
-    by_fault : (fault : WireFault) → HasNoPlan (status_code head) (fields_of head) fault → Cause fault (bytes ++ more) limit
+    by_fault : (fault : WireFault) → HasNoPlan (status_code head) (head_fields head) fault → Cause fault (bytes ++ more) limit
     by_fault BadLength bad = record { head = head; text = after; final = whole; fact = bad }
     by_fault Coding coded = record { head = head; text = after; final = whole; fact = coded }
     by_fault NoMemory _ = tt

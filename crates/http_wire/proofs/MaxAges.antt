@@ -11,8 +11,8 @@ use Rattle.std.proofs.lemmas.Bool.{true≢false}
 use Rattle.std.proofs.lemmas.List.{append_cancel_right, length-map}
 use Rattle.std.proofs.lemmas.List.Elements.{All-cons, All-head, All-nil, All-tail}
 use Rattle.std.proofs.lemmas.Slice.Eq.{bytes_eq-Decides}
-use Rattle.http_wire.specs.Fields.{is_same_word}
-use Rattle.http_wire.specs.Freshness.{IsFirstMaxAge, IsMaxAge, IsNoMaxAge, IsQuoted, TellsMaxAge, WritesSeconds, max_seconds, quotation_mark, seconds_of}
+use Rattle.robots_text.specs.Words.{is_same_word}
+use Rattle.http_wire.specs.Freshness.{IsFirstMaxAge, IsMaxAge, IsNoMaxAge, IsQuoted, TellsMaxAge, WritesSeconds, max_seconds, quotation_mark, delta_seconds}
 
 -- ---- the seconds of an argument
 
@@ -21,9 +21,9 @@ no_and true = refl
 no_and false = refl
 
 -- what is quoted is no number
-quoted_none : (argument text : List ℕ) → IsQuoted argument text → seconds_of argument ≡ None
+quoted_none : (argument text : List ℕ) → IsQuoted argument text → delta_seconds argument ≡ None
 quoted_none argument text quoted =
-    ap seconds_of quoted
+    ap delta_seconds quoted
     ∙ ap (λ test. cond test (Some (min (digits_value 10 (quotation_mark ∷ (text ++ quotation_mark ∷ []))) max_seconds)) None)
     (no_and (nat_lt 0 (length (quotation_mark ∷ (text ++ quotation_mark ∷ [])))))
 
@@ -38,26 +38,26 @@ same_seconds : (seconds : Option ℕ) (a b : ℕ) → seconds ≡ Some a → sec
 same_seconds seconds a b x y = let both : ◌≡◌ {A = Option ℕ} (Some a) (Some b) = sym x ∙ y in cc
 
 -- a quoted argument writes what stands between the quotation marks
-pub written_quoted : (argument text : List ℕ) (seconds : ℕ) → IsQuoted argument text → WritesSeconds argument seconds → seconds_of text ≡ Some seconds
+pub written_quoted : (argument text : List ℕ) (seconds : ℕ) → IsQuoted argument text → WritesSeconds argument seconds → delta_seconds text ≡ Some seconds
 written_quoted argument text seconds quoted writes =
     elim writes.form [
-      | inl same ↦ absurd (not_both (seconds_of argument) seconds (quoted_none argument text quoted) (ap seconds_of same ∙ writes.value))
-      | inr own ↦ ap seconds_of (quoted_same argument text writes.digits quoted own) ∙ writes.value
+      | inl same ↦ absurd (not_both (delta_seconds argument) seconds (quoted_none argument text quoted) (ap delta_seconds same ∙ writes.value))
+      | inr own ↦ ap delta_seconds (quoted_same argument text writes.digits quoted own) ∙ writes.value
     ]
 
 -- any other writes what it is
-pub written_plain : (argument : List ℕ) (seconds : ℕ) → ((text : List ℕ) → ¬ (IsQuoted argument text)) → WritesSeconds argument seconds → seconds_of argument ≡ Some seconds
+pub written_plain : (argument : List ℕ) (seconds : ℕ) → ((text : List ℕ) → ¬ (IsQuoted argument text)) → WritesSeconds argument seconds → delta_seconds argument ≡ Some seconds
 written_plain argument seconds plain writes =
     elim writes.form [
-      | inl same ↦ ap seconds_of same ∙ writes.value
+      | inl same ↦ ap delta_seconds same ∙ writes.value
       | inr own ↦ absurd (plain writes.digits own)
     ]
 
 -- what an argument is found to write, it writes
-pub seconds_told : (argument digits : List ℕ) (found : Option ℕ) → (argument ≡ digits) ⊎ IsQuoted argument digits → found ≡ seconds_of digits
-    → ((seconds : ℕ) → WritesSeconds argument seconds → seconds_of digits ≡ Some seconds)
+pub seconds_told : (argument digits : List ℕ) (found : Option ℕ) → (argument ≡ digits) ⊎ IsQuoted argument digits → found ≡ delta_seconds digits
+    → ((seconds : ℕ) → WritesSeconds argument seconds → delta_seconds digits ≡ Some seconds)
     → MatchOption found ((seconds : ℕ) → ¬ (WritesSeconds argument seconds)) (WritesSeconds argument)
-seconds_told argument digits None form is own = λ seconds writes. not_both (seconds_of digits) seconds (sym is) (own seconds writes)
+seconds_told argument digits None form is own = λ seconds writes. not_both (delta_seconds digits) seconds (sym is) (own seconds writes)
 seconds_told argument digits (Some n) form is own = record { digits = digits; form = form; value = sym is }
 
 -- what is found behind a quotation mark
@@ -83,10 +83,10 @@ written_unique : (argument : List ℕ) (a b : ℕ) → WritesSeconds argument a 
 written_unique argument a b x y =
     elim x.form [
       | inl same ↦ elim y.form [
-        | inl own ↦ same_seconds (seconds_of argument) a b (ap seconds_of same ∙ x.value) (ap seconds_of own ∙ y.value)
-        | inr quoted ↦ absurd (not_both (seconds_of argument) a (quoted_none argument y.digits quoted) (ap seconds_of same ∙ x.value))
+        | inl own ↦ same_seconds (delta_seconds argument) a b (ap delta_seconds same ∙ x.value) (ap delta_seconds own ∙ y.value)
+        | inr quoted ↦ absurd (not_both (delta_seconds argument) a (quoted_none argument y.digits quoted) (ap delta_seconds same ∙ x.value))
       ]
-      | inr quoted ↦ same_seconds (seconds_of x.digits) a b x.value (written_quoted argument x.digits b quoted y)
+      | inr quoted ↦ same_seconds (delta_seconds x.digits) a b x.value (written_quoted argument x.digits b quoted y)
     ]
 
 -- ---- the seconds of a member

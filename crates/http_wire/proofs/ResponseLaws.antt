@@ -7,8 +7,8 @@ use Rattle.httparse.specs.Grammar.{ResponseHead, status_code}
 use Rattle.http_wire.specs.Bodies.{Gives, InBody, IsBodyPrefix}
 use Rattle.http_wire.specs.Fields.{framing_of, IsFirstText, IsLocation}
 use Rattle.http_wire.specs.Freshness.{HasMaxAge}
-use Rattle.http_wire.specs.Heads.{HasFinal, fields_of}
-use Rattle.http_wire.specs.Response.{Answers, AtFinal, Cause, Finds, GivesOrStops, GivesReply, HasBadLength, IsInCoding, IsTooMuch, Reply, Response, Tells, reply_of}
+use Rattle.http_wire.specs.Heads.{HasFinal, head_fields}
+use Rattle.http_wire.specs.Response.{AnswersRead, AtFinal, Cause, Finds, GivesOrStops, GivesReply, HasBadLength, IsInCoding, IsTooMuch, Reply, Response, Tells, reply_of}
 use Rattle.http_wire.specs.declared.fault.WireFault.{WireFault}
 use Rattle.http_wire.specs.declared.fault.WireFault.TheVariants.{EarlyEnd, BadHead, HeadTooLong, TooManyInterim, BadLength, BadChunk, Coding, Device, NoMemory, TooMuch}
 use Rattle.http_wire.specs.declared.framing.Framing.{Framing}
@@ -30,11 +30,11 @@ first_text_unique (value ∷ values) (Some a) None x y = absurd (y x.0)
 first_text_unique (value ∷ values) (Some a) (Some b) x y = ap Some (x.1 ∙ sym y.1)
 
 -- the framing that one final head tells
-same_framing : (h k : ResponseHead) (f e : Framing) → h ≡ k → framing_of (status_code h) (fields_of h) ≡ Ok f
-    → framing_of (status_code k) (fields_of k) ≡ Ok e → f ≡ e
+same_framing : (h k : ResponseHead) (f e : Framing) → h ≡ k → framing_of (status_code h) (head_fields h) ≡ Ok f
+    → framing_of (status_code k) (head_fields k) ≡ Ok e → f ≡ e
 same_framing h k f e same x y =
     let both : ◌≡◌ {A = Result Framing Unframed} (Ok f) (Ok e) =
-    sym x ∙ ap (λ head. framing_of (status_code head) (fields_of head)) same ∙ y in
+    sym x ∙ ap (λ head. framing_of (status_code head) (head_fields head)) same ∙ y in
     cc
 
 pub reply_unique : (input : List ℕ) (limit : ℕ) (a b : Reply) → Response input limit a → Response input limit b → a ≡ b
@@ -49,10 +49,10 @@ reply_unique input limit a b x y =
     let status : a.status ≡ b.status = p.status ∙ ap status_code heads.0 ∙ sym q.status in
     let location : a.location ≡ b.location =
     first_text_unique _ a.location b.location
-    (subst (λ head. IsLocation (fields_of head) a.location) heads.0 p.location) q.location in
+    (subst (λ head. IsLocation (head_fields head) a.location) heads.0 p.location) q.location in
     let max_age : a.max_age ≡ b.max_age =
     tells_unique _ a.max_age b.max_age
-    (subst (λ head. HasMaxAge (fields_of head) a.max_age) heads.0 p.max_age) q.max_age in
+    (subst (λ head. HasMaxAge (head_fields head) a.max_age) heads.0 p.max_age) q.max_age in
     λ i. record { status = status i; location = location i; max_age = max_age i; body = bodies.0 i; cut = bodies.1 i }
 
 -- ---- no fault beside a reply
@@ -133,7 +133,7 @@ cause_excludes input limit reply TooMuch response much = absurd (too_much_exclud
 -- ---- what is answered is what is there
 
 gives_or_stops : (input : List ℕ) (limit : ℕ) (reply : Reply) (result : Result HttpReply WireFault) → Response input limit reply
-    → Answers input limit result → GivesOrStops reply result
+    → AnswersRead input limit result → GivesOrStops reply result
 gives_or_stops input limit reply (Ok given) response answers = reply_unique input limit (reply_of given) reply answers response
 gives_or_stops input limit reply (Err fault) response cause = cause_excludes input limit reply fault response cause
 
@@ -142,4 +142,4 @@ pub finds : (left : Option (List ℕ)) (limit : ℕ) (result : Result HttpReply 
 finds None limit result tells = tt
 finds (Some octets) limit result tells = λ reply response.
     gives_or_stops octets limit reply result response
-    (subst (λ (t : List ℕ). Answers t limit result) (sym tells.whole) tells.answers)
+    (subst (λ (t : List ℕ). AnswersRead t limit result) (sym tells.whole) tells.answers)

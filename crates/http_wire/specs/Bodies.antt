@@ -3,7 +3,7 @@
 use Rattle.std.specs.Prelude.{◌≡◌, ℕ, ◌<◌, ◌≤◌, ◌⊎◌, Bool, true, false, List, [], ◌∷◌, ◌++◌, length, Ok}
 use Rattle.httparse.specs.Grammar.{ResponseHead, status_code}
 use Rattle.http_wire.specs.Fields.{framing_of}
-use Rattle.http_wire.specs.Heads.{HasFinal, fields_of}
+use Rattle.http_wire.specs.Heads.{HasFinal, head_fields}
 use Rattle.http_wire.specs.Chunks.{GivesChunked, EndsInChunked, EndsTooLong, IsRefusedChunked}
 use Rattle.http_wire.specs.declared.framing.Framing.{Framing}
 use Rattle.http_wire.specs.declared.framing.Framing.TheVariants.{Counted, Chunked, ToEnd}
@@ -54,5 +54,5 @@ pub record InBody (Fact : Framing → List ℕ → Type 0) (input : List ℕ) : 
   pub text : List ℕ
   pub final : HasFinal input head text
   pub framing : Framing
-  pub framed : framing_of (status_code head) (fields_of head) ≡ Ok framing
+  pub framed : framing_of (status_code head) (head_fields head) ≡ Ok framing
   pub fact : Fact framing text

@@ -5,8 +5,8 @@ use Rattle.httparse.specs.Ascii.{crlf_bytes}
 use Rattle.httparse.specs.Grammar.{ChunkLine, ReadsChunkLine, chunk_size, HasNoSection, NeverHasSection, MayBecomeSection}
 use Rattle.httparse.specs.Spans.{SectionOverflows, SectionExceeds}
 use Rattle.http_wire.specs.Limits.{max_trailers}
-use Rattle.http_wire.specs.declared.look.Look.{Look}
-use Rattle.http_wire.specs.declared.look.Look.TheVariants.{Whole, Cut, Bad, Full, More}
+use Rattle.http_wire.specs.declared.part_seen.PartSeen.{PartSeen}
+use Rattle.http_wire.specs.declared.part_seen.PartSeen.TheVariants.{Whole, Cut, Bad, Full, More}
 use Rattle.http_wire.specs.declared.chunked.Place.{Place}
 use Rattle.http_wire.specs.declared.chunked.Place.TheVariants as places
 use Rattle.http_wire.specs.declared.chunked.ChunkEnd.{ChunkEnd}
@@ -32,7 +32,7 @@ SectionTells text sections.Over = SectionOverflows max_trailers text × SectionE
 SectionTells text sections.Bad = NeverHasSection text
 
 -- what the octets after the last chunk's line are
-abbrev pub TrailersTell : List ℕ → Bool → Look → Type 0
+abbrev pub TrailersTell : List ℕ → Bool → PartSeen → Type 0
 TrailersTell text last Whole = (rest : List ℕ) × ReadsTrailers text rest
 TrailersTell text last Cut = ⊥
 TrailersTell text last Bad = SectionOverflows max_trailers text ⊎ IsTooLong text
@@ -63,8 +63,13 @@ pub record Stands (decoder : ChunkDecoder) (bytes : List ℕ) : Type 0 where
   pub within : decoder.at ≤ length bytes
   pub decoded : Decoded decoder.limit (drop decoder.start bytes) decoder.octets.items decoder.place (drop decoder.at bytes)
 
+-- the body still begins at the same place, and gives at most as many octets
+pub record KeepsBounds (old new : ChunkDecoder) : Type 0 where
+  pub limit : new.limit ≡ old.limit
+  pub start : new.start ≡ old.start
+
 -- what a look at the bytes from the decoder's start on tells, with the octets that it holds then
-abbrev pub Decodes : List ℕ → Bool → ChunkDecoder → Look → Type 0
+abbrev pub Decodes : List ℕ → Bool → ChunkDecoder → PartSeen → Type 0
 Decodes bytes last decoder Whole =
     (rest : List ℕ) × GivesChunked decoder.limit (drop decoder.start bytes) decoder.octets.items false rest
 Decodes bytes last decoder Cut =
@@ -76,6 +81,6 @@ Decodes bytes last decoder More =
     Stands decoder bytes × (IsTrue last → EndsInChunked decoder.limit (drop decoder.start bytes))
 
 -- a step tells, or moves the place on
-abbrev pub Steps : List ℕ → Bool → ℕ → ChunkDecoder → Option Look → Type 0
-Steps bytes last at decoder (Some look) = Decodes bytes last decoder look
-Steps bytes last at decoder None = (at < decoder.at) × Stands decoder bytes
+abbrev pub DecodesOrMoves : List ℕ → Bool → ℕ → ChunkDecoder → Option PartSeen → Type 0
+DecodesOrMoves bytes last at decoder (Some look) = Decodes bytes last decoder look
+DecodesOrMoves bytes last at decoder None = (at < decoder.at) × Stands decoder bytes

@@ -1,12 +1,12 @@
 -- What the fields of a head say of the body that follows it.
 -- RFC 9112, section 6.3; RFC 9110, sections 5.6.1, 8.4 and 8.6.
-use Rattle.std.specs.Prelude.{◌≡◌, ℕ, Bool, ◌&&◌, ◌||◌, not, nat_lt, nat_le, ◌==◌, if◌then◌else◌, List, [], ◌∷◌, map, length, flat_map, codes, IsUtf8, Option, None, Some, Result, Ok, Err, bytes_eq}
+use Rattle.std.specs.Prelude.{◌≡◌, ℕ, Bool, ◌&&◌, ◌||◌, not, nat_lt, nat_le, ◌==◌, if◌then◌else◌, List, [], ◌∷◌, map, length, flat_map, codes, IsUtf8, Option, None, Some, Result, Ok, Err}
 use Rattle.std.specs.List.{list_all, list_any}
-use Rattle.std.specs.Char.{to_ascii_lowercase}
 use Rattle.std.specs.Str.Parse.{digits_value}
 use Rattle.httparse.specs.Ascii.{comma}
 use Rattle.httparse.specs.Grammar.{trim_ows}
 use Rattle.line_text.specs.Number.{is_number}
+use Rattle.robots_text.specs.Words.{is_same_word}
 use Rattle.http_wire.specs.declared.framing.Framing.{Framing}
 use Rattle.http_wire.specs.declared.framing.Framing.TheVariants.{Counted, Chunked, ToEnd}
 use Rattle.http_wire.specs.declared.framing.Unframed.{Unframed}
@@ -15,10 +15,6 @@ use Rattle.http_wire.specs.declared.framing.Unframed.TheVariants.{BadLength, Oth
 -- a name and its value
 abbrev pub Pair : Type 0
 Pair = List ℕ × List ℕ
-
--- the two texts are the same but for the case of letters
-abbrev pub is_same_word : List ℕ → List ℕ → Bool
-is_same_word a b = bytes_eq (map to_ascii_lowercase a) (map to_ascii_lowercase b)
 
 -- the value, if the field has this name in any case
 abbrev pub value_if : List ℕ → Pair → List (List ℕ)
@@ -78,12 +74,12 @@ framing_of status fields =
     else framed_by (members_of (codes "transfer-encoding") fields) (members_of (codes "content-length") fields)
 
 -- the content is as it is
-abbrev pub is_plain : List ℕ → Bool
-is_plain coding = (length coding == 0) || is_same_word coding (codes "identity")
+abbrev pub is_unencoded : List ℕ → Bool
+is_unencoded coding = (length coding == 0) || is_same_word coding (codes "identity")
 
 -- some content coding is named
 abbrev pub has_coding : List Pair → Bool
-has_coding fields = list_any (λ coding. not (is_plain coding)) (values_of (codes "content-encoding") fields)
+has_coding fields = list_any (λ coding. not (is_unencoded coding)) (values_of (codes "content-encoding") fields)
 
 -- the body would be used, and is in a content coding
 abbrev pub is_coded : ℕ → List Pair → Bool

@@ -8,7 +8,7 @@ use Rattle.httparse.specs.declared.spans.HeaderSpan.{HeaderSpan}
 use Rattle.httparse.specs.declared.spans.ResponseSpans.{ResponseSpans}
 use Rattle.http_wire.specs.Fields.{Pair, framing_of, is_coded, IsLocation}
 use Rattle.http_wire.specs.Freshness.{HasMaxAge}
-use Rattle.http_wire.specs.Heads.{HasFinal, HasInterims, IsHead, fields_of, is_interim, is_final}
+use Rattle.http_wire.specs.Heads.{HasFinal, HasInterims, IsHead, head_fields, is_interim, is_final}
 use Rattle.http_wire.specs.Reading.{IsWhole}
 use Rattle.http_wire.specs.Response.{Cause}
 use Rattle.http_wire.specs.declared.fault.WireFault.{WireFault}
@@ -63,11 +63,11 @@ pub record IsFound (bytes : List ℕ) (found : FinalHead) : Type 0 where
   pub head : ResponseHead
   pub final : HasFinal bytes head (drop found.end bytes)
   pub within : found.end ≤ length bytes
-  pub framed : framing_of (status_code head) (fields_of head) ≡ Ok found.framing
-  pub uncoded : is_coded (status_code head) (fields_of head) ≡ false
+  pub framed : framing_of (status_code head) (head_fields head) ≡ Ok found.framing
+  pub uncoded : is_coded (status_code head) (head_fields head) ≡ false
   pub status : found.status ≡ status_code head
-  pub location : IsLocation (fields_of head) (option_map string_bytes found.location)
-  pub max_age : HasMaxAge (fields_of head) found.max_age
+  pub location : IsLocation (head_fields head) (option_map string_bytes found.location)
+  pub max_age : HasMaxAge (head_fields head) found.max_age
 
 -- the fault's cause stands, whatever follows the bytes and whatever the limit
 abbrev pub Faults : List ℕ → WireFault → Type 0

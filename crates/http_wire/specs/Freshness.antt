@@ -3,15 +3,16 @@
 use Rattle.std.specs.Prelude.{◌≡◌, ℕ, ◌-◌, ◌^◌, ◌⊎◌, IsTrue, if◌then◌else◌, List, [], ◌∷◌, ◌++◌, All, Option, None, Some, codes, min}
 use Rattle.std.specs.Str.Parse.{digits_value}
 use Rattle.line_text.specs.Number.{is_numeral}
-use Rattle.http_wire.specs.Fields.{Pair, is_same_word, members_of}
+use Rattle.http_wire.specs.Fields.{Pair, members_of}
+use Rattle.robots_text.specs.Words.{is_same_word}
 
 -- the greatest count of seconds, which all greater ones count as
 abbrev pub max_seconds : ℕ
 max_seconds = 2 ^ 64 - 1
 
 -- delta-seconds = 1*DIGIT: the seconds that the digits write, if they are digits
-abbrev pub seconds_of : List ℕ → Option ℕ
-seconds_of digits = if is_numeral digits then Some (min (digits_value 10 digits) max_seconds) else None
+abbrev pub delta_seconds : List ℕ → Option ℕ
+delta_seconds digits = if is_numeral digits then Some (min (digits_value 10 digits) max_seconds) else None
 
 -- DQUOTE
 abbrev pub quotation_mark : ℕ
@@ -25,7 +26,7 @@ IsQuoted argument text = argument ≡ quotation_mark ∷ (text ++ quotation_mark
 pub record WritesSeconds (argument : List ℕ) (seconds : ℕ) : Type 0 where
   pub digits : List ℕ
   pub form : (argument ≡ digits) ⊎ IsQuoted argument digits
-  pub value : seconds_of digits ≡ Some seconds
+  pub value : delta_seconds digits ≡ Some seconds
 
 -- cache-directive = token "=" ( token / quoted-string ): the member is a max-age of these seconds
 pub record IsMaxAge (member : List ℕ) (seconds : ℕ) : Type 0 where

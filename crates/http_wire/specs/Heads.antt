@@ -8,8 +8,8 @@ use Rattle.http_wire.specs.Fields.{Pair}
 use Rattle.http_wire.specs.Limits.{max_head, max_header_lines, max_interim_heads}
 
 -- the names and the values of a head's fields
-abbrev pub fields_of : ResponseHead → List Pair
-fields_of head = map name_and_value head.fields
+abbrev pub head_fields : ResponseHead → List Pair
+head_fields head = map name_and_value head.fields
 
 -- a head within the limits
 pub record IsHead (head : ResponseHead) : Type 0 where

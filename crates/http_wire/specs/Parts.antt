@@ -6,8 +6,8 @@ use Rattle.http_wire.specs.Limits.{max_raw}
 use Rattle.http_wire.specs.Reading.{Grows}
 use Rattle.http_wire.specs.declared.fault.WireFault.{WireFault}
 use Rattle.http_wire.specs.declared.fault.WireFault.TheVariants.{Device, NoMemory}
-use Rattle.http_wire.specs.declared.part.Stop.{Stop}
-use Rattle.http_wire.specs.declared.part.Stop.TheVariants.{Found, Ended, Past}
+use Rattle.http_wire.specs.declared.part.Reached.{Reached}
+use Rattle.http_wire.specs.declared.part.Reached.TheVariants.{Found, Ended, Past}
 
 -- the octets that came give this, with the others left in the buffer
 pub record IsFoundIn {T : Type 0}
@@ -36,7 +36,7 @@ pub record GoesOnWaiting (waits : List ℕ → Type 0) (left : Option (List ℕ)
 
 -- what stands where the reading of a part stops
 abbrev pub Stops : {T : Type 0} → (List ℕ → Type 0) → (List ℕ → List ℕ → T → Type 0) → Option (List ℕ) → Option (List ℕ)
-    → List ℕ → List ℕ → Stop T → Type 0
+    → List ℕ → List ℕ → Reached T → Type 0
 Stops waits gives left left' old new (Found found) = IsFoundIn gives left left' old new found
 Stops waits gives left left' old new Ended = EndsWaiting waits left left' old new
 Stops waits gives left left' old new Past = GoesOnWaiting waits left old new

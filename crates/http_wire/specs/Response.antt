@@ -6,7 +6,7 @@ use Rattle.std.specs.String.{string_bytes}
 use Rattle.counted_io.specs.Device.{one_more}
 use Rattle.http_wire.specs.Fields.{framing_of, is_coded, IsLocation}
 use Rattle.http_wire.specs.Freshness.{HasMaxAge}
-use Rattle.http_wire.specs.Heads.{AfterInterims, HasFinal, IsBadHead, IsLongHead, EndsInHead, HasTooManyInterim, fields_of}
+use Rattle.http_wire.specs.Heads.{AfterInterims, HasFinal, IsBadHead, IsLongHead, EndsInHead, HasTooManyInterim, head_fields}
 use Rattle.http_wire.specs.Bodies.{Gives, EndsInBody, IsBodyPrefix, IsBadBody, InBody}
 use Rattle.http_wire.specs.declared.fault.WireFault.{WireFault}
 use Rattle.http_wire.specs.declared.fault.WireFault.TheVariants.{EarlyEnd, BadHead, HeadTooLong, TooManyInterim, BadLength, BadChunk, Coding, Device, NoMemory, TooMuch}
@@ -29,12 +29,12 @@ pub record GivesReply (input : List ℕ) (limit : ℕ) (reply : Reply) (rest : L
   pub text : List ℕ
   pub final : HasFinal input head text
   pub framing : Framing
-  pub framed : framing_of (status_code head) (fields_of head) ≡ Ok framing
-  pub uncoded : is_coded (status_code head) (fields_of head) ≡ false
+  pub framed : framing_of (status_code head) (head_fields head) ≡ Ok framing
+  pub uncoded : is_coded (status_code head) (head_fields head) ≡ false
   pub gives : Gives framing limit text reply.body reply.cut rest
   pub status : reply.status ≡ status_code head
-  pub location : IsLocation (fields_of head) reply.location
-  pub max_age : HasMaxAge (fields_of head) reply.max_age
+  pub location : IsLocation (head_fields head) reply.location
+  pub max_age : HasMaxAge (head_fields head) reply.max_age
 
 -- the reply stands within as many octets as a response may have
 pub record Response (input : List ℕ) (limit : ℕ) (reply : Reply) : Type 0 where
@@ -51,13 +51,13 @@ pub record AtFinal (Fact : ResponseHead → Type 0) (input : List ℕ) : Type 0 
 
 -- the fields of the head tell no length
 abbrev pub HasBadLength : ResponseHead → Type 0
-HasBadLength head = framing_of (status_code head) (fields_of head) ≡ Err Unframed.BadLength
+HasBadLength head = framing_of (status_code head) (head_fields head) ≡ Err Unframed.BadLength
 
 -- the body is in a coding that is not read
 abbrev pub IsInCoding : ResponseHead → Type 0
 IsInCoding head =
-    (is_coded (status_code head) (fields_of head) ≡ true)
-    ⊎ (framing_of (status_code head) (fields_of head) ≡ Err Unframed.OtherCoding)
+    (is_coded (status_code head) (head_fields head) ≡ true)
+    ⊎ (framing_of (status_code head) (head_fields head) ≡ Err Unframed.OtherCoding)
 
 -- the input ends inside a head, or before the body does
 abbrev pub EndsEarly : List ℕ → ℕ → Type 0
@@ -88,15 +88,15 @@ abbrev pub reply_of : HttpReply → Reply
 reply_of reply = record { status = reply.status; location = option_map string_bytes reply.location; max_age = reply.max_age; body = reply.body.items; cut = reply.cut }
 
 -- what a call answers of this input: its reply, or a fault whose cause stands
-abbrev pub Answers : List ℕ → ℕ → Result HttpReply WireFault → Type 0
-Answers input limit (Ok reply) = Response input limit (reply_of reply)
-Answers input limit (Err fault) = Cause fault input limit
+abbrev pub AnswersRead : List ℕ → ℕ → Result HttpReply WireFault → Type 0
+AnswersRead input limit (Ok reply) = Response input limit (reply_of reply)
+AnswersRead input limit (Err fault) = Cause fault input limit
 
 -- the call answers of some input, which is what the source has left where that is known
 pub record Tells (left : Option (List ℕ)) (limit : ℕ) (result : Result HttpReply WireFault) : Type 0 where
   pub input : List ℕ
   pub whole : IfSome left (λ octets. octets ≡ input)
-  pub answers : Answers input limit result
+  pub answers : AnswersRead input limit result
 
 -- the call gives this reply, or neither memory nor the device sufficed
 abbrev pub GivesOrStops : Reply → Result HttpReply WireFault → Type 0

@@ -45,6 +45,12 @@ pub record BodyStands (decoder : BodyDecoder) (bytes : List ℕ) : Type 0 where
   pub within : decoder.start ≤ length bytes
   pub form : FormStands decoder.limit decoder.start decoder.form bytes
 
+-- it still reads the same body: by its framing, from its start, to its limit
+pub record KeepsBody (old new : BodyDecoder) : Type 0 where
+  pub framing : framing_in new ≡ framing_in old
+  pub start : new.start ≡ old.start
+  pub limit : new.limit ≡ old.limit
+
 -- ---- what a look sees
 
 -- the text gives this body, whatever follows
@@ -53,10 +59,10 @@ pub record GivesBody (framing : Framing) (limit : ℕ) (text : List ℕ) (body :
   pub gives : (more : List ℕ) → Gives framing limit (text ++ more) body.octets.items body.cut (rest ++ more)
 
 -- the text has as many lines as trailers may have, and no end of them
-abbrev pub IsFull : Framing → ℕ → List ℕ → Type 0
-IsFull (Counted size) limit text = ⊥
-IsFull Chunked limit text = EndsTooLong limit text
-IsFull ToEnd limit text = ⊥
+abbrev pub HasFullTrailers : Framing → ℕ → List ℕ → Type 0
+HasFullTrailers (Counted size) limit text = ⊥
+HasFullTrailers Chunked limit text = EndsTooLong limit text
+HasFullTrailers ToEnd limit text = ⊥
 
 -- the text is a prefix of the body, and more octets of the body can follow
 abbrev pub IsOpen : Framing → ℕ → List ℕ → Type 0
@@ -73,7 +79,7 @@ IsShort ToEnd limit text = length text ≤ limit
 -- what a look sees in the text: of an open one the last look alone tells
 abbrev pub SeesBody : Framing → ℕ → List ℕ → Bool → BodySeen → Type 0
 SeesBody framing limit text last (Given body) = GivesBody framing limit text body
-SeesBody framing limit text last Full = IsTrue last × IsFull framing limit text
+SeesBody framing limit text last Full = IsTrue last × HasFullTrailers framing limit text
 SeesBody framing limit text last More = IsTrue last → IsOpen framing limit text
 
 -- the body is the first octets of the text up to the limit, and more stand there
@@ -95,10 +101,10 @@ IsGiven octets cut Full = ⊥
 IsGiven octets cut More = ⊥
 
 -- a look that gives nothing leaves the buffer as it was
-abbrev pub Leaves : List ℕ → List ℕ → BodySeen → Type 0
-Leaves old new (Given body) = ⊤
-Leaves old new Full = new ≡ old
-Leaves old new More = new ≡ old
+abbrev pub LeavesBuffer : List ℕ → List ℕ → BodySeen → Type 0
+LeavesBuffer old new (Given body) = ⊤
+LeavesBuffer old new Full = new ≡ old
+LeavesBuffer old new More = new ≡ old
 
 -- why a look gives nothing: the text can't be read, whatever follows, or there was no memory
 abbrev pub Refuses : Framing → ℕ → List ℕ → WireFault → Type 0

@@ -9,7 +9,7 @@ use crate::buffer::Buffer;
 use crate::fault::WireFault;
 use crate::framing::Framing;
 use crate::limits::MAX_RAW;
-use crate::part::{Stop, fill_until};
+use crate::part::{Reached, fill_until};
 use counted_io::Source;
 use std::alloc::Global;
 
@@ -38,8 +38,8 @@ pub(crate) fn read_body<S: Source>(
 {
     let mut decoder = BodyDecoder::new(alloc, framing, start, limit);
     match fill_until(alloc, source, buffer, &mut decoder)? {
-        Stop::Found(body) => Ok(body),
-        Stop::Ended => decoder.end(alloc, buffer),
-        Stop::Past => decoder.past(alloc, buffer),
+        Reached::Found(body) => Ok(body),
+        Reached::Ended => decoder.end(alloc, buffer),
+        Reached::Past => decoder.past(alloc, buffer),
     }
 }

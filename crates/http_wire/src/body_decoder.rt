@@ -3,8 +3,9 @@
 ghost use Rattle.std.specs.Prelude.{◌≡◌, ◌≤◌, ◌<◌, ◌+◌, ◌++◌, ℕ, List, Bool, true, None, Ok, IfOk, IfErr, drop, length, take};
 ghost use Rattle.http_wire.specs.Reading.{TellsBody};
 ghost use Rattle.http_wire.specs.Response.{failures_after_reading};
-ghost use Rattle.http_wire.specs.Decoding.{Stands};
-ghost use Rattle.http_wire.specs.Seeing.{BodyStands, IsGiven, IsOpen, IsShort, Leaves, Refuses, SeesBody, SeesPrefix, framing_in};
+ghost use Rattle.http_wire.specs.Decoding.{KeepsBounds, Stands};
+ghost use Rattle.http_wire.specs.Seeing.{BodyStands, IsGiven, IsOpen, IsShort, KeepsBody};
+ghost use Rattle.http_wire.specs.Seeing.{LeavesBuffer, Refuses, SeesBody, SeesPrefix, framing_in};
 
 use crate::body::Body;
 use crate::buffer::Buffer;
@@ -12,8 +13,8 @@ use crate::chunked::ChunkDecoder;
 use crate::fault::WireFault;
 use crate::framing::Framing;
 use crate::limits::MAX_RAW;
-use crate::look::Look;
 use crate::part::Part;
+use crate::part_seen::PartSeen;
 use std::alloc::Global;
 
 /// A body by its framing, as far as it was decoded.
@@ -96,15 +97,13 @@ impl BodyDecoder {
     // What the octets from the body's start on are.
     fn see(&mut self, alloc: Global, buffer: &mut Buffer, last: bool) -> Result<BodySeen, WireFault>
         requires { BodyStands self.old buffer.old }
-        ensures framing { framing_in self.new ≡ framing_in self.old }
-        ensures start { self.new.start ≡ self.old.start }
-        ensures limit { self.new.limit ≡ self.old.limit }
+        ensures body { KeepsBody self.old self.new }
         ensures sees { IfOk result
             (SeesBody (framing_in self.old) self.old.limit (drop self.old.start buffer.old) last) }
         ensures stands { result ≡ Ok BodySeen.More → BodyStands self.new buffer.old }
         ensures short { result ≡ Ok BodySeen.More
             → IsShort (framing_in self.old) self.old.limit (drop self.old.start buffer.old) }
-        ensures left { IfOk result (Leaves buffer.old buffer.new) }
+        ensures left { IfOk result (LeavesBuffer buffer.old buffer.new) }
         ensures err { IfErr result
             (Refuses (framing_in self.old) self.old.limit (drop self.old.start buffer.old)) }
     {
@@ -179,7 +178,7 @@ fn see_counted(
     requires { start ≤ length buffer.old }
     ensures sees { (last : Bool)
         → SeesBody (Framing.Counted size) limit (drop start buffer.old) last result }
-    ensures left { Leaves buffer.old buffer.new result }
+    ensures left { LeavesBuffer buffer.old buffer.new result }
 {
     if size > limit as u64 {
         return see_prefix(alloc, buffer, start, limit);
@@ -195,7 +194,7 @@ fn see_counted(
 fn see_prefix(alloc: Global, buffer: &mut Buffer, start: usize, limit: usize) -> BodySeen
     requires { start ≤ length buffer.old }
     ensures sees { SeesPrefix limit (drop start buffer.old) result }
-    ensures left { Leaves buffer.old buffer.new result }
+    ensures left { LeavesBuffer buffer.old buffer.new result }
 {
     if buffer.octets().len() - start <= limit {
         return BodySeen::More;
@@ -210,8 +209,7 @@ fn see_chunked(
     last: bool,
 ) -> Result<BodySeen, WireFault>
     requires { Stands decoder.old buffer.now }
-    ensures start { decoder.new.start ≡ decoder.old.start }
-    ensures limit { decoder.new.limit ≡ decoder.old.limit }
+    ensures bounds { KeepsBounds decoder.old decoder.new }
     ensures sees { IfOk result
         (SeesBody Framing.Chunked decoder.old.limit (drop decoder.old.start buffer.now) last) }
     ensures stands { result ≡ Ok BodySeen.More → Stands decoder.new buffer.now }
@@ -219,17 +217,17 @@ fn see_chunked(
         (Refuses Framing.Chunked decoder.old.limit (drop decoder.old.start buffer.now)) }
 {
     match decoder.look(buffer.octets(), last)? {
-        Look::Whole => Ok(BodySeen::Given(Body {
+        PartSeen::Whole => Ok(BodySeen::Given(Body {
             octets: decoder.take_octets(alloc),
             cut: false,
         })),
-        Look::Cut => Ok(BodySeen::Given(Body {
+        PartSeen::Cut => Ok(BodySeen::Given(Body {
             octets: decoder.take_octets(alloc),
             cut: true,
         })),
-        Look::Bad => Err(WireFault::BadChunk),
-        Look::Full => Ok(BodySeen::Full),
-        Look::More => Ok(BodySeen::More),
+        PartSeen::Bad => Err(WireFault::BadChunk),
+        PartSeen::Full => Ok(BodySeen::Full),
+        PartSeen::More => Ok(BodySeen::More),
     }
 }
 

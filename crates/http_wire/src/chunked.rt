@@ -1,11 +1,11 @@
 //! Bodies in chunks, decoded from all the octets that have come.
 //! RFC 9112, section 7.1.
 ghost use Rattle.std.specs.Prelude.{◌≡◌, ◌+◌, ◌-◌, ◌<◌, ◌≤◌, ℕ, List, IfOk, drop, length, vec_len};
-ghost use Rattle.http_wire.specs.Decoding.{Decodes, EndTells, Stands, Steps};
+ghost use Rattle.http_wire.specs.Decoding.{Decodes, EndTells, KeepsBounds, Stands, DecodesOrMoves};
 
 use crate::limits::MAX_TRAILER_BYTES;
 use crate::line_ends::{begins_with_line_end, has_empty_line, has_line_end};
-use crate::look::Look;
+use crate::part_seen::PartSeen;
 use crate::trailers::look_trailers;
 use httparse::{Status, parse_chunk_size};
 use std::alloc::{AllocError, Global};
@@ -63,10 +63,9 @@ impl ChunkDecoder {
     }
 
     /// Looks at what has come. `last`: no look follows, so what has come is parsed in any case.
-    pub(crate) fn look(&mut self, bytes: &[u8], last: bool) -> Result<Look, AllocError>
+    pub(crate) fn look(&mut self, bytes: &[u8], last: bool) -> Result<PartSeen, AllocError>
         requires stands { Stands self.old bytes.now }
-        ensures limit { self.new.limit ≡ self.old.limit }
-        ensures start { self.new.start ≡ self.old.start }
+        ensures bounds { KeepsBounds self.old self.new }
         ensures decodes { IfOk result (Decodes bytes.now last self.new) }
     {
         loop {
@@ -78,19 +77,17 @@ impl ChunkDecoder {
 
     /// Hands out the octets that the body gave.
     pub(crate) fn take_octets(&mut self, alloc: Global) -> Vec<u8>
-        ensures limit { self.new.limit ≡ self.old.limit }
-        ensures start { self.new.start ≡ self.old.start }
+        ensures bounds { KeepsBounds self.old self.new }
         ensures octets { result ≡ self.old.octets }
     {
         mem::replace(&mut self.octets, Vec::new(alloc))
     }
 
     // One step of `look`, which reads at most one part.
-    fn step(&mut self, bytes: &[u8], last: bool) -> Result<Option<Look>, AllocError>
+    fn step(&mut self, bytes: &[u8], last: bool) -> Result<Option<PartSeen>, AllocError>
         requires stands { Stands self.old bytes.now }
-        ensures limit { self.new.limit ≡ self.old.limit }
-        ensures start { self.new.start ≡ self.old.start }
-        ensures steps { IfOk result (Steps bytes.now last self.old.at self.new) }
+        ensures bounds { KeepsBounds self.old self.new }
+        ensures steps { IfOk result (DecodesOrMoves bytes.now last self.old.at self.new) }
     {
         match self.place {
             Place::Line => Ok(self.look_line(bytes, last)),
@@ -100,17 +97,16 @@ impl ChunkDecoder {
     }
 
     // chunk-size [ chunk-ext ] CRLF, of a chunk or of the last one.
-    fn look_line(&mut self, bytes: &[u8], last: bool) -> Option<Look>
+    fn look_line(&mut self, bytes: &[u8], last: bool) -> Option<PartSeen>
         requires stands { Stands self.old bytes.now }
         requires place { self.old.place ≡ Place.Line }
-        ensures limit { self.new.limit ≡ self.old.limit }
-        ensures start { self.new.start ≡ self.old.start }
-        ensures steps { Steps bytes.now last self.old.at self.new result }
+        ensures bounds { KeepsBounds self.old self.new }
+        ensures steps { DecodesOrMoves bytes.now last self.old.at self.new result }
     {
         // A line that comes octet by octet is parsed once.
         if !last && !has_line_end(bytes, self.scanned) {
             self.scanned = bytes.len();
-            return Some(Look::More);
+            return Some(PartSeen::More);
         }
         match parse_chunk_size(&bytes[self.at..]) {
             Ok(Status::Complete((len, 0))) => {
@@ -121,8 +117,8 @@ impl ChunkDecoder {
                 self.pass(len, Place::Octets(size));
                 None
             }
-            Ok(Status::Partial) => Some(Look::More),
-            Err(_) => Some(Look::Bad),
+            Ok(Status::Partial) => Some(PartSeen::More),
+            Err(_) => Some(PartSeen::Bad),
         }
     }
 
@@ -131,12 +127,11 @@ impl ChunkDecoder {
         size: u64,
         bytes: &[u8],
         last: bool,
-    ) -> Result<Option<Look>, AllocError>
+    ) -> Result<Option<PartSeen>, AllocError>
         requires stands { Stands self.old bytes.now }
         requires place { self.old.place ≡ Place.Octets size }
-        ensures limit { self.new.limit ≡ self.old.limit }
-        ensures start { self.new.start ≡ self.old.start }
-        ensures steps { IfOk result (Steps bytes.now last self.old.at self.new) }
+        ensures bounds { KeepsBounds self.old self.new }
+        ensures steps { IfOk result (DecodesOrMoves bytes.now last self.old.at self.new) }
     {
         let room = self.limit - self.octets.len();
         if size > room as u64 {
@@ -151,20 +146,19 @@ impl ChunkDecoder {
         room: usize,
         bytes: &[u8],
         last: bool,
-    ) -> Result<Option<Look>, AllocError>
+    ) -> Result<Option<PartSeen>, AllocError>
         requires stands { Stands self.old bytes.now }
         requires past { (size : ℕ) × (self.old.place ≡ Place.Octets size) × (room < size) }
         requires room { room + vec_len self.old.octets ≡ self.old.limit }
-        ensures limit { self.new.limit ≡ self.old.limit }
-        ensures start { self.new.start ≡ self.old.start }
-        ensures steps { IfOk result (Steps bytes.now last self.old.at self.new) }
+        ensures bounds { KeepsBounds self.old self.new }
+        ensures steps { IfOk result (DecodesOrMoves bytes.now last self.old.at self.new) }
     {
         let text = &bytes[self.at..];
         if text.len() <= room {
-            return Ok(Some(Look::More));
+            return Ok(Some(PartSeen::More));
         }
         self.octets.extend_from_slice(&text[..room])?;
-        Ok(Some(Look::Cut))
+        Ok(Some(PartSeen::Cut))
     }
 
     // chunk-data CRLF, where the limit has room for the octets.
@@ -173,25 +167,24 @@ impl ChunkDecoder {
         size: usize,
         bytes: &[u8],
         last: bool,
-    ) -> Result<Option<Look>, AllocError>
+    ) -> Result<Option<PartSeen>, AllocError>
         requires stands { Stands self.old bytes.now }
         requires place { self.old.place ≡ Place.Octets size }
         requires fits { size + vec_len self.old.octets ≤ self.old.limit }
-        ensures limit { self.new.limit ≡ self.old.limit }
-        ensures start { self.new.start ≡ self.old.start }
-        ensures steps { IfOk result (Steps bytes.now last self.old.at self.new) }
+        ensures bounds { KeepsBounds self.old self.new }
+        ensures steps { IfOk result (DecodesOrMoves bytes.now last self.old.at self.new) }
     {
         let text = &bytes[self.at..];
         if text.len() < size {
-            return Ok(Some(Look::More));
+            return Ok(Some(PartSeen::More));
         }
         match chunk_end(&text[size..]) {
             ChunkEnd::Whole => {
                 self.take_chunk(size, bytes)?;
                 Ok(None)
             }
-            ChunkEnd::Open => Ok(Some(Look::More)),
-            ChunkEnd::Bad => Ok(Some(Look::Bad)),
+            ChunkEnd::Open => Ok(Some(PartSeen::More)),
+            ChunkEnd::Bad => Ok(Some(PartSeen::Bad)),
         }
     }
 
@@ -202,8 +195,7 @@ impl ChunkDecoder {
         requires fits { size + vec_len self.old.octets ≤ self.old.limit }
         requires within { size ≤ length bytes.now - self.old.at }
         requires ends { EndTells (drop size (drop self.old.at bytes.now)) ChunkEnd.Whole }
-        ensures limit { self.new.limit ≡ self.old.limit }
-        ensures start { self.new.start ≡ self.old.start }
+        ensures bounds { KeepsBounds self.old self.new }
         ensures moves { IfOk result (λ _. (self.old.at < self.new.at) × Stands self.new bytes.now) }
     {
         let text = &bytes[self.at..];
@@ -213,11 +205,10 @@ impl ChunkDecoder {
     }
 
     // trailer-section CRLF.
-    fn look_end(&mut self, bytes: &[u8], last: bool) -> Look
+    fn look_end(&mut self, bytes: &[u8], last: bool) -> PartSeen
         requires stands { Stands self.old bytes.now }
         requires place { self.old.place ≡ Place.Trailers }
-        ensures limit { self.new.limit ≡ self.old.limit }
-        ensures start { self.new.start ≡ self.old.start }
+        ensures bounds { KeepsBounds self.old self.new }
         ensures decodes { Decodes bytes.now last self.new result }
     {
         let text = &bytes[self.at..];
@@ -225,7 +216,7 @@ impl ChunkDecoder {
         let seen = self.scanned.saturating_sub(self.at);
         if open && !begins_with_line_end(text) && !has_empty_line(text, seen) {
             self.scanned = self.scanned.max(bytes.len());
-            return Look::More;
+            return PartSeen::More;
         }
         // More is wanted behind an empty line only where too many lines stand before it, and then
         // no other empty line helps.
@@ -236,8 +227,7 @@ impl ChunkDecoder {
     // Moves the place on by `len` octets.
     fn pass(&mut self, len: usize, place: Place)
         requires { self.old.at + len ≤ usize.MAX }
-        ensures limit { self.new.limit ≡ self.old.limit }
-        ensures start { self.new.start ≡ self.old.start }
+        ensures bounds { KeepsBounds self.old self.new }
         ensures octets { self.new.octets ≡ self.old.octets }
         ensures place { self.new.place ≡ place }
         ensures at { self.new.at ≡ self.old.at + len }

@@ -53,9 +53,9 @@ impl From<DeviceFault> for WireFault {
 
 impl fmt::Display for WireFault {
     ghost use Rattle.std.specs.Prelude.{Some};
-    ghost use Rattle.http_wire.specs.Messages.{fault_text};
+    ghost use Rattle.http_wire.specs.Messages.{wire_fault_text};
 
-    ghost output = { λ fault. Some (fault_text fault) };
+    ghost output = { λ fault. Some (wire_fault_text fault) };
 
     fn fmt<W: fmt::Write>(&self, f: &mut fmt::Formatter<W>) -> fmt::Result {
         f.write_str(match self {

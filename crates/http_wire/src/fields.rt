@@ -4,12 +4,13 @@ ghost use Rattle.std.specs.Prelude.{◌≡◌, ◌≤◌, ◌∷◌, ◌++◌, [
 ghost use Rattle.std.specs.Iterator.{YieldsFirstRef, item_count};
 ghost use Rattle.httparse.specs.Grammar.{skip_ows, trim_ows};
 ghost use Rattle.httparse.specs.Spans.{IsHeaderWithin, header_bytes};
-ghost use Rattle.http_wire.specs.Fields.{is_same_word, members, members_of, values_of};
+ghost use Rattle.http_wire.specs.Fields.{members, members_of, values_of};
 ghost use Rattle.http_wire.specs.Left.{HasNoComma, IsSplitAtComma, members_left, pairs, members_after, values_left};
 
 use httparse::is_space_or_tab;
 use httparse::spans::HeaderSpan;
 use memchr::memchr;
+use robots_text::is_same_word;
 
 /// One field of a head.
 #[derive(Clone, Copy)]
@@ -145,13 +146,6 @@ fn split_at_comma(list: &[u8]) -> Option<(&[u8], &[u8])>
 {
     let comma = memchr(b',', list)?;
     Some((&list[..comma], &list[comma + 1..]))
-}
-
-// Whether two texts are the same but for the case of letters.
-pub(crate) fn is_same_word(a: &[u8], b: &[u8]) -> bool
-    ensures { result ≡ is_same_word a.now b.now }
-{
-    a.eq_ignore_ascii_case(b)
 }
 
 // OWS text OWS, without that white space.

@@ -2,11 +2,12 @@
 //! RFC 9112, section 6.3.
 ghost use Rattle.std.specs.Prelude.{◌≡◌};
 ghost use Rattle.std.specs.List.{list_all};
-ghost use Rattle.http_wire.specs.Fields.{chunked, counted, framing_of, has_coding, is_coded, is_number_of, is_plain, IsLocation};
+ghost use Rattle.http_wire.specs.Fields.{chunked, counted, framing_of, has_coding, is_coded, is_number_of, is_unencoded, IsLocation};
 ghost use Rattle.http_wire.specs.Left.{members_left, pairs, text_of};
 
-use crate::fields::{Field, Members, Values, is_same_word};
+use crate::fields::{Field, Members, Values};
 use crate::numbers::number_in;
+use robots_text::is_same_word;
 
 /// What tells where a body ends.
 #[derive(Clone, Copy, PartialEq, Eq)]
@@ -89,11 +90,11 @@ pub(crate) fn is_coded(status: u16, fields: &[Field<'_>]) -> bool
 fn has_coding(fields: &[Field<'_>]) -> bool
     ensures { result ≡ has_coding (pairs fields.now) }
 {
-    Values::of(fields, b"content-encoding").any(|coding| !is_plain(coding))
+    Values::of(fields, b"content-encoding").any(|coding| !is_unencoded(coding))
 }
 
-fn is_plain(coding: &[u8]) -> bool
-    ensures { result ≡ is_plain coding.now }
+fn is_unencoded(coding: &[u8]) -> bool
+    ensures { result ≡ is_unencoded coding.now }
 {
     coding.is_empty() || is_same_word(coding, b"identity")
 }

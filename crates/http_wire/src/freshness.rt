@@ -1,12 +1,13 @@
 //! How long a response may be used.
 //! RFC 9111, sections 1.2.2, 5.2 and 5.2.2.1.
 ghost use Rattle.std.specs.Prelude.{◌≡◌, ℕ, List, MatchOption};
-ghost use Rattle.http_wire.specs.Freshness.{HasMaxAge, IsMaxAge, IsNoMaxAge, IsQuoted, WritesSeconds, seconds_of};
+ghost use Rattle.http_wire.specs.Freshness.{HasMaxAge, IsMaxAge, IsNoMaxAge, IsQuoted, WritesSeconds, delta_seconds};
 ghost use Rattle.http_wire.specs.Left.{pairs};
 
-use crate::fields::{Field, Members, is_same_word};
+use crate::fields::{Field, Members};
 use crate::numbers::number_in;
 use line_text::is_numeral;
+use robots_text::is_same_word;
 
 /// The directive that is read, with what stands before its argument.
 const MAX_AGE: &[u8] = b"max-age=";
@@ -40,8 +41,8 @@ fn seconds_in(argument: &[u8]) -> Option<u64>
         (WritesSeconds argument.now) }
 {
     match unquoted(argument) {
-        Some(digits) => seconds_of(digits),
-        None => seconds_of(argument),
+        Some(digits) => delta_seconds(digits),
+        None => delta_seconds(argument),
     }
 }
 
@@ -57,8 +58,8 @@ fn unquoted(argument: &[u8]) -> Option<&[u8]>
 }
 
 // delta-seconds = 1*DIGIT: too great a number counts as the greatest.
-fn seconds_of(digits: &[u8]) -> Option<u64>
-    ensures { result ≡ seconds_of digits.now }
+fn delta_seconds(digits: &[u8]) -> Option<u64>
+    ensures { result ≡ delta_seconds digits.now }
 {
     match number_in(digits) {
         None if is_numeral(digits) => Some(u64::MAX),

@@ -49,7 +49,7 @@ pub(crate) trait Part {
 
 /// Where the reading of a part stops.
 #[derive(Drop)]
-pub(crate) enum Stop<T> {
+pub(crate) enum Reached<T> {
     /// The part was found.
     Found(T),
     /// The input ends, and nothing was found.
@@ -64,7 +64,7 @@ pub(crate) fn fill_until<S: Source, P: Part>(
     source: &mut S,
     buffer: &mut Buffer,
     part: &mut P,
-) -> Result<Stop<P::Found>, WireFault>
+) -> Result<Reached<P::Found>, WireFault>
     requires stands { P.stands part.old buffer.old }
     requires few { length buffer.old ≤ MAX_RAW }
     ensures kept { P.kept part.new ≡ P.kept part.old }
@@ -75,13 +75,13 @@ pub(crate) fn fill_until<S: Source, P: Part>(
 {
     loop {
         match part.look(alloc, buffer)? {
-            Some(found) => return Ok(Stop::Found(found)),
+            Some(found) => return Ok(Reached::Found(found)),
             None => {}
         }
         match buffer.fill(source)? {
             Fill::More => {}
-            Fill::Ended => return Ok(Stop::Ended),
-            Fill::Past => return Ok(Stop::Past),
+            Fill::Ended => return Ok(Reached::Ended),
+            Fill::Past => return Ok(Reached::Past),
         }
     }
 }

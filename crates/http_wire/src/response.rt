@@ -11,7 +11,7 @@ use crate::buffer::Buffer;
 use crate::fault::WireFault;
 use crate::head::{FinalHead, HeadFinder};
 use crate::limits::MAX_RAW;
-use crate::part::{Stop, fill_until};
+use crate::part::{Reached, fill_until};
 use counted_io::Source;
 use std::alloc::Global;
 
@@ -86,9 +86,9 @@ fn read_final<S: Source>(
 {
     let mut finder = HeadFinder::new();
     match fill_until(alloc, source, buffer, &mut finder)? {
-        Stop::Found(head) => Ok(head),
-        Stop::Ended => finder.end(alloc, buffer.octets()),
+        Reached::Found(head) => Ok(head),
+        Reached::Ended => finder.end(alloc, buffer.octets()),
         // More octets than eight interim heads and a final one may have are in the buffer.
-        Stop::Past => Err(WireFault::TooMuch),
+        Reached::Past => Err(WireFault::TooMuch),
     }
 }

@@ -6,7 +6,7 @@ ghost use Rattle.http_wire.specs.Decoding.{SectionTells, TrailersTell};
 
 use crate::limits::{MAX_TRAILER_BYTES, MAX_TRAILERS};
 use crate::line_ends::count_line_ends;
-use crate::look::Look;
+use crate::part_seen::PartSeen;
 use httparse::spans::{EMPTY_HEADER_SPAN, parse_headers};
 use httparse::{Error, Status};
 
@@ -24,7 +24,7 @@ enum TrailerSection {
 }
 
 /// What the octets after the last chunk's line are. `last`: no look follows.
-pub(crate) fn look_trailers(text: &[u8], last: bool) -> Look
+pub(crate) fn look_trailers(text: &[u8], last: bool) -> PartSeen
     ensures { TrailersTell text.now last result }
 {
     if text.len() < MAX_TRAILER_BYTES {
@@ -35,28 +35,28 @@ pub(crate) fn look_trailers(text: &[u8], last: bool) -> Look
 }
 
 // Fewer octets stand there than trailers may have.
-fn look_short(text: &[u8], last: bool) -> Look
+fn look_short(text: &[u8], last: bool) -> PartSeen
     requires { length text.now < MAX_TRAILER_BYTES }
     ensures { TrailersTell text.now last result }
 {
     match read_section(text) {
-        TrailerSection::Whole => Look::Whole,
-        TrailerSection::Bad => Look::Bad,
-        TrailerSection::Over if last => Look::Bad,
-        TrailerSection::Over => Look::More,
-        TrailerSection::Open if last && count_line_ends(text) >= MAX_TRAILERS => Look::Full,
-        TrailerSection::Open => Look::More,
+        TrailerSection::Whole => PartSeen::Whole,
+        TrailerSection::Bad => PartSeen::Bad,
+        TrailerSection::Over if last => PartSeen::Bad,
+        TrailerSection::Over => PartSeen::More,
+        TrailerSection::Open if last && count_line_ends(text) >= MAX_TRAILERS => PartSeen::Full,
+        TrailerSection::Open => PartSeen::More,
     }
 }
 
 // All the octets stand there that trailers may have.
-fn look_full(text: &[u8]) -> Look
+fn look_full(text: &[u8]) -> PartSeen
     requires { MAX_TRAILER_BYTES ≤ length text.now }
     ensures { (last : Bool) → TrailersTell text.now last result }
 {
     match read_section(&text[..MAX_TRAILER_BYTES]) {
-        TrailerSection::Whole => Look::Whole,
-        _ => Look::Bad,
+        TrailerSection::Whole => PartSeen::Whole,
+        _ => PartSeen::Bad,
     }
 }
 

@@ -2,3 +2,4 @@
 pub mod WordSplits
 pub mod Numerals
 pub mod Pushing
+pub mod Stripping

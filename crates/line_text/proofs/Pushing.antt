@@ -9,7 +9,7 @@ use Rattle.counted_io.specs.Output.{Passes, Pushes}
 use Rattle.counted_io.proofs.Writing.{Passes-push, Passes-cut, Passes-pieces, Passes-cut-piece, prefix_longer}
 
 -- the texts of a row, cut at one of them
-cut_at : {X : Type 0} (f : X → List ℕ) (xs : List X) (i : ℕ) (d : X) → i < length xs →
+pub cut_at : {X : Type 0} (f : X → List ℕ) (xs : List X) (i : ℕ) (d : X) → i < length xs →
     flat_map f xs ≡ flat_map f (take i xs) ++ (f (get_or xs i d) ++ flat_map f (drop (suc i) xs))
 cut_at f xs i d within =
     ap (flat_map f) (sym (take-append-drop i xs)) ∙ flat_map-append f (take i xs) (drop i xs)

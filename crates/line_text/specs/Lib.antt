@@ -1,5 +1,7 @@
 -- What contracts say of lines of text: of their words, numbers, escapes and pieces.
 pub mod Escapes
+pub mod Limits
 pub mod Number
 pub mod Pieces
+pub mod Strips
 pub mod Words

@@ -1,24 +1,30 @@
 -- The text of a line: a line of words, and a line that is kept as pieces.
--- Cited by the contracts of `piece` and `reply_text`.
+-- Cited by the contracts of all that writes lines or compares with them.
 use Rattle.std.specs.Prelude.{◌++◌, ℕ, List, codes, decimal, flat_map}
 use Rattle.std.specs.List.{join_with_byte}
-use Rattle.robots_text.specs.Token.{lower_case}
-use Rattle.line_text.specs.Escapes.{escaped}
-use Rattle.line_text.specs.declared.piece.Piece.{Piece}
-use Rattle.line_text.specs.declared.piece.Piece.TheVariants.{Text, Number, LowerCase, Escaped}
-use Rattle.line_text.specs.declared.piece.Pieces.{Pieces}
 use Rattle.robots_text.specs.Octets.{space}
+use Rattle.robots_text.specs.Token.{lower_case}
+use Rattle.line_text.specs.Escapes.{escaped, escaped_body}
+use Rattle.line_text.specs.declared.piece.Piece.{Piece}
+use Rattle.line_text.specs.declared.piece.Piece.TheVariants.{Text, Octets, Number, LowerCase, Escaped, Body}
+use Rattle.line_text.specs.declared.pieces.Pieces.{Pieces}
 
 -- the text of one piece
 abbrev pub piece_text : Piece → List ℕ
 piece_text (Text text) = text.now
+piece_text (Octets octets) = octets.now
 piece_text (Number number) = decimal number
 piece_text (LowerCase octets) = lower_case octets.now
 piece_text (Escaped octets) = escaped octets.now
+piece_text (Body octets) = escaped_body octets.now
 
 -- the text of the pieces, in order
 abbrev pub pieces_text : Pieces → List ℕ
 pieces_text pieces = flat_map piece_text pieces.pieces
+
+-- the most pieces that a line has
+abbrev pub most_pieces : ℕ
+most_pieces = 10
 
 -- a line: its words with single spaces between them, and a line feed
 abbrev pub line_of : List (List ℕ) → List ℕ

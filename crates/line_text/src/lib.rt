@@ -2,11 +2,15 @@
 //! Used by all that reads commands or writes replies, records or entries.
 #![tactic(auto)]
 
+mod limits;
 mod numbers;
 mod octets;
 mod piece;
+mod pieces;
 mod words;
 
+pub use limits::MAX_LONG_LINE;
 pub use numbers::{is_numeral, number_of};
-pub use piece::{Piece, Pieces};
+pub use piece::Piece;
+pub use pieces::Pieces;
 pub use words::Words;

@@ -1,84 +1,128 @@
-//! Octets of a robots text as they are written: in lower case, or escaped.
-//! Pushed by the pieces of a line.
-ghost use Rattle.std.specs.Prelude.{◌≡◌, [], ◌∷◌};
-ghost use Rattle.std.specs.Char.{to_ascii_lowercase};
+//! Octets as a line shows them: in lower case, or escaped.
+//! Written and compared by the pieces of a line.
+ghost use Rattle.std.specs.Prelude.{◌≡◌, flat_map};
 ghost use Rattle.std.specs.List.{list_all};
 ghost use Rattle.counted_io.specs.Output.{Pushes};
-ghost use Rattle.robots_text.specs.Token.{lower_case};
-ghost use Rattle.line_text.specs.Escapes.{escaped, escaped_octet, is_plain};
+ghost use Rattle.line_text.specs.Escapes.{is_as_is, is_plain, plain_or_escape, spelled_octet};
+ghost use Rattle.line_text.specs.Strips.{Strips};
 
 use counted_io::{DeviceFault, Output, Sink};
+use path_normal::is_unreserved;
 use percent_encoding::percent_encode_byte;
 
-/// Pushes octets with their letters in lower case.
-pub(crate) fn push_lower_case<W: Sink>(
-    octets: &[u8],
-    output: &mut Output,
-    sink: &mut W,
-) -> Result<(), DeviceFault>
-    ensures { Pushes (W.written sink.old) (W.written sink.new)
-        (W.failures sink.old) (W.failures sink.new) output.old output.new
-        (lower_case octets.now) result }
-{
-    for octet in octets {
-        push_lower_octet(*octet, output, sink)?;
-    }
-    Ok(())
+/// How each octet of a piece is written.
+#[derive(Clone, Copy)]
+pub(crate) enum Spelling {
+    /// A letter in lower case, any other octet as it stands.
+    LowerCase,
+    /// An octet outside 33 to 126 escaped.
+    Escaped,
+    /// All but an unreserved octet escaped.
+    Body,
 }
 
-fn push_lower_octet<W: Sink>(
-    octet: u8,
-    output: &mut Output,
-    sink: &mut W,
-) -> Result<(), DeviceFault>
-    ensures { Pushes (W.written sink.old) (W.written sink.new)
-        (W.failures sink.old) (W.failures sink.new) output.old output.new
-        (to_ascii_lowercase octet ∷ []) result }
-{
-    output.push(sink, &[octet.to_ascii_lowercase()])
+impl Spelling {
+    /// Pushes the octets to the output.
+    pub(crate) fn push<W: Sink>(
+        self,
+        octets: &[u8],
+        output: &mut Output,
+        sink: &mut W,
+    ) -> Result<(), DeviceFault>
+        ensures { Pushes (W.written sink.old) (W.written sink.new)
+            (W.failures sink.old) (W.failures sink.new) output.old output.new
+            (flat_map (spelled_octet self) octets.now) result }
+    {
+        // Most values need no escape.
+        if self.are_as_is(octets) {
+            return output.push(sink, octets);
+        }
+        for octet in octets {
+            self.push_octet(*octet, output, sink)?;
+        }
+        Ok(())
+    }
+
+    fn push_octet<W: Sink>(
+        self,
+        octet: u8,
+        output: &mut Output,
+        sink: &mut W,
+    ) -> Result<(), DeviceFault>
+        ensures { Pushes (W.written sink.old) (W.written sink.new)
+            (W.failures sink.old) (W.failures sink.new) output.old output.new
+            (spelled_octet self octet) result }
+    {
+        match self.plain(octet) {
+            Some(plain) => output.push(sink, &[plain]),
+            None => output.push(sink, percent_encode_byte(octet).as_bytes()),
+        }
+    }
+
+    /// What stands behind the octets, where the text begins with them.
+    pub(crate) fn strip<'b>(self, octets: &[u8], text: &'b [u8]) -> Option<&'b [u8]>
+        ensures { Strips (flat_map (spelled_octet self) octets.now) text.now result }
+    {
+        let mut rest = text;
+        for octet in octets {
+            match self.strip_octet(*octet, rest) {
+                Some(behind) => rest = behind,
+                None => return None,
+            }
+        }
+        Some(rest)
+    }
+
+    fn strip_octet(self, octet: u8, text: &[u8]) -> Option<&[u8]>
+        ensures { Strips (spelled_octet self octet) text.now result }
+    {
+        match self.plain(octet) {
+            Some(plain) => strip(&[plain], text),
+            None => strip(percent_encode_byte(octet).as_bytes(), text),
+        }
+    }
+
+    // The octet that is written in this one's place, where no escape is.
+    fn plain(self, octet: u8) -> Option<u8>
+        ensures { spelled_octet self octet ≡ plain_or_escape octet result }
+    {
+        match self {
+            Spelling::LowerCase => Some(octet.to_ascii_lowercase()),
+            _ => self.is_as_is(octet).then_some(octet),
+        }
+    }
+
+    fn are_as_is(self, octets: &[u8]) -> bool
+        ensures { result ≡ list_all (is_as_is self) octets.now }
+    {
+        octets.iter().all(|octet| self.is_as_is(*octet))
+    }
+
+    // Whether the octet is written as it stands.
+    fn is_as_is(self, octet: u8) -> bool
+        ensures { result ≡ is_as_is self octet }
+    {
+        match self {
+            Spelling::LowerCase => octet.to_ascii_lowercase() == octet,
+            Spelling::Escaped => is_plain(octet),
+            Spelling::Body => is_unreserved(octet),
+        }
+    }
 }
 
-/// Pushes octets, of which those outside 33 to 126 are escaped.
-pub(crate) fn push_escaped<W: Sink>(
-    octets: &[u8],
-    output: &mut Output,
-    sink: &mut W,
-) -> Result<(), DeviceFault>
-    ensures { Pushes (W.written sink.old) (W.written sink.new)
-        (W.failures sink.old) (W.failures sink.new) output.old output.new
-        (escaped octets.now) result }
+/// What stands behind the front, where the text begins with it.
+pub(crate) fn strip<'b>(front: &[u8], text: &'b [u8]) -> Option<&'b [u8]>
+    ensures { Strips front.now text.now result }
 {
-    // Most values need no escape.
-    if are_plain(octets) {
-        return output.push(sink, octets);
+    if front.len() > text.len() {
+        return None;
     }
-    for octet in octets {
-        push_octet(*octet, output, sink)?;
-    }
-    Ok(())
+    let (begin, behind) = text.split_at(front.len());
+    if begin == front { Some(behind) } else { None }
 }
 
-fn push_octet<W: Sink>(octet: u8, output: &mut Output, sink: &mut W) -> Result<(), DeviceFault>
-    ensures { Pushes (W.written sink.old) (W.written sink.new)
-        (W.failures sink.old) (W.failures sink.new) output.old output.new
-        (escaped_octet octet) result }
-{
-    if is_plain(octet) {
-        output.push(sink, &[octet])
-    } else {
-        output.push(sink, percent_encode_byte(octet).as_bytes())
-    }
-}
-
-// Whether an octet is written as it stands.
 fn is_plain(octet: u8) -> bool
     ensures { result ≡ is_plain octet }
 {
     33 <= octet && octet <= 126
-}
-
-fn are_plain(octets: &[u8]) -> bool
-    ensures { result ≡ list_all is_plain octets.now }
-{
-    octets.iter().all(|octet| is_plain(*octet))
 }

@@ -15,7 +15,7 @@ use Rattle.percent_encoding.specs.Percent.{percent_encode_byte}
 use Rattle.path_normal.specs.declared.normal.Octet.{Octet}
 use Rattle.path_normal.specs.declared.normal.Role.{Role}
 use Rattle.path_normal.specs.declared.normal.Role.TheVariants.{Pattern}
-use Rattle.path_normal.specs.Normal.{escaped, is_anchored, is_changed, is_escape, is_kept, is_reserved, is_sign, is_unreserved, normal, normal_pattern, plain, spelled, unanchored, units}
+use Rattle.path_normal.specs.Normal.{octet_escaped, is_anchored, is_changed, is_escape, is_kept, is_reserved, is_sign, is_unreserved, normal, normal_pattern, plain, spelled, unanchored, units}
 use Rattle.path_normal.specs.Octets.{dollar_sign}
 use Rattle.url.specs.Ascii.{percent_sign}
 
@@ -27,7 +27,7 @@ IsUnit unit = IsOctet unit.value
 
 -- ---- the units of a text of octets stand for octets
 
-escaped_fits : (octet high low : ℕ) → is_escape octet high low ≡ true → IsUnit (escaped high low)
+escaped_fits : (octet high low : ℕ) → is_escape octet high low ≡ true → IsUnit (octet_escaped high low)
 escaped_fits octet high low is =
     let parts = and_parts (octet == percent_sign && is_digit high 16) (is_digit low 16) is in
     let first = and_parts (octet == percent_sign) (is_digit high 16) parts.0 in
@@ -35,8 +35,8 @@ escaped_fits octet high low is =
     let low_fits : digit_value low < 16 = grind (arith, nat_tests) in
     omega arith
 
-chosen : (is : Bool) (octet high low : ℕ) (after other : List Octet) → is_escape octet high low ≡ is → IsOctet octet → All IsUnit after → All IsUnit other → All IsUnit (if is then escaped high low ∷ after else plain octet ∷ other)
-chosen true octet high low after other tested fits all all' = All-cons IsUnit (escaped high low) after (escaped_fits octet high low tested) all
+chosen : (is : Bool) (octet high low : ℕ) (after other : List Octet) → is_escape octet high low ≡ is → IsOctet octet → All IsUnit after → All IsUnit other → All IsUnit (if is then octet_escaped high low ∷ after else plain octet ∷ other)
+chosen true octet high low after other tested fits all all' = All-cons IsUnit (octet_escaped high low) after (escaped_fits octet high low tested) all
 chosen false octet high low after other tested fits all all' = All-cons IsUnit (plain octet) other fits all'
 
 units_fit : (text : List ℕ) → All IsOctet text → All IsUnit (units text)
@@ -247,7 +247,7 @@ few_units (octet ∷ high ∷ low ∷ rest) =
     by (is_escape octet high low) (few_units rest) (few_units (high ∷ low ∷ rest))
   where
     by : (is : Bool) → length (units rest) ≤ length rest → length (units (high ∷ low ∷ rest)) ≤ length (high ∷ low ∷ rest) →
-        length (if is then escaped high low ∷ units rest else plain octet ∷ units (high ∷ low ∷ rest)) ≤ length (octet ∷ high ∷ low ∷ rest)
+        length (if is then octet_escaped high low ∷ units rest else plain octet ∷ units (high ∷ low ∷ rest)) ≤ length (octet ∷ high ∷ low ∷ rest)
     by true later next = omega arith
     by false later next = omega arith
 

@@ -18,21 +18,25 @@ abbrev pub is_delimiter : ℕ → Bool
 is_delimiter octet = is_one_of (codes "/\\?#@") octet
 
 -- the fault of an authority whose page at the root has this one
-abbrev pub authority_fault : UrlFault → AuthorityFault
-authority_fault urls.NoMemory = AuthorityFault.NoMemory
-authority_fault fault = AuthorityFault.BadAuthority
+abbrev pub authority_fault_of : UrlFault → AuthorityFault
+authority_fault_of urls.NoMemory = AuthorityFault.NoMemory
+authority_fault_of fault = AuthorityFault.BadAuthority
 
 -- the authority of a page, or the fault where there is none
 abbrev pub authority_of_read : Result (List ℕ) UrlFault → Result (List ℕ) AuthorityFault
 authority_of_read (Ok page) = Ok (authority_of page)
-authority_of_read (Err fault) = Err (authority_fault fault)
+authority_of_read (Err fault) = Err (authority_fault_of fault)
 
--- the authority of the page at the root of the one that the text writes, or the fault
+-- the root of the authority that the text writes
+abbrev pub root_of : List ℕ → List ℕ
+root_of text = codes "http://" ++ text ++ codes "/"
+
+-- the authority of the page at that root, or the fault
 abbrev pub authority_from : List ℕ → Capacity → Result (List ℕ) AuthorityFault
 authority_from text capacity =
     if list_any is_delimiter text then Err AuthorityFault.BadAuthority
     else unless_refused AuthorityFault.NoMemory
-    (authority_of_read (page_url_from None (codes "http://" ++ text ++ codes "/") capacity)) capacity
+    (authority_of_read (page_url_from None (root_of text) capacity)) capacity
 
 -- a valid URL has the authority
 unfoldable pub IsWrittenAuthority : List ℕ → Type 0

@@ -19,8 +19,8 @@ abbrev pub plain : ℕ → Octet
 plain octet = record { escaped = false; value = octet }
 
 -- the octet that an escape with these two digits stands for
-abbrev pub escaped : ℕ → ℕ → Octet
-escaped high low = record { escaped = true; value = 16 * digit_value high + digit_value low }
+abbrev pub octet_escaped : ℕ → ℕ → Octet
+octet_escaped high low = record { escaped = true; value = 16 * digit_value high + digit_value low }
 
 -- the units of a text: an escape is one, and so is each octet that belongs to none
 abbrev pub units : List ℕ → List Octet
@@ -28,7 +28,7 @@ units [] = []
 units (octet ∷ []) = plain octet ∷ []
 units (octet ∷ next ∷ []) = plain octet ∷ plain next ∷ []
 units (octet ∷ high ∷ low ∷ rest) =
-    if is_escape octet high low then escaped high low ∷ units rest
+    if is_escape octet high low then octet_escaped high low ∷ units rest
     else plain octet ∷ units (high ∷ low ∷ rest)
 
 -- the octet is unreserved: a letter, a digit, or one of the four others

@@ -1,11 +1,11 @@
 //! The authority of a page's URL: its host, and its port where that is not 80.
 //! RFC 3986, section 3.2.
-ghost use Rattle.std.specs.Prelude.{◌≡◌, ◌++◌, None, Some, Err, IfOk, IfErr, IsTrue, bytes_eq, codes, string_bytes};
+ghost use Rattle.std.specs.Prelude.{◌≡◌, None, Some, Err, IfOk, IfErr, IsTrue, bytes_eq, string_bytes};
 ghost use Rattle.std.specs.Cmp.{partial_equiv_from_equiv};
 ghost use Rattle.std.specs.Cmp.Lexicographic.{nat_list_eq_equiv};
 ghost use Rattle.std.specs.List.{list_any};
 ghost use Rattle.path_normal.specs.PageText.{authority_of};
-ghost use Rattle.path_normal.specs.Authority.{IsAuthority, authority_from, is_delimiter};
+ghost use Rattle.path_normal.specs.Authority.{IsAuthority, authority_from, is_delimiter, root_of};
 ghost use Rattle.path_normal.specs.Capacity.{IsRead};
 
 use crate::fault::AuthorityFault;
@@ -86,9 +86,9 @@ fn has_delimiter(octets: &[u8]) -> bool
     octets.iter().any(|octet| matches!(*octet, b'/' | b'\\' | b'?' | b'#' | b'@'))
 }
 
-// The URL of the root of the authority that the text writes.
-fn root_text(alloc: Global, text: &str) -> Result<String, AllocError>
-    ensures { IfOk result (λ page. string_bytes page ≡ codes "http://" ++ text.now ++ codes "/") }
+/// The URL of the root of the authority that the text writes.
+pub fn root_text(alloc: Global, text: &str) -> Result<String, AllocError>
+    ensures { IfOk result (λ page. string_bytes page ≡ root_of text.now) }
 {
     let mut page = String::from_str(alloc, "http://")?;
     page.push_str(text)?;

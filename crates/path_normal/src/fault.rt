@@ -143,9 +143,9 @@ impl From<AllocError> for AuthorityFault {
 
 impl From<UrlFault> for AuthorityFault {
     ghost use Rattle.std.specs.Prelude.{◌≡◌};
-    ghost use Rattle.path_normal.specs.Authority.{authority_fault};
+    ghost use Rattle.path_normal.specs.Authority.{authority_fault_of};
 
-    ghost from_gives = { λ fault told. told ≡ authority_fault fault };
+    ghost from_gives = { λ fault told. told ≡ authority_fault_of fault };
 
     fn from(fault: UrlFault) -> AuthorityFault {
         match fault {

@@ -7,7 +7,7 @@ mod fault;
 mod normal;
 mod page_url;
 
-pub use authority::Authority;
+pub use authority::{Authority, root_text};
 pub use fault::{AuthorityFault, Unread, UrlFault};
-pub use normal::{normal_path, normal_pattern, push_normal_pattern, split_anchor};
+pub use normal::{is_unreserved, normal_path, normal_pattern, push_normal_pattern, split_anchor};
 pub use page_url::{MAX_AUTHORITY, MAX_URL, PageUrl};

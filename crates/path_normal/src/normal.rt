@@ -45,7 +45,8 @@ pub fn normal_pattern(alloc: Global, pattern: &[u8]) -> Result<Vec<u8>, AllocErr
 /// Appends the normal form of a pattern. It has at most three octets for each of the pattern's. Where memory
 /// is refused, a part of it may have been appended.
 pub fn push_normal_pattern(form: &mut Vec<u8>, pattern: &[u8]) -> Result<(), AllocError>
-    ensures value { IfOk result (λ _. form.new.items ≡ form.old.items ++ normal_pattern pattern.now) }
+    ensures value { IfOk result (λ _.
+        form.new.items ≡ form.old.items ++ normal_pattern pattern.now) }
     ensures grows { vec_len form.old ≤ vec_len form.new }
 {
     let (front, anchored) = split_anchor(pattern);
@@ -166,7 +167,9 @@ fn is_kept(role: Role, unit: Octet) -> bool
         || (!unit.escaped && is_reserved(unit.value) && !is_sign(role, unit.value))
 }
 
-fn is_unreserved(octet: u8) -> bool
+/// Whether the octet is a letter, a digit or one of `-._~`, which a URI may write as they are
+/// (RFC 3986, 2.3).
+pub fn is_unreserved(octet: u8) -> bool
     ensures { result ≡ is_unreserved octet }
 {
     octet.is_ascii_alphanumeric() || matches!(octet, b'-' | b'.' | b'_' | b'~')

@@ -2,3 +2,4 @@
 -- Used by the answers beside them.
 pub mod PlaceLemmas
 pub mod SpellsLemmas
+pub mod StarLemmas

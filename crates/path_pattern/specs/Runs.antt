@@ -1,7 +1,8 @@
 -- The runs of a pattern between its stars, and where they stand in a path.
 -- Used by the contracts of the matcher's parts.
-use Rattle.std.specs.Prelude.{◌≡◌, ◌≢◌, ◌==◌, ◌++◌, ℕ, false, All, List, ◌∷◌}
+use Rattle.std.specs.Prelude.{◌≡◌, ◌≢◌, ◌==◌, ◌++◌, ℕ, Bool, false, not, All, List, ◌∷◌}
 use Rattle.std.specs.Prelude as prelude
+use Rattle.std.specs.List.{list_all}
 use Rattle.memchr.specs.Find.{IsFirstByte, is_byte}
 use Rattle.path_pattern.specs.declared.runs.Star.{Star}
 use Rattle.path_pattern.specs.declared.runs.Star.TheVariants.{None, Only, First}
@@ -10,6 +11,10 @@ use Rattle.path_normal.specs.Octets.{star}
 -- no `*` stands in the run
 abbrev pub HasNoStar : List ℕ → Type 0
 HasNoStar run = All (λ octet. (octet == star) ≡ false) run
+
+-- whether none does
+abbrev pub has_no_star : List ℕ → Bool
+has_no_star run = list_all (λ octet. not (octet == star)) run
 
 -- the first `*` of the pattern stands between the run and what follows
 pub record IsSplitAtStar (pattern run after : List ℕ) : Type 0 where

@@ -7,3 +7,4 @@ mod pattern;
 mod runs;
 
 pub use pattern::{Pattern, matches};
+pub use runs::has_no_star;

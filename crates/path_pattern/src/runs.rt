@@ -3,7 +3,7 @@
 ghost use Rattle.std.specs.Prelude.{◌≡◌, ◌++◌, ◌↔◌, List, ℕ, IsTrue, MatchOption, Some};
 ghost use Rattle.memchr.specs.Find.{FindsNeedle, IsFirstByte, OccursAt, is_byte};
 ghost use Rattle.path_normal.specs.Octets.{star};
-ghost use Rattle.path_pattern.specs.Runs.{BeginsNot, HasNoStar, IsAfterFirst, IsSplitAtStar, IsStarOf, StandsNowhere};
+ghost use Rattle.path_pattern.specs.Runs.{BeginsNot, HasNoStar, IsAfterFirst, IsSplitAtStar, IsStarOf, StandsNowhere, has_no_star};
 
 use memchr::arch::all::{is_prefix, is_suffix};
 use memchr::{memchr, memmem};
@@ -56,8 +56,10 @@ fn star_place(pattern: &[u8]) -> Option<usize>
     memchr(b'*', pattern)
 }
 
-fn has_no_star(pattern: &[u8]) -> bool
-    ensures { IsTrue result ↔ HasNoStar pattern.now }
+/// Whether no `*` stands in the pattern.
+pub fn has_no_star(pattern: &[u8]) -> bool
+    ensures tells { IsTrue result ↔ HasNoStar pattern.now }
+    ensures value { result ≡ has_no_star pattern.now }
 {
     star_place(pattern).is_none()
 }

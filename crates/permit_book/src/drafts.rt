@@ -25,9 +25,10 @@ pub struct Draft<'a> {
 impl Permits {
     /// Drafts the next permit: in the lowest free slot, with the generation after its last.
     pub fn draft(&mut self) -> Result<Draft<'_>, PermitsFull>
-        ensures* full { sem 𝓛 (RestsIfErr the_row self.entry (λ draft. draft.permits.ghost_name) result
-            (λ last. last ≡ self.old)) }
-        ensures same_table { IfOk result (λ draft. draft.permits.ghost_name ≡ self.entry.ghost_name) }
+        ensures* full { sem 𝓛 (RestsIfErr the_row self.entry
+            (λ draft. draft.permits.ghost_name) result (λ last. last ≡ self.old)) }
+        ensures same_table { IfOk result (λ draft.
+            draft.permits.ghost_name ≡ self.entry.ghost_name) }
         ensures unchanged { IfOk result (λ draft. draft.permits.now ≡ self.old) }
         ensures next { IfOk result (λ draft. IsNext self.old draft.number) }
         ensures none_free { OnErr result (NoneFree self.old) }

@@ -16,7 +16,8 @@ impl Permits {
     /// and of a denied one nothing is out.
     pub fn decide(&mut self, number: PermitNo, allowed: bool)
         requires { IsTrue (is_unspent self.old number) }
-        ensures { self.new ≡ with_out self.old number (decided allowed (out_under self.old number)) }
+        ensures { self.new
+            ≡ with_out self.old number (decided allowed (out_under self.old number)) }
     {
         if allowed {
             self.run(number);

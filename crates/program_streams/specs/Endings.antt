@@ -7,14 +7,14 @@ use Rattle.program_streams.specs.declared.ending.Ending.{Ending}
 use Rattle.program_streams.specs.declared.ending.Ending.TheVariants as endings
 
 -- the exit status
-abbrev pub status_of : Ending → ℕ
-status_of endings.Done = 0
-status_of endings.LongLine = 1
-status_of endings.ManyLines = 1
-status_of endings.BadLine = 1
-status_of endings.BadWords = 2
-status_of endings.NoMemory = 3
-status_of endings.Device = 3
+abbrev pub exit_status : Ending → ℕ
+exit_status endings.Done = 0
+exit_status endings.LongLine = 1
+exit_status endings.ManyLines = 1
+exit_status endings.BadLine = 1
+exit_status endings.BadWords = 2
+exit_status endings.NoMemory = 3
+exit_status endings.Device = 3
 
 -- what is told behind the program's name; what is wrong with the words is told by their reader
 abbrev pub message_of : Ending → Option (List ℕ)

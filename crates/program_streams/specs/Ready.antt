@@ -1,10 +1,11 @@
--- What the program needs to go on with a shift.
+-- What the program needs to go on with a shift or a server.
 -- The contract of `run` cites it.
-use Rattle.program_words.specs.Options.{AreForShift}
+use Rattle.program_words.specs.Options.{AreForServe, AreForShift}
 use Rattle.program_streams.specs.declared.next.Next.{Next}
-use Rattle.program_streams.specs.declared.next.Next.TheVariants.{Ends, Shift}
+use Rattle.program_streams.specs.declared.next.Next.TheVariants.{Ends, Shift, Serve}
 
--- the options of a shift are in their ranges
+-- the options are in their ranges
 abbrev pub IsReady : Next → Type 0
 IsReady (Ends ending) = Unit {0}
 IsReady (Shift options) = AreForShift options
+IsReady (Serve options) = AreForServe options

@@ -13,7 +13,7 @@ use clap::error::ErrorKind;
 use program_words::{Subcommand, options};
 use std::{env, io};
 
-/// Reads the program's words, and does what they ask for, but for a shift.
+/// Reads the program's words, and does what they ask for, but for a shift and a server.
 pub fn run(rt: &HostRuntime) -> Next
     ensures { IsReady result }
 {
@@ -89,5 +89,6 @@ fn run_subcommand(rt: &HostRuntime, subcommand: Subcommand) -> Next
         Subcommand::Lines => Next::Ends(lines_streams(rt)),
         Subcommand::Audit => Next::Ends(audit_streams(rt)),
         Subcommand::Shift(options) => Next::Shift(options),
+        Subcommand::Serve(options) => Next::Serve(options),
     }
 }

@@ -13,8 +13,12 @@ pub(crate) fn audit_streams(rt: &HostRuntime) -> Ending {
         return Ending::Device;
     };
     match audit(rt.alloc(), keys, &mut Counted::new(rt.stdin())) {
-        Ok(Audited { events, starts }) => tell(rt, Found::Right { events, starts }, Ending::Done),
-        Err(AuditFault::BadLine(line)) => tell(rt, Found::BadLine(line), Ending::BadLine),
+        Ok(Audited { events, starts }) => tell(
+            rt,
+            Found::Right { events, starts }.pieces(),
+            Ending::Done,
+        ),
+        Err(AuditFault::BadLine(line)) => tell(rt, Found::BadLine(line).pieces(), Ending::BadLine),
         Err(AuditFault::Read) => Ending::Device,
         Err(AuditFault::NoMemory) => Ending::NoMemory,
     }

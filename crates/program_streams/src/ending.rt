@@ -1,7 +1,7 @@
 //! How the program ends: its exit status, and what it tells on standard error.
 //! docs/crawlgate.1.md has the table.
 ghost use Rattle.std.specs.Prelude.{◌≡◌, option_map};
-ghost use Rattle.program_streams.specs.Endings.{ending_of, message_of, status_of};
+ghost use Rattle.program_streams.specs.Endings.{ending_of, message_of, exit_status};
 
 use command_server::SessionFault;
 
@@ -40,7 +40,7 @@ impl Ending {
 
     /// The exit status.
     pub fn status(self) -> u8
-        ensures { result ≡ status_of self }
+        ensures { result ≡ exit_status self }
     {
         match self {
             Ending::Done => 0,

@@ -20,17 +20,13 @@ impl Found {
     pub fn pieces(self) -> Pieces<'static>
         ensures { pieces_text result ≡ found_text self }
     {
-        let none = Piece::Text("");
         match self {
-            Found::Right { events, starts } => Pieces::joined([
+            Found::Right { events, starts } => Pieces::of(&[
                 Piece::Text("OK events "),
                 Piece::Number(events),
                 Piece::Text(" starts "),
                 Piece::Number(starts),
                 Piece::Text("\n"),
-                none,
-                none,
-                none,
             ]),
             Found::BadLine(line) => {
                 Pieces::three_words("BAD", Piece::Text("line"), Piece::Number(line))

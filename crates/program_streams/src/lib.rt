@@ -1,4 +1,5 @@
-//! What the program's words ask for, but for a shift, done over the standard streams; how it ends.
+//! What the program's words ask for, but for a shift and a server, done over the standard streams; how it
+//! ends.
 //! docs/crawlgate.1.md is the program's manual page.
 #![tactic(auto)]
 
@@ -9,6 +10,7 @@ mod ending;
 mod found;
 mod next;
 mod replays;
+mod server_line;
 mod streams;
 mod telling;
 
@@ -16,4 +18,5 @@ pub use asked::run;
 pub use books::new_book;
 pub use ending::Ending;
 pub use next::Next;
-pub use telling::{tell_bad_line, tell_ending};
+pub use server_line::ServerLine;
+pub use telling::{tell_bad_line, tell_ending, tell_full_log, tell_listening, tell_served};

@@ -1,7 +1,7 @@
 //! What is left to do when the program's words were read.
-//! A shift needs threads and sockets, which `main` alone has.
+//! A shift and a server need threads and sockets, which `main` alone has.
 use crate::ending::Ending;
-use program_words::ShiftOptions;
+use program_words::{ServeOptions, ShiftOptions};
 
 /// How the program goes on.
 #[derive(Clone, Copy)]
@@ -10,4 +10,6 @@ pub enum Next {
     Ends(Ending),
     /// Workers are to do the jobs on standard input.
     Shift(ShiftOptions),
+    /// Workers are to serve clients that connect.
+    Serve(ServeOptions),
 }

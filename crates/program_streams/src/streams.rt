@@ -1,6 +1,6 @@
 //! Whether the standard streams are open.
 //! What is opened later takes the lowest number that is free: a socket in the place of standard output
-//! would send the report of a shift to a site.
+//! would send the report of a shift to a site, and the port of a server to a client.
 use std::os::fd::AsFd;
 
 /// Whether each of the three is open.

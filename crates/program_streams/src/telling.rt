@@ -3,11 +3,13 @@
 ghost use Rattle.std.specs.Prelude.{◌≡◌, [], OnOk};
 ghost use Rattle.std.specs.Io.KnownBytes.{Appends};
 ghost use Rattle.counted_io.specs.Device.{failures_after};
-ghost use Rattle.program_streams.specs.Found.{found_text};
+ghost use Rattle.line_text.specs.Pieces.{pieces_text};
 
 use crate::ending::Ending;
 use crate::found::Found;
+use crate::server_line::ServerLine;
 use counted_io::{Counted, DeviceFault, Output, Sink};
+use line_text::Pieces;
 
 /// Tells how the program ended, where that isn't told already.
 pub fn tell_ending(rt: &HostRuntime, ending: Ending) {
@@ -19,32 +21,61 @@ pub fn tell_ending(rt: &HostRuntime, ending: Ending) {
 
 /// Tells the first bad line of the input, with which the program ends.
 pub fn tell_bad_line(rt: &HostRuntime, line: u64) -> Ending {
-    tell(rt, Found::BadLine(line), Ending::BadLine)
+    tell(rt, Found::BadLine(line).pieces(), Ending::BadLine)
 }
 
-/// Writes what was found to standard output, with which the program ends so.
-pub(crate) fn tell(rt: &HostRuntime, found: Found, ending: Ending) -> Ending {
+/// Tells the port at which clients may connect, or how the program ends where that can't be told.
+pub fn tell_listening(rt: &HostRuntime, port: u16) -> Ending {
+    tell(rt, ServerLine::Listens { port }.pieces(), Ending::Done)
+}
+
+/// Tells what a server has done, with which the program ends.
+pub fn tell_served(rt: &HostRuntime, connections: u64, events: u64) -> Ending {
+    let line = ServerLine::Served {
+        connections,
+        events,
+    };
+    tell(rt, line.pieces(), Ending::Done)
+}
+
+/// Tells that the history of a server's gate is full.
+pub fn tell_full_log(rt: &HostRuntime) {
+    let _ = eprintln!(rt; "crawlgate: the log is full");
+}
+
+/// Writes a line to standard output, with which the program ends so.
+pub(crate) fn tell(rt: &HostRuntime, line: Pieces<'static>, ending: Ending) -> Ending {
     match Output::new(rt.alloc()) {
-        Ok(mut output) => tell_through(rt, &mut output, found, ending),
+        Ok(mut output) => tell_through(rt, &mut output, line, ending),
         Err(_) => Ending::NoMemory,
     }
 }
 
-fn tell_through(rt: &HostRuntime, output: &mut Output, found: Found, ending: Ending) -> Ending
+fn tell_through(
+    rt: &HostRuntime,
+    output: &mut Output,
+    line: Pieces<'static>,
+    ending: Ending,
+) -> Ending
     requires { output.old ≡ [] }
 {
-    match write_found(found, output, &mut Counted::new(rt.stdout())) {
+    match write_line(line, output, &mut Counted::new(rt.stdout())) {
         Ok(()) => ending,
         Err(_) => Ending::Device,
     }
 }
 
-// Writes its line, or fails where a write fails.
-fn write_found<W: Sink>(found: Found, output: &mut Output, sink: &mut W) -> Result<(), DeviceFault>
+// Writes a line, or fails where a write fails.
+fn write_line<W: Sink>(
+    line: Pieces<'static>,
+    output: &mut Output,
+    sink: &mut W,
+) -> Result<(), DeviceFault>
     requires { output.old ≡ [] }
-    ensures ok { OnOk result (Appends (W.written sink.old) (W.written sink.new) (found_text found)) }
+    ensures ok { OnOk result
+        (Appends (W.written sink.old) (W.written sink.new) (pieces_text line.entry)) }
     ensures count { W.failures sink.new ≡ failures_after (W.failures sink.old) result }
 {
-    found.pieces().push(output, sink)?;
+    line.push(output, sink)?;
     output.flush(sink)
 }

@@ -2,6 +2,8 @@
 //! docs/crawlgate.1.md has them all.
 #![tactic(auto)]
 
+mod command;
+mod defaults;
 mod words;
 
-pub use words::{ShiftOptions, Subcommand, Told, options};
+pub use words::{ServeOptions, ShiftOptions, Subcommand, Told, options};

@@ -7,12 +7,15 @@ ghost use Rattle.program_words.specs.Options.{IsInRange};
 ghost use Rattle.job_line.specs.Limits.{IsCrew};
 ghost use Rattle.tcp_wire.specs.TimeLimits.{AreWithin};
 
+use crate::command::program;
+use crate::defaults::Defaults;
 use clap::error::ErrorKind;
-use clap::{Arg, ArgAction, ArgMatches, Command, Error};
+use clap::{ArgMatches, Command, Error};
+use client_wire::{MAX_CONNECTIONS, PATIENCE_SECONDS};
 use gate_core::{Limits, MAX_AUTHORITIES, MAX_LOG, MAX_PLACES};
 use job_line::MAX_WORKERS;
 use permit_book::{LAST_GENERATION, MAX_SLOTS};
-use std::alloc::{AllocError, Global};
+use std::alloc::Global;
 use tcp_wire::{CONNECT_SECONDS, STEP_SECONDS, TimeLimits, WHOLE_SECONDS};
 
 /// What the program is asked to do.
@@ -29,6 +32,8 @@ pub enum Subcommand {
     Audit,
     /// Has workers do the jobs on standard input, and writes what is told of them to standard output.
     Shift(ShiftOptions),
+    /// Has workers serve clients that connect to a port of this machine.
+    Serve(ServeOptions),
 }
 
 /// How a shift is done.
@@ -41,6 +46,23 @@ pub struct ShiftOptions {
     /// The limits of time of its fetches.
     pub times: TimeLimits,
     pub told: Told,
+}
+
+/// How clients are served.
+#[derive(Clone, Copy)]
+pub struct ServeOptions {
+    /// The port of the loopback at which they connect; for 0 one that is free.
+    pub port: u16,
+    /// How many are served at a time.
+    pub workers: u64,
+    /// How many connections are taken in all.
+    pub connections: u64,
+    /// The limits of the book.
+    pub limits: Limits,
+    /// The limits of time of fetches.
+    pub times: TimeLimits,
+    /// The seconds that a client is waited for between two ends of lines.
+    pub patience: u64,
 }
 
 /// What is written of a shift.
@@ -59,7 +81,8 @@ pub enum Told {
 pub fn options<'a>(alloc: Global, words: &'a [&'a str]) -> Result<Subcommand, Error>
     ensures { IfOk result IsInRange }
 {
-    let mut program = program(alloc)?;
+    let defaults = Defaults::new(alloc)?;
+    let mut program = program(alloc, &defaults)?;
     read_words(&mut program, words)
 }
 
@@ -108,6 +131,7 @@ fn subcommand_of(matches: &ArgMatches<'_>) -> Option<Subcommand>
     match matches.subcommand() {
         Some(("replay", replay)) => replay_of(replay),
         Some(("shift", shift)) => shift_of(shift),
+        Some(("serve", serve)) => serve_of(serve),
         Some(("audit", _)) => Some(Subcommand::Audit),
         // There is no other subcommand, and one is required.
         _ => Some(Subcommand::Lines),
@@ -131,10 +155,29 @@ fn shift_of(matches: &ArgMatches<'_>) -> Option<Subcommand>
 {
     Some(Subcommand::Shift(ShiftOptions {
         workers: number_of(matches, "workers", MAX_WORKERS)?,
-        limits: limits_of(matches, 1)?,
+        limits: limits_of(matches, Limits::usual().first_generation)?,
         times: times_of(matches)?,
         told: told_by(matches),
     }))
+}
+
+fn serve_of(matches: &ArgMatches<'_>) -> Option<Subcommand>
+    ensures { IfSome result IsInRange }
+{
+    Some(Subcommand::Serve(ServeOptions {
+        port: port_of(matches)?,
+        workers: number_of(matches, "workers", MAX_WORKERS)?,
+        connections: number_of(matches, "connections", MAX_CONNECTIONS)?,
+        limits: limits_of(matches, Limits::usual().first_generation)?,
+        times: times_of(matches)?,
+        patience: number_of(matches, "patience", PATIENCE_SECONDS)?,
+    }))
+}
+
+// The port, which may be 0.
+fn port_of(matches: &ArgMatches<'_>) -> Option<u16> {
+    let number = matches.get_one::<u64>("port")?;
+    u16::try_from(number).ok()
 }
 
 // The limits of time that the options set, where each is in its range.
@@ -155,145 +198,6 @@ fn told_by(matches: &ArgMatches<'_>) -> Told {
     } else {
         Told::Outcomes
     }
-}
-
-fn program<'a>(alloc: Global) -> Result<Command<'a>, AllocError> {
-    let replay = replay_words(alloc)?;
-    let shift = shift_words(alloc)?;
-    let lines = Command::new(alloc, "lines").about(
-        "Writes what each line of the robots.txt on standard input says",
-    );
-    let audit = Command::new(alloc, "audit").about(
-        "Checks every decision in the history on standard input, as replay --export writes it",
-    );
-    Command::new(alloc, "crawlgate")
-        .about("A gate for web crawlers, under every site's robots.txt (RFC 9309)")
-        .subcommand_required(true)
-        .subcommand(replay)?
-        .subcommand(shift)?
-        .subcommand(lines)?
-        .subcommand(audit)
-}
-
-// The words of `replay`.
-fn replay_words<'a>(alloc: Global) -> Result<Command<'a>, AllocError> {
-    let replay = Command::new(alloc, "replay").about(
-        "Answers the lines of standard input, one reply a line",
-    );
-    limit_words(alloc, replay)?
-        .arg(number(
-            alloc,
-            "generation",
-            "1",
-            LAST_GENERATION,
-            "Generation of the first permit of each slot",
-        ))?
-        .arg(
-            Arg::new(alloc, "export")
-                .long("export")
-                .action(ArgAction::SetTrue)
-                .help("Writes the history at the end, and no replies"),
-        )
-}
-
-// The words of `shift`.
-fn shift_words<'a>(alloc: Global) -> Result<Command<'a>, AllocError> {
-    let shift = Command::new(alloc, "shift").about(
-        "Fetches the pages of the jobs on standard input, and writes what came of them",
-    );
-    let shift = limit_words(alloc, shift)?.arg(number(
-        alloc,
-        "workers",
-        "4",
-        MAX_WORKERS,
-        "Jobs that are done at a time",
-    ))?;
-    time_words(alloc, shift)?
-        .arg(
-            Arg::new(alloc, "export")
-                .long("export")
-                .action(ArgAction::SetTrue)
-                .help("Writes the history at the end, and no outcomes"),
-        )?
-        .arg(
-            Arg::new(alloc, "tsv")
-                .long("tsv")
-                .action(ArgAction::SetTrue)
-                .conflicts_with("export")?
-                .help("Writes a table of the hops, each as soon as it has ended"),
-        )
-}
-
-// The limits of time of fetches, in seconds.
-fn time_words<'a>(alloc: Global, command: Command<'a>) -> Result<Command<'a>, AllocError> {
-    command
-        .arg(number(
-            alloc,
-            "connect-timeout",
-            "10",
-            CONNECT_SECONDS,
-            "Seconds for a connection to one address",
-        ))?
-        .arg(number(
-            alloc,
-            "read-timeout",
-            "30",
-            STEP_SECONDS,
-            "Seconds for one read or one write",
-        ))?
-        .arg(number(
-            alloc,
-            "fetch-timeout",
-            "300",
-            WHOLE_SECONDS,
-            "Seconds for a page, or a robots file with its redirects",
-        ))
-}
-
-// The limits of the gate that both have.
-fn limit_words<'a>(alloc: Global, command: Command<'a>) -> Result<Command<'a>, AllocError> {
-    command
-        .arg(number(
-            alloc,
-            "slots",
-            "1024",
-            MAX_SLOTS,
-            "Permits that may be out at a time",
-        ))?
-        .arg(number(alloc, "log", "1000000", MAX_LOG, "Entries of the history"))?
-        .arg(number(
-            alloc,
-            "authorities",
-            "65536",
-            MAX_AUTHORITIES,
-            "Authorities that are known at a time",
-        ))?
-        .arg(number(
-            alloc,
-            "places",
-            "65536",
-            MAX_PLACES,
-            "Permits that may be out for an authority at a time",
-        ))
-}
-
-// An option with a number from 1 to `most`.
-fn number<'a>(
-    alloc: Global,
-    name: &'static str,
-    usual: &'static str,
-    most: u64,
-    about: &'static str,
-) -> Arg<'a>
-    requires { most ≤ last_generation }
-{
-    Arg::new(alloc, name)
-        .long(name)
-        .value_name("N")
-        .action(ArgAction::Set)
-        .default_value(usual)
-        .value_parser(clap::value_parser!(u64).range(1..=most as i64))
-        .help(about)
 }
 
 // The limits that the options set, where each is in its range.

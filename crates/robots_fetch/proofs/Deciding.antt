@@ -2,7 +2,6 @@
 -- Used by the laws of the crate.
 use Rattle.std.proofs.Common.{◌≡◌, ◌≤◌, ◌+◌, ◌++◌, [], ℕ, List, length, sym, subst, arith, append-nil}
 use Rattle.path_normal.specs.PageText.{robots_url_of}
-use Rattle.robots_verdict.specs.Answer.{said}
 use Rattle.robots_verdict.specs.declared.said.Said.{Said}
 use Rattle.robots_fetch.specs.declared.reply.RobotsReply.{RobotsReply}
 use Rattle.robots_fetch.specs.declared.walk.Step.TheVariants.{Go, Done, NoMemory}
@@ -10,7 +9,7 @@ use Rattle.robots_fetch.specs.declared.walk.Walk.{Walk}
 use Rattle.robots_fetch.specs.Laws.{DecidedOnce, GoesOnFiveTimes, GoesWhereTheyLead, IsDoneWithAnswer, OneAnswer, StepsAsDecided}
 use Rattle.robots_fetch.specs.Redirects.{most_redirects}
 use Rattle.robots_fetch.specs.Steps.{IsBegun}
-use Rattle.robots_fetch.specs.Walk.{AnswerOf, Ends, LeadsOver}
+use Rattle.robots_fetch.specs.Walk.{AnswerOf, EndsWalk, LeadsOver}
 use Rattle.robots_fetch.proofs.Replies.{Decide, decide_one, way_decides}
 use Rattle.robots_fetch.proofs.Taken.{done_over, few_over, gone_over, leads_over}
 
@@ -21,7 +20,7 @@ decides authority replies says life answer =
     let all : length answer.way ≡ 0 + length answer.way = omega arith in
     subst (λ rs. Decide 0 (robots_url_of authority) rs says life) (sym answer.are_all)
     (way_decides 0 (robots_url_of authority) answer.way answer.last answer.url says life (omega (arith, answer.are_few)) answer.leads
-    (subst (λ n. Ends n answer.url answer.last says) all answer.ends) answer.lives)
+    (subst (λ n. EndsWalk n answer.url answer.last says) all answer.ends) answer.lives)
 
 -- the same at a walk that begins there
 decides_at : (authority : List ℕ) (walk : Walk) (replies : List RobotsReply) (says : Said) (life : ℕ) →
@@ -42,9 +41,9 @@ single authority replies one other life life' is is' =
     (both.1, both.2)
 
 pub done : IsDoneWithAnswer
-done authority walk replies answer life begun steps =
+done authority walk replies answer begun steps =
     let few : walk.followed ≤ most_redirects = omega (arith, begun.1) in
-    let way = done_over walk replies answer life few steps in
+    let way = done_over walk replies answer few steps in
     let all : walk.followed + length way.way ≡ length way.way = omega (arith, begun.1) in
     record {
       way = way.way;
@@ -53,7 +52,7 @@ done authority walk replies answer life begun steps =
       are_all = way.are_all;
       are_few = omega (arith, way.are_few, begun.1);
       leads = subst (λ u. LeadsOver u way.way way.end) begun.0 way.leads;
-      ends = subst (λ n. Ends n way.end way.last (said answer)) all way.ends;
+      ends = subst (λ n. EndsWalk n way.end way.last answer.says) all way.ends;
       lives = way.lives;
     }
 
@@ -61,9 +60,9 @@ pub as_decided : StepsAsDecided
 as_decided authority walk front rest says life (Go next) begun answer steps =
     let behind = gone_over walk next front rest says life steps (decides_at authority walk (front ++ rest) says life begun answer) in
     λ empty. subst (λ rs. Decide next.followed next.url rs says life) empty behind
-as_decided authority walk front rest says life (Done given own) begun answer steps =
-    let is = done authority walk front given own begun steps in
-    decide_one 0 (robots_url_of authority) front rest (said given) says own life (decides authority front (said given) own is)
+as_decided authority walk front rest says life (Done given) begun answer steps =
+    let is = done authority walk front given begun steps in
+    decide_one 0 (robots_url_of authority) front rest given.says says given.life life (decides authority front given.says given.life is)
     (decides authority (front ++ rest) says life answer)
 as_decided authority walk front rest says life (NoMemory kept) begun answer steps = tt
 

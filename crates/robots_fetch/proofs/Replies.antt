@@ -14,7 +14,7 @@ use Rattle.robots_fetch.specs.declared.status.StatusClass.{StatusClass}
 use Rattle.robots_fetch.specs.declared.status.StatusClass.TheVariants as classes
 use Rattle.robots_fetch.specs.Redirects.{location_target, most_redirects, redirect_target}
 use Rattle.robots_fetch.specs.Statuses.{class_of}
-use Rattle.robots_fetch.specs.Walk.{Ends, Leads, LeadsOver, ResponseSays, StopSays, asked_life}
+use Rattle.robots_fetch.specs.Walk.{EndsWalk, Leads, LeadsOver, ResponseSays, StopSays, asked_life}
 
 -- a result is of one URL
 ok_one : (target : Result (List ℕ) Stop) (a b : List ℕ) → target ≡ Ok a → target ≡ Ok b → a ≡ b
@@ -41,7 +41,7 @@ response_one classes.Other target body a b one other = one ∙ sym other
 
 -- a reply that ends a walk says one thing
 ends_one : (followed : ℕ) (url : List ℕ) (reply : RobotsReply) (a b : Said) →
-    Ends followed url reply a → Ends followed url reply b → a ≡ b
+    EndsWalk followed url reply a → EndsWalk followed url reply b → a ≡ b
 ends_one followed url (Status code location body max_age) a b one other =
     response_one (class_of code) (redirect_target followed url (option_map string_bytes location)) body.items a b one other
 ends_one followed url CodingFault a b one other = one ∙ sym other
@@ -49,7 +49,7 @@ ends_one followed url NetworkFault a b one other = one ∙ sym other
 
 -- a redirect that may be followed ends no walk
 pub leads_on : (followed : ℕ) (url : List ℕ) (reply : RobotsReply) (next : List ℕ) (says : Said) →
-    followed < most_redirects → Leads url reply next → Ends followed url reply says → ⊥
+    followed < most_redirects → Leads url reply next → EndsWalk followed url reply says → ⊥
 leads_on followed url (Status code location body max_age) next says few leads ends =
     let target : redirect_target followed url (option_map string_bytes location) ≡ Ok next =
     rw (lt-ltb followed most_redirects few) leads.1 in
@@ -61,7 +61,7 @@ leads_on followed url NetworkFault next says few leads ends = absurd leads
 -- the reply ends the walk, and none is left
 abbrev Stands : ℕ → List ℕ → RobotsReply → List RobotsReply → Said → ℕ → Type 0
 Stands followed url reply rest says life =
-    (rest ≡ []) × Ends followed url reply says × (life ≡ life_of says (asked_life reply))
+    (rest ≡ []) × EndsWalk followed url reply says × (life ≡ life_of says (asked_life reply))
 
 -- the replies decide from a URL on, with so many redirects before it
 abbrev pub Decide : ℕ → List ℕ → List RobotsReply → Said → ℕ → Type 0
@@ -95,11 +95,11 @@ decide_one followed url (reply ∷ front) rest a b l m (inr one) (inr other) =
 
 -- redirects and a reply that ends the walk decide
 pub way_decides : (followed : ℕ) (url : List ℕ) (way : List RobotsReply) (last : RobotsReply) (end : List ℕ) (says : Said) (life : ℕ) →
-    followed + length way ≤ most_redirects → LeadsOver url way end → Ends (followed + length way) end last says →
+    followed + length way ≤ most_redirects → LeadsOver url way end → EndsWalk (followed + length way) end last says →
     life ≡ life_of says (asked_life last) → Decide followed url (way ++ last ∷ []) says life
 way_decides followed url [] last end says life few leads ends lives =
     let none : followed + 0 ≡ followed = omega arith in
-    inl (refl, subst (λ n. Ends n url last says) none (subst (λ u. Ends (followed + 0) u last says) (sym leads) ends), lives)
+    inl (refl, subst (λ n. EndsWalk n url last says) none (subst (λ u. EndsWalk (followed + 0) u last says) (sym leads) ends), lives)
 way_decides followed url (reply ∷ way) last end says life few leads ends lives =
     let one : followed + length (reply ∷ way) ≡ followed + 1 + length way = omega arith in
     inr (
@@ -107,5 +107,5 @@ way_decides followed url (reply ∷ way) last end says life few leads ends lives
       omega (arith, few),
       leads.1.0,
       way_decides (followed + 1) leads.0 way last end says life (omega (arith, few)) leads.1.1
-          (subst (λ n. Ends n end last says) one ends) lives,
+          (subst (λ n. EndsWalk n end last says) one ends) lives,
     )

@@ -1,16 +1,14 @@
 -- A walk over replies that decide, from any of its URLs on.
 -- Used by the laws on steps.
 use Rattle.std.proofs.Common.{◌≡◌, ◌≤◌, ◌+◌, ◌++◌, ◌∷◌, [], ℕ, List, length, inl, inr, refl, ap, subst, arith}
-use Rattle.robots_verdict.specs.Answer.{said}
-use Rattle.robots_verdict.specs.declared.answer.Answer.{Answer}
 use Rattle.robots_verdict.specs.declared.said.Said.{Said}
-use Rattle.authority_cache.specs.Lives.{life_of}
+use Rattle.authority_cache.specs.Lives.{Timed, life_of}
 use Rattle.robots_fetch.specs.declared.reply.RobotsReply.{RobotsReply}
 use Rattle.robots_fetch.specs.declared.walk.Step.TheVariants.{Go, Done}
 use Rattle.robots_fetch.specs.declared.walk.Walk.{Walk}
 use Rattle.robots_fetch.specs.Redirects.{most_redirects}
 use Rattle.robots_fetch.specs.Steps.{Steps, StepsOver}
-use Rattle.robots_fetch.specs.Walk.{Ends, LeadsOver, asked_life}
+use Rattle.robots_fetch.specs.Walk.{EndsWalk, LeadsOver, asked_life}
 use Rattle.robots_fetch.proofs.Replies.{Decide, leads_on, leads_one}
 
 -- what replies decide, the others decide behind a reply that the walk went on at
@@ -41,15 +39,15 @@ pub record IsWay (followed : ℕ) (url : List ℕ) (replies : List RobotsReply) 
   pub are_all : replies ≡ way ++ last ∷ []
   pub are_few : followed + length way ≤ most_redirects
   pub leads : LeadsOver url way end
-  pub ends : Ends (followed + length way) end last says
+  pub ends : EndsWalk (followed + length way) end last says
   pub lives : life ≡ life_of says (asked_life last)
 
 -- a walk that is done has gone such a way
-pub done_over : (walk : Walk) (replies : List RobotsReply) (answer : Answer) (life : ℕ) →
-    walk.followed ≤ most_redirects → StepsOver walk replies (Done answer life) →
-    IsWay walk.followed walk.url replies (said answer) life
-done_over walk [] answer life few steps = absurd steps
-done_over walk (reply ∷ []) answer life few steps =
+pub done_over : (walk : Walk) (replies : List RobotsReply) (answer : Timed) →
+    walk.followed ≤ most_redirects → StepsOver walk replies (Done answer) →
+    IsWay walk.followed walk.url replies answer.says answer.life
+done_over walk [] answer few steps = absurd steps
+done_over walk (reply ∷ []) answer few steps =
     let none : walk.followed ≡ walk.followed + 0 = omega arith in
     record {
       way = [];
@@ -58,13 +56,13 @@ done_over walk (reply ∷ []) answer life few steps =
       are_all = refl;
       are_few = omega (arith, few);
       leads = refl;
-      ends = subst (λ n. Ends n walk.url reply (said answer)) none steps.0;
+      ends = subst (λ n. EndsWalk n walk.url reply answer.says) none steps.0;
       lives = steps.1;
     }
-done_over walk (reply ∷ (other ∷ replies)) answer life few steps =
+done_over walk (reply ∷ (other ∷ replies)) answer few steps =
     let next = steps.0 in
     let go = steps.1.0 in
-    let more = done_over next (other ∷ replies) answer life (omega (arith, go.1, go.2)) steps.1.1 in
+    let more = done_over next (other ∷ replies) answer (omega (arith, go.1, go.2)) steps.1.1 in
     let one : next.followed + length more.way ≡ walk.followed + length (reply ∷ more.way) = omega (arith, go.2) in
     record {
       way = reply ∷ more.way;
@@ -73,7 +71,7 @@ done_over walk (reply ∷ (other ∷ replies)) answer life few steps =
       are_all = ap (λ xs. reply ∷ xs) more.are_all;
       are_few = omega (arith, more.are_few, go.2);
       leads = (next.url, (go.0, more.leads));
-      ends = subst (λ n. Ends n more.end more.last (said answer)) one more.ends;
+      ends = subst (λ n. EndsWalk n more.end more.last answer.says) one more.ends;
       lives = more.lives;
     }
 

@@ -2,9 +2,8 @@
 -- Cited by the laws of the crate.
 use Rattle.std.specs.Prelude.{◌≡◌, ◌≢◌, ◌≤◌, ◌++◌, [], ℕ, List, length}
 use Rattle.path_normal.specs.PageText.{robots_url_of}
-use Rattle.robots_verdict.specs.Answer.{said}
-use Rattle.robots_verdict.specs.declared.answer.Answer.{Answer}
 use Rattle.robots_verdict.specs.declared.said.Said.{Said}
+use Rattle.authority_cache.specs.Lives.{Timed}
 use Rattle.robots_fetch.specs.declared.reply.RobotsReply.{RobotsReply}
 use Rattle.robots_fetch.specs.declared.walk.Step.{Step}
 use Rattle.robots_fetch.specs.declared.walk.Step.TheVariants.{Go, Done, NoMemory}
@@ -25,14 +24,14 @@ DecidedOnce = (authority : List ℕ) (front rest : List RobotsReply) (one other 
 
 -- a walk over a list is done with the answer that the list decides
 abbrev pub IsDoneWithAnswer : Type 0
-IsDoneWithAnswer = (authority : List ℕ) (walk : Walk) (replies : List RobotsReply) (answer : Answer) (life : ℕ) →
-    IsBegun authority walk → StepsOver walk replies (Done answer life) → AnswerOf authority replies (said answer) life
+IsDoneWithAnswer = (authority : List ℕ) (walk : Walk) (replies : List RobotsReply) (answer : Timed) →
+    IsBegun authority walk → StepsOver walk replies (Done answer) → AnswerOf authority replies answer.says answer.life
 
 -- a step behind a front of replies that decide, where these replies are left: done with the answer where
 -- none is left, and on where one is
 abbrev pub IsAsDecided : List RobotsReply → Said → ℕ → Step → Type 0
 IsAsDecided rest says life (Go next) = rest ≢ []
-IsAsDecided rest says life (Done answer own) = (rest ≡ []) × (said answer ≡ says) × (own ≡ life)
+IsAsDecided rest says life (Done answer) = (rest ≡ []) × (answer.says ≡ says) × (answer.life ≡ life)
 IsAsDecided rest says life (NoMemory kept) = Unit {0}
 
 -- a walk over a front of replies that decide steps as they decide

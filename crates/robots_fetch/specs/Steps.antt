@@ -3,15 +3,15 @@
 use Rattle.std.specs.Prelude.{◌≡◌, ◌<◌, ◌+◌, [], ◌∷◌, ℕ, List, Option, Ok, unwrap_or}
 use Rattle.path_normal.specs.PageText.{robots_url_of}
 use Rattle.robots_text.specs.Lines.{kept}
-use Rattle.robots_verdict.specs.Answer.{said, spares_of}
+use Rattle.robots_verdict.specs.declared.said.Said.{Said}
 use Rattle.robots_verdict.specs.declared.said.Said.TheVariants.{Rules}
-use Rattle.authority_cache.specs.Lives.{greatest_life, life_of}
+use Rattle.authority_cache.specs.Lives.{Timed, greatest_life, life_of}
 use Rattle.robots_fetch.specs.declared.reply.RobotsReply.{RobotsReply}
 use Rattle.robots_fetch.specs.declared.walk.Step.{Step}
 use Rattle.robots_fetch.specs.declared.walk.Step.TheVariants.{Go, Done, NoMemory}
 use Rattle.robots_fetch.specs.declared.walk.Walk.{Walk}
 use Rattle.robots_fetch.specs.Redirects.{location_target, most_redirects, redirect_target}
-use Rattle.robots_fetch.specs.Walk.{Ends, Leads, StopSays, asked_life}
+use Rattle.robots_fetch.specs.Walk.{EndsWalk, Leads, StopSays, asked_life}
 
 -- the URL that the walk fetches next
 abbrev pub next_url : Walk → List ℕ
@@ -21,14 +21,18 @@ next_url walk = walk.url
 abbrev pub IsBegun : List ℕ → Walk → Type 0
 IsBegun authority walk = (walk.url ≡ robots_url_of authority) × (walk.followed ≡ 0)
 
+-- what is said without rules, for a day
+abbrev pub for_a_day : Said → Timed
+for_a_day says = record { says = says; spares = 2; life = greatest_life }
+
 -- a step: on to where the reply leads, with one more redirect followed; done with what the reply says and
 -- its life, and two twins to spare; or the walk as it was
 abbrev pub Steps : Walk → RobotsReply → Step → Type 0
 Steps walk reply (Go next) =
     Leads walk.url reply next.url × (walk.followed < most_redirects) × (next.followed ≡ walk.followed + 1)
-Steps walk reply (Done answer life) =
-    Ends walk.followed walk.url reply (said answer) × (life ≡ life_of (said answer) (asked_life reply))
-    × (spares_of answer ≡ 2)
+Steps walk reply (Done answer) =
+    EndsWalk walk.followed walk.url reply answer.says × (answer.life ≡ life_of answer.says (asked_life reply))
+    × (answer.spares ≡ 2)
 Steps walk reply (NoMemory kept) = kept ≡ walk
 
 -- the step that is made of a walk by the last of the replies, where it goes on at all before that
@@ -41,17 +45,17 @@ StepsOver walk (reply ∷ (other ∷ replies)) step =
 -- a step by a response whose body has the rules
 abbrev pub GivesRules : Walk → List ℕ → Option ℕ → Step → Type 0
 GivesRules walk body max_age (Go next) = ⊥
-GivesRules walk body max_age (Done answer life) =
-    (said answer ≡ Rules (kept body)) × (life ≡ life_of (said answer) (unwrap_or max_age greatest_life))
-    × (spares_of answer ≡ 2)
+GivesRules walk body max_age (Done answer) =
+    (answer.says ≡ Rules (kept body)) × (answer.life ≡ life_of answer.says (unwrap_or max_age greatest_life))
+    × (answer.spares ≡ 2)
 GivesRules walk body max_age (NoMemory kept) = kept ≡ walk
 
 -- a step by a redirect
-abbrev pub Follows : Walk → Option (List ℕ) → Step → Type 0
-Follows walk location (Go next) =
+abbrev pub FollowsRedirect : Walk → Option (List ℕ) → Step → Type 0
+FollowsRedirect walk location (Go next) =
     (location_target walk.url location ≡ Ok next.url) × (walk.followed < most_redirects)
     × (next.followed ≡ walk.followed + 1)
-Follows walk location (Done answer life) =
-    StopSays (redirect_target walk.followed walk.url location) (said answer)
-    × ((asked : ℕ) → life ≡ life_of (said answer) asked) × (spares_of answer ≡ 2)
-Follows walk location (NoMemory kept) = kept ≡ walk
+FollowsRedirect walk location (Done answer) =
+    StopSays (redirect_target walk.followed walk.url location) answer.says
+    × ((asked : ℕ) → answer.life ≡ life_of answer.says asked) × (answer.spares ≡ 2)
+FollowsRedirect walk location (NoMemory kept) = kept ≡ walk

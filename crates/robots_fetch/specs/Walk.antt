@@ -34,11 +34,11 @@ ResponseSays classes.Unreachable target body says = says ≡ Closed closures.Ser
 ResponseSays classes.Other target body says = says ≡ Closed closures.Other
 
 -- the reply ends a walk at the URL that it answers, with so many redirects before it, and says so
-abbrev pub Ends : ℕ → List ℕ → RobotsReply → Said → Type 0
-Ends followed url (Status code location body max_age) says =
+abbrev pub EndsWalk : ℕ → List ℕ → RobotsReply → Said → Type 0
+EndsWalk followed url (Status code location body max_age) says =
     ResponseSays (class_of code) (redirect_target followed url (option_map string_bytes location)) body.items says
-Ends followed url CodingFault says = says ≡ Closed closures.Coding
-Ends followed url NetworkFault says = says ≡ Closed closures.Network
+EndsWalk followed url CodingFault says = says ≡ Closed closures.Coding
+EndsWalk followed url NetworkFault says = says ≡ Closed closures.Network
 
 -- the reply is a redirect from the one URL to the other
 abbrev pub Leads : List ℕ → RobotsReply → List ℕ → Type 0
@@ -67,5 +67,5 @@ pub record AnswerOf (authority : List ℕ) (replies : List RobotsReply) (says : 
   pub are_all : replies ≡ way ++ last ∷ []
   pub are_few : length way ≤ most_redirects
   pub leads : LeadsOver (robots_url_of authority) way url
-  pub ends : Ends (length way) url last says
+  pub ends : EndsWalk (length way) url last says
   pub lives : life ≡ life_of says (asked_life last)

@@ -5,15 +5,13 @@ ghost use Rattle.std.specs.Option.{option_map};
 ghost use Rattle.robots_text.specs.Lines.{kept};
 ghost use Rattle.robots_verdict.specs.Answer.{said, spares_of};
 ghost use Rattle.robots_verdict.specs.declared.said.Said.{Said};
-ghost use Rattle.authority_cache.specs.Lives.{greatest_life};
-ghost use Rattle.robots_fetch.specs.Steps.{Follows, GivesRules, IsBegun, Steps, next_url};
+ghost use Rattle.robots_fetch.specs.Steps.{FollowsRedirect, GivesRules, IsBegun, Steps, for_a_day, next_url};
 ghost use Rattle.robots_fetch.specs.declared.walk.Step.{Step as StepValue};
-ghost use Rattle.robots_verdict.specs.declared.answer.Answer.{Answer as AnswerValue};
 
 use crate::redirect::{Nowhere, Stop, redirect_target};
 use crate::reply::RobotsReply;
 use crate::status::{StatusClass, class_of};
-use authority_cache::{LIFE, life_of};
+use authority_cache::{LIFE, TimedAnswer};
 use path_normal::{Authority, PageUrl};
 use robots_text::RobotsText;
 use robots_verdict::{Answer, Closure, Opening};
@@ -33,7 +31,7 @@ pub enum Step {
     Go(Walk),
     /// It is done: the answer, and the seconds for which that is in force: 60 to 86,400 for rules,
     /// 86,400 for the others (RFC 9309, 2.4).
-    Done(Answer, u64),
+    Done(TimedAnswer),
     /// The allocator had no memory, or the crate `url` overflowed: the walk as it was, to be handed
     /// the same reply again.
     NoMemory(Walk),
@@ -85,17 +83,14 @@ impl Walk {
         ensures { GivesRules self body.now max_age result }
     {
         match rules_of(alloc, body) {
-            Ok(answer) => {
-                let life = life_of(&answer, max_age.unwrap_or(LIFE));
-                Step::Done(answer, life)
-            }
+            Ok(answer) => Step::Done(TimedAnswer::new(answer, max_age.unwrap_or(LIFE))),
             Err(_) => Step::NoMemory(self),
         }
     }
 
     // Goes on where a redirect leads, or ends with the answer where it leads nowhere.
     fn follow(self, location: &Option<String>) -> Step
-        ensures { Follows self (option_map string_bytes location.now) result }
+        ensures { FollowsRedirect self (option_map string_bytes location.now) result }
     {
         match redirect_target(self.followed, &self.url, location) {
             Ok(url) => Step::Go(Walk {
@@ -118,13 +113,13 @@ fn rules_of(alloc: Global, body: &[u8]) -> Result<Answer, AllocError>
 }
 
 fn open(opening: Opening) -> Step
-    ensures { result ≡ StepValue.Done (AnswerValue.Open opening) greatest_life }
+    ensures { result ≡ StepValue.Done (for_a_day (Said.Open opening)) }
 {
-    Step::Done(Answer::Open(opening), LIFE)
+    Step::Done(TimedAnswer::new(Answer::Open(opening), LIFE))
 }
 
 fn closed(closure: Closure) -> Step
-    ensures { result ≡ StepValue.Done (AnswerValue.Closed closure) greatest_life }
+    ensures { result ≡ StepValue.Done (for_a_day (Said.Closed closure)) }
 {
-    Step::Done(Answer::Closed(closure), LIFE)
+    Step::Done(TimedAnswer::new(Answer::Closed(closure), LIFE))
 }

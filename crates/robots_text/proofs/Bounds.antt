@@ -8,7 +8,8 @@ use Rattle.std.proofs.lemmas.List.Elements.{All-cons, All-nil}
 use Rattle.robots_text.specs.Grouped.{IsWithin, grouped_from, name_octets, value_octets, values_octets}
 use Rattle.robots_text.specs.Grouping.{begins_behind, group_at}
 use Rattle.robots_text.specs.Lines.{lines_from}
-use Rattle.robots_text.specs.Records.{everybody, Record, agent, rule, other, ends_token, is_blank, is_colon, is_everybody, is_number_sign, is_same_name, named, named_by, numbered_from, record_at, record_of, trimmed, without_leading, without_trailing}
+use Rattle.robots_text.specs.Records.{everybody, Record, agent, rule, other, ends_token, is_blank, is_colon, is_everybody, is_number_sign, named, named_by, numbered_from, record_at, record_of, trimmed, without_leading, without_trailing}
+use Rattle.robots_text.specs.Words.{is_same_word}
 use Rattle.robots_text.specs.declared.record.RuleKind.TheVariants.{Allow, Disallow}
 use Rattle.robots_text.specs.Octets.{carriage_return, line_feed}
 
@@ -93,7 +94,7 @@ record_at_within (Some colon) text =
     let value = trimmed (drop (colon + 1) text) in
     omega (
       arith,
-      record_by (is_same_name name (codes "user-agent")) (is_same_name name (codes "allow")) (is_same_name name (codes "disallow")) value,
+      record_by (is_same_word name (codes "user-agent")) (is_same_word name (codes "allow")) (is_same_word name (codes "disallow")) value,
       trimmed_within (drop (colon + 1) text),
       drop_within (colon + 1) text,
     )

@@ -54,12 +54,12 @@ gives_only test Rules n (rule kind value ∷ ks) ruled stands =
     ]
 
 -- a rule that stands in the lines and is reached is given
-pub onto_behind : (here : Option Ruled) (rules : List Ruled) (ruled : Ruled) → Contains rules ruled → Contains (onto here rules) ruled
+onto_behind : (here : Option Ruled) (rules : List Ruled) (ruled : Ruled) → Contains rules ruled → Contains (onto here rules) ruled
 onto_behind None rules ruled stands = stands
 onto_behind (Some first) rules ruled stands = behind first ruled rules stands
 
 -- the rule line that a record with its number is, or another
-abbrev pub ruled_or : Ruled → ℕ → Record → Ruled
+abbrev ruled_or : Ruled → ℕ → Record → Ruled
 ruled_or usual line (agent who) = usual
 ruled_or usual line (rule kind value) = record { line = line; kind = kind; pattern = value }
 ruled_or usual line other = usual

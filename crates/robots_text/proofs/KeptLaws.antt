@@ -1,11 +1,11 @@
 -- The whole lines of octets are their longest front that ends with a line end.
--- Used by `kept`.
+-- Used by `kept` and `RobotsText::of`.
 use Rattle.std.proofs.Common.{◌≡◌, ◌≤◌, ◌<◌, ℕ, ◌+◌, ◌-◌, Bool, true, false, List, [], ◌∷◌, ◌++◌, length, take, drop, append_assoc, length-append, sym, refl, ap, ◌∙◌, subst, arith, inl, inr}
 use Rattle.std.proofs.lemmas.List.{take-append-drop, length-take}
-use Rattle.std.proofs.Math.Seq.{take-append-add}
-use Rattle.std.specs.Prelude.{◌||◌}
+use Rattle.std.proofs.Math.Seq.{take-append-add, take-append_seam, take-length}
+use Rattle.std.specs.Prelude.{◌||◌, cond, nat_le}
 use Rattle.std.specs.List.{list_any}
-use Rattle.robots_text.specs.Lines.{is_line_end, text_limit, whole_lines, IsWholeFront, IsLongestFront}
+use Rattle.robots_text.specs.Lines.{is_line_end, kept, text_limit, whole_lines, IsWholeFront, IsLongestFront}
 use Rattle.robots_text.proofs.Cutting.{tells}
 
 -- octets as a front that ends with a line end, and a rest
@@ -125,3 +125,18 @@ longest_front body = record {
   ];
   longest = no_longer body;
 }
+
+-- such a front is as many octets of the body as it has
+front_taken : (body front : List ℕ) → IsLongestFront body front → take (length front) body ≡ front
+front_taken body front is = elim is.whole [
+  | inl whole ↦ ap (take (length front)) whole.split ∙ take-append_seam front whole.rest
+  | inr none ↦ subst (λ (f : List ℕ). take (length f) body ≡ f) (sym none.0) refl
+]
+
+-- and so is what is kept of a body
+pub kept_taken : (body : List ℕ) → take (length (kept body)) body ≡ kept body
+kept_taken body = by (nat_le (length body) text_limit)
+  where
+    by : (fits : Bool) → take (length (cond fits body (whole_lines (take text_limit body)))) body ≡ cond fits body (whole_lines (take text_limit body))
+    by true = take-length body
+    by false = front_taken body (whole_lines (take text_limit body)) (longest_front body)

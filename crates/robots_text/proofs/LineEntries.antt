@@ -1,5 +1,5 @@
 -- Numbered lines as entries of a list: the first, the others, and what their numbers are.
--- Used by `Reaches`, `Gives`, `Walks` and `Plains`.
+-- Used by `Reaches`, `Gives` and `Walks`.
 use Rattle.std.proofs.Common.{◌≡◌, ℕ, ◌+◌, ◌<◌, ◌≤◌, ◌⊎◌, inl, inr, List, [], ◌∷◌, length, zero, suc, slice_index_or, Contains, refl, ap, arith}
 use Rattle.robots_text.specs.Groups.{Ruled}
 use Rattle.robots_text.specs.Records.{Record, Numbered, numbered_from}

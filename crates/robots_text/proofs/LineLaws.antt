@@ -4,11 +4,11 @@ use Rattle.std.proofs.Common.{◌≡◌, ◌≢◌, ◌⊎◌, ℕ, false, List,
 use Rattle.std.specs.Prelude.{◌==◌, if◌then◌else◌}
 use Rattle.std.specs.List.{list_any, onto_first}
 use Rattle.robots_text.specs.Cut.{behind_end}
-use Rattle.robots_text.specs.Lines.{AreLines, Ends, begins_with_lf, is_line_end, lines_from}
+use Rattle.robots_text.specs.Lines.{AreLines, EndsLine, begins_with_lf, is_line_end, lines_from}
 use Rattle.robots_text.proofs.Cutting.{tells, is_number, plain_parts, second, behind_cr, end_octet, plain_octet}
 use Rattle.robots_text.specs.Octets.{carriage_return, line_feed}
 
-longer : (c : ℕ) (line end rest : List ℕ) → Ends line end rest → Ends (c ∷ line) end rest
+longer : (c : ℕ) (line end rest : List ℕ) → EndsLine line end rest → EndsLine (c ∷ line) end rest
 longer c line end rest (inl e) = inl e
 longer c line end rest (inr (inl e)) = inr (inl e)
 longer c line end rest (inr (inr (inl e))) = inr (inr (inl e))
@@ -132,7 +132,7 @@ last_line : (line : List ℕ) → list_any is_line_end line ≡ false → (line 
 last_line [] plain some = absurd (some refl)
 last_line (c ∷ line) plain some = alone c line plain
 
-by_end : (line end rest : List ℕ) → list_any is_line_end line ≡ false → Ends line end rest → lines_from false (line ++ (end ++ rest)) ≡ line ∷ lines_from false rest
+by_end : (line end rest : List ℕ) → list_any is_line_end line ≡ false → EndsLine line end rest → lines_from false (line ++ (end ++ rest)) ≡ line ∷ lines_from false rest
 by_end line end rest plain (inl e) = at_line line end rest plain (inl e)
 by_end line end rest plain (inr (inl e)) = at_line line end rest plain (inr (inl e))
 by_end line end rest plain (inr (inr (inl e))) = at_line line end rest plain (inr (inr e))

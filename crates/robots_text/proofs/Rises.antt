@@ -1,5 +1,5 @@
 -- The rules that a walk gives come in the order of their lines.
--- Used by `Walks` and `Plains`.
+-- Used by `Walks`.
 use Rattle.std.proofs.Common.{◌≡◌, ℕ, ◌+◌, ◌<◌, ◌≤◌, Bool, true, false, List, [], ◌∷◌, map, length, zero, suc, slice_index, refl, sym, ap, subst, arith}
 use Rattle.std.specs.Prelude.{Option, Some, None, is_some}
 use Rattle.std.specs.List.Sorted.{IsStrictlyIncreasing}
@@ -10,10 +10,10 @@ use Rattle.robots_text.specs.Records.{Record, agent, rule, other, numbered_from}
 use Rattle.robots_text.specs.Walk.{after_record, ruled_at, onto, rules_from}
 
 -- the numbers of the rules that are given rise
-abbrev pub lines_of_rules : List Ruled → List ℕ
+abbrev lines_of_rules : List Ruled → List ℕ
 lines_of_rules rules = map (λ ruled. ruled.line) rules
 
-pub onto_above : (n : ℕ) (here : Option Ruled) (rules : List Ruled) →
+onto_above : (n : ℕ) (here : Option Ruled) (rules : List Ruled) →
     ((first : Ruled) → here ≡ Some first → n ≤ first.line) → ((i : ℕ) → i < length (lines_of_rules rules) → n ≤ slice_index (lines_of_rules rules) i) →
     (i : ℕ) → i < length (lines_of_rules (onto here rules)) → n ≤ slice_index (lines_of_rules (onto here rules)) i
 onto_above n None rules here all i within = all i within
@@ -24,7 +24,7 @@ onto_above n (Some first) rules here all (suc i) within = all i (omega arith)
 pub none_is : (first : Ruled) → None ≡ Some first → ⊥
 none_is first is = let same : false ≡ true = ap is_some is in absurd cc
 
-abbrev pub line_or : ℕ → Option Ruled → ℕ
+abbrev line_or : ℕ → Option Ruled → ℕ
 line_or usual None = usual
 line_or usual (Some first) = first.line
 
@@ -48,7 +48,7 @@ rules_above test group n (k ∷ ks) i within =
     (λ j less. let above : n + 1 ≤ slice_index (lines_of_rules rest) j = rules_above test (after_record test group k) (n + 1) ks j less in omega arith)
     i within
 
-pub onto_rises : (n : ℕ) (here : Option Ruled) (rules : List Ruled) → ((first : Ruled) → here ≡ Some first → first.line ≡ n) →
+onto_rises : (n : ℕ) (here : Option Ruled) (rules : List Ruled) → ((first : Ruled) → here ≡ Some first → first.line ≡ n) →
     ((i : ℕ) → i < length (lines_of_rules rules) → n < slice_index (lines_of_rules rules) i) →
     IsStrictlyIncreasing (lines_of_rules rules) → IsStrictlyIncreasing (lines_of_rules (onto here rules))
 onto_rises n None rules here above rises i within = rises i within

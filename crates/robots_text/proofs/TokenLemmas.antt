@@ -1,8 +1,11 @@
--- A token in lower case is the token that it writes.
--- Used by `Token::new`, for the invariant of `Token`.
-use Rattle.std.proofs.Common.{◌≡◌, ℕ, true, ◌&&◌, List, [], ◌∷◌, length, suc, subst, Some, sym, refl, ap, ◌∙◌, arith}
+-- A token in lower case is the token that it writes, and is UTF-8.
+-- Used by `Token::new`.
+use Rattle.std.proofs.Common.{◌≡◌, ℕ, true, ◌<◌, ◌&&◌, List, [], ◌∷◌, length, suc, subst, Some, sym, refl, ap, ◌∙◌, arith}
 use Rattle.std.specs.List.{list_all}
 use Rattle.std.specs.Char.{to_ascii_lowercase}
+use Rattle.std.specs.Str.{IsAscii, IsUtf8}
+use Rattle.std.proofs.lemmas.Str.{IsUtf8-from_ascii}
+use Rattle.std.proofs.lemmas.Str.Ascii.{IsAscii-nil, IsAscii-cons}
 use Rattle.std.proofs.lemmas.Bool.{cond-true, and_parts, and_from}
 use Rattle.std.proofs.lemmas.Bool.Decides.{nat_tests}
 use Rattle.std.specs.Prelude.{nat_lt, nat_le}
@@ -34,3 +37,15 @@ token_of_token octets token =
     let length_stays = subst (λ n. (nat_lt 0 n && nat_le n token_limit) ≡ true) (sym (same_length octets)) parts.0 in
     let stays : is_token (lower_case octets) ≡ true = and_from _ _ length_stays (all_stay octets parts.1) in
     cond-true _ _ _ stays ∙ ap Some (lower_twice octets)
+
+small_octet : (b : ℕ) → is_token_octet b ≡ true → to_ascii_lowercase b < 128
+small_octet b passes = grind (arith, nat_tests)
+
+are_ascii : (octets : List ℕ) → list_all is_token_octet octets ≡ true → IsAscii (lower_case octets)
+are_ascii [] passes = IsAscii-nil
+are_ascii (b ∷ octets) passes =
+    let parts = and_parts _ _ passes in
+    IsAscii-cons (to_ascii_lowercase b) (lower_case octets) (small_octet b parts.0) (are_ascii octets parts.1)
+
+pub token_is_utf8 : (octets : List ℕ) → is_token octets ≡ true → IsUtf8 (lower_case octets)
+token_is_utf8 octets token = IsUtf8-from_ascii (lower_case octets) (are_ascii octets (and_parts _ _ token).1)

@@ -9,7 +9,7 @@ use Rattle.robots_text.proofs.LineEntries.{stands_at}
 use Rattle.robots_text.proofs.Gives.{Given, gives_only, gives_every}
 use Rattle.robots_text.proofs.Rises.{rules_rise}
 
-pub is_rule_for : (test : Record → Bool) (word : List ℕ) (ks : List Record) →
+is_rule_for : (test : Record → Bool) (word : List ℕ) (ks : List Record) →
     ((k : Record) → test k ≡ speaks_to (numbered_from 1 ks) word k) →
     (ruled : Ruled) → Given test Foreign (numbered_from 1 ks) ruled → IsRuleFor (numbered_from 1 ks) word ruled
 is_rule_for test word ks same ruled given = elim given.1 [

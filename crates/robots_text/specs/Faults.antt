@@ -5,6 +5,6 @@ use Rattle.robots_text.specs.declared.token.TokenFault.{TokenFault}
 use Rattle.robots_text.specs.declared.token.TokenFault.TheVariants.{BadToken, NoMemory}
 
 -- why octets were not taken as a token
-abbrev pub fault_text : TokenFault → List ℕ
-fault_text BadToken = codes "a product token has 1 to 64 letters, - and _"
-fault_text NoMemory = codes "no memory for the product token"
+abbrev pub token_fault_text : TokenFault → List ℕ
+token_fault_text BadToken = codes "a product token has 1 to 64 letters, - and _"
+token_fault_text NoMemory = codes "no memory for the product token"

@@ -5,7 +5,8 @@ use Rattle.std.specs.Prelude.{◌≡◌, ◌<◌, ℕ, Bool, true, false, List, 
 use Rattle.std.specs.List.{list_any}
 use Rattle.std.specs.List.Sorted.{IsStrictlyIncreasing}
 use Rattle.robots_text.specs.declared.record.RuleKind.{RuleKind}
-use Rattle.robots_text.specs.Records.{everybody, token, nobody, Record, agent, rule, other, Numbered, is_same_name}
+use Rattle.robots_text.specs.Records.{everybody, token, nobody, Record, agent, rule, other, Numbered}
+use Rattle.robots_text.specs.Words.{is_same_word}
 
 -- a rule line: its number, its kind and its pattern as it stands
 pub record Ruled : Type 0 where
@@ -44,7 +45,7 @@ pub record Governs (lines : List Numbered) (head line : Numbered) : Type 0 where
 -- the record is a user-agent line that names the token, in whatever case
 abbrev pub names_token : List ℕ → Record → Bool
 names_token word (agent everybody) = false
-names_token word (agent (token name)) = is_same_name name word
+names_token word (agent (token name)) = is_same_word name word
 names_token word (agent nobody) = false
 names_token word (rule kind value) = false
 names_token word other = false

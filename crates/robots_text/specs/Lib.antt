@@ -8,7 +8,7 @@ pub mod Groups
 pub mod Left
 pub mod Lines
 pub mod Octets
-pub mod Plain
 pub mod Records
 pub mod Token
 pub mod Walk
+pub mod Words

@@ -67,8 +67,8 @@ begins_with_lf (octet ∷ text) = octet == line_feed
 
 -- a line is followed by CR LF, by CR not followed by LF, or by LF; the last may lack its end, and is then
 -- not empty
-abbrev pub Ends : (line end rest : List ℕ) → Type 0
-Ends line end rest =
+abbrev pub EndsLine : (line end rest : List ℕ) → Type 0
+EndsLine line end rest =
     (end ≡ carriage_return ∷ line_feed ∷ [])
     ⊎ ((end ≡ carriage_return ∷ []) × (begins_with_lf rest ≡ false))
     ⊎ (end ≡ line_feed ∷ [])
@@ -80,7 +80,7 @@ pub record BeginsWithLine (text line : List ℕ) (rest_is : List ℕ → Type 0)
   pub rest : List ℕ
   pub text_is : text ≡ line ++ (end ++ rest)
   pub plain : list_any is_line_end line ≡ false
-  pub ends : Ends line end rest
+  pub ends : EndsLine line end rest
   pub goes_on : rest_is rest
 
 -- the text is these lines, each with its end

@@ -1,6 +1,6 @@
 -- Records: what a line of a robots text says, by its name and its value.
 -- RFC 9309, section 2.2.
-use Rattle.std.specs.Prelude.{ℕ, Bool, false, ◌+◌, ◌&&◌, ◌||◌, ◌==◌, not, List, [], ◌∷◌, map, take, drop, Option, Some, None, bytes_eq, codes, if◌then◌else◌}
+use Rattle.std.specs.Prelude.{ℕ, Bool, false, ◌+◌, ◌&&◌, ◌||◌, ◌==◌, not, List, [], ◌∷◌, map, take, drop, Option, Some, None, codes, if◌then◌else◌}
 use Rattle.std.specs.List.{list_all, position, before_first}
 use Rattle.robots_text.specs.declared.record.Agent.{Agent}
 use Rattle.robots_text.specs.declared.record.Agent.TheVariants as agents
@@ -10,7 +10,8 @@ use Rattle.robots_text.specs.declared.record.RecordLine.{RecordLine}
 use Rattle.robots_text.specs.declared.record.RuleKind.{RuleKind}
 use Rattle.robots_text.specs.declared.record.RuleKind.TheVariants.{Allow, Disallow}
 use Rattle.robots_text.specs.Lines.{lines_of}
-use Rattle.robots_text.specs.Token.{is_token_octet, lower_case}
+use Rattle.robots_text.specs.Token.{is_token_octet}
+use Rattle.robots_text.specs.Words.{is_same_word}
 use Rattle.robots_text.specs.Octets.{colon, number_sign, space, star, tab}
 
 -- whom a user-agent line names: everybody, one token, or nobody
@@ -68,16 +69,12 @@ named_by (octet ∷ octets) = token (octet ∷ octets)
 abbrev pub named : List ℕ → Named
 named value = if is_everybody value then everybody else named_by (before_first ends_token value)
 
--- the names are the same without regard to case
-abbrev pub is_same_name : List ℕ → List ℕ → Bool
-is_same_name name word = bytes_eq (lower_case name) (lower_case word)
-
 -- the record of a name and a value
 abbrev pub record_named : List ℕ → List ℕ → Record
 record_named name value =
-    if is_same_name name (codes "user-agent") then agent (named value)
-    else if is_same_name name (codes "allow") then rule Allow value
-    else if is_same_name name (codes "disallow") then rule Disallow value
+    if is_same_word name (codes "user-agent") then agent (named value)
+    else if is_same_word name (codes "allow") then rule Allow value
+    else if is_same_word name (codes "disallow") then rule Disallow value
     else other
 
 -- the record of a text whose first ":" stands at this place: the name before it and the value behind it

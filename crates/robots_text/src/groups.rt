@@ -6,10 +6,11 @@ ghost use Rattle.robots_text.specs.Left.{records_left};
 ghost use Rattle.robots_text.specs.Records.{Record, kind_seen};
 ghost use Rattle.robots_text.specs.Walk.{after_head, after_record, after_rule, rule_seen, ruled_at, speaks};
 
-use crate::record::{Agent, RecordKind, RecordLine, RuleKind, is_same_name};
+use crate::record::{Agent, RecordKind, RecordLine, RuleKind};
 use crate::records::Records;
 use crate::text::RobotsText;
 use crate::token::Token;
+use crate::words::is_same_word;
 
 /// A rule line. Lines count from 1; the pattern is that of the text, as it stands.
 #[derive(Clone, Copy, Debug, PartialEq, Eq)]
@@ -87,7 +88,8 @@ impl<'t, 'k> Iterator for RulesFor<'t, 'k> {
 
 // Whose rules are looked for: those of the token where a line names it, and else those of everybody.
 pub(crate) fn whom_for<'a>(records: Records<'_>, word: &'a [u8]) -> Whom<'a>
-    ensures { (kind : Record) → speaks result kind ≡ speaks_to (records_left records.entry) word.now kind }
+    ensures { (kind : Record) → speaks result kind
+        ≡ speaks_to (records_left records.entry) word.now kind }
 {
     if is_named(records, word) {
         Whom::Token(word)
@@ -113,7 +115,7 @@ fn names_token(word: &[u8], kind: RecordKind<'_>) -> bool
     ensures { result ≡ names_token word.now (kind_seen kind.entry) }
 {
     match kind {
-        RecordKind::Agent(Agent::Name(name)) => is_same_name(name, word),
+        RecordKind::Agent(Agent::Name(name)) => is_same_word(name, word),
         _ => false,
     }
 }

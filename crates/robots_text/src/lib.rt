@@ -10,6 +10,7 @@ mod record;
 mod records;
 mod text;
 mod token;
+mod words;
 
 pub use grouped::{GroupedRecord, GroupedRecords};
 pub use groups::{RuleLine, RulesFor};
@@ -17,3 +18,4 @@ pub use record::{Agent, RecordKind, RecordLine, RuleKind};
 pub use records::Records;
 pub use text::{MAX_TEXT, RobotsText};
 pub use token::{MAX_TOKEN, Token, TokenFault};
+pub use words::{is_same_word, lower_case};

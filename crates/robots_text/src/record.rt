@@ -3,11 +3,12 @@
 ghost use Rattle.std.specs.Prelude.{◌≡◌, ◌<◌, length, IfSome};
 ghost use Rattle.std.specs.List.{position, before_first};
 ghost use Rattle.robots_text.specs.Records.{agent_seen, ends_token, is_blank};
-ghost use Rattle.robots_text.specs.Records.{is_colon, is_everybody, is_number_sign, is_same_name};
+ghost use Rattle.robots_text.specs.Records.{is_colon, is_everybody, is_number_sign};
 ghost use Rattle.robots_text.specs.Records.{kind_seen, named, record_in, record_named, record_of};
 ghost use Rattle.robots_text.specs.Records.{trimmed, without_leading, without_trailing};
 
 use crate::token::is_token_octet;
+use crate::words::is_same_word;
 
 /// Whom a user-agent line names.
 #[derive(Clone, Copy, Debug, PartialEq, Eq)]
@@ -77,21 +78,15 @@ fn record_in(text: &[u8]) -> RecordKind<'_>
 fn record_named<'a>(name: &[u8], value: &'a [u8]) -> RecordKind<'a>
     ensures { kind_seen result ≡ record_named name.now value.now }
 {
-    if is_same_name(name, b"user-agent") {
+    if is_same_word(name, b"user-agent") {
         RecordKind::Agent(agent_of(value))
-    } else if is_same_name(name, b"allow") {
+    } else if is_same_word(name, b"allow") {
         RecordKind::Rule(RuleKind::Allow, value)
-    } else if is_same_name(name, b"disallow") {
+    } else if is_same_word(name, b"disallow") {
         RecordKind::Rule(RuleKind::Disallow, value)
     } else {
         RecordKind::Other
     }
-}
-
-pub(crate) fn is_same_name(name: &[u8], word: &[u8]) -> bool
-    ensures { result ≡ is_same_name name.now word.now }
-{
-    name.eq_ignore_ascii_case(word)
 }
 
 fn agent_of(value: &[u8]) -> Agent<'_>

@@ -45,6 +45,16 @@ impl RobotsText {
         })
     }
 
+    /// The text of a body, which it takes over: it needs no memory.
+    pub fn of(body: Vec<u8>) -> RobotsText
+        ensures { result ≡ kept body.items }
+    {
+        let mut octets = body;
+        octets.truncate(kept(octets.as_slice()).len());
+        octets.shrink_to_fit();
+        RobotsText { octets }
+    }
+
     /// The records of the text, in the order of their lines.
     pub fn records(&self) -> Records<'_>
         ensures records { records_left result ≡ numbered_records self.now }

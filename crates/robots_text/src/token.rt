@@ -1,11 +1,12 @@
 //! A product token, which names a crawler.
 //! RFC 9309, section 2.2.1.
-ghost use Rattle.std.specs.Prelude.{◌≡◌, ◌↔◌, None, Some, IfOk, IfErr, IsTrue, bytes_eq, string_bytes};
+ghost use Rattle.std.specs.Prelude.{◌≡◌, ◌↔◌, None, Some, IfOk, IfErr, bytes_eq};
 ghost use Rattle.std.specs.Cmp.{partial_equiv_from_equiv};
 ghost use Rattle.std.specs.Cmp.Lexicographic.{nat_list_eq_equiv};
 ghost use Rattle.std.specs.List.{list_all};
-ghost use Rattle.robots_text.specs.Token.{is_token_octet, is_token, lower_case, token_of};
+ghost use Rattle.robots_text.specs.Token.{is_token_octet, is_token, token_of};
 
+use crate::words::lower_case;
 use std::alloc::{AllocError, Global};
 use std::error::Error;
 use std::fmt;
@@ -58,9 +59,9 @@ impl From<AllocError> for TokenFault {
 
 impl fmt::Display for TokenFault {
     ghost use Rattle.std.specs.Prelude.{Some};
-    ghost use Rattle.robots_text.specs.Faults.{fault_text};
+    ghost use Rattle.robots_text.specs.Faults.{token_fault_text};
 
-    ghost output = { λ fault. Some (fault_text fault) };
+    ghost output = { λ fault. Some (token_fault_text fault) };
 
     fn fmt<W: fmt::Write>(&self, f: &mut fmt::Formatter<W>) -> fmt::Result {
         f.write_str(match self {
@@ -82,9 +83,10 @@ impl Token {
         if !is_token(octets) {
             return Err(TokenFault::BadToken);
         }
-        Ok(Token {
-            text: lower_case(alloc, octets)?,
-        })
+        match String::from_utf8(lower_case(alloc, octets)?) {
+            Ok(text) => Ok(Token { text }),
+            Err(_) => unreachable!(),
+        }
     }
 
     /// A second token of the same text.
@@ -143,15 +145,4 @@ fn are_token_octets(octets: &[u8]) -> bool
     ensures { result ≡ list_all is_token_octet octets.now }
 {
     octets.iter().all(|octet| is_token_octet(*octet))
-}
-
-fn lower_case(alloc: Global, octets: &[u8]) -> Result<String, AllocError>
-    requires { IsTrue (is_token octets.now) }
-    ensures { IfOk result (λ text. string_bytes text ≡ lower_case octets.now) }
-{
-    let mut text = String::new(alloc);
-    for octet in octets {
-        text.push(char::from(octet.to_ascii_lowercase()))?;
-    }
-    Ok(text)
 }

@@ -8,7 +8,7 @@ use Rattle.std.specs.Cmp.Lexicographic.{slice_cmp}
 use Rattle.std.proofs.lemmas.Bool.{and_parts, true≢false}
 use Rattle.std.proofs.lemmas.Bool.Decides.{nat_tests}
 use Rattle.std.proofs.lemmas.Cmp.{nat_cmp_total, tied_itself}
-use Rattle.robots_verdict.specs.Search.{begins, common}
+use Rattle.robots_verdict.specs.Search.{is_front_of, common}
 use Rattle.robots_verdict.proofs.Weighing.{level}
 
 abbrev words : List ℕ → List ℕ → Ordering
@@ -21,66 +21,66 @@ both_true : (a b : ℕ) (q : Bool) → a ≡ b → q ≡ true → ((a == b) && q
 both_true a b q same is = grind (arith, nat_tests)
 
 -- what begins the last text begins what stands between
-pub begins_between : (q p s : List ℕ) → begins q s ≡ true → is_lt (words p q) ≡ false → is_lt (words s p) ≡ false → begins q p ≡ true
+pub begins_between : (q p s : List ℕ) → is_front_of q s ≡ true → is_lt (words p q) ≡ false → is_lt (words s p) ≡ false → is_front_of q p ≡ true
 begins_between [] p s is low high = refl
 begins_between (x ∷ q) p [] is low high = absurd (true≢false (sym is))
 begins_between (x ∷ q) [] (y ∷ s) is low high = absurd (true≢false low)
 begins_between (x ∷ q) (z ∷ p) (y ∷ s) is low high =
-    let parts = and_parts (x == y) (begins q s) is in
+    let parts = and_parts (x == y) (is_front_of q s) is in
     let same : x ≡ y = eqb-true x y parts.0 in
     let below = level z x (words p q) low in
     let above = level y z (words s p) high in
     let one : x ≡ z = omega (arith, same, below.0, above.0) in
-    both_true x z (begins q p) one (begins_between q p s parts.1 (below.1 (sym one)) (above.1 (sym same ∙ one)))
+    both_true x z (is_front_of q p) one (begins_between q p s parts.1 (below.1 (sym one)) (above.1 (sym same ∙ one)))
 
 -- what begins a text is not behind it
-pub begins_below : (q s : List ℕ) → begins q s ≡ true → is_lt (words s q) ≡ false
+pub begins_below : (q s : List ℕ) → is_front_of q s ≡ true → is_lt (words s q) ≡ false
 begins_below [] [] is = refl
 begins_below [] (y ∷ s) is = refl
 begins_below (x ∷ q) [] is = absurd (true≢false (sym is))
 begins_below (x ∷ q) (y ∷ s) is =
-    let parts = and_parts (x == y) (begins q s) is in
+    let parts = and_parts (x == y) (is_front_of q s) is in
     let same : x ≡ y = eqb-true x y parts.0 in
     subst (λ (n : ℕ). is_lt (ordering_then (nat_cmp n x) (words s q)) ≡ false) same
     (ap (λ (o : Ordering). is_lt (ordering_then o (words s q))) (tied_itself nat_cmp_total x) ∙ begins_below q s parts.1)
 
-pub begins_trans : (q p s : List ℕ) → begins q p ≡ true → begins p s ≡ true → begins q s ≡ true
+pub begins_trans : (q p s : List ℕ) → is_front_of q p ≡ true → is_front_of p s ≡ true → is_front_of q s ≡ true
 begins_trans [] p s is also = refl
 begins_trans (x ∷ q) [] s is also = absurd (true≢false (sym is))
 begins_trans (x ∷ q) (y ∷ p) [] is also = absurd (true≢false (sym also))
 begins_trans (x ∷ q) (y ∷ p) (z ∷ s) is also =
-    let parts = and_parts (x == y) (begins q p) is in
-    let parts' = and_parts (y == z) (begins p s) also in
-    both_true x z (begins q s) (eqb-true x y parts.0 ∙ eqb-true y z parts'.0) (begins_trans q p s parts.1 parts'.1)
+    let parts = and_parts (x == y) (is_front_of q p) is in
+    let parts' = and_parts (y == z) (is_front_of p s) also in
+    both_true x z (is_front_of q s) (eqb-true x y parts.0 ∙ eqb-true y z parts'.0) (begins_trans q p s parts.1 parts'.1)
 
-pub begins_itself : (q : List ℕ) → begins q q ≡ true
+pub begins_itself : (q : List ℕ) → is_front_of q q ≡ true
 begins_itself [] = refl
-begins_itself (x ∷ q) = both_true x x (begins q q) refl (begins_itself q)
+begins_itself (x ∷ q) = both_true x x (is_front_of q q) refl (begins_itself q)
 
-pub begins_shorter : (q s : List ℕ) → begins q s ≡ true → length q ≤ length s
+pub begins_shorter : (q s : List ℕ) → is_front_of q s ≡ true → length q ≤ length s
 begins_shorter [] s is = omega arith
 begins_shorter (x ∷ q) [] is = absurd (true≢false (sym is))
-begins_shorter (x ∷ q) (y ∷ s) is = let later = begins_shorter q s (and_parts (x == y) (begins q s) is).1 in omega arith
+begins_shorter (x ∷ q) (y ∷ s) is = let later = begins_shorter q s (and_parts (x == y) (is_front_of q s) is).1 in omega arith
 
-pub begins_whole : (q s : List ℕ) → begins q s ≡ true → length q ≡ length s → q ≡ s
+pub begins_whole : (q s : List ℕ) → is_front_of q s ≡ true → length q ≡ length s → q ≡ s
 begins_whole [] [] is same = refl
 begins_whole [] (y ∷ s) is same = absurd (omega (arith, same))
 begins_whole (x ∷ q) [] is same = absurd (true≢false (sym is))
 begins_whole (x ∷ q) (y ∷ s) is same =
-    let parts = and_parts (x == y) (begins q s) is in
+    let parts = and_parts (x == y) (is_front_of q s) is in
     λ i. eqb-true x y parts.0 i ∷ begins_whole q s parts.1 (omega (arith, same)) i
 
 -- what begins one text begins another just where it is no longer than what both begin with
-pub begins_common : (q p s : List ℕ) → begins q p ≡ true → begins q s ≡ nat_le (length q) (common p s)
+pub begins_common : (q p s : List ℕ) → is_front_of q p ≡ true → is_front_of q s ≡ nat_le (length q) (common p s)
 begins_common [] p s is = grind (arith, nat_tests)
 begins_common (x ∷ q) [] s is = absurd (true≢false (sym is))
 begins_common (x ∷ q) (y ∷ p) [] is = grind (arith, nat_tests)
 begins_common (x ∷ q) (y ∷ p) (z ∷ s) is =
-    let parts = and_parts (x == y) (begins q p) is in
+    let parts = and_parts (x == y) (is_front_of q p) is in
     by (y == z) refl (eqb-true x y parts.0) (begins_common q p s parts.1)
   where
-    by : (same : Bool) → (y == z) ≡ same → x ≡ y → begins q s ≡ nat_le (length q) (common p s) →
-        ((x == z) && begins q s) ≡ nat_le (length (x ∷ q)) (if y == z then common p s + 1 else 0)
+    by : (same : Bool) → (y == z) ≡ same → x ≡ y → is_front_of q s ≡ nat_le (length q) (common p s) →
+        ((x == z) && is_front_of q s) ≡ nat_le (length (x ∷ q)) (if y == z then common p s + 1 else 0)
     by true e one later =
         let two : x ≡ z = one ∙ eqb-true y z e in
         rw e (grind (arith, nat_tests))

@@ -15,7 +15,7 @@ use Rattle.std.proofs.lemmas.List.{get_or_append_left, get_or_push}
 use Rattle.std.proofs.lemmas.List.Sorted.{ranks_by, sorted_far}
 use Rattle.robots_verdict.specs.Placed.{Placed}
 use Rattle.robots_verdict.specs.Rows.{row_at}
-use Rattle.robots_verdict.specs.Search.{AreParents, begins, common, compare_plain, IsLast, key, key_at}
+use Rattle.robots_verdict.specs.Search.{AreParents, is_front_of, common, compare_plain, IsLastBegun, key, key_at}
 use Rattle.robots_verdict.proofs.Begins.{begins_below, begins_between, begins_common, begins_itself, begins_trans}
 
 abbrev words : List ℕ → List ℕ → Ordering
@@ -41,8 +41,8 @@ keys_rise rows places rise i j order within = first_text (words (key_at rows pla
 -- all that begin the text stand in the chain of this one, which begins the top
 pub record IsNear (rows : List Placed) (places : List ℕ) (count : ℕ) (text top : List ℕ) (last : ℕ) : Type 0 where
   pub within : last < count
-  pub in_chain : begins (key_at rows places last) top ≡ true
-  pub all : (index : ℕ) → index < count → begins (key_at rows places index) text ≡ true → (index ≤ last) × (begins (key_at rows places index) (key_at rows places last) ≡ true)
+  pub in_chain : is_front_of (key_at rows places last) top ≡ true
+  pub all : (index : ℕ) → index < count → is_front_of (key_at rows places index) text ≡ true → (index ≤ last) × (is_front_of (key_at rows places index) (key_at rows places last) ≡ true)
 
 module _ (rows : List Placed) (places : List ℕ) (rise : Rise rows places) (count : ℕ) (fits : count ≤ length places) (text : List ℕ)
     (behind : (index : ℕ) → index < count → is_lt (words text (key_at rows places index)) ≡ false) (some : 0 < count) where
@@ -60,31 +60,31 @@ module _ (rows : List Placed) (places : List ℕ) (rise : Rise rows places) (cou
 
   module _ (last : ℕ) (near : IsNear rows places count text (key_at rows places (count - 1)) last) where
     -- whether this one begins the text
-    pub begun : begins (key_at rows places last) text ≡ nat_le (length (key_at rows places last)) (common (key_at rows places (count - 1)) text)
+    pub begun : is_front_of (key_at rows places last) text ≡ nat_le (length (key_at rows places last)) (common (key_at rows places (count - 1)) text)
     begun = begins_common (key_at rows places last) (key_at rows places (count - 1)) text near.in_chain
 
-    pub found : begins (key_at rows places last) text ≡ true → IsLast rows places count text (Some last)
+    pub found : is_front_of (key_at rows places last) text ≡ true → IsLastBegun rows places count text (Some last)
     found is = (near.within, is, λ index less also. (near.all index less also).0)
 
     -- where it does not, none does or its parent is near
-    earlier : begins (key_at rows places last) text ≡ false → (index : ℕ) → index < count → begins (key_at rows places index) text ≡ true → index < last
+    earlier : is_front_of (key_at rows places last) text ≡ false → (index : ℕ) → index < count → is_front_of (key_at rows places index) text ≡ true → index < last
     earlier not index less is = elim (cases_lt index last) [
       | inl below ↦ below
       | inr above ↦ (
           let most = (near.all index less is).0 in
           let same : index ≡ last = omega arith in
-          absurd (true≢false (sym is ∙ ap (λ n. begins (key_at rows places n) text) same ∙ not))
+          absurd (true≢false (sym is ∙ ap (λ n. is_front_of (key_at rows places n) text) same ∙ not))
           )
     ]
 
-    pub none_near : begins (key_at rows places last) text ≡ false → IsLast rows places last (key_at rows places last) None → IsLast rows places count text None
-    none_near not none index less = by (begins (key_at rows places index) text) refl
+    pub none_near : is_front_of (key_at rows places last) text ≡ false → IsLastBegun rows places last (key_at rows places last) None → IsLastBegun rows places count text None
+    none_near not none index less = by (is_front_of (key_at rows places index) text) refl
       where
-        by : (is : Bool) → begins (key_at rows places index) text ≡ is → is ≡ false
+        by : (is : Bool) → is_front_of (key_at rows places index) text ≡ is → is ≡ false
         by false is = refl
         by true is = absurd (true≢false (sym (near.all index less is).1 ∙ none index (earlier not index less is)))
 
-    pub near_parent : (parent : ℕ) → begins (key_at rows places last) text ≡ false → IsLast rows places last (key_at rows places last) (Some parent) →
+    pub near_parent : (parent : ℕ) → is_front_of (key_at rows places last) text ≡ false → IsLastBegun rows places last (key_at rows places last) (Some parent) →
         IsNear rows places count text (key_at rows places (count - 1)) parent
     near_parent parent not is = record {
       within = let low = is.0 in let high = near.within in omega arith;
@@ -111,29 +111,29 @@ falls_short g g' len n one other same is short = rw (eq-eqb g g' same) (grind (a
 -- where the top is of another group, none begins the text
 pub none_of_group : (rows : List Placed) (places : List ℕ) (rise : Rise rows places) (count : ℕ) (fits : count ≤ length places) (group : ℕ) (path : List ℕ)
     (behind : (index : ℕ) → index < count → is_lt (words (group ∷ path) (key_at rows places index)) ≡ false) (some : 0 < count) →
-    ((row_at rows (slice_index places (count - 1))).group ≢ group) → IsLast rows places count (group ∷ path) None
-none_of_group rows places rise count fits group path behind some other index less = by (begins (key_at rows places index) (group ∷ path)) refl
+    ((row_at rows (slice_index places (count - 1))).group ≢ group) → IsLastBegun rows places count (group ∷ path) None
+none_of_group rows places rise count fits group path behind some other index less = by (is_front_of (key_at rows places index) (group ∷ path)) refl
   where
-    by : (is : Bool) → begins (key_at rows places index) (group ∷ path) ≡ is → is ≡ false
+    by : (is : Bool) → is_front_of (key_at rows places index) (group ∷ path) ≡ is → is ≡ false
     by false is = refl
     by true is =
         let near = near_top rows places rise count fits (group ∷ path) behind some in
         let inside = (near.all index less is).1 in
         let one = row_at rows (slice_index places index) in
         let top = row_at rows (slice_index places (count - 1)) in
-        let here = eqb-true one.group group (and_parts (one.group == group) (begins one.form path) is).0 in
-        let there = eqb-true one.group top.group (and_parts (one.group == top.group) (begins one.form top.form) inside).0 in
+        let here = eqb-true one.group group (and_parts (one.group == group) (is_front_of one.form path) is).0 in
+        let there = eqb-true one.group top.group (and_parts (one.group == top.group) (is_front_of one.form top.form) inside).0 in
         absurd (other (sym there ∙ here))
 
 -- one parent more
 pub parents_pushed : (rows : List Placed) (places : List ℕ) (parents : List (Option ℕ)) (count : ℕ) (parent : Option ℕ) → length parents ≡ count →
-    AreParents rows places parents count → IsLast rows places count (key_at rows places count) parent → AreParents rows places (parents ++ parent ∷ []) (count + 1)
+    AreParents rows places parents count → IsLastBegun rows places count (key_at rows places count) parent → AreParents rows places (parents ++ parent ∷ []) (count + 1)
 parents_pushed rows places parents count parent many known is index past less = elim (cases_lt index count) [
-  | inl below ↦ subst (IsLast rows places index (key_at rows places index)) (sym (get_or_append_left parents (parent ∷ []) past index (omega (arith, below, many))))
+  | inl below ↦ subst (IsLastBegun rows places index (key_at rows places index)) (sym (get_or_append_left parents (parent ∷ []) past index (omega (arith, below, many))))
       (known index past below)
   | inr above ↦ (
       let same : count ≡ index = omega (arith, less, above) in
-      subst (IsLast rows places index (key_at rows places index)) (sym (get_or_push parents parent past index (many ∙ same)))
-      (subst (λ (n : ℕ). IsLast rows places n (key_at rows places n) parent) same is)
+      subst (IsLastBegun rows places index (key_at rows places index)) (sym (get_or_push parents parent past index (many ∙ same)))
+      (subst (λ (n : ℕ). IsLastBegun rows places n (key_at rows places n) parent) same is)
       )
 ]

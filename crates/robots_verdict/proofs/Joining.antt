@@ -1,5 +1,5 @@
 -- The least of what passes one test or another.
--- Used by `Places`.
+-- Used by `Ranks`.
 use Rattle.std.proofs.Common.{◌≡◌, ◌⊎◌, ℕ, ◌≤◌, Bool, true, false, inl, inr, List, [], ◌∷◌, ◌++◌, Contains, refl, sym, ap, subst, arith}
 use Rattle.std.specs.Prelude.{Option, Some, None, IfSome, not, unwrap_or, is_some}
 use Rattle.std.specs.Option.{option_eq}
@@ -9,7 +9,7 @@ use Rattle.std.proofs.lemmas.List.Elements.{Contains-append_left, Contains-push,
 use Rattle.robots_verdict.specs.Index.{FindsLeast, IsHit}
 use Rattle.robots_verdict.specs.Placed.{Placed}
 use Rattle.robots_verdict.specs.Rows.{row_at}
-use Rattle.robots_verdict.specs.Search.{IsFound, IsHitIn, is_plain, IsOtherHit, IsPlainHit}
+use Rattle.robots_verdict.specs.Search.{IsFound, IsHitIn, is_plain_pattern, IsOtherHit, IsPlainHit}
 use Rattle.robots_verdict.proofs.PlainHits.{plain_matches}
 
 some_is : (one other : ℕ) → Some one ≡ Some other → one ≡ other
@@ -40,7 +40,7 @@ further Test found later place least keeps one =
     (next.0, next.1, omega (arith, one.2, next.2))
 
 -- a plain row or another one
-kind_of : (rows : List Placed) (group : ℕ) (path : List ℕ) (place : ℕ) (plain : Bool) → is_plain (row_at rows place).form ≡ plain → IsHitIn rows group path place →
+kind_of : (rows : List Placed) (group : ℕ) (path : List ℕ) (place : ℕ) (plain : Bool) → is_plain_pattern (row_at rows place).form ≡ plain → IsHitIn rows group path place →
     IsPlainHit rows group path place ⊎ IsOtherHit rows group path place
 kind_of rows group path place true is hit =
     inl (record { within = hit.within; plain = is; in_group = hit.in_group; begun = (plain_matches (row_at rows place).form path is).0 hit.matches })
@@ -79,7 +79,7 @@ first_in_group rows group path found plain stronger result plain_least stronger_
 
     complete : (place : ℕ) → IsFound found place ⊎ IsHitIn rows group path place → Reaches result place
     complete place (inl is) = from_found place (reaches _ stronger stronger_least place (inl is))
-    complete place (inr hit) = from_kind place (kind_of rows group path place (is_plain (row_at rows place).form) refl hit)
+    complete place (inr hit) = from_kind place (kind_of rows group path place (is_plain_pattern (row_at rows place).form) refl hit)
 
 -- one group more
 pub one_group_more : (rows : List Placed) (groups : List ℕ) (group : ℕ) (more path : List ℕ) (found result : Option ℕ) → more ≡ groups ++ group ∷ [] →

@@ -10,17 +10,17 @@ use Rattle.std.specs.Cmp.Lexicographic.{slice_cmp}
 use Rattle.std.proofs.lemmas.Bool.{and_parts, cases_lt, cond-false, true≢false}
 use Rattle.std.proofs.lemmas.Cmp.{nat_list_cmp_total, tied_itself}
 use Rattle.std.proofs.lemmas.List.{get_or_default}
-use Rattle.std.proofs.lemmas.List.Elements.{All-cons}
 use Rattle.std.proofs.lemmas.List.Sorted.{ranks_by, sorted_far}
 use Rattle.path_normal.specs.Normal.{is_anchored, unanchored}
 use Rattle.path_normal.specs.Octets.{star}
 use Rattle.path_pattern.specs.Matches.{Matches, Spells}
 use Rattle.path_pattern.specs.Runs.{HasNoStar}
+use Rattle.path_pattern.proofs.StarLemmas.{no_star}
 use Rattle.path_pattern.proofs.SpellsLemmas.{off_last, on_last}
 use Rattle.robots_verdict.specs.Index.{FindsLeast}
 use Rattle.robots_verdict.specs.Placed.{Placed}
 use Rattle.robots_verdict.specs.Rows.{is_row_above, row_at, no_row, weight_at}
-use Rattle.robots_verdict.specs.Search.{begins, is_plain, IsCut, IsLast, IsPlainHit, key, key_at}
+use Rattle.robots_verdict.specs.Search.{is_front_of, is_plain_pattern, IsCut, IsLastBegun, IsPlainHit, key, key_at}
 use Rattle.robots_verdict.proofs.Begins.{begins_below, begins_between, begins_shorter, begins_whole, on_both}
 use Rattle.robots_verdict.proofs.Chains.{far, keys_rise, Rise}
 use Rattle.robots_verdict.proofs.HeadLemmas.{below_not, true_not, turned}
@@ -31,23 +31,17 @@ words = slice_cmp nat_cmp
 
 -- ---- what a plain pattern matches
 
-begun_front : (front rest : List ℕ) → begins front (front ++ rest) ≡ true
+begun_front : (front rest : List ℕ) → is_front_of front (front ++ rest) ≡ true
 begun_front [] rest = refl
-begun_front (octet ∷ front) rest = on_both octet octet true (begins front (front ++ rest)) refl (begun_front front rest)
+begun_front (octet ∷ front) rest = on_both octet octet true (is_front_of front (front ++ rest)) refl (begun_front front rest)
 
-front_begun : (front text : List ℕ) → begins front text ≡ true → (rest : List ℕ) × (text ≡ front ++ rest)
+front_begun : (front text : List ℕ) → is_front_of front text ≡ true → (rest : List ℕ) × (text ≡ front ++ rest)
 front_begun [] text is = (text, refl)
 front_begun (octet ∷ front) [] is = absurd (true≢false (sym is))
 front_begun (octet ∷ front) (first ∷ text) is =
-    let parts = and_parts (octet == first) (begins front text) is in
+    let parts = and_parts (octet == first) (is_front_of front text) is in
     let later = front_begun front text parts.1 in
     (later.0, λ i. sym (eqb-true octet first parts.0) i ∷ later.1 i)
-
-no_star : (form : List ℕ) → list_all (λ octet. not (octet == star)) form ≡ true → HasNoStar form
-no_star [] is = λ k d low. absurd (omega (arith, low))
-no_star (octet ∷ form) is =
-    let parts = and_parts (not (octet == star)) (list_all (λ octet. not (octet == star)) form) is in
-    All-cons (λ octet. (octet == star) ≡ false) octet form (true_not (octet == star) parts.0) (no_star form parts.1)
 
 -- what a plain pattern is
 record Plainness (form : List ℕ) : Type 0 where
@@ -59,7 +53,7 @@ some_octet : (form : List ℕ) → nat_lt 0 (length form) ≡ true → form ≢ 
 some_octet [] is same = true≢false (sym is)
 some_octet (octet ∷ form) is same = omega (arith, ap length same)
 
-plainness : (form : List ℕ) → is_plain form ≡ true → Plainness form
+plainness : (form : List ℕ) → is_plain_pattern form ≡ true → Plainness form
 plainness form is =
     let starless = list_all (λ octet. not (octet == star)) form in
     let front = nat_lt 0 (length form) && not (is_anchored form) in
@@ -67,14 +61,14 @@ plainness form is =
     let both = and_parts (nat_lt 0 (length form)) (not (is_anchored form)) parts.0 in
     record { some = some_octet form both.0; open_ended = true_not (is_anchored form) both.1; starless = no_star form parts.1 }
 
-pub plain_matches : (form path : List ℕ) → is_plain form ≡ true → Matches form path ↔ (begins form path ≡ true)
+pub plain_matches : (form path : List ℕ) → is_plain_pattern form ≡ true → Matches form path ↔ (is_front_of form path ≡ true)
 plain_matches form path is =
     let kind = plainness form is in
     let whole : unanchored form ≡ form = cond-false (is_anchored form) (take (length form - 1) form) form kind.open_ended in (
       λ matches.
           let spells = subst (λ (run : List ℕ). Spells run (is_anchored form) path) whole matches.spells in
           let last = off_last form (is_anchored form) path kind.starless spells in
-          ap (begins form) last.1 ∙ begun_front form last.0,
+          ap (is_front_of form) last.1 ∙ begun_front form last.0,
       λ begun.
           let front = front_begun form path begun in
           record {
@@ -133,40 +127,40 @@ module _ (rows : List Placed) (places : List ℕ) (rise : Rise rows places) (gro
   pub none_behind : (index : ℕ) → index < count → is_lt (words (group ∷ path) (key_at rows places index)) ≡ false
   none_behind index less = turned (group ∷ path) (key_at rows places index) ∙ cut.below index less
 
-  module _ (are : (place : ℕ) → Contains places place ↔ ((place < length rows) × (is_plain (row_at rows place).form ≡ true))) where
+  module _ (are : (place : ℕ) → Contains places place ↔ ((place < length rows) × (is_plain_pattern (row_at rows place).form ≡ true))) where
     -- where a hit stands
     record StandsAt (place : ℕ) : Type 0 where
       index : ℕ
       within : index < count
       is : slice_index places index ≡ place
-      begun : begins (key_at rows places index) (group ∷ path) ≡ true
+      begun : is_front_of (key_at rows places index) (group ∷ path) ≡ true
 
     hit_index : (place : ℕ) → IsPlainHit rows group path place → StandsAt place
     hit_index place hit =
         let row = row_at rows place in
         let stands = (are place).1 (hit.within, hit.plain) in
         let is : slice_index places stands.0 ≡ place = get_or_default places stands.0 0 place stands.1 ∙ stands.2 in
-        let begun = subst (λ (p : ℕ). begins (key rows p) (group ∷ path) ≡ true) (sym is) (on_both row.group group true (begins row.form path) hit.in_group hit.begun) in
+        let begun = subst (λ (p : ℕ). is_front_of (key rows p) (group ∷ path) ≡ true) (sym is) (on_both row.group group true (is_front_of row.form path) hit.in_group hit.begun) in
         record { index = stands.0; within = within stands.0 stands.1 begun; is = is; begun = begun }
       where
-        within : (k : ℕ) → k < length places → begins (key_at rows places k) (group ∷ path) ≡ true → k < count
+        within : (k : ℕ) → k < length places → is_front_of (key_at rows places k) (group ∷ path) ≡ true → k < count
         within k less begun = elim (cases_lt k count) [
           | inl below ↦ below
           | inr above ↦ absurd (true≢false (sym (cut.above k above less)
               ∙ sym (turned (group ∷ path) (key_at rows places k)) ∙ begins_below (key_at rows places k) (group ∷ path) begun))
         ]
 
-    pub none_hits : IsLast rows places count (group ∷ path) None → FindsLeast (IsPlainHit rows group path) None
+    pub none_hits : IsLastBegun rows places count (group ∷ path) None → FindsLeast (IsPlainHit rows group path) None
     none_hits none place hit = let at = hit_index place hit in true≢false (sym at.begun ∙ none at.index at.within)
 
     module _ (falling : IsSortedBy is_row_above rows) where
-      stands : (k : ℕ) → k < count → (slice_index places k < length rows) × (is_plain (row_at rows (slice_index places k)).form ≡ true)
+      stands : (k : ℕ) → k < count → (slice_index places k < length rows) × (is_plain_pattern (row_at rows (slice_index places k)).form ≡ true)
       stands k less =
           let fits = cut.fits in
           (are (slice_index places k)).0 (k, omega arith, get_or_default places k (slice_index places k) 0 (omega arith))
 
       -- of two keys that begin the text the later is that of the stronger row
-      order : (k last : ℕ) → k ≤ last → last < count → begins (key_at rows places k) (group ∷ path) ≡ true → begins (key_at rows places last) (group ∷ path) ≡ true →
+      order : (k last : ℕ) → k ≤ last → last < count → is_front_of (key_at rows places k) (group ∷ path) ≡ true → is_front_of (key_at rows places last) (group ∷ path) ≡ true →
           slice_index places last ≤ slice_index places k
       order k last earlier within begun also = elim (cases_lt (slice_index places k) (slice_index places last)) [
         | inr above ↦ above
@@ -182,7 +176,7 @@ module _ (rows : List Placed) (places : List ℕ) (rise : Rise rows places) (gro
           inside : last < length places
           inside = let fits = cut.fits in omega arith
 
-          prefix : begins (key rows p) (key rows q) ≡ true
+          prefix : is_front_of (key rows p) (key rows q) ≡ true
           prefix = begins_between (key rows p) (key rows q) (group ∷ path) begun (keys_rise rows places rise k last earlier inside) (begins_below (key rows q) (group ∷ path) also)
 
           shorter : p < q → length (row_at rows q).form ≤ length (row_at rows p).form
@@ -200,12 +194,12 @@ module _ (rows : List Placed) (places : List ℕ) (rise : Rise rows places) (gro
               let above = last_level p q later in
               omega arith
 
-      pub last_hits : (last : ℕ) → IsLast rows places count (group ∷ path) (Some last) → FindsLeast (IsPlainHit rows group path) (Some (slice_index places last))
+      pub last_hits : (last : ℕ) → IsLastBegun rows places count (group ∷ path) (Some last) → FindsLeast (IsPlainHit rows group path) (Some (slice_index places last))
       last_hits last is =
           let place = slice_index places last in
           let row = row_at rows place in
           let both = stands last is.0 in
-          let parts = and_parts (row.group == group) (begins row.form path) is.1 in (
+          let parts = and_parts (row.group == group) (is_front_of row.form path) is.1 in (
             record { within = both.0; plain = both.1; in_group = eqb-true row.group group parts.0; begun = parts.1 },
             λ other hit.
                 let at = hit_index other hit in

@@ -18,7 +18,7 @@ pub record IsIndex (text : List ℕ) (table : Table) (names : Names) : Type 0 wh
 
 -- the index is that of the text, and its rows are found by it
 abbrev pub IsIndexOf : List ℕ → Index → Type 0
-IsIndexOf text index = IsIndex text index.rows index.heads × IsSearchable index.rows.rows index.places
+IsIndexOf text index = IsIndex text index.rows index.heads × IsSearchable index.rows.rows index.ranks
 
 -- the row at the place is one of these groups, and matches the path
 pub record IsHit (rows : List Placed) (groups path : List ℕ) (place : ℕ) : Type 0 where

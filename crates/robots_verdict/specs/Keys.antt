@@ -10,10 +10,10 @@ use Rattle.robots_verdict.specs.Rows.{row_at}
 
 -- the number that the next octets of a text, so many, spell behind those that spell this one; zeros stand
 -- behind the end of the text
-abbrev pub spell : ℕ → ℕ → List ℕ → ℕ
-spell zero so_far text = so_far
-spell (suc count) so_far [] = spell count (so_far * 256) []
-spell (suc count) so_far (octet ∷ text) = spell count (so_far * 256 + octet) text
+abbrev pub spelled_number : ℕ → ℕ → List ℕ → ℕ
+spelled_number zero so_far text = so_far
+spelled_number (suc count) so_far [] = spelled_number count (so_far * 256) []
+spelled_number (suc count) so_far (octet ∷ text) = spelled_number count (so_far * 256 + octet) text
 
 -- each number is that of an octet
 abbrev pub AreOctets : List ℕ → Type 0
@@ -26,7 +26,7 @@ number key = key.front * 2 ^ 64 + key.next
 -- the key is that of its place: its group, and the number that the first sixteen octets of its pattern spell
 pub record IsKeyOf (rows : List Placed) (key : Key) : Type 0 where
   pub group : key.group ≡ (row_at rows key.place).group
-  pub spelled : number key ≡ spell 16 0 (row_at rows key.place).form
+  pub spelled : number key ≡ spelled_number 16 0 (row_at rows key.place).form
   pub octets : AreOctets (row_at rows key.place).form
 
 -- the order of keys of one group: by their numbers, then as plain places are

@@ -1,6 +1,6 @@
 -- The rule lines whose patterns are not written in their normal forms, and how those forms are kept.
 -- What `Rewritten` is seen as.
-use Rattle.std.specs.Prelude.{ℕ, ◌+◌, ◌≤◌, List, [], ◌++◌, ◌∷◌, length, slice_index_or, bytes_eq, if◌then◌else◌}
+use Rattle.std.specs.Prelude.{◌≡◌, ℕ, ◌+◌, ◌≤◌, Contains, List, [], ◌++◌, ◌∷◌, length, slice_index_or, bytes_eq, if◌then◌else◌}
 use Rattle.path_normal.specs.Normal.{normal_pattern}
 use Rattle.robots_text.specs.Grouped.{Grouped}
 use Rattle.robots_text.specs.Records.{Record, agent, rule, other}
@@ -32,6 +32,14 @@ rewritten_in (first ∷ lines) = rewritten_at first.line first.kind ++ rewritten
 -- the form that is kept so
 abbrev pub form_seen : List ℕ → Form → FormOfLine
 form_seen octets form = record { line = form.line; form = part octets form.start form.len }
+
+-- no form is kept of the line of this number
+abbrev pub HasNoForm : List FormOfLine → ℕ → Type 0
+HasNoForm forms line = (form : FormOfLine) → Contains forms form → form.line ≡ line → ⊥
+
+-- this form is kept of it
+abbrev pub HasForm : List FormOfLine → ℕ → List ℕ → Type 0
+HasForm forms line octets = (form : FormOfLine) × Contains forms form × (form.line ≡ line) × (octets ≡ form.form)
 
 -- the octets of the form are there
 abbrev pub HasOctets : List ℕ → Form → Type 0

@@ -1,24 +1,23 @@
 -- How rows are found by their texts: two lists of places, and for each plain row the one that begins it.
--- Cited by the contracts of `Places`.
+-- Cited by the contracts of `Ranks`.
 use Rattle.std.specs.Prelude.{◌≡◌, ℕ, ◌+◌, ◌<◌, ◌≤◌, Bool, true, false, not, ◌&&◌, ◌==◌, nat_lt, ◌↔◌, Contains, List, [], ◌∷◌, length, map, Option, Some, None, slice_index, slice_index_or, if◌then◌else◌}
-use Rattle.std.specs.List.{list_all}
 use Rattle.std.specs.List.Sorted.{IsSortedBy}
 use Rattle.std.specs.declared.cmp.Ordering.{Ordering}
 use Rattle.std.specs.Ordering.{is_gt, is_lt, nat_cmp, ordering_then}
 use Rattle.std.specs.Cmp.Lexicographic.{slice_cmp}
 use Rattle.path_normal.specs.Normal.{is_anchored}
-use Rattle.path_normal.specs.Octets.{star}
 use Rattle.path_pattern.specs.Matches.{Matches}
+use Rattle.path_pattern.specs.Runs.{has_no_star}
 use Rattle.robots_text.specs.Lines.{text_limit}
-use Rattle.robots_verdict.specs.declared.search.Places.{Places}
+use Rattle.robots_verdict.specs.declared.ranks.Ranks.{Ranks}
 use Rattle.robots_verdict.specs.Placed.{Placed}
 use Rattle.robots_verdict.specs.Rows.{row_at}
 
 -- the one text begins the other
-abbrev pub begins : List ℕ → List ℕ → Bool
-begins [] text = true
-begins (octet ∷ front) [] = false
-begins (octet ∷ front) (first ∷ text) = octet == first && begins front text
+abbrev pub is_front_of : List ℕ → List ℕ → Bool
+is_front_of [] text = true
+is_front_of (octet ∷ front) [] = false
+is_front_of (octet ∷ front) (first ∷ text) = octet == first && is_front_of front text
 
 -- how many octets both texts begin with
 abbrev pub common : List ℕ → List ℕ → ℕ
@@ -27,8 +26,8 @@ common (octet ∷ one) [] = 0
 common (octet ∷ one) (first ∷ other) = if octet == first then common one other + 1 else 0
 
 -- the pattern matches just what it begins: it has no sign, and is not empty
-abbrev pub is_plain : List ℕ → Bool
-is_plain form = nat_lt 0 (length form) && not (is_anchored form) && list_all (λ octet. not (octet == star)) form
+abbrev pub is_plain_pattern : List ℕ → Bool
+is_plain_pattern form = nat_lt 0 (length form) && not (is_anchored form) && has_no_star form
 
 -- the key of a place: the group, and behind it the pattern
 abbrev pub key : List Placed → ℕ → List ℕ
@@ -57,20 +56,20 @@ pub record IsCut (rows : List Placed) (places text : List ℕ) (count : ℕ) : T
   pub above : (k : ℕ) → count ≤ k → k < length places → is_gt (slice_cmp nat_cmp (key_at rows places k) text) ≡ true
 
 -- of the first indices, the last one whose key begins the text, if one does
-abbrev pub IsLast : List Placed → List ℕ → ℕ → List ℕ → Option ℕ → Type 0
-IsLast rows plain count text None = (index : ℕ) → index < count → begins (key_at rows plain index) text ≡ false
-IsLast rows plain count text (Some last) =
-    (last < count) × (begins (key_at rows plain last) text ≡ true)
-    × ((index : ℕ) → index < count → begins (key_at rows plain index) text ≡ true → index ≤ last)
+abbrev pub IsLastBegun : List Placed → List ℕ → ℕ → List ℕ → Option ℕ → Type 0
+IsLastBegun rows plain count text None = (index : ℕ) → index < count → is_front_of (key_at rows plain index) text ≡ false
+IsLastBegun rows plain count text (Some last) =
+    (last < count) × (is_front_of (key_at rows plain last) text ≡ true)
+    × ((index : ℕ) → index < count → is_front_of (key_at rows plain index) text ≡ true → index ≤ last)
 
 -- each plain place knows the last one before it that begins it
 abbrev pub AreParents : List Placed → List ℕ → List (Option ℕ) → ℕ → Type 0
-AreParents rows plain parents count = (index : ℕ) (past : Option ℕ) → index < count → IsLast rows plain index (key_at rows plain index) (slice_index_or parents index past)
+AreParents rows plain parents count = (index : ℕ) (past : Option ℕ) → index < count → IsLastBegun rows plain index (key_at rows plain index) (slice_index_or parents index past)
 
 -- these are the places below the count whose rows are plain, or those whose are not
 pub record ArePlaces (rows : List Placed) (plain : Bool) (places : List ℕ) (count : ℕ) : Type 0 where
   pub few : length places ≤ count
-  pub are : (place : ℕ) → Contains places place ↔ ((place < count) × (is_plain (row_at rows place).form ≡ plain))
+  pub are : (place : ℕ) → Contains places place ↔ ((place < count) × (is_plain_pattern (row_at rows place).form ≡ plain))
 
 -- the groups of the rows at these places
 abbrev pub groups_at : List Placed → List ℕ → List ℕ
@@ -79,7 +78,7 @@ groups_at rows places = map (λ place. (row_at rows place).group) places
 -- the plain places in the order of their keys, each with its group and its parent
 pub record IsPlainIndex (rows : List Placed) (places groups : List ℕ) (parents : List (Option ℕ)) : Type 0 where
   pub few : length places ≤ text_limit
-  pub are : (place : ℕ) → Contains places place ↔ ((place < length rows) × (is_plain (row_at rows place).form ≡ true))
+  pub are : (place : ℕ) → Contains places place ↔ ((place < length rows) × (is_plain_pattern (row_at rows place).form ≡ true))
   pub rise : IsPlainOrder rows places
   pub groups_are : groups ≡ groups_at rows places
   pub known : length parents ≡ length places
@@ -88,20 +87,20 @@ pub record IsPlainIndex (rows : List Placed) (places groups : List ℕ) (parents
 -- the plain row at the place is of the group, and begins the path
 pub record IsPlainHit (rows : List Placed) (group : ℕ) (path : List ℕ) (place : ℕ) : Type 0 where
   pub within : place < length rows
-  pub plain : is_plain (row_at rows place).form ≡ true
+  pub plain : is_plain_pattern (row_at rows place).form ≡ true
   pub in_group : (row_at rows place).group ≡ group
-  pub begun : begins (row_at rows place).form path ≡ true
+  pub begun : is_front_of (row_at rows place).form path ≡ true
 
 -- the other places in the order of their groups, each with its group
 pub record IsOtherIndex (rows : List Placed) (places groups : List ℕ) : Type 0 where
-  pub are : (place : ℕ) → Contains places place ↔ ((place < length rows) × (is_plain (row_at rows place).form ≡ false))
+  pub are : (place : ℕ) → Contains places place ↔ ((place < length rows) × (is_plain_pattern (row_at rows place).form ≡ false))
   pub rise : IsSortedBy (λ one other. is_lt (compare_others rows one other)) places
   pub groups_are : groups ≡ groups_at rows places
 
 -- the other row at the place is of the group, and matches the path
 pub record IsOtherHit (rows : List Placed) (group : ℕ) (path : List ℕ) (place : ℕ) : Type 0 where
   pub within : place < length rows
-  pub other : is_plain (row_at rows place).form ≡ false
+  pub other : is_plain_pattern (row_at rows place).form ≡ false
   pub in_group : (row_at rows place).group ≡ group
   pub matches : Matches (row_at rows place).form path
 
@@ -132,6 +131,6 @@ IsPassed rows places group path start index =
     (k : ℕ) → start ≤ k → k < index → IsOtherHit rows group path (slice_index places k) → ⊥
 
 -- both lists of places are those of the rows
-pub record IsSearchable (rows : List Placed) (places : Places) : Type 0 where
-  pub plain : IsPlainIndex rows places.plain.places.items places.plain.groups.items places.plain.parents.items
-  pub others : IsOtherIndex rows places.others.places.items places.others.groups.items
+pub record IsSearchable (rows : List Placed) (ranks : Ranks) : Type 0 where
+  pub plain : IsPlainIndex rows ranks.plain.places.items ranks.plain.groups.items ranks.plain.parents.items
+  pub others : IsOtherIndex rows ranks.others.places.items ranks.others.groups.items

@@ -5,11 +5,10 @@ ghost use Rattle.std.specs.List.Sorted.{IsNonDecreasing, IsPermutation};
 ghost use Rattle.std.specs.Ordering.{is_gt, is_lt, nat_cmp};
 ghost use Rattle.std.specs.Cmp.Lexicographic.{slice_cmp};
 ghost use Rattle.robots_text.specs.Records.{agent_seen, agent};
-ghost use Rattle.robots_text.specs.Token.{lower_case};
 ghost use Rattle.robots_verdict.specs.Heads.{compare_names, IsGroupFor, name_seen};
 ghost use Rattle.robots_verdict.specs.Placed.{everybody_at, named_at};
 
-use robots_text::Agent;
+use robots_text::{Agent, lower_case};
 use std::alloc::{AllocError, Global};
 use std::cmp::Ordering;
 use std::marker::Model;
@@ -23,7 +22,7 @@ pub(crate) struct Name {
 
 /// The names as they are read, and the groups of everybody.
 #[derive(Drop)]
-pub(crate) struct Names {
+pub(crate) struct NamedGroups {
     names: Vec<Name>,
     everybody: Vec<u32>,
 }
@@ -56,11 +55,11 @@ impl Model for Heads {
         × IsNonDecreasing heads.everybody.items };
 }
 
-impl Names {
-    pub(crate) fn new(alloc: Global) -> Names
+impl NamedGroups {
+    pub(crate) fn new(alloc: Global) -> NamedGroups
         ensures { (result.names.items ≡ []) × (result.everybody.items ≡ []) }
     {
-        Names {
+        NamedGroups {
             names: Vec::new(alloc),
             everybody: Vec::new(alloc),
         }
@@ -92,13 +91,13 @@ impl Names {
 
 impl Heads {
     /// Puts the names and the groups of everybody in order.
-    pub(crate) fn of(alloc: Global, names: Names) -> Result<Heads, AllocError>
+    pub(crate) fn of(alloc: Global, names: NamedGroups) -> Result<Heads, AllocError>
         ensures named { IfOk result (λ heads.
             IsPermutation (map name_seen names.names.items) heads.named) }
         ensures everybody { IfOk result (λ heads.
             IsPermutation names.everybody.items heads.everybody) }
     {
-        let Names {
+        let NamedGroups {
             mut names,
             mut everybody,
         } = names;
@@ -127,16 +126,6 @@ impl Heads {
             self.everybody.as_slice()
         }
     }
-}
-
-fn lower_case(alloc: Global, name: &[u8]) -> Result<Vec<u8>, AllocError>
-    ensures { IfOk result (λ text. text.items ≡ lower_case name.now) }
-{
-    let mut text = Vec::with_capacity(alloc, name.len())?;
-    for octet in name {
-        text.push(octet.to_ascii_lowercase())?;
-    }
-    Ok(text)
 }
 
 fn groups_of(alloc: Global, names: &[Name]) -> Result<Vec<u32>, AllocError>

@@ -8,9 +8,9 @@ ghost use Rattle.robots_verdict.specs.Heads.{name_seen};
 ghost use Rattle.robots_verdict.specs.Index.{IsIndexOf};
 ghost use Rattle.robots_verdict.specs.Placed.{everybody_at, everybody_in, named_at, named_in, placed_at, placed_in};
 
-use crate::heads::{Heads, Names};
+use crate::heads::{Heads, NamedGroups};
+use crate::ranks::Ranks;
 use crate::rows::Rows;
-use crate::search::Places;
 use robots_text::{GroupedRecord, RecordKind, RobotsText};
 use std::alloc::{AllocError, Global};
 
@@ -18,7 +18,7 @@ use std::alloc::{AllocError, Global};
 #[derive(Drop)]
 pub(crate) struct Index {
     pub(crate) rows: Rows,
-    pub(crate) places: Places,
+    pub(crate) ranks: Ranks,
     pub(crate) heads: Heads,
 }
 
@@ -31,18 +31,14 @@ impl Index {
         // What is left of growing goes before the lists of places are made.
         rows.fit();
         rows.sort();
-        let places = Places::of(alloc, &rows)?;
+        let ranks = Ranks::of(alloc, &rows)?;
         let heads = Heads::of(alloc, names)?;
-        Ok(Index {
-            rows,
-            places,
-            heads,
-        })
+        Ok(Index { rows, ranks, heads })
     }
 }
 
 // The rows of the text in the order of its lines, and its names.
-fn read(alloc: Global, text: &RobotsText) -> Result<(Rows, Names), AllocError>
+fn read(alloc: Global, text: &RobotsText) -> Result<(Rows, NamedGroups), AllocError>
     ensures rows { IfOk result (λ parts. parts.0.rows ≡ placed_in (grouped_records text.now)) }
     ensures few { IfOk result (λ parts. length parts.0.rows ≤ text_limit) }
     ensures named { IfOk result (λ parts. map name_seen parts.1.names.items
@@ -51,7 +47,7 @@ fn read(alloc: Global, text: &RobotsText) -> Result<(Rows, Names), AllocError>
         ≡ everybody_in (grouped_records text.now)) }
 {
     let mut rows = Rows::new(alloc);
-    let mut names = Names::new(alloc);
+    let mut names = NamedGroups::new(alloc);
     let mut records = text.groups();
     while let Some(item) = records.next() {
         take(alloc, &mut rows, &mut names, item)?;
@@ -63,12 +59,11 @@ fn read(alloc: Global, text: &RobotsText) -> Result<(Rows, Names), AllocError>
 fn take(
     alloc: Global,
     rows: &mut Rows,
-    names: &mut Names,
+    names: &mut NamedGroups,
     item: GroupedRecord<'_>,
 ) -> Result<(), AllocError>
     requires octets { rows.old.octets + 3 * value_octets (kind_seen item.kind) < 2 ^ 32 }
-    requires line { item.line < 2 ^ 32 }
-    requires group { item.group < 2 ^ 32 }
+    requires numbers { (item.line < 2 ^ 32) × (item.group < 2 ^ 32) }
     ensures rows { IfOk result (λ _. rows.new.rows
         ≡ rows.old.rows ++ placed_at item.entry.group item.entry.line (kind_seen item.entry.kind)) }
     ensures octets { IfOk result (λ _. rows.new.octets

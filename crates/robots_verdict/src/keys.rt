@@ -2,7 +2,7 @@
 //! Used by `Plain`: most comparisons of two keys look at no pattern.
 ghost use Rattle.std.specs.Prelude.{◌≡◌, All, drop, IfOk, map};
 ghost use Rattle.std.specs.List.Sorted.{IsPermutation};
-ghost use Rattle.robots_verdict.specs.Keys.{AreOctets, compare_keys, compare_patterns, IsKeyOf, number, spell};
+ghost use Rattle.robots_verdict.specs.Keys.{AreOctets, compare_keys, compare_patterns, IsKeyOf, number, spelled_number};
 ghost use Rattle.robots_verdict.specs.Search.{IsPlainOrder};
 
 use crate::rows::Rows;
@@ -63,7 +63,7 @@ fn key_at(rows: &Rows, place: u32) -> Key
 
 fn key_of(group: u32, place: u32, form: &[u8]) -> Key
     ensures place { (result.group ≡ group) × (result.place ≡ place) }
-    ensures spelled { number result ≡ spell 16 0 form.now }
+    ensures spelled { number result ≡ spelled_number 16 0 form.now }
     ensures octets { AreOctets form.now }
 {
     Key {

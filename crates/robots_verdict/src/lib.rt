@@ -13,12 +13,12 @@ mod others;
 mod places;
 mod plain;
 mod policy;
+mod ranks;
 mod rewritten;
 mod row;
 mod rows;
 mod rules;
 mod said;
-mod search;
 mod texts;
 mod weight;
 

@@ -1,4 +1,4 @@
-//! A robots text whose patterns can be read in their normal forms, and the verdict by its lines, one after another.
+//! A robots text whose patterns can be read in their normal forms, and the verdict by its lines.
 //! RFC 9309, section 2.2.2.
 ghost use Rattle.std.specs.Prelude.{◌≡◌, Contains, IfOk};
 ghost use Rattle.path_normal.specs.Normal.{normal_pattern};
@@ -35,7 +35,8 @@ impl Model for NormalText {
 
     ghost view = { λ normal. normal.text };
 
-    ghost invariant = { λ normal. normal.rewritten.of_lines ≡ rewritten_in (grouped_records normal.text) };
+    ghost invariant = { λ normal. normal.rewritten.of_lines
+        ≡ rewritten_in (grouped_records normal.text) };
 }
 
 impl NormalText {

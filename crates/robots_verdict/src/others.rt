@@ -32,6 +32,11 @@ impl Others {
         Ok(Others { places, groups })
     }
 
+    /// How many there are.
+    pub(crate) fn count(&self) -> usize {
+        self.places.len()
+    }
+
     /// The place of the strongest other row of the group that matches the path, or the place that
     /// was found so far where that row is stronger.
     pub(crate) fn least(

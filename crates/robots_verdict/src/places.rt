@@ -1,13 +1,12 @@
 //! The places of the rows of a policy: which of them are plain, and their groups.
 //! RFC 9309, section 2.2.2.
-ghost use Rattle.std.specs.Prelude.{◌≡◌, ◌<◌, ◌≤◌, ◌==◌, Bool, false, true, not, IfOk, length};
-ghost use Rattle.std.specs.List.{list_all};
+ghost use Rattle.std.specs.Prelude.{◌≡◌, ◌<◌, ◌≤◌, false, true, IfOk, length};
 ghost use Rattle.path_normal.specs.Normal.{is_anchored};
-ghost use Rattle.path_normal.specs.Octets.{star};
 ghost use Rattle.robots_text.specs.Lines.{text_limit};
-ghost use Rattle.robots_verdict.specs.Search.{ArePlaces, groups_at, is_plain};
+ghost use Rattle.robots_verdict.specs.Search.{ArePlaces, groups_at, is_plain_pattern};
 
 use crate::rows::Rows;
+use path_pattern::has_no_star;
 use std::alloc::{AllocError, Global};
 
 /// The places of the plain rows, and those of the others.
@@ -21,7 +20,7 @@ pub(crate) fn places_of(alloc: Global, rows: &Rows) -> Result<(Vec<u32>, Vec<u32
     let mut plain = Vec::new(alloc);
     let mut others = Vec::new(alloc);
     for place in 0..rows.len() {
-        if is_plain(rows.form(place)) {
+        if is_plain_pattern(rows.form(place)) {
             plain.push(place as u32)?;
         } else {
             others.push(place as u32)?;
@@ -43,8 +42,8 @@ pub(crate) fn groups_at(alloc: Global, rows: &Rows, places: &[u32]) -> Result<Ve
     Ok(groups)
 }
 
-fn is_plain(form: &[u8]) -> bool
-    ensures { result ≡ is_plain form.now }
+fn is_plain_pattern(form: &[u8]) -> bool
+    ensures { result ≡ is_plain_pattern form.now }
 {
     !form.is_empty() && !is_anchored(form) && has_no_star(form)
 }
@@ -53,10 +52,4 @@ fn is_anchored(form: &[u8]) -> bool
     ensures { result ≡ is_anchored form.now }
 {
     matches!(form, [.., b'$'])
-}
-
-fn has_no_star(form: &[u8]) -> bool
-    ensures { result ≡ list_all (λ octet. not (octet == star)) form.now }
-{
-    form.iter().all(|octet| *octet != b'*')
 }

@@ -10,7 +10,7 @@ ghost use Rattle.path_normal.specs.Normal.{is_anchored};
 ghost use Rattle.robots_text.specs.Lines.{text_limit};
 ghost use Rattle.robots_verdict.specs.Index.{FindsLeast};
 ghost use Rattle.robots_verdict.specs.Rows.{is_row_above, row_at};
-ghost use Rattle.robots_verdict.specs.Search.{AreParents, ArePlaces, common, groups_at, IsCut, IsLast, IsPlainHit, IsPlainIndex, IsPlainOrder, key_at};
+ghost use Rattle.robots_verdict.specs.Search.{AreParents, ArePlaces, common, groups_at, IsCut, IsLastBegun, IsPlainHit, IsPlainIndex, IsPlainOrder, key_at};
 
 use crate::keys::in_order;
 use crate::places::groups_at;
@@ -121,7 +121,7 @@ fn last_begun(
     requires behind { (index : ℕ) → index < count
         → is_lt (slice_cmp nat_cmp (group ∷ path.now) (key_at rows.now.rows places.now index))
         ≡ false }
-    ensures { IsLast rows.now.rows places.now count (group ∷ path.now) result }
+    ensures { IsLastBegun rows.now.rows places.now count (group ∷ path.now) result }
 {
     if count == 0 {
         return None;

@@ -19,6 +19,12 @@ use std::sync::atomic::{AtomicU64, Ordering};
 // the memory of the text, and a crawl asks most sites less often.
 const WALKS: u64 = 16;
 
+// The longest text over which a verdict walks in about ten microseconds, and how many patterns with signs it
+// tries in as long.
+const SHORT_TEXT: usize = 1_024;
+
+const FEW_OTHERS: usize = 32;
+
 /// A robots text, and an index of its rules, where one was made. Without it, verdicts walk over the text.
 #[derive(Drop)]
 pub struct Policy {
@@ -80,6 +86,15 @@ impl Policy {
         self.index.is_none() && self.walks.load(Ordering::Relaxed) >= WALKS
     }
 
+    /// Whether a verdict takes long, so that no lock should be held for it: without an index by the length of
+    /// the text, with one by how many patterns have signs. So it does where an index is wanted.
+    pub fn is_dear(&self) -> bool {
+        match &self.index {
+            Some(index) => index.ranks.other_count() > FEW_OTHERS,
+            None => self.wants_index() || self.text().bytes().len() > SHORT_TEXT,
+        }
+    }
+
     /// The text that the policy was made of.
     pub fn text(&self) -> &RobotsText
         ensures { result.now ≡ self.now }
@@ -113,6 +128,6 @@ impl Policy {
         let groups = index.heads.groups_for(token.text().as_bytes());
         index
             .rows
-            .verdict(index.places.first(&index.rows, groups, path))
+            .verdict(index.ranks.first(&index.rows, groups, path))
     }
 }

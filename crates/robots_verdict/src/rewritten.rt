@@ -1,10 +1,10 @@
 //! The rule lines of a text whose patterns are not written in their normal forms, with those forms.
 //! RFC 9309, section 2.2.2.
-ghost use Rattle.std.specs.Prelude.{◌≡◌, ◌+◌, ◌*◌, ◌^◌, ◌∷◌, ◌≤◌, ◌<◌, ◌++◌, [], Contains, IfOk, length, map, MatchOption};
+ghost use Rattle.std.specs.Prelude.{◌≡◌, ◌+◌, ◌*◌, ◌^◌, ◌∷◌, ◌≤◌, ◌<◌, ◌++◌, [], IfOk, length, map, MatchOption};
 ghost use Rattle.std.specs.List.Sorted.{IsNonDecreasing};
 ghost use Rattle.robots_text.specs.Grouped.{grouped_records, value_octets};
 ghost use Rattle.robots_text.specs.Records.{kind_seen};
-ghost use Rattle.robots_verdict.specs.Rewritten.{form_at, FormOfLine, rewritten_at, rewritten_in};
+ghost use Rattle.robots_verdict.specs.Rewritten.{form_at, HasForm, HasNoForm, rewritten_at, rewritten_in};
 
 use crate::rows::part;
 use path_normal::push_normal_pattern;
@@ -46,7 +46,8 @@ impl Model for Rewritten {
 impl Rewritten {
     /// Those of a text.
     pub(crate) fn of(alloc: Global, text: &RobotsText) -> Result<Rewritten, AllocError>
-        ensures { IfOk result (λ rewritten. rewritten.of_lines ≡ rewritten_in (grouped_records text.now)) }
+        ensures { IfOk result (λ rewritten. rewritten.of_lines
+            ≡ rewritten_in (grouped_records text.now)) }
     {
         let mut rewritten = read(alloc, text)?;
         rewritten.fit();
@@ -90,9 +91,8 @@ impl Rewritten {
     /// The normal form of the pattern of the line of this number, where it is not written so.
     pub(crate) fn form_at(&self, line: u64) -> Option<&[u8]>
         requires { IsNonDecreasing (map (λ form. form.line) self.now.of_lines) }
-        ensures { MatchOption result ((form : FormOfLine) → Contains self.now.of_lines form → form.line ≡ line → ⊥)
-            (λ octets. (form : FormOfLine) × (Contains self.now.of_lines form)
-            × (form.line ≡ line) × (octets.now ≡ form.form)) }
+        ensures { MatchOption result (HasNoForm self.now.of_lines line)
+            (λ octets. HasForm self.now.of_lines line octets.now) }
     {
         match self
             .forms
@@ -117,7 +117,8 @@ impl Rewritten {
 }
 
 fn read(alloc: Global, text: &RobotsText) -> Result<Rewritten, AllocError>
-    ensures { IfOk result (λ rewritten. rewritten.of_lines ≡ rewritten_in (grouped_records text.now)) }
+    ensures { IfOk result (λ rewritten. rewritten.of_lines
+        ≡ rewritten_in (grouped_records text.now)) }
 {
     let mut rewritten = Rewritten::new(alloc);
     let mut form = Vec::new(alloc);
@@ -128,7 +129,8 @@ fn read(alloc: Global, text: &RobotsText) -> Result<Rewritten, AllocError>
     Ok(rewritten)
 }
 
-// Adds the line of a record whose pattern is written otherwise. The form of each pattern is made in the same memory.
+// Adds the line of a record whose pattern is written otherwise. The form of each pattern is made in
+// the same memory.
 fn take(
     rewritten: &mut Rewritten,
     form: &mut Vec<u8>,

@@ -155,7 +155,8 @@ fn indexed(alloc: Global, policy: &Policy) -> Result<Arc<Policy>, AllocError>
 impl PartialEq for Rules {
     ghost eq = { λ a b. bytes_eq a.text b.text };
 
-    ghost laws = { partial_equiv_from_equiv (on_equiv (λ (kept : KeptRules). kept.text) nat_list_eq_equiv) };
+    ghost laws = { partial_equiv_from_equiv
+        (on_equiv (λ (kept : KeptRules). kept.text) nat_list_eq_equiv) };
 
     fn eq(&self, other: &Rules) -> bool {
         self.policy.text().bytes() == other.policy.text().bytes()

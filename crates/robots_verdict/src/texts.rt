@@ -3,7 +3,7 @@
 ghost use Rattle.std.specs.Prelude.{◌≡◌, ◌<◌, length, slice_index_or};
 ghost use Rattle.std.specs.Ordering.{nat_cmp};
 ghost use Rattle.std.specs.Cmp.Lexicographic.{slice_cmp};
-ghost use Rattle.robots_verdict.specs.Keys.{spell};
+ghost use Rattle.robots_verdict.specs.Keys.{spelled_number};
 
 use std::cmp::Ordering;
 
@@ -31,7 +31,7 @@ pub(crate) fn compare_texts(one: &[u8], other: &[u8]) -> Ordering
 /// The number that the first eight octets spell, the first one the greatest. Zeros stand behind the
 /// end of the text.
 pub(crate) fn front(text: &[u8]) -> u64
-    ensures { result ≡ spell 8 0 text.now }
+    ensures { result ≡ spelled_number 8 0 text.now }
 {
     if text.len() < 8 {
         return short_front(text);
@@ -43,7 +43,7 @@ pub(crate) fn front(text: &[u8]) -> u64
 
 fn short_front(text: &[u8]) -> u64
     requires { length text.now < 8 }
-    ensures { result ≡ spell 8 0 text.now }
+    ensures { result ≡ spelled_number 8 0 text.now }
 {
     if text.is_empty() {
         return 0;

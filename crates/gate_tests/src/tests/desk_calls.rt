@@ -4,10 +4,12 @@ ghost use Rattle.std.specs.Prelude.{◌≡◌, IfNone, IfSome, OnErr, IfOk};
 ghost use Rattle.gate_lock.specs.Desks.{HasOut, KeepsOut, out_of};
 
 use super::gates::PAGE;
-use gate_core::{AskRefusal, BeginRefusal, Judged, State, SweepRefusal};
+use authority_cache::{LIFE, TimedAnswer};
+use gate_core::{AskRefusal, BeginRefusal, State, SweepRefusal};
 use gate_history::Cause;
 use gate_lock::{
-    Desk, DesksFull, Gate, GateLock, Permit, Receipts, RobotsTurn, SettleFault, Settled, settle,
+    Desk, DeskAsk, DesksFull, Gate, GateLock, Permit, Receipts, RobotsTurn, SettleFault, Settled,
+    settle,
 };
 use path_normal::{Authority, PageUrl};
 use robots_text::Token;
@@ -37,7 +39,8 @@ pub(super) fn fetch<G: Gate, R: Wait>(
 {
     let turn = begin(rt, desk, form, site, moment)?;
     let number = turn.number().number();
-    desk.arrive(rt, turn, Answer::Open(Opening::Unavailable), 86_400, moment);
+    let open = TimedAnswer::new(Answer::Open(Opening::Unavailable), LIFE);
+    desk.arrive(rt, turn, open, moment);
     Ok(number)
 }
 
@@ -75,11 +78,12 @@ pub(super) fn granted<G: Gate, R: Wait>(
 {
     let token = Token::new(alloc, b"foobot").ok()?;
     let url = PageUrl::parse(alloc, page).ok()?;
-    asked(rt, desk, form, token, url).ok()
+    asked(rt, alloc, desk, form, token, url).ok()
 }
 
 pub(super) fn asked<G: Gate, R: Wait>(
     rt: &R,
+    alloc: Global,
     desk: &mut Desk<'_, G>,
     form: Form,
     token: Token,
@@ -92,8 +96,9 @@ pub(super) fn asked<G: Gate, R: Wait>(
     match form {
         Form::Plain => desk.ask(rt, token, url, 110),
         Form::Held => {
+            let ask = DeskAsk::new(alloc, token, url)?;
             let mut held = desk.lend(rt);
-            desk.ask_in(&mut held, Judged::new(None, token, url), 110)
+            desk.ask_in(&mut held, ask, 110)
         }
     }
 }
@@ -227,6 +232,7 @@ pub(super) fn state<G: Gate, R: Wait>(
     name: &str,
     moment: u64,
 ) -> State
+    ensures no { desk.new.no ≡ desk.old.no }
     ensures out { KeepsOut desk.old desk.new }
 {
     match form {

@@ -100,24 +100,29 @@ fn arrived(alloc: Global) -> Result<Entry, Fail> {
     })
 }
 
-fn granted(alloc: Global, page: &str) -> Result<Entry, Fail> {
+fn granted(alloc: Global, page: &str, number: u64) -> Result<Entry, Fail> {
     let token = Token::new(alloc, b"foobot")?;
     let url = PageUrl::parse(alloc, page)?;
     Ok(Entry::Granted {
         moment: 110,
-        number: PermitNo::new(65_536),
+        number: PermitNo::new(number),
         fetch: FetchText::of(alloc, &token, &url)?,
     })
 }
 
 // The entries of a gate at which one desk brings an answer, and another asks for the page and gives its
 // permit back.
-fn add_entries(alloc: Global, page: &str, entries: &mut Vec<Entry>) -> Result<(), Fail> {
+pub(super) fn add_entries(
+    alloc: Global,
+    page: &str,
+    number: u64,
+    entries: &mut Vec<Entry>,
+) -> Result<(), Fail> {
     entries.push(begun(alloc)?)?;
     entries.push(arrived(alloc)?)?;
-    entries.push(granted(alloc, page)?)?;
+    entries.push(granted(alloc, page, number)?)?;
     entries.push(Entry::Returned {
-        number: PermitNo::new(65_536),
+        number: PermitNo::new(number),
     })?;
     Ok(())
 }
@@ -134,7 +139,7 @@ fn is_fit_with<G: Gate>(
     entries: &mut Vec<Entry>,
     all: &[Receipts<G>],
 ) -> Result<bool, Fail> {
-    add_entries(alloc, page, entries)?;
+    add_entries(alloc, page, 65_536, entries)?;
     if entries.len() != 4 {
         return Err(Fail::new("four entries"));
     }

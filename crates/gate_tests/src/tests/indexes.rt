@@ -2,6 +2,7 @@
 //! That they say the same with it is proved (`Cache::make_index`, `take_index`); RFC 9309 has none of it.
 
 use super::gates::{PAGE, book};
+use authority_cache::{LIFE, TimedAnswer};
 use gate_core::{AskRefusal, Book, Judged};
 use path_normal::{Authority, PageUrl};
 use robots_text::{RobotsText, Token};
@@ -48,18 +49,16 @@ fn brings_one(alloc: Global, book: &mut Book) -> Result<(), Fail> {
     if !policy.is_indexed() {
         return Err(Fail::new("no index is made"));
     }
-    let judged = Judged::new(
-        Some(policy),
-        Token::new(alloc, b"foobot")?,
-        PageUrl::parse(alloc, PAGE)?,
-    );
-    is_denied(book.ask_judged(judged, 120).err())?;
+    let token = Token::new(alloc, b"foobot")?;
+    let judged = Judged::new(alloc, token, PageUrl::parse(alloc, PAGE)?)?;
+    is_denied(book.ask_judged(judged.judged_by(policy), 120).err())?;
     is_indexed(book, true)
 }
 
 // Begins a turn and brings its rules.
 fn load(alloc: Global, book: &mut Book) -> Result<(), Fail> {
-    let answer = Answer::rules(alloc, RobotsText::read(alloc, CLOSED.as_bytes())?)?;
+    let rules = Answer::rules(alloc, RobotsText::read(alloc, CLOSED.as_bytes())?)?;
+    let answer = TimedAnswer::new(rules, LIFE);
     if answer.spares() < 1 {
         return Err(Fail::new("an answer without spares"));
     }
@@ -67,7 +66,7 @@ fn load(alloc: Global, book: &mut Book) -> Result<(), Fail> {
     let Ok(turn) = book.begin(&site, 100) else {
         return Err(Fail::new("no turn"));
     };
-    match book.arrive(&site, turn, answer, 86_400, 105) {
+    match book.arrive(&site, turn, answer, 105) {
         Ok(()) => Ok(()),
         Err(_) => Err(Fail::new("a stale turn")),
     }

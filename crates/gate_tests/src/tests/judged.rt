@@ -4,9 +4,10 @@ ghost use Rattle.std.specs.Prelude.{◌≡◌};
 ghost use Rattle.gate_lock.specs.Desks.{KeepsOut};
 
 use super::gates::book;
-use gate_core::{AskRefusal, Judged};
+use authority_cache::{LIFE, TimedAnswer};
+use gate_core::AskRefusal;
 use gate_history::Cause;
-use gate_lock::{Desk, Gate, GateLock, Visit, with_gate};
+use gate_lock::{Desk, DeskAsk, Gate, GateLock, Visit, with_gate};
 use path_normal::{Authority, PageUrl};
 use robots_text::{RobotsText, Token};
 use robots_verdict::{Answer, Opening};
@@ -81,7 +82,7 @@ fn judged_ask<G: Gate, R: Wait>(
     site: &Authority,
     before: Option<&str>,
     after: Option<&str>,
-) -> Result<Judged, Fail>
+) -> Result<DeskAsk, Fail>
     ensures { KeepsOut desk.old desk.new }
 {
     load(rt, alloc, desk, site, before)?;
@@ -106,13 +107,14 @@ fn load<G: Gate, R: Wait>(
         Some(text) => Answer::rules(alloc, RobotsText::read(alloc, text.as_bytes())?)?,
         None => Answer::Open(Opening::Unavailable),
     };
+    let answer = TimedAnswer::new(answer, LIFE);
     if answer.spares() < 2 {
         return Err(Fail::new("an answer without two spares"));
     }
     let Ok(turn) = desk.begin(rt, site, 100) else {
         return Err(Fail::new("no turn"));
     };
-    desk.arrive(rt, turn, answer, 86_400, 105);
+    desk.arrive(rt, turn, answer, 105);
     Ok(())
 }
 
@@ -122,7 +124,7 @@ fn judge<G: Gate, R: Wait>(
     alloc: Global,
     desk: &Desk<'_, G>,
     has_rules: bool,
-) -> Result<Judged, Fail> {
+) -> Result<DeskAsk, Fail> {
     let token = Token::new(alloc, b"FooBot")?;
     let url = PageUrl::parse(alloc, PAGE)?;
     let policy = {
@@ -132,14 +134,18 @@ fn judge<G: Gate, R: Wait>(
     if policy.is_some() != has_rules {
         return Err(Fail::new("a policy where there are no rules, or none where there are"));
     }
-    Ok(Judged::new(policy, token, url))
+    let ask = DeskAsk::new(alloc, token, url)?;
+    match policy {
+        Some(policy) => Ok(ask.judged_by(policy)),
+        None => Ok(ask),
+    }
 }
 
 // The number that the ask is granted, which is given back, or the cause of its denial.
 fn ask<G: Gate, R: Wait>(
     rt: &R,
     desk: &mut Desk<'_, G>,
-    judged: Result<Judged, Fail>,
+    judged: Result<DeskAsk, Fail>,
     moment: u64,
 ) -> Result<Result<u64, Cause>, Fail>
     ensures { KeepsOut desk.old desk.new }

@@ -5,10 +5,12 @@ ghost use Rattle.gate_lock.specs.Desks.{KeepsOut, out_of};
 
 use super::bags::{keep, started};
 use super::desk_calls::{Form, asked, fetch, granted};
-use super::gates::{PAGE, book};
+use super::gates::{PAGE, add_entries, book};
 use gate_core::AskRefusal;
-use gate_history::{Cause, Reason};
-use gate_lock::{Bag, Desk, Gate, GateLock, Receipts, Visit, with_gate};
+use gate_history::{Cause, Entry, Reason};
+use gate_lock::{
+    Bag, Desk, Gate, GateLock, Mark, Receipts, SettleFault, Settled, Visit, settle, with_gate,
+};
 use path_normal::{Authority, PageUrl};
 use robots_text::Token;
 use std::alloc::Global;
@@ -27,13 +29,18 @@ struct Answers {
     second: Option<u64>,
 }
 
-// How many entries a desk has seen and made, and the places of those that it made.
+// How many entries a desk has seen and made, the places of those that it made, and whether they are the entries
+// that are wanted there.
 #[derive(Clone, Copy, Debug, PartialEq, Eq)]
 struct Looks {
     seen: u64,
     share: u64,
     places: [Option<u64>; 4],
+    fit: bool,
 }
+
+// What both desks show, and what the settlement by their receipts comes to.
+type Shown = ([Looks; 2], Result<Settled, SettleFault>);
 
 #[derive(Drop)]
 struct SessionsRow<'r, R: Wait> {
@@ -42,10 +49,14 @@ struct SessionsRow<'r, R: Wait> {
 }
 
 impl<R: Wait> Visit for SessionsRow<'_, R> {
-    type Out = Result<(Answers, [Looks; 2]), Fail>;
+    type Out = Result<(Answers, Shown), Fail>;
 
     fn visit<G: Gate>(self, gate: &GateLock<G>) -> Self::Out {
-        sessions(self.rt, self.alloc, gate)
+        let mut all = Vec::new(self.alloc);
+        let mut wanted = Vec::new(self.alloc);
+        add_entries(self.alloc, PAGE, 65_536, &mut wanted)?;
+        add_entries(self.alloc, PAGE, 131_072, &mut wanted)?;
+        sessions(self.rt, self.alloc, gate, wanted.as_slice(), &mut all)
     }
 }
 
@@ -53,13 +64,21 @@ fn sessions<G: Gate, R: Wait>(
     rt: &R,
     alloc: Global,
     gate: &GateLock<G>,
-) -> Result<(Answers, [Looks; 2]), Fail> {
+    wanted: &[Entry],
+    all: &mut Vec<Receipts<G>>,
+) -> Result<(Answers, Shown), Fail> {
     let mut first = gate.desk(rt, alloc)?;
     match gate.desk(rt, alloc) {
         Ok(mut second) => {
             let answers = first_session(rt, alloc, &mut first, &mut second);
-            let looks = [look(first), look(second)];
-            Ok((answers?, looks))
+            let one = look(first, wanted, all);
+            let other = look(second, wanted, all);
+            let settled = settle(rt, alloc, gate, all.as_slice());
+            let answers = answers?;
+            match (one, other) {
+                (Some(one), Some(other)) => Ok((answers, ([one, other], settled))),
+                _ => Err(Fail::new("no memory for the receipts")),
+            }
         }
         Err(_) => {
             first.close();
@@ -68,7 +87,8 @@ fn sessions<G: Gate, R: Wait>(
     }
 }
 
-fn look<G: Gate>(desk: Desk<'_, G>) -> Looks
+// What the desk shows; its receipts are added.
+fn look<G: Gate>(desk: Desk<'_, G>, wanted: &[Entry], all: &mut Vec<Receipts<G>>) -> Option<Looks>
     requires { out_of desk ≡ 0 }
 {
     let seen = desk.seen();
@@ -80,10 +100,27 @@ fn look<G: Gate>(desk: Desk<'_, G>) -> Looks
         place(&receipts, 2),
         place(&receipts, 3),
     ];
-    Looks {
+    let fit = receipts.marks().iter().all(|mark| is_wanted(mark, wanted));
+    all.push(receipts).ok()?;
+    Some(Looks {
         seen,
         share,
         places,
+        fit,
+    })
+}
+
+// Whether the mark is the entry that is wanted at its place.
+fn is_wanted(mark: &Mark, wanted: &[Entry]) -> bool {
+    // The second permit's entries stand behind a begin and an arrival that are not made again.
+    let place = if mark.place < 4 {
+        mark.place
+    } else {
+        mark.place.saturating_add(2)
+    };
+    match wanted.get(place as usize) {
+        Some(entry) => mark.entry.is(entry),
+        None => false,
     }
 }
 
@@ -151,7 +188,7 @@ fn is_full<G: Gate, R: Wait>(rt: &R, alloc: Global, desk: &mut Desk<'_, G>) -> R
 {
     let token = Token::new(alloc, b"foobot")?;
     let url = PageUrl::parse(alloc, PAGE)?;
-    match asked(rt, desk, Form::Plain, token, url) {
+    match asked(rt, alloc, desk, Form::Plain, token, url) {
         Ok(permit) => {
             desk.back(rt, permit);
             Ok(false)
@@ -186,11 +223,13 @@ fn desks_are(rt: &impl Abort, looks: [Looks; 2]) {
         seen: 4,
         share: 4,
         places: [Some(0), Some(1), Some(2), Some(3)],
+        fit: true,
     };
     let second = Looks {
         seen: 6,
         share: 2,
         places: [Some(4), Some(5), None, None],
+        fit: true,
     };
     assert_eq!(rt; looks, [first, second], "their desks");
 }
@@ -202,8 +241,13 @@ fn two_sessions_share_one_slot(rt: HostRuntime) -> Result<(), Fail> {
         rt: &rt,
         alloc: rt.alloc(),
     };
-    let (answers, looks) = with_gate(book(rt.alloc(), keys, 1, 65_536)?, row)?;
+    let (answers, (looks, settled)) = with_gate(book(rt.alloc(), keys, 1, 65_536)?, row)?;
     answers_are(&rt, answers);
     desks_are(&rt, looks);
+    let want = Ok(Settled {
+        events: 6,
+        starts: 0,
+    });
+    assert_eq!(rt; settled, want, "settled by both");
     Ok(())
 }

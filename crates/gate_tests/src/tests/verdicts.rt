@@ -2,6 +2,7 @@
 //! That it is answered like any other is proved. That it makes no verdict of its own is seen here alone.
 
 use super::gates::book;
+use authority_cache::{LIFE, TimedAnswer};
 use gate_core::{Book, Judged};
 use path_normal::{Authority, PageUrl};
 use robots_text::{RobotsText, Token};
@@ -42,7 +43,8 @@ fn compares(rt: &HostRuntime, book: &mut Book) -> Result<(), Fail> {
 // Begins a turn and brings its rules.
 fn load(alloc: Global, book: &mut Book) -> Result<(), Fail> {
     let text = repeated(alloc, "User-agent: *\n", "Disallow: *bba*q\n", RULES)?;
-    let answer = Answer::rules(alloc, RobotsText::read(alloc, text.as_bytes())?)?;
+    let rules = Answer::rules(alloc, RobotsText::read(alloc, text.as_bytes())?)?;
+    let answer = TimedAnswer::new(rules, LIFE);
     if answer.spares() < 1 {
         return Err(Fail::new("an answer without spares"));
     }
@@ -50,7 +52,7 @@ fn load(alloc: Global, book: &mut Book) -> Result<(), Fail> {
     let Ok(turn) = book.begin(&site, 100) else {
         return Err(Fail::new("no turn"));
     };
-    match book.arrive(&site, turn, answer, 86_400, 105) {
+    match book.arrive(&site, turn, answer, 105) {
         Ok(()) => Ok(()),
         Err(_) => Err(Fail::new("a stale turn")),
     }
@@ -60,7 +62,15 @@ fn load(alloc: Global, book: &mut Book) -> Result<(), Fail> {
 fn nanos(rt: &HostRuntime, book: &mut Book, policy: Option<Arc<Policy>>) -> Result<u128, Fail> {
     let token = Token::new(rt.alloc(), b"foobot")?;
     let page = repeated(rt.alloc(), "http://a.example/", "ab", 2_000)?;
-    let judged = Judged::new(policy, token, PageUrl::parse(rt.alloc(), page.as_str())?);
+    let ask = Judged::new(
+        rt.alloc(),
+        token,
+        PageUrl::parse(rt.alloc(), page.as_str())?,
+    )?;
+    let judged = match policy {
+        Some(policy) => ask.judged_by(policy),
+        None => ask,
+    };
     let begun = Instant::now(rt)?;
     let answer = book.ask_judged(judged, 120);
     let nanos = begun.elapsed(rt)?.as_nanos();

@@ -5,6 +5,7 @@ ghost use Rattle.gate_history.specs.Base.{empty_base};
 ghost use Rattle.gate_lock.specs.Desks.{KeepsOut, out_of};
 
 use super::gates::book;
+use authority_cache::{LIFE, TimedAnswer};
 use gate_core::{BeginRefusal, Book, Standing, State};
 use gate_lock::{Blanks, Desk, Gate, GateLock};
 use path_normal::Authority;
@@ -107,7 +108,8 @@ fn is_answered<G: Gate, R: Wait + time::Clock>(
         Ok(turn) => {
             // The others come to wait meanwhile.
             thread::sleep(rt, Duration::from_millis(1));
-            desk.arrive(rt, turn, Answer::Open(Opening::Unavailable), 86_400, 105);
+            let open = TimedAnswer::new(Answer::Open(Opening::Unavailable), LIFE);
+            desk.arrive(rt, turn, open, 105);
             true
         }
         Err(BeginRefusal::InFlight) => is_open(desk.wait_answer(rt, site.text(), 110)),

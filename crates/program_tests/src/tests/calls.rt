@@ -3,7 +3,7 @@ ghost use Rattle.std.specs.Prelude.{◌≡◌, ◌<◌, ◌++◌, ◌∷◌, [],
 ghost use Rattle.gate_core.specs.Calls.{HasSpare};
 
 use super::{demand, new_book};
-use authority_cache::TurnNo;
+use authority_cache::{LIFE, TimedAnswer, TurnNo};
 use gate_core::{Book, Call, Reply, run};
 use gate_history::Reason;
 use path_normal::{Authority, PageUrl};
@@ -60,8 +60,7 @@ fn add_arrival(alloc: Global, calls: &mut Vec<Call>) -> Result<(), Fail>
     calls.push(Call::Arrive {
         authority,
         turn: TurnNo::new(1),
-        answer: Answer::Open(Opening::Unavailable),
-        life: 86_400,
+        answer: TimedAnswer::new(Answer::Open(Opening::Unavailable), LIFE),
         moment: 105,
     })?;
     Ok(())

@@ -29,12 +29,6 @@ struct Changing<'a> {
 impl Fetcher for Changing<'_> {
     ghost gives = { λ _ _ _ _. Unit {0} };
 
-    fn begin_walk(&self) -> Option<Deadline> {
-        None
-    }
-
-    fn stop(&self) {}
-
     fn load_page(
         &self,
         _leave: &PageLeave<'_>,

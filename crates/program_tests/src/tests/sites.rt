@@ -4,10 +4,9 @@ ghost use Rattle.job_line.specs.Limits.{IsCrew};
 
 use super::new_book;
 use counted_io::FailAt;
-use crawl_shift::{NotShifted, StatusLine, shift_over};
-use crawl_workers::{Clock, Fetcher, ScriptedPage, Sites};
+use crawl_shift::{NotShifted, Shift, StatusLine};
+use crawl_workers::{Clock, Fetcher};
 use gate_lock::Blanks;
-use std::alloc::{AllocError, Global};
 use std::marker::Brand;
 use std::random::RandomSource;
 use std::sync::Wait;
@@ -32,16 +31,13 @@ pub(super) fn crawl_over<
 {
     let book = new_book(rt)?;
     let status: StatusLine<'_, FailAt, R> = StatusLine::new(rt, rt.alloc(), None)?;
-    Ok(shift_over::<Brand, _, _, _, _, _, _>(
+    let shift = Shift {
         rt,
-        rt.alloc(),
-        jobs,
-        report,
-        &status,
+        alloc: rt.alloc(),
         workers,
-        book,
-        Blanks::new(),
         fetcher,
         clock,
-    ))
+        status: &status,
+    };
+    Ok(shift.report_over::<Brand, _, _>(jobs, report, book, Blanks::new()))
 }

@@ -12,9 +12,9 @@ use std::test::Fail;
 
 /// A clock that stands.
 #[derive(Clone, Copy)]
-pub(super) struct Standing(pub(super) u64);
+pub(super) struct FixedClock(pub(super) u64);
 
-impl Clock for Standing {
+impl Clock for FixedClock {
     fn now(&self) -> u64 {
         self.0
     }

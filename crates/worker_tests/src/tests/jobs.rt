@@ -1,10 +1,10 @@
 //! Jobs over sites in memory: their hops, their bodies, and what their desks did.
 ghost use Rattle.gate_core.specs.Limits.{AreLimits};
 
-use super::gates::{Standing, book};
+use super::gates::{FixedClock, book};
 use super::pages::{job, pages};
 use super::words::{push_entries, push_numbered};
-use crawl_workers::{Job, Outcome, Sites, work};
+use crawl_workers::{Job, Outcome, ScriptedSites, work};
 use gate_core::Limits;
 use gate_lock::{Gate, GateLock, Mark, Visit, with_gate};
 use permit_book::LAST_GENERATION;
@@ -75,7 +75,7 @@ pub(super) fn job_text<G: Gate, R: Wait>(
     url: &str,
 ) -> Result<String, Fail> {
     let pages = pages(alloc)?;
-    let sites = Sites {
+    let sites = ScriptedSites {
         alloc,
         pages: pages.as_slice(),
     };
@@ -86,7 +86,7 @@ fn text_over<G: Gate, R: Wait>(
     rt: &R,
     alloc: Global,
     gate: &GateLock<G>,
-    sites: &Sites<'_>,
+    sites: &ScriptedSites<'_>,
     url: &str,
 ) -> Result<String, Fail> {
     let job = job(alloc, "foobot", url)?;
@@ -97,11 +97,11 @@ fn done_text<G: Gate, R: Wait>(
     rt: &R,
     alloc: Global,
     gate: &GateLock<G>,
-    sites: &Sites<'_>,
+    sites: &ScriptedSites<'_>,
     job: Job,
 ) -> Result<String, Fail> {
     let mut desk = gate.desk(rt, alloc)?;
-    let outcome = work(rt, alloc, job, &mut desk, sites, &Standing(100));
+    let outcome = work(rt, alloc, job, &mut desk, sites, &FixedClock(100));
     let receipts = desk.close();
     Ok(given_text(alloc, &outcome, receipts.marks())?)
 }

@@ -1,6 +1,7 @@
 //! Single fetches of a page, each by a permit of its own.
 ghost use Rattle.gate_lock.specs.Desks.{KeepsOut};
 
+use authority_cache::{LIFE, TimedAnswer};
 use crawl_workers::{Fetcher, Job};
 use gate_lock::{Desk, Gate, GateLock};
 use http_wire::{HttpReply, WireFault};
@@ -34,7 +35,8 @@ fn open<G: Gate, R: Wait>(rt: &R, desk: &mut Desk<'_, G>, site: &Authority)
     let Ok(turn) = desk.begin(rt, site, 100) else {
         return;
     };
-    desk.arrive(rt, turn, Answer::Open(Opening::Unavailable), 86_400, 100);
+    let open = TimedAnswer::new(Answer::Open(Opening::Unavailable), LIFE);
+    desk.arrive(rt, turn, open, 100);
 }
 
 /// What came of the fetch of a page under a token, in words. Its site must be open.

@@ -36,12 +36,6 @@ struct Together<'r, R: time::Clock> {
 impl<R: time::Clock> Fetcher for Together<'_, R> {
     ghost gives = { λ _ _ _ _. Unit {0} };
 
-    fn begin_walk(&self) -> Option<Deadline> {
-        None
-    }
-
-    fn stop(&self) {}
-
     fn load_page(
         &self,
         _leave: &PageLeave<'_>,
@@ -123,12 +117,6 @@ struct Counting {
 
 impl Fetcher for Counting {
     ghost gives = { λ _ _ _ _. Unit {0} };
-
-    fn begin_walk(&self) -> Option<Deadline> {
-        None
-    }
-
-    fn stop(&self) {}
 
     fn load_page(
         &self,

@@ -1,10 +1,10 @@
 //! Refreshes of answers over sites in memory.
 ghost use Rattle.gate_core.specs.Limits.{AreLimits};
 
-use super::gates::{Standing, book};
+use super::gates::{FixedClock, book};
 use super::pages::pages;
 use super::words::push_entries;
-use crawl_workers::{Sites, refresh};
+use crawl_workers::{ScriptedSites, refresh};
 use gate_core::{BeginRefusal, Limits};
 use gate_lock::{Gate, GateLock, Mark, Visit, with_gate};
 use path_normal::Authority;
@@ -47,7 +47,7 @@ fn refresh_text<G: Gate, R: Wait>(
     authority: &str,
 ) -> Result<String, Fail> {
     let pages = pages(alloc)?;
-    let sites = Sites {
+    let sites = ScriptedSites {
         alloc,
         pages: pages.as_slice(),
     };
@@ -58,7 +58,7 @@ fn text_over<G: Gate, R: Wait>(
     rt: &R,
     alloc: Global,
     gate: &GateLock<G>,
-    sites: &Sites<'_>,
+    sites: &ScriptedSites<'_>,
     authority: &str,
 ) -> Result<String, Fail> {
     let site = Authority::new(alloc, authority)?;
@@ -69,12 +69,12 @@ fn refresh_twice<G: Gate, R: Wait>(
     rt: &R,
     alloc: Global,
     gate: &GateLock<G>,
-    sites: &Sites<'_>,
+    sites: &ScriptedSites<'_>,
     site: &Authority,
 ) -> Result<String, Fail> {
     let mut desk = gate.desk(rt, alloc)?;
-    let first = refresh(rt, alloc, site, &mut desk, sites, &Standing(100));
-    let last = refresh(rt, alloc, site, &mut desk, sites, &Standing(100));
+    let first = refresh(rt, alloc, site, &mut desk, sites, &FixedClock(100));
+    let last = refresh(rt, alloc, site, &mut desk, sites, &FixedClock(100));
     let receipts = desk.close();
     Ok(both_text(alloc, first, last, receipts.marks())?)
 }

@@ -3,7 +3,7 @@
 use super::gates::book;
 use super::leaves::{open_site, page_text};
 use super::pages::pages_of;
-use crawl_workers::Sites;
+use crawl_workers::ScriptedSites;
 use gate_core::Limits;
 use gate_lock::{Gate, GateLock, Visit, with_gate};
 use path_normal::PageUrl;
@@ -38,7 +38,7 @@ const FETCHES: [(&str, usize, &str); 4] = [
 struct FetchRow<'r, R: Wait> {
     rt: &'r R,
     alloc: Global,
-    sites: &'r Sites<'r>,
+    sites: &'r ScriptedSites<'r>,
     url: &'r str,
     limit: usize,
 }
@@ -62,7 +62,7 @@ fn open_and_fetch<G: Gate, R: Wait>(
     rt: &R,
     alloc: Global,
     gate: &GateLock<G>,
-    sites: &Sites<'_>,
+    sites: &ScriptedSites<'_>,
     url: &str,
     limit: usize,
 ) -> Result<String, Fail> {
@@ -74,7 +74,7 @@ fn open_and_fetch<G: Gate, R: Wait>(
 #[test]
 fn scripted_pages(rt: HostRuntime) -> Result<(), Fail> {
     let pages = pages_of(rt.alloc(), &PAGES)?;
-    let sites = Sites {
+    let sites = ScriptedSites {
         alloc: rt.alloc(),
         pages: pages.as_slice(),
     };
@@ -84,7 +84,7 @@ fn scripted_pages(rt: HostRuntime) -> Result<(), Fail> {
 fn check_fetches<R: Wait + RandomSource + Abort>(
     rt: &R,
     alloc: Global,
-    sites: &Sites<'_>,
+    sites: &ScriptedSites<'_>,
 ) -> Result<(), Fail> {
     for (url, limit, want) in FETCHES {
         let given = given_of(rt, alloc, sites, url, limit)?;
@@ -96,7 +96,7 @@ fn check_fetches<R: Wait + RandomSource + Abort>(
 fn given_of<R: Wait + RandomSource>(
     rt: &R,
     alloc: Global,
-    sites: &Sites<'_>,
+    sites: &ScriptedSites<'_>,
     url: &str,
     limit: usize,
 ) -> Result<String, Fail> {

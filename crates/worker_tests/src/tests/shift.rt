@@ -4,10 +4,10 @@ ghost use Rattle.std.specs.Prelude.{◌≡◌, []};
 ghost use Rattle.gate_history.specs.Base.{empty_base};
 ghost use Rattle.gate_lock.specs.Desks.{KeepsOut};
 
-use super::gates::{Standing, book};
+use super::gates::{FixedClock, book};
 use super::pages::{jobs_of, pages_of};
 use super::words::push_hops;
-use crawl_workers::{Crawled, Fetcher, Job, Report, ShiftFault, Sites, run_shift};
+use crawl_workers::{Crawled, Fetcher, Job, Report, ScriptedSites, ShiftFault, run_shift};
 use gate_core::{Book, Limits};
 use gate_lock::{Blanks, Desk, Gate, GateLock, SettleFault};
 use job_line::{MAX_JOBS, MAX_WORKERS};
@@ -54,7 +54,16 @@ fn shift_text<G: Gate + Send + Sync, F: Fetcher + Sync, R: Threads + Wait + Sync
     if jobs.len() as u64 > MAX_JOBS || workers == 0 || workers > MAX_WORKERS {
         return Err(Fail::new("too many jobs, or no worker, or too many"));
     }
-    let report = run_shift(rt, alloc, jobs, workers, gate, fetcher, &Standing(100), &())?;
+    let report = run_shift(
+        rt,
+        alloc,
+        jobs,
+        workers,
+        gate,
+        fetcher,
+        &FixedClock(100),
+        &(),
+    )?;
     Ok(report_text(alloc, &report)?)
 }
 
@@ -96,7 +105,7 @@ const SHIFTS: [(&str, &[(&str, &str)], &str); 3] = [
 #[test]
 fn shifts_over_sites(rt: HostRuntime) -> Result<(), Fail> {
     let pages = pages_of(rt.alloc(), &PAGES)?;
-    let sites = Sites {
+    let sites = ScriptedSites {
         alloc: rt.alloc(),
         pages: pages.as_slice(),
     };
@@ -106,7 +115,7 @@ fn shifts_over_sites(rt: HostRuntime) -> Result<(), Fail> {
 fn check_shifts<R: Threads + Wait + RandomSource + Abort + Sync>(
     rt: &R,
     alloc: Global,
-    sites: &Sites<'_>,
+    sites: &ScriptedSites<'_>,
 ) -> Result<(), Fail> {
     for (name, rows, want) in SHIFTS {
         let jobs = jobs_of(alloc, rows)?;
@@ -118,7 +127,7 @@ fn check_shifts<R: Threads + Wait + RandomSource + Abort + Sync>(
 fn check_shift<R: Threads + Wait + RandomSource + Abort + Sync>(
     rt: &R,
     alloc: Global,
-    sites: &Sites<'_>,
+    sites: &ScriptedSites<'_>,
     name: &str,
     jobs: &[Job],
     want: &str,
@@ -189,8 +198,8 @@ fn shift_of_nothing<G: Gate + Send + Sync, R: Threads + Wait + Sync>(
     alloc: Global,
     gate: &GateLock<G>,
 ) -> Option<ShiftFault> {
-    let sites = Sites { alloc, pages: &[] };
-    run_shift(rt, alloc, &[], 1, gate, &sites, &Standing(100), &()).err()
+    let sites = ScriptedSites { alloc, pages: &[] };
+    run_shift(rt, alloc, &[], 1, gate, &sites, &FixedClock(100), &()).err()
 }
 
 fn sweep<G: Gate, R: Wait>(rt: &R, desk: &mut Desk<'_, G>) -> bool

@@ -3,10 +3,11 @@ ghost use Rattle.std.specs.Prelude.{◌≡◌, []};
 ghost use Rattle.gate_history.specs.Base.{empty_base};
 ghost use Rattle.gate_lock.specs.Desks.{KeepsOut};
 
-use super::gates::{Standing, book};
+use super::gates::{FixedClock, book};
 use super::jobs::job_text;
 use super::pages::{job, pages};
-use crawl_workers::{Job, Sites, refresh};
+use authority_cache::{LIFE, TimedAnswer};
+use crawl_workers::{Job, ScriptedSites, refresh};
 use gate_core::{Book, Limits};
 use gate_lock::{Blanks, Desk, DesksFull, Gate, GateLock, Visit, with_gate};
 use path_normal::Authority;
@@ -43,7 +44,8 @@ fn begin_and_bring<G: Gate, R: Wait + time::Clock>(rt: &R, desk: &mut Desk<'_, G
         return;
     };
     thread::sleep(rt, Duration::from_millis(200));
-    desk.arrive(rt, turn, Answer::Open(Opening::Unavailable), 86_400, 100);
+    let open = TimedAnswer::new(Answer::Open(Opening::Unavailable), LIFE);
+    desk.arrive(rt, turn, open, 100);
 }
 
 // A job that begins once a turn of its authority is in flight.
@@ -131,7 +133,7 @@ fn given_of_both<R: Threads + Wait + RandomSource + time::Clock + Sync>(
 struct BusyRow<'r, R: Wait> {
     rt: &'r R,
     alloc: Global,
-    sites: &'r Sites<'r>,
+    sites: &'r ScriptedSites<'r>,
 }
 
 impl<R: Wait> Visit for BusyRow<'_, R> {
@@ -146,7 +148,7 @@ fn busy_text<G: Gate, R: Wait>(
     rt: &R,
     alloc: Global,
     gate: &GateLock<G>,
-    sites: &Sites<'_>,
+    sites: &ScriptedSites<'_>,
 ) -> Result<String, Fail> {
     let mut desk = gate.desk(rt, alloc)?;
     let told = work_beside(rt, alloc, gate, &mut desk, sites);
@@ -159,12 +161,12 @@ fn work_beside<G: Gate, R: Wait>(
     alloc: Global,
     gate: &GateLock<G>,
     desk: &mut Desk<'_, G>,
-    sites: &Sites<'_>,
+    sites: &ScriptedSites<'_>,
 ) -> Result<String, Fail>
     ensures { KeepsOut desk.old desk.new }
 {
     let site = Authority::new(alloc, "a.example")?;
-    if refresh(rt, alloc, &site, desk, sites, &Standing(100)).is_err() {
+    if refresh(rt, alloc, &site, desk, sites, &FixedClock(100)).is_err() {
         return Err(Fail::new("an answer"));
     }
     let job = job(alloc, "foobot", PAGE)?;
@@ -192,7 +194,7 @@ fn work_beside_permit<G: Gate, R: Wait>(
 #[test]
 fn the_authority_is_busy(rt: HostRuntime) -> Result<(), Fail> {
     let pages = pages(rt.alloc())?;
-    let sites = Sites {
+    let sites = ScriptedSites {
         alloc: rt.alloc(),
         pages: pages.as_slice(),
     };
@@ -202,7 +204,7 @@ fn the_authority_is_busy(rt: HostRuntime) -> Result<(), Fail> {
 fn check_busy<R: Wait + RandomSource + Abort>(
     rt: &R,
     alloc: Global,
-    sites: &Sites<'_>,
+    sites: &ScriptedSites<'_>,
 ) -> Result<(), Fail> {
     let given = given_of_busy(rt, alloc, sites)?;
     assert_eq!(rt; given.as_str(), "Busy; ; ");
@@ -212,7 +214,7 @@ fn check_busy<R: Wait + RandomSource + Abort>(
 fn given_of_busy<R: Wait + RandomSource>(
     rt: &R,
     alloc: Global,
-    sites: &Sites<'_>,
+    sites: &ScriptedSites<'_>,
 ) -> Result<String, Fail> {
     let mut limits = Limits::usual();
     limits.places = 1;

@@ -1,6 +1,5 @@
 -- An entry that is there is written.
 use Rattle.std.proofs.Common.{ap, sym, ◌∙◌, refl, true≢false, string_bytes}
-use Rattle.robots_verdict.specs.Answer.{said}
 use Rattle.std.specs.Map.{lookup}
 use Rattle.std.proofs.lemmas.Result.{on_err_weaker}
 use Rattle.indexmap.specs.IndexMap.{set_value_at}
@@ -20,7 +19,7 @@ returns-in-Some-clause-reply c = λ limit e at.
     let apart = apart_from es c.in-Some.ensures.unique in
     let found = found_at a es c.args.index e.1 v apart at (sym c.in-Some.ensures.value) in
     let wrote = written_at a es c.args.index e.1 w apart at in
-    (arrived-known limit a c.args.turn c.args.life (said c.args.answer) es (set_value_at es c.args.index w) v w c.arrive.result
+    (arrived-known limit a c.args.turn c.args.answer es (set_value_at es c.args.index w) v w c.arrive.result
     c.requires.all found wrote (λ b. ap (lookup (is_named b)) wrote ∙ others_at a b es v w found) c.arrive.ensures.turn c.arrive.ensures.ok c.arrive.ensures.err).0
 
 pub returns-in-Some-clause-known : goal.returns-in-Some-clause-known
@@ -34,7 +33,7 @@ returns-in-Some-clause-known c =
     let apart = apart_from es c.in-Some.ensures.unique in
     let found = found_at a es c.args.index (said_site e.0.1) v apart at (sym c.in-Some.ensures.value) in
     let wrote = written_at a es c.args.index (said_site e.0.1) w apart at in
-    (arrived-known 0 a c.args.turn c.args.life (said c.args.answer) es (set_value_at es c.args.index w) v w c.arrive.result
+    (arrived-known 0 a c.args.turn c.args.answer es (set_value_at es c.args.index w) v w c.arrive.result
     c.requires.all found wrote (λ b. ap (lookup (is_named b)) wrote ∙ others_at a b es v w found) c.arrive.ensures.turn c.arrive.ensures.ok c.arrive.ensures.err).1
 
 pub returns-in-Some-clause-others : goal.returns-in-Some-clause-others

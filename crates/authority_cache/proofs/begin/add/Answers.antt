@@ -6,7 +6,7 @@ use Rattle.std.proofs.lemmas.List.{map-append}
 use Rattle.indexmap.proofs.CallerLemmas.{insert_entry-new}
 use Rattle.authority_cache.specs.declared.site.Site.{Site}
 use Rattle.authority_cache.specs.Ends.{Covers}
-use Rattle.authority_cache.specs.Sites.{nothing, with_flight}
+use Rattle.authority_cache.specs.Sites.{nothing_known, with_flight}
 use Rattle.authority_cache.specs.Kept.{said_entries, said_entry}
 use Rattle.authority_cache.proofs.SweepLaws.{covers_added}
 use Rattle.authority_cache.proofs.begin.add.Goals as goal
@@ -15,7 +15,7 @@ pub returns-in-Ok-clause-ok : goal.returns-in-Ok-clause-ok
 returns-in-Ok-clause-ok c =
     let none = subst (λ text. get_by_text c.args.sites.now text ≡ None) (sym c.in_ok-name.ensures.ok) c.requires in
     ap said_entries (c.in-Ok.ensures.entries ∙ insert_entry-new string_eq c.args.sites.now c.in_ok-name.name _ none)
-    ∙ (map-append said_entry c.args.sites.now.entries _ ∙ ap (λ text. said_entries c.args.sites.now.entries ++ (text, with_flight c.args.flight nothing) ∷ []) c.in_ok-name.ensures.ok)
+    ∙ (map-append said_entry c.args.sites.now.entries _ ∙ ap (λ text. said_entries c.args.sites.now.entries ++ (text, with_flight c.args.flight nothing_known) ∷ []) c.in_ok-name.ensures.ok)
 
 pub returns-in-Ok-clause-covered : goal.returns-in-Ok-clause-covered
 returns-in-Ok-clause-covered c = λ kept covered.

@@ -17,12 +17,12 @@ loop-walk-preserved-in-Go c =
 pub returns-in-Done-clause-brings : goal.returns-in-Done-clause-brings
 returns-in-Done-clause-brings c =
     let takes = subst (λ (r : Option RobotsReply). TakesReply c.loop-walk.replies r c.next.new.self) c.in-Some.is c.in_ok-reply.ensures in
-    ends_well _ _ _ _ _ _ _ _ c.loop-walk.invariant takes c.in-Done.ensures (c.is_empty.ensures.0 c.if-is_empty.true)
+    ends_well _ _ _ _ _ _ _ c.loop-walk.invariant takes c.in-Done.ensures (c.is_empty.ensures.0 c.if-is_empty.true)
 
 pub returns-in-Done-2-clause-brings : goal.returns-in-Done-2-clause-brings
 returns-in-Done-2-clause-brings c =
     let takes = subst (λ (r : Option RobotsReply). TakesReply c.loop-walk.replies r c.next.new.self) c.in-Some.is c.in_ok-reply.ensures in
-    ends_early _ _ _ _ _ _ _ _ c.loop-walk.invariant takes c.in-Done-2.ensures
+    ends_early _ _ _ _ _ _ _ c.loop-walk.invariant takes c.in-Done-2.ensures
     (λ none. true≢false (sym (c.is_empty.ensures.1 none) ∙ c.if-is_empty.false))
 
 pub returns-clause-brings : goal.returns-clause-brings

@@ -5,5 +5,5 @@ use Rattle.command_server.proofs.command.plain_text.Goals as goal
 
 pub returns : goal.returns
 returns c =
-    let plain = sym c.is_plain.ensures ∙ c.if-not-is_plain.false in
+    let plain = sym c.has_line_octets.ensures ∙ c.if-not-has_line_octets.false in
     rw c.ok.ensures.value (text_of_plain _ c.args.line.now c.from_utf8.result plain c.from_utf8.ensures.cases)

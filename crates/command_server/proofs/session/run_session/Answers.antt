@@ -12,8 +12,8 @@ use Rattle.command_server.proofs.session.run_session.Goals as goal
 pub returns-in_err-buffers-clause-session : goal.returns-in_err-buffers-clause-session
 returns-in_err-buffers-clause-session g c =
     let p = err_from_is_err_and c.from_residual.result c.from_residual.ensures.1 in
-    let s = served_start g.A.Answerer.answers c.args.limit c.args.answerer.now (g.R.Source.left c.args.reader.now) [] (g.W.Sink.written c.args.writer.now) [] refl refl in
-    rw (p.1, p.2) (served_stops c.args.most [] _ _ (Err NoMemory) (Err NoMemory) s (omega arith) (refl, finds_none [] _) (inl refl) (Appends-nil _))
+    let s = served_start (g.A.Answerer.answers c.args.answerer.now) c.args.limit c.args.state.now (g.R.Source.left c.args.reader.now) [] (g.W.Sink.written c.args.writer.now) [] refl refl in
+    rw (p.1, p.2) (served_stops c.args.most [] _ _ (Err NoMemory) (Err NoMemory) s (omega arith) (refl, finds_none [] _) (inl refl) (Appends-nil _) (omega arith))
 
 pub loop-taken-init : goal.loop-taken-init
 loop-taken-init g c = record {
@@ -25,14 +25,14 @@ loop-taken-init g c = record {
 pub returns-in_err-next-clause-session : goal.returns-in_err-next-clause-session
 returns-in_err-next-clause-session g c =
     let p = err_from_is_err_and c.from_residual-in_err-next.result c.from_residual-in_err-next.ensures.1 in
-    rw (p.1, p.2) (fails_stops c.args.most _ _ _ _ c.loop-taken.invariant.served (omega arith) c.in_err-next.ensures.fault)
+    rw (p.1, p.2) (fails_stops c.args.most _ _ _ _ c.loop-taken.invariant.served (omega arith) c.in_err-next.ensures.fault c.in_err-next.ensures.few.0)
 
 pub returns-in_err-answer-in-Line-clause-session : goal.returns-in_err-answer-in-Line-clause-session
 returns-in_err-answer-in-Line-clause-session g c =
     let p = err_from_is_err_and c.from_residual-in_err-answer-in-Line.result c.from_residual-in_err-answer-in-Line.ensures.1 in
     let s = served_further c.loop-taken.invariant.served c.in_ok-next.ensures.passed in
     let line = rw c.in-Line.is at c.in_ok-next.ensures.takes in
-    rw (p.1, p.2) (line_lost c.args.most _ _ _ s (took_line s.whole line) (omega arith) c.in_err-answer-in-Line.ensures.err (finds_none _ _))
+    rw (p.1, p.2) (line_lost c.args.most _ _ _ s (took_line s.whole line) (omega arith) c.in_err-answer-in-Line.ensures.err (finds_none _ _) c.in_ok-next.ensures.few.1)
 
 pub returns-in-Ends-clause-session : goal.returns-in-Ends-clause-session
 returns-in-Ends-clause-session g c =
@@ -40,33 +40,33 @@ returns-in-Ends-clause-session g c =
     let line = rw c.in-Line.is at c.in_ok-next.ensures.takes in
     let replies = rw c.in-Ends.is at c.in_ok-answer-in-Line.ensures.ok in
     line_stops c.args.most _ _ _ _ _ (Ok tt) _ s (took_line s.whole line) (omega arith) replies
-    (record { kept = Consumes-nil _; none = inl refl }) c.close.ensures.results c.close.ensures.wrote
+    (record { kept = Consumes-nil _; none = inl refl }) c.close.ensures.results c.close.ensures.wrote c.close.ensures.few
 
 pub returns-in_err-answer-in-Last-clause-session : goal.returns-in_err-answer-in-Last-clause-session
 returns-in_err-answer-in-Last-clause-session g c =
     let p = err_from_is_err_and c.from_residual-in_err-answer-in-Last.result c.from_residual-in_err-answer-in-Last.ensures.1 in
     let s = served_further c.loop-taken.invariant.served c.in_ok-next.ensures.passed in
     let last = rw c.in-Last.is at c.in_ok-next.ensures.takes in
-    rw (p.1, p.2) (line_lost c.args.most _ _ _ s (took_last s.whole last) (omega arith) c.in_err-answer-in-Last.ensures.err (finds_none _ _))
+    rw (p.1, p.2) (line_lost c.args.most _ _ _ s (took_last s.whole last) (omega arith) c.in_err-answer-in-Last.ensures.err (finds_none _ _) c.in_ok-next.ensures.few.1)
 
 pub returns-in-Last-clause-session : goal.returns-in-Last-clause-session
 returns-in-Last-clause-session g c =
     let s = served_further c.loop-taken.invariant.served c.in_ok-next.ensures.passed in
     let last = rw c.in-Last.is at c.in_ok-next.ensures.takes in
     line_stops c.args.most _ _ _ _ _ (Ok tt) _ s (took_last s.whole last) (omega arith) c.in_ok-answer-in-Last.ensures.ok
-    (record { kept = Consumes-nil _; none = inr last.drained }) c.close-in-Last.ensures.results c.close-in-Last.ensures.wrote
+    (record { kept = Consumes-nil _; none = inr last.drained }) c.close-in-Last.ensures.results c.close-in-Last.ensures.wrote c.close-in-Last.ensures.few
 
 pub returns-in-End-clause-session : goal.returns-in-End-clause-session
 returns-in-End-clause-session g c =
     let s = served_further c.loop-taken.invariant.served c.in_ok-next.ensures.passed in
     let end = rw c.in-End.is at c.in_ok-next.ensures.takes in
-    served_stops c.args.most _ _ _ (Ok tt) _ s (omega arith) (record { kept = end.kept; none = inr end.drained }) c.close-in-End.ensures.results c.close-in-End.ensures.wrote
+    served_stops c.args.most _ _ _ (Ok tt) _ s (omega arith) (record { kept = end.kept; none = inr end.drained }) c.close-in-End.ensures.results c.close-in-End.ensures.wrote c.close-in-End.ensures.few
 
 pub returns-in-TooLong-clause-session : goal.returns-in-TooLong-clause-session
 returns-in-TooLong-clause-session g c =
     let s = served_further c.loop-taken.invariant.served c.in_ok-next.ensures.passed in
     let long = rw c.in-TooLong.is at c.in_ok-next.ensures.takes in
-    served_stops c.args.most _ _ _ (Err LongLine) _ s (omega arith) (refl, long) c.close-in-TooLong.ensures.results c.close-in-TooLong.ensures.wrote
+    served_stops c.args.most _ _ _ (Err LongLine) _ s (omega arith) (refl, long) c.close-in-TooLong.ensures.results c.close-in-TooLong.ensures.wrote c.close-in-TooLong.ensures.few
 
 pub loop-taken-preserved : goal.loop-taken-preserved
 loop-taken-preserved g c =
@@ -82,19 +82,19 @@ loop-taken-preserved g c =
 pub returns-in_err-next-2-clause-session : goal.returns-in_err-next-2-clause-session
 returns-in_err-next-2-clause-session g c =
     let p = err_from_is_err_and c.from_residual-in_err-next-2.result c.from_residual-in_err-next-2.ensures.1 in
-    rw (p.1, p.2) (fails_stops c.args.most _ _ _ _ c.loop-taken.invariant.served (omega arith) c.in_err-next-2.ensures.fault)
+    rw (p.1, p.2) (fails_stops c.args.most _ _ _ _ c.loop-taken.invariant.served (omega arith) c.in_err-next-2.ensures.fault c.in_err-next-2.ensures.few.0)
 
 pub returns-in-End-2-clause-session : goal.returns-in-End-2-clause-session
 returns-in-End-2-clause-session g c =
     let s = served_further c.loop-taken.invariant.served c.in_ok-next-2.ensures.passed in
     let end = rw c.in-End-2.is at c.in_ok-next-2.ensures.takes in
-    served_stops c.args.most _ _ _ (Ok tt) _ s (omega arith) (record { kept = end.kept; none = inr end.drained }) c.close-in-End-2.ensures.results c.close-in-End-2.ensures.wrote
+    served_stops c.args.most _ _ _ (Ok tt) _ s (omega arith) (record { kept = end.kept; none = inr end.drained }) c.close-in-End-2.ensures.results c.close-in-End-2.ensures.wrote c.close-in-End-2.ensures.few
 
 pub returns-in-TooLong-2-clause-session : goal.returns-in-TooLong-2-clause-session
 returns-in-TooLong-2-clause-session g c =
     let s = served_further c.loop-taken.invariant.served c.in_ok-next-2.ensures.passed in
     let long = rw c.in-TooLong-2.is at c.in_ok-next-2.ensures.takes in
-    served_stops c.args.most _ _ _ (Err LongLine) _ s (omega arith) (refl, long) c.close-in-TooLong-2.ensures.results c.close-in-TooLong-2.ensures.wrote
+    served_stops c.args.most _ _ _ (Err LongLine) _ s (omega arith) (refl, long) c.close-in-TooLong-2.ensures.results c.close-in-TooLong-2.ensures.wrote c.close-in-TooLong-2.ensures.few
 
 pub returns-clause-session : goal.returns-clause-session
 returns-clause-session g c =
@@ -106,4 +106,4 @@ returns-clause-session g c =
       | inr last ↦ record { line = c.next-2.new.self.line.items; taken = inr (rw last at takes) }
     ]
     in
-    served_stops c.args.most _ _ _ (Err Lines) _ s (omega arith) (refl, omega arith, further) c.close-in-Line-2.ensures.results c.close-in-Line-2.ensures.wrote
+    served_stops c.args.most _ _ _ (Err Lines) _ s (omega arith) (refl, omega arith, further) c.close-in-Line-2.ensures.results c.close-in-Line-2.ensures.wrote c.close-in-Line-2.ensures.few

@@ -1,7 +1,7 @@
 -- Each way out of the loop is the end or a fault, behind the lines of a legal history.
 use Rattle.std.proofs.Common.{◌+◌, Bool, Ok, ap, ◌∙◌, subst}
 use Rattle.std.specs.Io.KnownBytes.{prepend_known}
-use Rattle.crawl_audit.specs.Audit.{Steps}
+use Rattle.crawl_audit.specs.Audit.{TakesStep}
 use Rattle.crawl_audit.proofs.Auditing.{all_audited}
 use Rattle.crawl_audit.proofs.audit_text.audit.Goals as goal
 
@@ -9,7 +9,7 @@ pub returns-then-not-more-clause-ok : goal.returns-then-not-more-clause-ok
 returns-then-not-more-clause-ok g c =
     let input = g.R.Source.left c.args.reader.now in
     let behind = prepend_known c.take.new.self.reader (g.R.Source.left c.take.new.reader) in
-    let steps = subst (λ (b : Bool). Steps input c.loop-taken.auditor (Ok b) c.take.new.self behind) c.if-not-more.true (c.in-Ok.ensures.steps input c.loop-taken.invariant.heard) in
+    let steps = subst (λ (b : Bool). TakesStep input c.loop-taken.auditor (Ok b) c.take.new.self behind) c.if-not-more.true (c.in-Ok.ensures.steps input c.loop-taken.invariant.heard) in
     λ text is. all_audited c.take.new.self input behind steps.0 _ (ap (λ a. a.events) c.audited.ensures) (ap (λ a. a.starts) c.audited.ensures) steps.1 text is
 
 pub returns-in-Err-clause-fault : goal.returns-in-Err-clause-fault
@@ -19,7 +19,7 @@ pub loop-taken-preserved : goal.loop-taken-preserved
 loop-taken-preserved g c =
     let input = g.R.Source.left c.args.reader.now in
     let behind = prepend_known c.take.new.self.reader (g.R.Source.left c.take.new.reader) in
-    let steps = subst (λ (b : Bool). Steps input c.loop-taken.auditor (Ok b) c.take.new.self behind) c.if-not-more.false (c.in-Ok.ensures.steps input c.loop-taken.invariant.heard) in
+    let steps = subst (λ (b : Bool). TakesStep input c.loop-taken.auditor (Ok b) c.take.new.self behind) c.if-not-more.false (c.in-Ok.ensures.steps input c.loop-taken.invariant.heard) in
     record {
       heard = steps.0;
       lines = steps.1 ∙ ap (λ n. n + 1) c.loop-taken.invariant.lines;

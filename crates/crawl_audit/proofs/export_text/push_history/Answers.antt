@@ -2,13 +2,13 @@
 use Rattle.counted_io.proofs.Writing.{prefix_piece}
 use Rattle.line_text.proofs.Pushing.{pushes_cut, pushes_then}
 use Rattle.crawl_audit.specs.declared.version.Version.TheVariants.{Two}
-use Rattle.crawl_audit.specs.Spell.{head_of, lines_of}
+use Rattle.crawl_audit.specs.Spell.{version_line, entry_lines}
 use Rattle.crawl_audit.proofs.export_text.push_history.Goals as goal
 
 pub returns-in_err-push-clause-pushes : goal.returns-in_err-push-clause-pushes
 returns-in_err-push-clause-pushes g c =
     pushes_cut _ _ _ _ _ _ _ c.from_residual.result c.from_residual.ensures.0
-    (prefix_piece _ _ c.args.output.now (head_of Two) (lines_of Two c.args.entries.now) c.in_err-push.ensures.err) c.in_err-push.ensures.count
+    (prefix_piece _ _ c.args.output.now (version_line Two) (entry_lines Two c.args.entries.now) c.in_err-push.ensures.err) c.in_err-push.ensures.count
 
 pub returns-clause-pushes : goal.returns-clause-pushes
 returns-clause-pushes g c =

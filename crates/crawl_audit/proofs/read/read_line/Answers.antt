@@ -3,9 +3,10 @@ use Rattle.std.proofs.Common.{◌≡◌, Err, sym, subst, ◌∙◌}
 use Rattle.std.specs.Str.{IsUtf8}
 use Rattle.std.proofs.lemmas.Bool.{true≢false}
 use Rattle.std.proofs.lemmas.Result.{err_from_is_err_and}
-use Rattle.crawl_audit.specs.declared.unread.Unread.{Unread}
-use Rattle.crawl_audit.specs.declared.unread.Unread.TheVariants.{NotOne}
-use Rattle.crawl_audit.specs.Reading.{entry_named, entry_of, ReadsEntry}
+use Rattle.crawl_audit.specs.declared.unread_line.UnreadLine.{UnreadLine}
+use Rattle.crawl_audit.specs.declared.unread_line.UnreadLine.TheVariants.{NotOne}
+use Rattle.crawl_audit.specs.Reading.{entry_named, ReadsEntry}
+use Rattle.crawl_audit.specs.Records.{entry_of}
 use Rattle.crawl_audit.proofs.Spelling.{none_named, other_named, utf8_line}
 use Rattle.crawl_audit.proofs.read.read_line.Goals as goal
 
@@ -16,7 +17,7 @@ pub returns-in_err-found-clause-none : goal.returns-in_err-found-clause-none
 returns-in_err-found-clause-none c = λ none e is same.
     let p = err_from_is_err_and c.from_residual.result c.from_residual.ensures.1 in
     let which : c.in_err-found.field-0.0 ≡ NotOne = cc (p.1, p.2, none) in
-    let nothing = subst (λ (u : Unread). ReadsEntry (Err u) (entry_named c.args.version c.in-Ok.text.now)) which c.in_err-found.ensures in
+    let nothing = subst (λ (u : UnreadLine). ReadsEntry (Err u) (entry_named c.args.version c.in-Ok.text.now)) which c.in_err-found.ensures in
     none_named c.args.version c.args.line.now c.in-Ok.text.now e c.in-Ok.ensures.cases.0 nothing is same
 
 pub returns-else-is_spelled-clause-none : goal.returns-else-is_spelled-clause-none

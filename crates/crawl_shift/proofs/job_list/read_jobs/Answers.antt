@@ -12,4 +12,4 @@ returns-clause-fault g c =
     read_badly c.end.result _ _ _ _ _ _ _ (c.new.ensures.items, refl, c.run_session-end.ensures.session) c.end.ensures.fault
 
 pub returns-clause-reads : goal.returns-clause-reads
-returns-clause-reads g c = read_failed c.end.result c.run_session-end.new.answerer c.run_session-end.result _ _ c.run_session-end.ensures.reads c.end.ensures.fault
+returns-clause-reads g c = read_failed c.end.result c.run_session-end.new.state c.run_session-end.result _ _ c.run_session-end.ensures.reads c.end.ensures.fault

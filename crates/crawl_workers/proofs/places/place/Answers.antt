@@ -6,24 +6,24 @@ use Rattle.std.specs.List.{slice_get}
 use Rattle.job_line.specs.Sums.{weigh}
 use Rattle.crawl_workers.specs.declared.crew.Done.{Done}
 use Rattle.crawl_workers.specs.declared.report.Crawled.{Crawled}
-use Rattle.crawl_workers.specs.Crews.{one_below, one_for}
+use Rattle.crawl_workers.specs.Crews.{one_below, one_at_number}
 use Rattle.crawl_workers.specs.Shifts.{numbers_of}
 use Rattle.crawl_workers.proofs.Placing.{get_other, none_for_other, own_place, put_one, weigh_middle}
 use Rattle.crawl_workers.proofs.places.place.Goals as goal
 
 own_here : (all taken : List Done) (this : Done) (later : List Done) (before now : List Crawled) → all ≡ taken ++ this ∷ later → length now ≡ length before
-    → ((n : ℕ) → weigh (one_for n) (numbers_of all) ≤ one_below (length before) n)
-    → (this.number < length now) × (weigh (one_for this.number) (numbers_of taken) ≡ 0)
+    → ((n : ℕ) → weigh (one_at_number n) (numbers_of all) ≤ one_below (length before) n)
+    → (this.number < length now) × (weigh (one_at_number this.number) (numbers_of taken) ≡ 0)
 own_here all taken this later before now is len once =
     let own = own_place taken this later (length before)
-    (subst (λ (done : List Done). weigh (one_for this.number) (numbers_of done) ≤ one_below (length before) this.number) is (once this.number)) in
+    (subst (λ (done : List Done). weigh (one_at_number this.number) (numbers_of done) ≤ one_below (length before) this.number) is (once this.number)) in
     (omega (arith, own.0, len), own.1)
 
 others_here : (before now : List Crawled) (taken : List Done) (this : Done)
-    → ((n : ℕ) → weigh (one_for n) (numbers_of taken) ≡ 0 → slice_get now n ≡ slice_get before n)
-    → (n : ℕ) → weigh (one_for n) (numbers_of (taken ++ this ∷ [])) ≡ 0 → slice_get (slice_set now this.number this.crawled) n ≡ slice_get before n
+    → ((n : ℕ) → weigh (one_at_number n) (numbers_of taken) ≡ 0 → slice_get now n ≡ slice_get before n)
+    → (n : ℕ) → weigh (one_at_number n) (numbers_of (taken ++ this ∷ [])) ≡ 0 → slice_get (slice_set now this.number this.crawled) n ≡ slice_get before n
 others_here before now taken this others n none =
-    let middle = weigh_middle (one_for n) taken this [] in
+    let middle = weigh_middle (one_at_number n) taken this [] in
     let differ = none_for_other n this.number (omega (arith, none, middle)) in
     get_other now this.number n this.crawled differ ∙ others n (omega (arith, none, middle))
 

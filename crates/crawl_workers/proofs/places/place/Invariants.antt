@@ -4,7 +4,7 @@ use Rattle.std.proofs.Common.{◌≡◌, ◌++◌, ℕ, List, length}
 use Rattle.std.specs.List.{slice_get}
 use Rattle.job_line.specs.Sums.{weigh}
 use Rattle.crawl_workers.specs.declared.crew.Done.{Done}
-use Rattle.crawl_workers.specs.Crews.{one_for}
+use Rattle.crawl_workers.specs.Crews.{one_at_number}
 use Rattle.crawl_workers.specs.Shifts.{ArePlaced, numbers_of}
 use Rattle.crawl_workers.proofs.places.place.Given as goal
 
@@ -14,5 +14,5 @@ invariant-loop-job l = record {
   all : l.fn.done.items ≡ taken ++ l.job-iterator.rest.items;
   len : length l.outcomes ≡ length l.fn.outcomes;
   placed : ArePlaced l.outcomes taken;
-  others : (n : ℕ) → weigh (one_for n) (numbers_of taken) ≡ 0 → slice_get l.outcomes n ≡ slice_get l.fn.outcomes n;
+  others : (n : ℕ) → weigh (one_at_number n) (numbers_of taken) ≡ 0 → slice_get l.outcomes n ≡ slice_get l.fn.outcomes n;
 }

@@ -21,8 +21,8 @@ returns-in-Done-clause-brings g c =
     let gives = g.F.Fetcher.gives c.args.fetcher.now robots_limit in
     let walk = c.loop-next.walk in
     let P : List ℕ → Type 0 = λ url. gives url c.fetch_robots-given.result in
-    let Q : RobotsReply → Type 0 = λ reply. Steps walk reply (Done c.in-Done.answer c.in-Done.life) in
-    inl (fetched gives c.args.turn.now.authority walk c.fetch_robots-given.result c.in-Done.answer c.in-Done.life c.loop-next.invariant
+    let Q : RobotsReply → Type 0 = λ reply. Steps walk reply (Done c.in-Done.answer) in
+    inl (fetched gives c.args.turn.now.authority walk c.fetch_robots-given.result c.in-Done.answer c.loop-next.invariant
     (subst P c.url.ensures c.fetch_robots-given.ensures) (subst Q c.robots_reply-reply.ensures c.in-Done.ensures))
 
 pub loop-next-preserved-in-Go : goal.loop-next-preserved-in-Go

@@ -3,7 +3,7 @@
 use Rattle.std.proofs.Common.{◌≡◌, ◌∙◌, ◌≤◌, List, ℕ, Vec, Global, length, ap, refl, sym, subst}
 use Rattle.std.specs.Prelude.{map}
 use Rattle.job_line.specs.Sums.{weigh_all, weigh_below}
-use Rattle.crawl_workers.specs.Crews.{AreAllDone, all_numbers, one_below, one_for}
+use Rattle.crawl_workers.specs.Crews.{AreAllDone, all_numbers, one_below, one_at_number}
 use Rattle.crawl_workers.specs.World.{world_of}
 use Rattle.crawl_workers.proofs.Shifting.{done_once, is_shift, lent_whole}
 use Rattle.crawl_workers.proofs.shift.run_shift.Goals as goal
@@ -19,7 +19,7 @@ place_all-requires g c n =
     let each : (weight : ℕ → ℕ) → weigh_all weight drawn ≡ weigh_below weight (length jobs) =
     λ weight. ap (λ (ls : List (Vec ℕ Global)). weigh_all weight (map (λ (list : Vec ℕ Global). list.items) ls)) (sym c.as_slice.ensures.value)
     ∙ c.if-not-are_all_once.ensures refl weight ∙ ap (weigh_below weight) (c.deref_mut.ensures.len ∙ c.in_ok-places.ensures.len) in
-    subst (λ (count : ℕ). weigh_all (one_for n) (all_numbers lists) ≤ one_below count n) (sym (c.deref_mut-2.ensures.len ∙ c.in_ok-outcomes.ensures))
+    subst (λ (count : ℕ). weigh_all (one_at_number n) (all_numbers lists) ≤ one_below count n) (sym (c.deref_mut-2.ensures.len ∙ c.in_ok-outcomes.ensures))
     (done_once world jobs drawn lists receipts (length jobs) all.have_done each n)
 
 pub returns : goal.returns

@@ -1,7 +1,8 @@
 -- The start spends the permit that stands.
 -- Used by `expiry_at_start`.
 use Rattle.std.proofs.Common.{refl, arith}
-use Rattle.gate_core.specs.Rows.{foobot, page, other_page}
+use Rattle.gate_history.specs.Rows.{foobot, page}
+use Rattle.gate_core.specs.Rows.{other_page}
 use Rattle.gate_core.proofs.rows.expiry_at_start.Goals as goal
 
 pub returns-clause-in_force : goal.returns-clause-in_force

@@ -1,7 +1,7 @@
 -- The start spends the permit that stands.
 -- Used by `missing_robots`.
 use Rattle.std.proofs.Common.{refl, arith}
-use Rattle.gate_core.specs.Rows.{foobot, page}
+use Rattle.gate_history.specs.Rows.{foobot, page}
 use Rattle.gate_core.proofs.rows.missing_robots.Goals as goal
 
 pub returns-clause-start : goal.returns-clause-start

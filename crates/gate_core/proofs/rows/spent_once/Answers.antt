@@ -1,7 +1,7 @@
 -- The start spends the permit that stands.
 -- Used by `spent_once`.
 use Rattle.std.proofs.Common.{refl, arith}
-use Rattle.gate_core.specs.Rows.{foobot, page}
+use Rattle.gate_history.specs.Rows.{foobot, page}
 use Rattle.gate_core.proofs.rows.spent_once.Goals as goal
 
 pub returns-clause-own : goal.returns-clause-own

@@ -2,7 +2,7 @@
 use Rattle.std.proofs.Common.{List, ℕ, ◌++◌, sym, ap, ◌∙◌, take-append-drop}
 use Rattle.std.specs.Prelude.{codes}
 use Rattle.std.proofs.lemmas.Bool.{true≢false}
-use Rattle.http_wire.specs.Fields.{is_same_word}
+use Rattle.robots_text.specs.Words.{is_same_word}
 use Rattle.http_wire.proofs.MaxAges.{max_age_told, name_of}
 use Rattle.http_wire.proofs.freshness.max_age.Goals as goal
 

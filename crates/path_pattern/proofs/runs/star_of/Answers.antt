@@ -25,5 +25,5 @@ one_cut pattern run after split plain other more split' =
 pub returns-in-First : goal.returns-in-First
 returns-in-First c = (
   c.in-First.ensures,
-  one_cut c.args.pattern.now c.split_at_place.result.0.now c.split_at_place.result.1.now c.split_at_place.ensures (c.has_no_star.ensures.0 c.if-has_no_star.true),
+  one_cut c.args.pattern.now c.split_at_place.result.0.now c.split_at_place.result.1.now c.split_at_place.ensures (c.has_no_star.ensures.tells.0 c.if-has_no_star.true),
 )

@@ -1,7 +1,7 @@
 -- The group and the pattern are those of the row.
 -- Used by `key_at`.
 use Rattle.std.proofs.Common.{◌≡◌, ℕ, sym, ap, ◌∙◌, subst}
-use Rattle.robots_verdict.specs.Keys.{AreOctets, spell}
+use Rattle.robots_verdict.specs.Keys.{AreOctets, spelled_number}
 use Rattle.robots_verdict.specs.Rows.{row_at}
 use Rattle.robots_verdict.proofs.keys.key_at.Goals as goal
 
@@ -13,6 +13,6 @@ returns-clause-key c =
     let form : c.form.result.now ≡ (row_at rows key.place).form = c.form.ensures ∙ ap (λ (n : ℕ). (row_at rows n).form) same in
     record {
       group = c.key_of.ensures.place.0 ∙ c.group.ensures ∙ ap (λ (n : ℕ). (row_at rows n).group) same;
-      spelled = c.key_of.ensures.spelled ∙ ap (spell 16 0) form;
+      spelled = c.key_of.ensures.spelled ∙ ap (spelled_number 16 0) form;
       octets = subst AreOctets form c.key_of.ensures.octets;
     }

@@ -1,13 +1,13 @@
 -- The halves make the number that the first sixteen octets spell.
 -- The lemma `halves` of `Spelling` says so.
 use Rattle.std.proofs.Common.{◌+◌, ◌*◌, ◌^◌, arith, sym, ap, ◌∙◌}
-use Rattle.robots_verdict.specs.Keys.{spell}
+use Rattle.robots_verdict.specs.Keys.{spelled_number}
 use Rattle.robots_verdict.proofs.Spelling.{halves}
 use Rattle.robots_verdict.proofs.keys.key_of.Goals as goal
 
 pub returns-clause-spelled : goal.returns-clause-spelled
 returns-clause-spelled c =
-    (λ i. c.front.ensures i * 2 ^ 64 + (c.front-2.ensures ∙ ap (spell 8 0) c.behind_eight.ensures) i)
+    (λ i. c.front.ensures i * 2 ^ 64 + (c.front-2.ensures ∙ ap (spelled_number 8 0) c.behind_eight.ensures) i)
     ∙ sym (halves c.args.form.now)
 
 pub returns-clause-octets : goal.returns-clause-octets

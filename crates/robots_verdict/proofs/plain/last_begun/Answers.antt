@@ -3,7 +3,7 @@
 use Rattle.std.proofs.Common.{◌≡◌, ◌∷◌, ◌-◌, ◌<◌, ◌≤◌, ℕ, List, length, refl, sym, ap, ◌∙◌, subst, arith}
 use Rattle.std.specs.Prelude.{Option, Some, None, slice_index}
 use Rattle.robots_verdict.specs.Rows.{row_at}
-use Rattle.robots_verdict.specs.Search.{common, IsLast, key_at}
+use Rattle.robots_verdict.specs.Search.{common, IsLastBegun, key_at}
 use Rattle.robots_verdict.proofs.Chains.{begun, falls_short, found, near_parent, near_top, none_near, none_of_group, reaches}
 use Rattle.robots_verdict.proofs.plain.last_begun.Goals as goal
 
@@ -35,7 +35,7 @@ returns-in_default c =
     let not = begun rows places c.requires.rise c.args.count c.requires.fits text c.requires.behind some last c.loop-parent.invariant
     ∙ falls_short top.group c.args.group (length form) c.common-common.result top.form c.args.path.now same is short in
     none_near rows places c.requires.rise c.args.count c.requires.fits text c.requires.behind some last c.loop-parent.invariant not
-    (subst (IsLast rows places last (key_at rows places last)) (no_parent _ c.in_default.not-Some) (c.requires.parents last None c.loop-parent.invariant.within))
+    (subst (IsLastBegun rows places last (key_at rows places last)) (no_parent _ c.in_default.not-Some) (c.requires.parents last None c.loop-parent.invariant.within))
 
 pub loop-parent-preserved : goal.loop-parent-preserved
 loop-parent-preserved c =
@@ -52,7 +52,7 @@ loop-parent-preserved c =
     let not = begun rows places c.requires.rise c.args.count c.requires.fits text c.requires.behind some last c.loop-parent.invariant
     ∙ falls_short top.group c.args.group (length form) c.common-common.result top.form c.args.path.now same is short in
     near_parent rows places c.requires.rise c.args.count c.requires.fits text c.requires.behind some last c.loop-parent.invariant c.in-Some.parent not
-    (subst (IsLast rows places last (key_at rows places last)) c.in-Some.is (c.requires.parents last None c.loop-parent.invariant.within))
+    (subst (IsLastBegun rows places last (key_at rows places last)) c.in-Some.is (c.requires.parents last None c.loop-parent.invariant.within))
 
 pub returns : goal.returns
 returns c =

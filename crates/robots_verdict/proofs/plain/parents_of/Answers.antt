@@ -4,7 +4,7 @@ use Rattle.std.proofs.Common.{◌≡◌, ◌∷◌, ◌+◌, ◌<◌, false, Lis
 use Rattle.std.specs.Prelude.{Option}
 use Rattle.std.specs.Ordering.{is_lt, nat_cmp}
 use Rattle.std.specs.Cmp.Lexicographic.{slice_cmp}
-use Rattle.robots_verdict.specs.Search.{AreParents, IsLast, key_at}
+use Rattle.robots_verdict.specs.Search.{AreParents, IsLastBegun, key_at}
 use Rattle.robots_verdict.proofs.Chains.{keys_rise, parents_pushed}
 use Rattle.robots_verdict.proofs.plain.parents_of.Goals as goal
 
@@ -25,7 +25,7 @@ loop-index-preserved c =
     let parents = c.loop-index.parents.items in
     let parent = c.last_begun-parent.result in
     let text : c.group.result ∷ c.form.result.now ≡ key_at rows places count = λ i. c.group.ensures i ∷ c.form.ensures i in
-    let is = subst (λ (text : List ℕ). IsLast rows places count text parent) text c.last_begun-parent.ensures in (
+    let is = subst (λ (text : List ℕ). IsLastBegun rows places count text parent) text c.last_begun-parent.ensures in (
       ap length c.in_ok-push.ensures.items ∙ length-append parents (parent ∷ []) ∙ ap (λ (n : ℕ). n + 1) c.loop-index.invariant.0,
       subst (λ (all : List (Option ℕ)). AreParents rows places all (count + 1)) (sym c.in_ok-push.ensures.items)
           (parents_pushed rows places parents count parent c.loop-index.invariant.0 c.loop-index.invariant.1 is),

@@ -1,7 +1,6 @@
 -- The site that was found is written, and there is room for its end.
 use Rattle.std.proofs.Common.{◌≡◌, Some, Ok, false, sym, subst, arith}
 use Rattle.std.specs.Prelude.{slice_get}
-use Rattle.robots_verdict.specs.Answer.{said}
 use Rattle.authority_cache.specs.Calls.{Arrives}
 use Rattle.authority_cache.specs.Kept.{known_in, known_of}
 use Rattle.authority_cache.specs.Sites.{Known, has_turn, site_of}
@@ -16,7 +15,7 @@ returns-in_err-close c =
     let t = c.text.result.now in
     let at = subst (λ (k : Known). slice_get k.sites c.in-Some.index ≡ Some (t, site_of k t)) (sym c.self.view_is) (found_index c.args.self.now t c.find.result c.in-Some.index c.find.ensures c.in-Some.is) in
     let new = known_in p.limit c.close.new.sites.entries in
-    refused c.args.self.now new c.args.authority.now c.args.turn c.args.life (said c.args.answer) c.from_residual.result c.from_residual.ensures.0
+    refused c.args.self.now new c.args.authority.now c.args.turn c.args.answer c.from_residual.result c.from_residual.ensures.0
     (subst (λ (k : Known). (has_turn c.args.turn (site_of k c.args.authority.now) ≡ false) × (new ≡ k)) c.self.view_is
     (subst (λ t. (has_turn c.args.turn (site_of (known_of p) t) ≡ false) × (new ≡ known_of p)) c.text.ensures.value
     (c.in_err-close.ensures.reply p.limit (t, site_of (known_of p) t) at)))
@@ -27,7 +26,7 @@ keep_end-requires c =
     let t = c.text.result.now in
     let at = subst (λ (k : Known). slice_get k.sites c.in-Some.index ≡ Some (t, site_of k t)) (sym c.self.view_is) (found_index c.args.self.now t c.find.result c.in-Some.index c.find.ensures c.in-Some.is) in
     let r = c.in_ok-close.ensures.reply p.limit (t, site_of (known_of p) t) at in
-    let fewer = arrived_fewer (known_of p) (known_in p.limit c.close.new.sites.entries) t c.args.turn c.args.life (said c.args.answer) r.0 r.1 in
+    let fewer = arrived_fewer (known_of p) (known_in p.limit c.close.new.sites.entries) t c.args.turn c.args.answer r.0 r.1 in
     omega (arith, fewer, c.self.invariant.flights, c.self.invariant.room)
 
 pub overflow_sub-self : goal.overflow_sub-self
@@ -36,7 +35,7 @@ overflow_sub-self c =
     let t = c.text.result.now in
     let at = subst (λ (k : Known). slice_get k.sites c.in-Some.index ≡ Some (t, site_of k t)) (sym c.self.view_is) (found_index c.args.self.now t c.find.result c.in-Some.index c.find.ensures c.in-Some.is) in
     let r = c.in_ok-close.ensures.reply p.limit (t, site_of (known_of p) t) at in
-    let fewer = arrived_fewer (known_of p) (known_in p.limit c.close.new.sites.entries) t c.args.turn c.args.life (said c.args.answer) r.0 r.1 in
+    let fewer = arrived_fewer (known_of p) (known_in p.limit c.close.new.sites.entries) t c.args.turn c.args.answer r.0 r.1 in
     omega (arith, fewer, c.self.invariant.flights)
 
 pub invariant_of-self-2 : goal.invariant_of-self-2
@@ -45,7 +44,7 @@ invariant_of-self-2 c =
     let t = c.text.result.now in
     let at = subst (λ (k : Known). slice_get k.sites c.in-Some.index ≡ Some (t, site_of k t)) (sym c.self.view_is) (found_index c.args.self.now t c.find.result c.in-Some.index c.find.ensures c.in-Some.is) in
     let r = c.in_ok-close.ensures.reply p.limit (t, site_of (known_of p) t) at in
-    let fewer = arrived_fewer (known_of p) (known_in p.limit c.close.new.sites.entries) t c.args.turn c.args.life (said c.args.answer) r.0 r.1 in
+    let fewer = arrived_fewer (known_of p) (known_in p.limit c.close.new.sites.entries) t c.args.turn c.args.answer r.0 r.1 in
     record {
       known = c.in_ok-close.ensures.known;
       flights = omega (arith, fewer, c.self.invariant.flights);
@@ -59,6 +58,6 @@ returns c =
     let t = c.text.result.now in
     let at = subst (λ (k : Known). slice_get k.sites c.in-Some.index ≡ Some (t, site_of k t)) (sym c.self.view_is) (found_index c.args.self.now t c.find.result c.in-Some.index c.find.ensures c.in-Some.is) in
     let new = known_in p.limit c.close.new.sites.entries in
-    subst (λ (k : Known). Arrives k c.args.authority.now c.args.turn (said c.args.answer) c.args.life (Ok tt) new) c.self.view_is
-    (subst (λ t. Arrives (known_of p) t c.args.turn (said c.args.answer) c.args.life (Ok tt) new) c.text.ensures.value
+    subst (λ (k : Known). Arrives k c.args.authority.now c.args.turn c.args.answer (Ok tt) new) c.self.view_is
+    (subst (λ t. Arrives (known_of p) t c.args.turn c.args.answer (Ok tt) new) c.text.ensures.value
     (c.in_ok-close.ensures.reply p.limit (t, site_of (known_of p) t) at))

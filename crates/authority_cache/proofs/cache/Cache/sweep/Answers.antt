@@ -2,7 +2,7 @@
 use Rattle.std.proofs.Common.{subst, sym, refl, ◌∙◌}
 use Rattle.authority_cache.specs.Calls.{Sweeps}
 use Rattle.authority_cache.specs.Kept.{known_in}
-use Rattle.authority_cache.specs.Ends.{HasRoom}
+use Rattle.authority_cache.specs.Ends.{HasRoomForEnds}
 use Rattle.authority_cache.specs.Sites.{IsApart, Known, is_flying}
 use Rattle.authority_cache.proofs.SweepLaws.{apart_from}
 use Rattle.authority_cache.proofs.cache.Cache.sweep.Goals as goal
@@ -24,5 +24,5 @@ invariant_of-self c =
       known = c.drop_past.ensures.known;
       flights = c.self.invariant.flights ∙ turns;
       covered = c.drop_past.ensures.covered;
-      room = subst (λ n. HasRoom c.drop_past.new.ends n) (sym (c.self.invariant.flights ∙ turns)) c.drop_past.ensures.room;
+      room = subst (λ n. HasRoomForEnds c.drop_past.new.ends n) (sym (c.self.invariant.flights ∙ turns)) c.drop_past.ensures.room;
     }

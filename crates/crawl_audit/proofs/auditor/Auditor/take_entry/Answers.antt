@@ -1,7 +1,7 @@
 -- An entry that was entered is one more, and one that is not legal continues nothing.
 use Rattle.std.proofs.Common.{◌≡◌, ◌+◌, ◌∷◌, ◌++◌, [], cond, ap, sym, ◌∙◌, refl, arith}
 use Rattle.crawl_audit.specs.Exports.{history_of}
-use Rattle.crawl_audit.specs.Reading.{entry_of}
+use Rattle.crawl_audit.specs.Records.{entry_of}
 use Rattle.crawl_audit.specs.Spell.{spell}
 use Rattle.crawl_audit.proofs.Auditing.{few_lines, holds_more, lawful, other_line, spell_more}
 use Rattle.crawl_audit.proofs.auditor.Auditor.take_entry.Goals as goal

@@ -15,6 +15,6 @@ returns-then-moment-self c = λ h t may.
     elim c.then-moment-self.branch [
       | then-moment-self-via-then-moment-self w ↦ late c.args.self.now.clock c.args.moment (now h) t.clock_is w.if-moment-self.true may.0
       | then-moment-self-via-else-moment-self+then-not-is_same w ↦
-          not_so c.args.self.now h t c.args.token.now c.args.url.now c.args.moment w.decide.result (Err c.args.cause) (w.decide.ensures (standing h) (in_flight h) (subst (λ (known : Known). TellsCache known (standing h) (in_flight h)) (sym c.make_index.ensures) t.cache_tells))
+          not_so c.args.self.now h t c.args.fetch.now.token c.args.fetch.now.url c.args.moment c.decide-decided.result (Err c.args.cause) (c.decide-decided.ensures (standing h) (in_flight h) (subst (λ (known : Known). TellsCache known (standing h) (in_flight h)) (sym c.make_index.ensures) t.cache_tells))
           (λ e. true≢false (sym (w.is_same.ensures.1 e) ∙ w.if-not-is_same.true)) may.1
     ]

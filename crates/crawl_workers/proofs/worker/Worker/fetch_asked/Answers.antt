@@ -1,7 +1,7 @@
 -- The ask is granted, or its refusal is the hop.
 use Rattle.std.proofs.Common.{sym, subst}
 use Rattle.crawl_job.specs.declared.hop.Hop.{Hop}
-use Rattle.crawl_workers.specs.Outcomes.{IsLast}
+use Rattle.crawl_workers.specs.Outcomes.{IsLastHop}
 use Rattle.crawl_workers.specs.WaysOn.{AddsEntries}
 use Rattle.crawl_workers.proofs.Hops.{ask_granted, ask_refused}
 use Rattle.crawl_workers.specs.World.{world_of}
@@ -16,7 +16,7 @@ returns-in-Ok-clause-tells g c =
 pub returns-in-Err-clause-tells : goal.returns-in-Err-clause-tells
 returns-in-Err-clause-tells g c =
     let world = world_of (g.F.Fetcher.gives c.args.self.now.fetcher.now) (g.C.Clock.reads c.args.self.now.clock.now) in
-    let P : Hop → Type 0 = λ hop. AddsEntries (IsLast world c.args.token c.args.url hop c.new.result.items) c.args.desk.now c.ask.new.self in
+    let P : Hop → Type 0 = λ hop. AddsEntries (IsLastHop world c.args.token c.args.url hop c.new.result.items) c.args.desk.now c.ask.new.self in
     subst P (sym c.ask_hop.ensures)
     (ask_refused world c.args.token c.args.url c.now.result c.in-Err.refusal c.new.result.items c.args.desk.now c.ask.new.self
     c.now.ensures c.new.ensures.items c.in-Err.ensures.step)

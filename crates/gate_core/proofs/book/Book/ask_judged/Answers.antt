@@ -1,6 +1,7 @@
 -- An ask is what the answer in force, the places and the grant say.
 -- The lemma `asks_by` of `Calling` says so.
-use Rattle.std.proofs.Common.{ℕ, Ok, subst}
+use Rattle.std.proofs.Common.{ℕ, Err, Ok, subst, sym}
+use Rattle.permit_book.specs.declared.out.Fetch.{Fetch}
 use Rattle.gate_history.specs.Cause.{Decides}
 use Rattle.gate_core.specs.Gate.{Gate, history}
 use Rattle.gate_core.specs.Judged.{Asked}
@@ -8,6 +9,13 @@ use Rattle.gate_core.specs.Opened.{Grants}
 use Rattle.gate_core.specs.Replies.{Asks}
 use Rattle.gate_core.proofs.Calling.{asks_by}
 use Rattle.gate_core.proofs.book.Book.ask_judged.Goals as goal
+
+pub deny-requires-clause-decided : goal.deny-requires-clause-decided
+deny-requires-clause-decided c =
+    let moment = c.moment_of_call-moment.result in
+    subst (λ (g : Gate). Decides (history g) c.judged.inside.fetch.token c.judged.inside.fetch.url moment (Err c.in-Err.cause)) (sym c.take_index.ensures)
+    (subst (λ (f : Fetch). Decides (history c.args.self.now) f.token f.url moment (Err c.in-Err.cause)) (sym c.judged.invariant.0)
+    (subst (Decides (history c.args.self.now) c.judged.inside.token c.judged.inside.url moment) c.in-Err.is c.decide-decided.ensures))
 
 pub returns-in-Ok : goal.returns-in-Ok
 returns-in-Ok c =

@@ -11,7 +11,7 @@ use Rattle.gate_history.specs.Standing.{in_flight, is_fetching}
 use Rattle.gate_core.specs.declared.refusal.BeginRefusal.TheVariants.{NoMemory}
 use Rattle.gate_core.specs.Gate.{Gate, HasRoom, history, promised}
 use Rattle.gate_core.specs.Kept.{gate_of}
-use Rattle.gate_core.specs.Names.{HasNames, Keeps, names_by}
+use Rattle.gate_core.specs.TurnNames.{HasNames, KeepsName, names_by}
 use Rattle.gate_core.specs.Refused.{begin_refusal}
 use Rattle.gate_core.specs.Replies.{Begins}
 use Rattle.gate_core.proofs.Keeping.{adds_of, begun_kept, kept_unchanged, late_moment, still_named, told}
@@ -61,7 +61,7 @@ invariant_of-self-in_err-begin_at c =
     kept_unchanged b c.self.invariant c.name_turn.new.entries c.begin_at.new.self c.name_turn.new.names c.name_turn.ensures.items c.name_turn.ensures.capacity
     (cache_same b.cache authority flight c.in_err-begin_at.field-0.0 c.begin_at.new.self c.in_err-begin_at.ensures.reply)
     (still_named b c.self.invariant c.name_turn.new.names (Some authority)
-    (subst (λ (turn : ℕ). Keeps (names_by b.names) turn (Some authority) (names_by c.name_turn.new.names)) c.new-turn.ensures c.in_ok-name.ensures.kept))
+    (subst (λ (turn : ℕ). KeepsName (names_by b.names) turn (Some authority) (names_by c.name_turn.new.names)) c.new-turn.ensures c.in_ok-name.ensures.kept))
 
 pub returns-in_err-begin_at : goal.returns-in_err-begin_at
 returns-in_err-begin_at c =
@@ -91,7 +91,7 @@ invariant_of-self-2 c =
     let free = subst (λ (g : Gate). HasRoom g 2) (sym c.self.view_is) (c.has_room.ensures.0 c.if-not-has_room.false) in
     let reply = subst (λ (turn : ℕ). CacheBegins b.cache authority (record { turn = turn; begun = moment }) (Ok _) c.begin_at.new.self) c.new-turn.ensures c.in_ok-begin_at.ensures.reply in
     begun_kept b c.self.invariant c.push_reserved.new.self c.begin_at.new.self c.name_turn.new.names moment authority late idle reply.0 reply.2
-    (subst (λ (turn : ℕ). Keeps (names_by b.names) turn (Some authority) (names_by c.name_turn.new.names)) c.new-turn.ensures c.in_ok-name.ensures.kept)
+    (subst (λ (turn : ℕ). KeepsName (names_by b.names) turn (Some authority) (names_by c.name_turn.new.names)) c.new-turn.ensures c.in_ok-name.ensures.kept)
     (c.push_reserved.ensures.items ∙ (λ i. c.name_turn.ensures.items i ++ Begun moment (c.in_ok-name.ensures.name i) (c.new-turn.ensures i) ∷ []))
     (omega (arith, c.push_reserved.ensures.capacity, c.in_ok-name.ensures.room, c.promised.ensures.value, ap (λ (g : Gate). promised (history g)) c.self.view_is)) free
 

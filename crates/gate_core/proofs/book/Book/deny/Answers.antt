@@ -1,7 +1,6 @@
 -- A denied ask is an entry, and else nothing changes.
 -- The lemmas of `Keeping` say what that keeps.
 use Rattle.std.proofs.Common.{◌∷◌, ◌++◌, [], sym, ap, ◌∙◌, subst, arith}
-use Rattle.permit_book.specs.declared.out.Fetch.{Fetch}
 use Rattle.gate_history.specs.declared.entry.Entry.TheVariants.{AskDenied}
 use Rattle.gate_history.specs.Legal.{MayFollow}
 use Rattle.gate_core.specs.Gate.{Gate, HasRoom, history, promised}
@@ -11,9 +10,9 @@ use Rattle.gate_core.proofs.book.Book.deny.Goals as goal
 pub invariant_of-self-2 : goal.invariant_of-self-2
 invariant_of-self-2 c =
     let b = c.self.inside in
-    let fetch : Fetch = record { token = c.args.token; url = c.args.url } in
+    let fetch = c.args.fetch in
     let fit = subst (λ (g : Gate). MayFollow (history g) (AskDenied c.args.moment fetch c.args.cause)) (sym c.self.view_is) (c.requires.late, c.requires.decided) in
     let free = subst (λ (g : Gate). HasRoom g 3) (sym c.self.view_is) c.requires.room in
     ask_denied_kept b c.self.invariant c.push_reserved.new.self c.args.moment fetch c.args.cause fit
-    (c.push_reserved.ensures.items ∙ (λ i. c.in_ok-reserve.ensures.items i ++ AskDenied c.args.moment (c.in_ok-fetch.ensures i) c.args.cause ∷ []))
+    (c.push_reserved.ensures.items ∙ ap (λ es. es ++ AskDenied c.args.moment fetch c.args.cause ∷ []) c.in_ok-reserve.ensures.items)
     (omega (arith, c.push_reserved.ensures.capacity, c.in_ok-reserve.ensures.ok, c.promised-promised.ensures.value, ap (λ (g : Gate). promised (history g)) c.self.view_is)) free

@@ -24,7 +24,7 @@ returns c =
     let stands : StandsAs found moment c.match-look_at.standing = elim c.match-look_at.branch [
       | in-Unknown w ↦ subst (StandsAs found moment) (sym w.standing-is) (stands_as_unknown found moment (none_stands b c.self.invariant authority moment (subst (λ (s : State). LooksAt s moment Unknown) same w.in-Unknown.ensures)))
       | in-Expired w ↦ subst (StandsAs found moment) (sym w.standing-is) (stands_as_expired found moment (stands_past b c.self.invariant authority moment (subst (λ (s : State). LooksAt s moment Expired) same w.in-Expired.ensures)))
-      | in-InForce w ↦ subst (StandsAs found moment) (sym (w.standing-is ∙ w.standing_as-standing.ensures))
+      | in-InForce w ↦ subst (StandsAs found moment) (sym (w.standing-is ∙ w.of-standing.ensures))
           (stands_as_said found moment (said w.in-InForce.answer.now) (let force = subst (λ (s : State). LooksAt s moment (InForce w.in-InForce.answer)) same w.in-InForce.ensures in
           stands_in_force b c.self.invariant authority moment (said w.in-InForce.answer.now) force.0 force.1))
     ] in

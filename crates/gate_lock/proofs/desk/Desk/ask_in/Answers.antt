@@ -1,12 +1,19 @@
--- The permit that was granted, and its mark.
--- Each part is found by itself.
+-- The permit that was granted, and its mark; or a refusal without an entry.
+-- The lemma `refused` of `Replying` says the latter; each other part is found by itself.
 use Rattle.std.proofs.Common.{rules, arith}
 use Rattle.std.proofs.lemmas.Grind.{common_steps}
+use Rattle.gate_lock.proofs.Replying.{refused}
 use Rattle.gate_lock.proofs.desk.Desk.ask_in.Goals as goal
 
-pub returns-in-Ok-result : goal.returns-in-Ok-result
-returns-in-Ok-result g c = (
+pub returns-in-Ok : goal.returns-in-Ok
+returns-in-Ok g c = (
   search rules,
   search rules,
-  record { no_is = search rules; seen_is = grind (arith, common_steps); out_is = search rules; marks_are = grind (arith, common_steps) },
+  record { limits_are = search rules; no_is = search rules; seen_is = grind (arith, common_steps); out_is = search rules; marks_are = grind (arith, common_steps) },
 )
+
+pub returns-then-is_err : goal.returns-then-is_err
+returns-then-is_err g c =
+    refused c.args.self.now c.args.held.now c.args.ask.token c.args.ask.url c.args.moment c.refuse_ask.result c.args.held.now _
+    (search rules) c.refuse_ask.ensures.no_entry
+    (record { limits_are = search rules; no_is = search rules; seen_is = search rules; out_is = search rules; marks_are = search rules })

@@ -9,5 +9,5 @@ returns g c = (
   search rules,
   search rules,
   search rules,
-  record { no_is = search rules; seen_is = grind (arith, common_steps); out_is = search rules; marks_are = grind (arith, common_steps) },
+  record { limits_are = search rules; no_is = search rules; seen_is = grind (arith, common_steps); out_is = search rules; marks_are = grind (arith, common_steps) },
 )

@@ -1,8 +1,6 @@
 -- The entry ends what the share counted.
 -- The lemma `ended` of `Counting` says so.
 use Rattle.gate_history.specs.declared.entry.Entry.TheVariants.{Arrived}
-use Rattle.robots_verdict.specs.Answer.{said}
-use Rattle.authority_cache.specs.Lives.{life_of}
 use Rattle.gate_core.specs.Replies.{moment_at}
 use Rattle.gate_core.specs.Gate.{history}
 use Rattle.gate_lock.proofs.Counting.{ended}
@@ -10,7 +8,7 @@ use Rattle.gate_lock.proofs.round.Round.arrive.Goals as goal
 
 pub invariant_of-self : goal.invariant_of-self
 invariant_of-self g c =
-    let e = (Arrived (moment_at c.self.inside.book c.args.moment) c.args.authority.now c.args.turn (said c.args.answer) (life_of (said c.args.answer) c.args.life)) in
+    let e = Arrived (moment_at c.self.inside.book c.args.moment) c.args.authority.now c.args.turn c.args.answer.says c.args.answer.life in
     let adds = c.in-Ok.ensures.1 in
     ended c.no_later_entry_closes.ensures.one_more c.self.inside.book c.arrive.new.self e 0 0 1 adds
     (c.each_entry_counts.ensures (history c.self.inside.book) e c.history-legal.ensures.legal adds.fit)

@@ -1,14 +1,13 @@
 -- The decoder stands for the octets at each step, and each step moves its place on.
 -- The proof of `look` rests on it.
-use Rattle.std.proofs.Common.{◌≡◌, ◌-◌, length}
-use Rattle.http_wire.specs.Decoding.{Stands}
+use Rattle.std.proofs.Common.{◌-◌, length}
+use Rattle.http_wire.specs.Decoding.{KeepsBounds, Stands}
 use Rattle.http_wire.proofs.chunked.ChunkDecoder.look.Given as goal
 
 abbrev pub invariant-loop-look : goal.invariant-loop-look
 invariant-loop-look l = record {
   stands : Stands l.self l.bytes;
-  limit : l.self.limit ≡ l.fn.self.limit;
-  start : l.self.start ≡ l.fn.self.start;
+  bounds : KeepsBounds l.fn.self l.self;
 }
 
 abbrev pub decreases-loop-look : goal.decreases-loop-look

@@ -14,7 +14,7 @@ returns-in-Ok-Complete-default-eq0-clause-steps c =
     let d = at_place c.args.self.now c.args.bytes.now places.Line c.requires.stands c.requires.place in
     let to = c.pass.ensures in
     moved c.args.self.now c.pass.new.self c.args.bytes.now arm.len places.Trailers c.args.self.now.octets.items c.requires.stands
-    (record { limit = to.limit; start = to.start; here = to.place; at = to.at })
+    (record { limit = to.bounds.limit; start = to.bounds.start; here = to.place; at = to.at })
     (ap (λ v. v.items) to.octets) found.some found.within
     (line_last _ _ _ _ _ found.line d found.reads (sym found.size_is ∙ arm.field-0-0-1-test))
 
@@ -26,6 +26,6 @@ returns-in-Ok-Complete-clause-steps c =
     let to = c.pass-in-Ok-Complete.ensures in
     let some : 0 < arm.size = omega (arith, arm.size-test.1) in
     moved c.args.self.now c.pass-in-Ok-Complete.new.self c.args.bytes.now arm.len (places.Octets arm.size) c.args.self.now.octets.items c.requires.stands
-    (record { limit = to.limit; start = to.start; here = to.place; at = to.at })
+    (record { limit = to.bounds.limit; start = to.bounds.start; here = to.place; at = to.at })
     (ap (λ v. v.items) to.octets) found.some found.within
     (line_read _ _ _ _ _ found.line arm.size d found.reads found.size_is some)

@@ -23,6 +23,6 @@ returns-clause-moves c =
     let read = chunk_read old.limit size _ old.octets.items rest ends.0 d (omega (arith, c.requires.fits, old.octets.ok)) stand ends.1 in
     let to = c.pass.ensures in
     moved old c.pass.new.self c.args.bytes.now (size + 2) places.Line (old.octets.items ++ take size rest) c.requires.stands
-    (record { limit = to.limit; start = to.start; here = to.place; at = to.at })
+    (record { limit = to.bounds.limit; start = to.bounds.start; here = to.place; at = to.at })
     (ap (λ v. v.items) to.octets ∙ kept) (omega arith) two
     (subst (Decoded old.limit (drop old.start c.args.bytes.now) (old.octets.items ++ take size rest) places.Line) (sym behind) read)

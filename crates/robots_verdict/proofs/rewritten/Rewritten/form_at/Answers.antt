@@ -1,7 +1,7 @@
 -- What the search finds is the form of the line, and what it doesn't find is not there.
 -- The lemma `found` of `Forms` says what it finds.
-use Rattle.std.proofs.Common.{rules, of_calls, ℕ, map, ap, ◌∙◌, subst}
-use Rattle.std.specs.Prelude.{Err, Ok, Result}
+use Rattle.std.proofs.Common.{rules, of_calls, map, ap, ◌∙◌, subst}
+use Rattle.std.specs.Prelude.{Err, Ok}
 use Rattle.std.specs.List.Sorted.{IsBinarySearchResult}
 use Rattle.std.specs.Ordering.{nat_cmp}
 use Rattle.std.proofs.lemmas.Fn.{always_returns_same}

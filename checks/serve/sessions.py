@@ -1,0 +1,269 @@
+"""Cases of checks/serve with good clients: what is replied to lines, of whatever form."""
+import importlib.util
+import socket
+import subprocess
+import threading
+import time
+
+from line_server import HOST, OCTETS, ROOT, SECONDS, Server, Session, open_site, response, same, side_by_side, site_with_rules
+
+CLIENTS = f"{ROOT}/examples/clients"
+
+
+def quits():
+    with Server("--connections", "2", "--workers", "2") as server:
+        for _ in range(2):
+            with Session(server) as it:
+                it.send(b"QUIT\n")
+                same(it.rest(), b"BYE\n")
+        same(server.end(), (b"SERVED connections 2 events 0\n", 0, b""))
+
+
+def connections_are_counted():
+    """A session may last while others come and go; workers that draw no connection end."""
+    with Server("--connections", "3", "--workers", "2") as server, Session(server) as long:
+        same(long.say("BACK 7"), "ERR notout")
+        for _ in range(2):
+            with Session(server) as it:
+                it.finish()
+                same(it.rest(), b"")
+        same(long.say("BACK 7"), "ERR notout")
+        long.finish()
+        same(server.end(), (b"SERVED connections 3 events 0\n", 0, b""))
+    site = open_site()
+    with Server("--connections", "1", "--workers", "4") as server, Session(server) as it:
+        it.send(f"FETCH foobot {site.url('/x')}\nQUIT\n".encode())
+        same(it.rest(), b"HOP 1 PAGE open 200 5 whole\nBODY 5\nhello\nBYE\n")
+        same(server.end(), (b"SERVED connections 1 events 5\n", 0, b""))
+
+
+def two_sessions():
+    site = open_site()
+    a, x = site.authority, site.url("/x")
+    with Server("--connections", "2", "--workers", "2", "--slots", "1") as server:
+        with Session(server) as first, Session(server) as second:
+            same(first.say(f"REFRESH {a}"), f"TAKEN {a} open")
+            same(first.say(f"ASK foobot {x}"), "PERMIT 65536")
+            same(second.say(f"ASK foobot {x}"), "ERR permits")
+            same(second.say(f"START 65536 foobot {x}"), f"NO {a} spent")
+            same(first.say("QUIT"), "BYE")
+            same(second.say(f"ASK foobot {x}"), "PERMIT 131072")
+        same(server.end(), (b"SERVED connections 2 events 6\n", 0, b""))
+
+
+def fetches():
+    site, ruled = open_site(), site_with_rules()
+    a, b = site.authority, ruled.authority
+    rows = [
+        (f"FETCH foobot {site.url('/x')}", b"HOP 1 PAGE open 200 5 whole\nBODY 5\nhello\n"),
+        (f"STATE {a}", f"STATE {a} open idle\n".encode()),
+        (f"FETCH foobot {site.url('/none')}", b"HOP 1 PAGE open 404 0 whole\nBODY 0\n\n"),
+        (f"FETCH foobot {ruled.url('/private')}", f"HOP 1 NO {b} line 2\nBODY 0\n\n".encode()),
+        (f"FETCH foobot {ruled.url('/moved')}", b"HOP 1 PAGE norule 302 0 whole\nHOP 2 PAGE norule 200 768 whole\nBODY 768\n" + OCTETS + b"\n"),
+        (f"FETCH foobot {ruled.url('/long')}", b"HOP 1 PAGE norule 200 1048576 cut\nBODY 1048576\n" + b"x" * 1_048_576 + b"\n"),
+        (f"STATE {b}", f"STATE {b} rules idle\n".encode()),
+        ("QUIT", b"BYE\n"),
+    ]
+    with Server() as server, Session(server) as it:
+        it.send("".join(f"{line}\n" for line, _ in rows).encode())
+        same(it.rest(), b"".join(reply for _, reply in rows))
+
+
+def faults_of_lines():
+    rows = [
+        ("BEGIN a.example", "ERR verb"), ("SWEEP", "ERR verb"), ("1 QUIT", "ERR verb"), ("quit", "ERR verb"),
+        ("", "ERR words"), ("QUIT now", "ERR words"), ("STATE  a.example", "ERR words"), ("QUIT\t", "ERR chars"),
+        ("BACK x", "ERR number"), ("BACK 7", "ERR notout"), ("DONE 7", "ERR notout"), ("REFRESH a/b", "ERR authority"),
+        ("ASK foo2 http://a.example/", "ERR token"), ("FETCH foobot https://a.example/", "ERR url scheme"),
+        ("ASK foobot http://a.example/", "NO a.example unknown"), ("STATE a.example", "STATE a.example unknown idle"),
+        ("START 65536 foobot http://a.example/", "NO a.example spent"), ("QUIT", "BYE"),
+    ]
+    with Server() as server, Session(server) as it:
+        for line, reply in rows:
+            same((line, it.say(line)), (line, reply))
+
+
+def site_is_down():
+    with socket.create_server((HOST, 0)) as listener:
+        a = f"{HOST}:{listener.getsockname()[1]}"
+    with Server() as server, Session(server) as it:
+        same(it.say(f"REFRESH {a}"), f"TAKEN {a} closed")
+        same(it.say(f"ASK foobot http://{a}/x"), f"NO {a} closed")
+        same(it.say(f"STATE {a}"), f"STATE {a} closed idle")
+
+
+def one_robots_fetch_at_a_time():
+    site = open_site({"/robots.txt": (1.0, response(404))})
+    a, x = site.authority, site.url("/x")
+    with Server() as server, Session(server) as first, Session(server) as second:
+        first.send(f"REFRESH {a}\n".encode())
+        until = time.monotonic() + 0.8
+        while second.say(f"STATE {a}") == f"STATE {a} unknown idle" and time.monotonic() < until:
+            pass
+        same(second.say(f"STATE {a}"), f"STATE {a} unknown fetching")
+        same(second.say(f"REFRESH {a}"), "ERR inflight")
+        # a fetch waits for the answer
+        second.send(f"FETCH foobot {x}\n".encode())
+        same(second.lines(3), ["HOP 1 PAGE open 200 5 whole", "BODY 5", "hello"])
+        same(first.lines(1), [f"TAKEN {a} open"])
+        same(site.asked, ["/robots.txt", "/x"])
+
+
+def python_client():
+    """Returns the module of the client in Python."""
+    found = importlib.util.spec_from_file_location("crawlgate", f"{CLIENTS}/crawlgate.py")
+    client = importlib.util.module_from_spec(found)
+    found.loader.exec_module(client)
+    return client
+
+
+def client_of(kind, server, *words):
+    """Returns what a client writes as a program, its standard error, and its status."""
+    ran = subprocess.run([f"{CLIENTS}/crawlgate.{kind}", str(server.port), *words], capture_output=True, timeout=SECONDS)
+    return ran.stdout, ran.stderr, ran.returncode
+
+
+def client_in_python():
+    client = python_client()
+    site, ruled = open_site(), site_with_rules()
+    a, x = site.authority, site.url("/x")
+
+    def refusal_of(kind, call, *words):
+        try:
+            return f"none, but {call(*words)!r}"
+        except kind as error:
+            return str(error)
+
+    with Server("--slots", "1") as server:
+        with client.Gate(HOST, server.port, SECONDS) as gate:
+            same(gate.state(a), ("unknown", False))
+            same(refusal_of(client.Denied, gate.ask, "foobot", x), f"{a}: unknown")
+            with gate.permit("foobot", x) as reason:
+                same(reason, "open")
+                same(refusal_of(client.Refused, gate.ask, "foobot", x), "permits")
+            gate.back(gate.ask("foobot", x))
+            number = gate.ask("foobot", x)
+            same(gate.start(number, "foobot", x), "open")
+            same(refusal_of(client.Denied, gate.start, number, "foobot", x), f"{a}: spent")
+            gate.done(number)
+            same(refusal_of(client.Refused, gate.back, number), "notout")
+            same(gate.refresh(ruled.authority), "rules")
+            same(refusal_of(client.Denied, gate.ask, "foobot", ruled.url("/private")), f"{ruled.authority}: line 2")
+            same(gate.fetch("foobot", ruled.url("/moved")).body, OCTETS)
+            same(gate.fetch("foobot", ruled.url("/private")).hops, [f"NO {ruled.authority} line 2"])
+            same(refusal_of(ValueError, gate.state, "a.example\nQUIT"), "no word of a line: 'a.example\\nQUIT'")
+            # what is left out goes back at the end
+            gate.ask("foobot", x)
+        with client.Gate(HOST, server.port, SECONDS) as gate:
+            gate.ask("foobot", x)
+            gate.quit()
+    with Server() as server:
+        same(client_of("py", server, "foobot", x), (b"hello", b"PAGE open 200 5 whole\n", 0))
+
+
+def client_in_bash():
+    site, ruled = open_site(), site_with_rules()
+    x, private = site.url("/x"), ruled.url("/private")
+    with Server("--slots", "1") as server:
+        rows = [
+            (["fetch", "foobot", ruled.url("/moved")], (OCTETS, b"PAGE norule 302 0 whole\nPAGE norule 200 768 whole\n", 0)),
+            (["fetch", "foobot", private], (b"", f"NO {ruled.authority} line 2\n".encode(), 1)),
+            (["fetch", "foobot", "https://a.example/"], (b"", b"crawlgate.sh: ERR url scheme\n", 1)),
+            (["run", "foobot", x, "echo", "page"], (b"page\n", b"", 0)),
+            (["run", "foobot", x, "sh", "-c", "exit 7"], (b"", b"", 7)),
+            (["run", "foobot", private, "echo", "page"], (b"", f"crawlgate.sh: NO {ruled.authority} line 2\n".encode(), 1)),
+            (["run", "foobot", f"{x}\nQUIT", "echo"], (b"", f"crawlgate.sh: no URL: {x}\nQUIT\n".encode(), 2)),
+            (["fetch", "foobot", x], (b"hello", b"PAGE open 200 5 whole\n", 0)),
+        ]
+        for words, wanted in rows:
+            same((words, client_of("sh", server, *words)), (words, wanted))
+
+
+def clients_wait_for_a_robots_fetch():
+    """A client that has no answer while another session has the robots file fetched does without a fetch of its own."""
+
+    def play(kind):
+        site = open_site({"/robots.txt": (1.0, response(404))})
+        with Server() as server, Session(server) as other:
+            other.send(f"REFRESH {site.authority}\n".encode())
+            time.sleep(0.3)
+            if kind == "sh":
+                same(client_of("sh", server, "run", "foobot", site.url("/x"), "echo", "page"), (b"page\n", b"", 0))
+            else:
+                with python_client().Gate(HOST, server.port, SECONDS) as gate, gate.permit("foobot", site.url("/x")) as reason:
+                    same(reason, "open")
+            same(other.lines(1), [f"TAKEN {site.authority} open"])
+        same(site.asked.count("/robots.txt"), 1)
+
+    side_by_side(play, ["sh", "py"])
+
+
+def thousand_lines_at_once():
+    with Server() as server, Session(server) as it:
+        same(it.say_all(["STATE a.example"] * 1000), ["STATE a.example unknown idle"] * 1000)
+        assert it.reads <= 100, f"a thousand replies came in {it.reads} pieces"
+        return f"their replies came in {it.reads} pieces"
+
+
+def million_lines():
+    with Server() as server, Session(server) as it:
+        sender = threading.Thread(target=it.send, args=(b"\n" * 1_000_001,), daemon=True)
+        sender.start()
+        same(it.rest(), b"ERR words\n" * 1_000_000 + b"ERR lines\n")
+        sender.join()
+
+
+def line_by_octets():
+    with Server() as server, Session(server) as it:
+        for octet in b"STATE a.example\r\nQUIT\n":
+            it.send(bytes([octet]))
+            time.sleep(0.005)
+        same(it.rest(), b"STATE a.example unknown idle\nBYE\n")
+
+
+def ends_of_lines():
+    state = b"STATE a.example unknown idle\n"
+    rows = [
+        (b"STATE a.example\r\nQUIT\r\n", state + b"BYE\n"),
+        (b"STATE a.example\r\r\n", b"ERR chars\n"),
+        (b"STATE a.example", state),
+        (b"STATE a.example\nSTATE a.example", state * 2),
+        (b"STATE a.example\nQUIT", state + b"BYE\n"),
+        (b"QUIT\r", b"ERR chars\n"),
+        (b"\n", b"ERR words\n"),
+        (b"", b""),
+        (b"x" * 8192 + b"\nQUIT\n", b"ERR verb\nBYE\n"),
+        (b"x" * 8192 + b"\r\nQUIT\n", b"ERR verb\nBYE\n"),
+        (b"x" * 8192, b"ERR verb\n"),
+        (b"x" * 8193 + b"\nQUIT\n", b"ERR long\n"),
+        (b"x" * 8193, b"ERR long\n"),
+        (b"QUIT\nQUIT\n", b"BYE\n"),
+    ]
+    with Server() as server:
+        for given, wanted in rows:
+            with Session(server) as it:
+                it.send(given)
+                it.finish()
+                same((given, it.rest()), (given, wanted))
+
+
+def loopback_alone():
+    with Server() as server:
+        try:
+            socket.create_connection(("127.0.0.2", server.port), SECONDS).close()
+        except ConnectionRefusedError:
+            return
+        assert False, "it listens on 127.0.0.2 too"
+
+
+def port_that_is_taken():
+    with Server() as server:
+        ran = subprocess.run([Server.program, "serve", "--port", str(server.port)], capture_output=True, timeout=SECONDS)
+        same((ran.stdout, ran.returncode, ran.stderr), (b"", 3, b"crawlgate: device\n"))
+
+
+CASES = [
+    quits, connections_are_counted, two_sessions, fetches, faults_of_lines, site_is_down, one_robots_fetch_at_a_time,
+    client_in_python, client_in_bash, clients_wait_for_a_robots_fetch, thousand_lines_at_once, million_lines, line_by_octets, ends_of_lines, loopback_alone,
+    port_that_is_taken,
+]

@@ -1,0 +1,15 @@
+//! Clients over TCP: how they are accepted, how long they are waited for, and how they are let go.
+//! docs/FORMATS.md has the limits.
+#![tactic(auto)]
+
+mod accept_fault;
+mod client_stream;
+mod closing;
+mod listener;
+mod waiting;
+
+pub use accept_fault::{AcceptFault, MAX_ACCEPT_FAULTS};
+pub use client_stream::ClientStream;
+pub use closing::{CLOSING_OCTETS, CLOSING_SECONDS, Closes, close, read_out};
+pub use listener::{Listener, MAX_CONNECTIONS, accept_from};
+pub use waiting::{PATIENCE_SECONDS, Waiting};

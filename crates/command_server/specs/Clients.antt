@@ -1,0 +1,90 @@
+-- What a keeper does for the line of a client, and what the client is told of it.
+-- The contract of `serve` cites it.
+use Rattle.std.specs.Prelude.{◌≡◌, ◌⊎◌, ℕ, Bool, true, false, List, Option, Some, None, Result, Ok, Err}
+use Rattle.path_normal.specs.Capacity.{Enough, Overflows, Refused}
+use Rattle.gate_core.specs.declared.call.Call.{Call}
+use Rattle.gate_core.specs.declared.call.Call.TheVariants as calls
+use Rattle.gate_core.specs.declared.refusal.BeginRefusal.{BeginRefusal}
+use Rattle.gate_core.specs.declared.refusal.NoMemory.{NoMemory}
+use Rattle.gate_core.specs.declared.state.Standing.{Standing}
+use Rattle.gate_core.specs.declared.state.State.{State}
+use Rattle.crawl_job.specs.declared.job.Outcome.{Outcome}
+use Rattle.keepers.specs.Deals.{Deals}
+use Rattle.command_server.specs.CallOf.{command_of}
+use Rattle.command_server.specs.Limits.{max_client_line, max_lines}
+use Rattle.command_server.specs.Session.{Session}
+use Rattle.command_server.specs.ToldText.{told_text}
+use Rattle.command_server.specs.declared.command.Command.{Command}
+use Rattle.command_server.specs.declared.command.Command.TheVariants as commands
+use Rattle.command_server.specs.declared.fault.LineFault.{LineFault}
+use Rattle.command_server.specs.declared.fault.LineFault.TheVariants as faults
+use Rattle.command_server.specs.declared.session_fault.SessionFault.{SessionFault}
+use Rattle.command_server.specs.declared.told.Told.{Told}
+use Rattle.command_server.specs.declared.told.Told.TheVariants as tolds
+use Rattle.command_server.specs.declared.verbs.Dialogue.TheVariants.{Client}
+
+-- what a refresh is told as; a keeper that fetches nothing does not know the verb
+abbrev pub refreshed : List ℕ → Option (Result Standing BeginRefusal) → Told
+refreshed authority (Some result) = tolds.Refreshed authority result
+refreshed authority None = tolds.Fault faults.Verb
+
+-- and a fetch
+abbrev pub fetched : Option (Result Outcome NoMemory) → Told
+fetched (Some (Ok outcome)) = tolds.Fetched outcome
+fetched (Some (Err _)) = tolds.NoMemory
+fetched None = tolds.Fault faults.Verb
+
+-- the farewell ends the session
+abbrev pub is_farewell : Told → Bool
+is_farewell tolds.Bye = true
+is_farewell _ = false
+
+module _ {S : Type 0} (deals : Deals S) where
+  -- a fault is told, and nothing is done
+  abbrev pub TellsFault : S → LineFault → Told → S → Type 0
+  TellsFault old fault told new = (told ≡ tolds.Fault fault) × (new ≡ old)
+
+  -- a call of a client is the keeper's, and its result is told; the others no client makes
+  abbrev pub DoesCall : S → Call → Told → S → Type 0
+  DoesCall old (calls.Ask token url m) (tolds.Asked result) new = deals.asks old token url m result new
+  DoesCall old (calls.Start number token url m) (tolds.Begun named result) new =
+      (named ≡ number) × deals.starts old number token url m result new
+  DoesCall old (calls.Back number) (tolds.Returned named result) new = (named ≡ number) × deals.returns old number result new
+  DoesCall old (calls.Finish number) (tolds.Finished named result) new = (named ≡ number) × deals.finishes old number result new
+  DoesCall old (calls.Begin authority m) told new = TellsFault old faults.Verb told new
+  DoesCall old (calls.Arrive authority turn answer m) told new = TellsFault old faults.Verb told new
+  DoesCall old (calls.Sweep m) told new = TellsFault old faults.Verb told new
+  DoesCall old _ _ new = ⊥
+
+  -- a command is done by the keeper, and what comes of it is told; a line with a fault does nothing
+  abbrev pub DoesCommand : (ℕ → Type 0) → S → Result Command LineFault → Told → S → Type 0
+  DoesCommand reads old (Ok (commands.Call call)) told new = DoesCall old call told new
+  DoesCommand reads old (Ok (commands.Arrive arrival)) told new = TellsFault old faults.Verb told new
+  DoesCommand reads old (Ok (commands.State authority m)) told new =
+      (state : State) × (deals.reads old authority m state new × (told ≡ tolds.Known authority state))
+  DoesCommand reads old (Ok (commands.Refresh authority)) told new =
+      (result : Option (Result Standing BeginRefusal)) × (deals.refreshes reads old authority result new × (told ≡ refreshed authority result))
+  DoesCommand reads old (Ok (commands.Fetch job)) told new =
+      (result : Option (Result Outcome NoMemory)) × (deals.fetches reads old job result new × (told ≡ fetched result))
+  DoesCommand reads old (Ok commands.Quit) told new = deals.ends old new × (told ≡ tolds.Bye)
+  DoesCommand reads old (Err fault) told new = TellsFault old fault told new
+
+  -- a line is what it means at a reading of the clock, with enough capacity; or, with too little, the fault of
+  -- the word that needs more
+  abbrev pub DoesRequest : (ℕ → Type 0) → S → List ℕ → Told → S → Type 0
+  DoesRequest reads old line told new =
+      (m : ℕ) × (reads m
+      × (DoesCommand reads old (command_of (Client m (deals.can_fetch old)) line Enough) told new
+      ⊎ DoesCommand reads old (command_of (Client m (deals.can_fetch old)) line Overflows) told new
+      ⊎ DoesCommand reads old (command_of (Client m (deals.can_fetch old)) line Refused) told new))
+
+  -- what a line of a client is answered: the text of what it is told
+  abbrev pub AnswersClient : (ℕ → Type 0) → S → List ℕ → List ℕ → Bool → S → Type 0
+  AnswersClient reads old line text ended new =
+      (told : Told) × (DoesRequest reads old line told new × ((text ≡ told_text told) × (ended ≡ is_farewell told)))
+
+  -- a session of a client, and its end, which comes whatever the session met
+  pub record Serves (reads : ℕ → Type 0) (old new : S) (input left written written_new : Option (List ℕ)) (result : Result (Unit {0}) SessionFault) : Type 0 where
+    pub last : S
+    pub session : Session (AnswersClient reads) max_client_line max_lines old last input left written written_new result
+    pub ends : deals.ends last new

@@ -1,0 +1,48 @@
+-- The reply to a client's line, by what it is told: docs/FORMATS.md, replies and hops.
+-- Cited by the contracts of `told` and of the client's sessions.
+use Rattle.std.specs.Prelude.{ℕ, List, [], ◌∷◌, ◌++◌, Result, Ok, Err, codes, decimal, length}
+use Rattle.gate_history.specs.declared.outcome.Reason.{Reason}
+use Rattle.gate_core.specs.declared.refusal.BeginRefusal.{BeginRefusal}
+use Rattle.gate_core.specs.declared.refusal.Denial.{Denial}
+use Rattle.gate_core.specs.declared.state.Standing.{Standing}
+use Rattle.crawl_job.specs.declared.hop.Refusal.TheVariants as refusals
+use Rattle.crawl_job.specs.declared.job.Outcome.{Outcome}
+use Rattle.counted_io.specs.Lines.{line_feed}
+use Rattle.line_text.specs.Pieces.{line_of}
+use Rattle.command_server.specs.FaultText.{line_fault_text}
+use Rattle.command_server.specs.HopText.{hops_text}
+use Rattle.command_server.specs.RefusalText.{refusal_text}
+use Rattle.command_server.specs.ReplyText.{arrive_text, ask_text, back_text, begin_text, bye_text, denial_text, finish_text, go_text, state_text}
+use Rattle.command_server.specs.declared.told.Told.{Told}
+use Rattle.command_server.specs.declared.told.Told.TheVariants as tolds
+
+-- the reply to START
+abbrev pub spent_text : ℕ → Result Reason Denial → List ℕ
+spent_text number (Ok reason) = go_text number reason
+spent_text number (Err denial) = denial_text denial
+
+-- the reply to REFRESH
+abbrev pub refresh_text : List ℕ → Result Standing BeginRefusal → List ℕ
+refresh_text authority (Ok standing) = arrive_text authority standing (Ok tt)
+refresh_text authority (Err refusal) = begin_text authority (Err refusal)
+
+-- the number of a body's octets, these, and a line end
+abbrev pub body_text : List ℕ → List ℕ
+body_text octets = line_of (codes "BODY" ∷ decimal (length octets) ∷ []) ++ (octets ++ line_feed ∷ [])
+
+-- the reply to FETCH: a line for each hop, and the body
+abbrev pub fetched_text : Outcome → List ℕ
+fetched_text outcome = hops_text (codes "HOP") 1 outcome.hops.items ++ body_text outcome.body.items
+
+-- the reply
+abbrev pub told_text : Told → List ℕ
+told_text (tolds.Fault fault) = line_fault_text fault
+told_text (tolds.Asked result) = ask_text result
+told_text (tolds.Begun number result) = spent_text number result
+told_text (tolds.Returned number result) = back_text number result
+told_text (tolds.Finished number result) = finish_text number result
+told_text (tolds.Known authority state) = state_text authority state
+told_text (tolds.Refreshed authority result) = refresh_text authority result
+told_text (tolds.Fetched outcome) = fetched_text outcome
+told_text tolds.NoMemory = refusal_text refusals.NoMemory
+told_text tolds.Bye = bye_text

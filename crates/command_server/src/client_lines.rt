@@ -1,0 +1,107 @@
+//! The lines of a client, answered by a keeper.
+//! `serve` runs a session over them.
+ghost use Rattle.std.specs.Prelude.{◌≡◌};
+ghost use Rattle.command_server.specs.Clients.{DoesCall, DoesRequest};
+
+use crate::answerer::{Answerer, Flow};
+use crate::command::{Command, read_command};
+use crate::fault::LineFault;
+use crate::told::Told;
+use crate::verbs::Dialogue;
+use counted_io::{DeviceFault, Output, Sink};
+use crawl_job::Job;
+use crawl_workers::Clock;
+use gate_core::Call;
+use keepers::Keeper;
+use path_normal::Authority;
+use std::alloc::Global;
+
+/// A keeper is lent, and a line answered by the call that it makes at the moment that the clock tells.
+#[derive(Drop)]
+pub(crate) struct ClientLines<'c, C: Clock> {
+    pub(crate) clock: &'c C,
+}
+
+impl<K: Keeper, C: Clock> Answerer<K> for ClientLines<'_, C> {
+    ghost use Rattle.command_server.specs.Clients.{AnswersClient};
+
+    ghost answers = { λ lines. AnswersClient K.deals (C.reads lines.clock.now) };
+
+    fn answer<W: Sink>(
+        &self,
+        alloc: Global,
+        keeper: &mut K,
+        line: &[u8],
+        output: &mut Output,
+        sink: &mut W,
+    ) -> Result<Flow, DeviceFault> {
+        let told = told_of(alloc, self.clock, keeper, line);
+        told.push(output, sink)?;
+        Ok(told.flow())
+    }
+}
+
+// Makes the call of a line.
+fn told_of<K: Keeper, C: Clock>(alloc: Global, clock: &C, keeper: &mut K, line: &[u8]) -> Told
+    ensures { DoesRequest K.deals (C.reads clock.now) keeper.old line.now result keeper.new }
+{
+    let dialogue = Dialogue::Client {
+        moment: clock.now(),
+        fetches: keeper.can_fetch(),
+    };
+    match read_command(alloc, dialogue, line) {
+        Ok(Command::Call(call)) => told_of_call(keeper, call),
+        Ok(Command::State { authority, moment }) => {
+            let state = keeper.state(&authority, moment);
+            Told::Known { authority, state }
+        }
+        Ok(Command::Refresh { authority }) => {
+            match keeper.refresh(alloc, &authority, clock) {
+                Some(result) => Told::Refreshed { authority, result },
+                None => Told::Fault(LineFault::Verb),
+            }
+        }
+        Ok(Command::Fetch(job)) => match keeper.fetch(alloc, job, clock) {
+            Some(Ok(outcome)) => Told::Fetched(outcome),
+            Some(Err(_)) => Told::NoMemory,
+            None => Told::Fault(LineFault::Verb),
+        },
+        Ok(Command::Quit) => {
+            keeper.end();
+            Told::Bye
+        }
+        // No line of a client reads so.
+        Ok(Command::Arrive(_)) => Told::Fault(LineFault::Verb),
+        Err(fault) => Told::Fault(fault),
+    }
+}
+
+// Makes a call of the gate.
+fn told_of_call<K: Keeper>(keeper: &mut K, call: Call) -> Told
+    ensures { DoesCall K.deals keeper.old call result keeper.new }
+{
+    match call {
+        Call::Ask { token, url, moment } => Told::Asked(keeper.ask(token, url, moment)),
+        Call::Start {
+            number,
+            token,
+            url,
+            moment,
+        } => {
+            let result = keeper.start(number, &token, url, moment);
+            Told::Begun { number, result }
+        }
+        Call::Back { number } => {
+            let result = keeper.back(number);
+            Told::Returned { number, result }
+        }
+        Call::Finish { number } => {
+            let result = keeper.finish(number);
+            Told::Finished { number, result }
+        }
+        // No line of a client makes one.
+        Call::Begin { .. } | Call::Arrive { .. } | Call::Sweep { .. } => {
+            Told::Fault(LineFault::Verb)
+        }
+    }
+}

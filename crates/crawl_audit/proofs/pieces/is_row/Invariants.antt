@@ -1,7 +1,0 @@
--- The pieces so far stand in front of the rest.
-use Rattle.std.proofs.Common.{◌≡◌, ◌++◌, take, flat_map}
-use Rattle.crawl_audit.specs.Pieces.{piece_text}
-use Rattle.crawl_audit.proofs.pieces.is_row.Given as goal
-
-abbrev pub invariant-loop-piece : goal.invariant-loop-piece
-invariant-loop-piece l = l.initial.rest ≡ flat_map piece_text (take l.piece-index l.pieces) ++ l.rest

@@ -1,0 +1,23 @@
+//! Why a line was not read as an entry.
+//! Used by `auditor`, `fields` and `read`.
+use std::alloc::AllocError;
+
+/// Why a line was not read as an entry.
+#[derive(Clone, Copy, PartialEq, Eq)]
+pub(crate) enum UnreadLine {
+    /// It is the spelling of no entry.
+    NotOne,
+    /// There is no memory for what it spells.
+    NoMemory,
+}
+
+impl From<AllocError> for UnreadLine {
+    ghost use Rattle.std.specs.Prelude.{◌≡◌};
+    ghost use Rattle.crawl_audit.specs.declared.unread_line.UnreadLine.{UnreadLine};
+
+    ghost from_gives = { λ _ unread. unread ≡ UnreadLine.NoMemory };
+
+    fn from(_: AllocError) -> UnreadLine {
+        UnreadLine::NoMemory
+    }
+}

@@ -1,0 +1,25 @@
+-- What a keeper deals in: for each of its calls a relation between the keeper before, the call's words, the
+-- reply, and the keeper behind. The contracts of `Keeper`, and of whoever holds one.
+use Rattle.std.specs.Prelude.{ℕ, Bool, List, Option, Result}
+use Rattle.permit_book.specs.declared.refusal.NotOut.{NotOut}
+use Rattle.gate_history.specs.declared.outcome.Reason.{Reason}
+use Rattle.gate_core.specs.declared.refusal.AskRefusal.{AskRefusal}
+use Rattle.gate_core.specs.declared.refusal.BeginRefusal.{BeginRefusal}
+use Rattle.gate_core.specs.declared.refusal.Denial.{Denial}
+use Rattle.gate_core.specs.declared.refusal.NoMemory.{NoMemory}
+use Rattle.gate_core.specs.declared.state.Standing.{Standing}
+use Rattle.gate_core.specs.declared.state.State.{State}
+use Rattle.crawl_job.specs.declared.job.Job.{Job}
+use Rattle.crawl_job.specs.declared.job.Outcome.{Outcome}
+
+-- the readings of a clock are the argument of a refresh and of a fetch, since these read it as they go
+pub record Deals (S : Type 0) : Type 1 where
+  pub can_fetch : S → Bool
+  pub asks : S → (token url : List ℕ) (moment : ℕ) → Result ℕ AskRefusal → S → Type 0
+  pub starts : S → (number : ℕ) (token url : List ℕ) (moment : ℕ) → Result Reason Denial → S → Type 0
+  pub returns : S → (number : ℕ) → Result Unit NotOut → S → Type 0
+  pub finishes : S → (number : ℕ) → Result Unit NotOut → S → Type 0
+  pub reads : S → (authority : List ℕ) (moment : ℕ) → State → S → Type 0
+  pub refreshes : (reads : ℕ → Type 0) → S → (authority : List ℕ) → Option (Result Standing BeginRefusal) → S → Type 0
+  pub fetches : (reads : ℕ → Type 0) → S → Job → Option (Result Outcome NoMemory) → S → Type 0
+  pub ends : S → S → Type 0

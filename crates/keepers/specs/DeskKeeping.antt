@@ -1,0 +1,53 @@
+-- What a desk and the bag of its session do: each step is one of the desk, whose marks say what was told, and
+-- only what the bag holds is spent. The contracts of `DeskKeeper`. RFC 9309, sections 2.2 to 2.4.
+use Rattle.std.specs.Prelude.{◌≡◌, ◌⊎◌, ℕ, List, Option, Some, None, Result, Ok, Err}
+use Rattle.gate_core.specs.declared.refusal.AskRefusal.{AskRefusal}
+use Rattle.gate_core.specs.declared.refusal.AskRefusal.TheVariants as ask
+use Rattle.gate_core.specs.declared.refusal.BeginRefusal.{BeginRefusal}
+use Rattle.gate_core.specs.declared.refusal.NoMemory.{NoMemory}
+use Rattle.gate_core.specs.declared.state.Standing.{Standing}
+use Rattle.gate_core.specs.declared.state.State.{State}
+use Rattle.gate_lock.specs.declared.mark.Mark.{Mark}
+use Rattle.gate_lock.specs.Bags.{BagView, Clears, GainsPermit, HoldsSame, IsCleared}
+use Rattle.gate_lock.specs.Desks.{DeskView, Pass}
+use Rattle.gate_lock.specs.Steps.{DeskAsks, DeskReads, Somewhere}
+use Rattle.crawl_job.specs.declared.job.Job.{Job}
+use Rattle.crawl_job.specs.declared.job.Outcome.{Outcome}
+use Rattle.crawl_workers.specs.Outcomes.{Works}
+use Rattle.crawl_workers.specs.Refreshes.{Refreshes}
+use Rattle.crawl_workers.specs.World.{World}
+
+-- ask: a step of the desk, and the permit that it grants is in the bag. Where there is no memory for it in the
+-- bag, nothing was asked
+abbrev pub KeeperAsks : DeskView → BagView → List ℕ → List ℕ → ℕ → Result ℕ AskRefusal → DeskView → BagView → Type 0
+KeeperAsks d b token url m (Ok number) d2 b2 =
+    (p : Pass) × ((p.number ≡ number) × Somewhere d (λ old new. DeskAsks d old token url m (Ok p) new d2) × GainsPermit b p b2)
+KeeperAsks d b token url m (Err ask.NoMemory) d2 b2 =
+    ((d2 ≡ d) ⊎ Somewhere d (λ old new. DeskAsks d old token url m (Err ask.NoMemory) new d2)) × HoldsSame b b2
+KeeperAsks d b token url m (Err refusal) d2 b2 =
+    Somewhere d (λ old new. DeskAsks d old token url m (Err refusal) new d2) × HoldsSame b b2
+
+-- state: a look of the desk, which leaves no mark
+abbrev pub KeeperReads : DeskView → BagView → List ℕ → ℕ → State → DeskView → BagView → Type 0
+KeeperReads d b authority m state d2 b2 =
+    Somewhere d (λ old new. DeskReads d old authority m state new d2) × (b2 ≡ b)
+
+-- refresh: a turn of the desk, whose answer is what fetches give
+abbrev pub KeeperRefreshes : World → DeskView → BagView → List ℕ → Option (Result Standing BeginRefusal) → DeskView → BagView → Type 0
+KeeperRefreshes world d b authority (Some told) d2 b2 = Refreshes world authority told d d2 × (b2 ≡ b)
+KeeperRefreshes world d b authority None d2 b2 = ⊥
+
+-- fetch: the work of the desk on a job, or nothing where there is no memory for its hops
+abbrev pub KeeperFetches : World → DeskView → BagView → Job → Option (Result Outcome NoMemory) → DeskView → BagView → Type 0
+KeeperFetches world d b job (Some (Ok outcome)) d2 b2 = Works world job outcome d d2 × (b2 ≡ b)
+KeeperFetches world d b job (Some (Err _)) d2 b2 = (d2 ≡ d) × (b2 ≡ b)
+KeeperFetches world d b job None d2 b2 = ⊥
+
+-- end: each permit of the bag is given back and each fetch finished, by a step of the desk of its own, and the
+-- bag is empty
+abbrev pub KeeperEnds : DeskView → BagView → DeskView → BagView → Type 0
+KeeperEnds d b d2 b2 = Clears b d d2 × IsCleared b b2
+
+-- close: the marks of the desk behind the end of its session are the receipts
+abbrev pub IsClosed : DeskView → BagView → List Mark → Type 0
+IsClosed d b marks = (d2 : DeskView) × (Clears b d d2 × (marks ≡ d2.marks))

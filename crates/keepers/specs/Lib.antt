@@ -1,0 +1,4 @@
+-- What contracts say of keepers.
+pub mod Deals
+pub mod BookKeeping
+pub mod DeskKeeping

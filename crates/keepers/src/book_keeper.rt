@@ -1,0 +1,97 @@
+//! `BookKeeper`: a book alone keeps the permits, and nothing is fetched.
+ghost use Rattle.std.specs.Prelude.{◌≡◌};
+
+use crate::keeper::Keeper;
+use crawl_job::{Job, Outcome};
+use crawl_workers::Clock;
+use gate_core::{AskRefusal, BeginRefusal, Book, Denial, NoMemory, Standing, Started, State};
+use gate_history::Reason;
+use path_normal::{Authority, PageUrl};
+use permit_book::{NotOut, PermitNo};
+use robots_text::Token;
+use std::alloc::Global;
+
+/// A book that is lent for one session after the other. A session may spend what another one left out,
+/// and nothing is given back at its end: one book holds the permits of all who call it.
+#[derive(Drop)]
+pub struct BookKeeper<'a> {
+    book: &'a mut Book,
+}
+
+impl<'a> BookKeeper<'a> {
+    /// A keeper over the book.
+    pub fn new(book: &'a mut Book) -> BookKeeper<'a>
+        ensures { result.book ≡ book.entry }
+    {
+        BookKeeper { book }
+    }
+}
+
+impl<'a> Keeper for BookKeeper<'a> {
+    ghost use Rattle.std.specs.Prelude.{◌≡◌, false};
+    ghost use Rattle.gate_core.specs.Replies.{Asks, Finishes, Returns};
+    ghost use Rattle.keepers.specs.BookKeeping.{BookReads, BookStarts, OffersNone};
+
+    ghost deals = { record {
+      can_fetch = λ _. false;
+      asks = λ k token url m result k2. (k2.book.ghost_name ≡ k.book.ghost_name) × Asks k.book.now token url m result k2.book.now;
+      starts = λ k number token url m result k2. (k2.book.ghost_name ≡ k.book.ghost_name) × BookStarts k.book.now number token url m result k2.book.now;
+      returns = λ k number result k2. (k2.book.ghost_name ≡ k.book.ghost_name) × Returns k.book.now number result k2.book.now;
+      finishes = λ k number result k2. (k2.book.ghost_name ≡ k.book.ghost_name) × Finishes k.book.now number result k2.book.now;
+      reads = λ k authority m state k2. (k2.book.ghost_name ≡ k.book.ghost_name) × BookReads k.book.now authority m state k2.book.now;
+      refreshes = λ _ k _ result k2. (k2.book.ghost_name ≡ k.book.ghost_name) × OffersNone k.book.now result k2.book.now;
+      fetches = λ _ k _ result k2. (k2.book.ghost_name ≡ k.book.ghost_name) × OffersNone k.book.now result k2.book.now;
+      ends = λ k k2. k2 ≡ k;
+    } };
+
+    fn can_fetch(&self) -> bool {
+        false
+    }
+
+    fn ask(&mut self, token: Token, url: PageUrl, moment: u64) -> Result<PermitNo, AskRefusal> {
+        self.book.ask(token, url, moment)
+    }
+
+    fn start(
+        &mut self,
+        number: PermitNo,
+        token: &Token,
+        url: PageUrl,
+        moment: u64,
+    ) -> Result<Reason, Denial> {
+        let Started { reason, .. } = self.book.start(number, token, url, moment)?;
+        Ok(reason)
+    }
+
+    fn back(&mut self, number: PermitNo) -> Result<(), NotOut> {
+        self.book.back(number)
+    }
+
+    fn finish(&mut self, number: PermitNo) -> Result<(), NotOut> {
+        self.book.finish(number)
+    }
+
+    fn state(&mut self, authority: &Authority, moment: u64) -> State {
+        self.book.state_of(authority.text(), moment)
+    }
+
+    fn refresh<C: Clock>(
+        &mut self,
+        _alloc: Global,
+        _authority: &Authority,
+        _clock: &C,
+    ) -> Option<Result<Standing, BeginRefusal>> {
+        None
+    }
+
+    fn fetch<C: Clock>(
+        &mut self,
+        _alloc: Global,
+        _job: Job,
+        _clock: &C,
+    ) -> Option<Result<Outcome, NoMemory>> {
+        None
+    }
+
+    fn end(&mut self) {}
+}

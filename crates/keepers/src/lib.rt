@@ -1,0 +1,11 @@
+//! Who keeps the permits of a session of the line server: a book alone, or a desk with a bag and what
+//! fetches (RFC 9309, sections 2.2 to 2.4, in the profile of docs/POLICY.md).
+#![tactic(auto)]
+
+mod book_keeper;
+mod desk_keeper;
+mod keeper;
+
+pub use book_keeper::BookKeeper;
+pub use desk_keeper::{DeskKeeper, NoKeeper};
+pub use keeper::Keeper;

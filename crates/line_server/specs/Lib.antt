@@ -1,0 +1,4 @@
+-- What contracts say of a server.
+pub mod Faults
+pub mod Sweeping
+pub mod Servers

@@ -1,0 +1,76 @@
+//! Why a server does not end as it should.
+use counted_io::DeviceFault;
+use gate_lock::{DesksFull, SettleFault};
+use keepers::NoKeeper;
+use std::alloc::AllocError;
+
+/// Why a server has no end to tell of. A client's faults are none of its own.
+#[derive(Clone, Copy, Debug, PartialEq, Eq)]
+pub enum ServeFault {
+    /// No client could be accepted, or a line could not be written.
+    Device,
+    /// A growth of memory was refused, before a client was taken or at the end.
+    NoMemory,
+    /// The gate has no desk more.
+    DesksFull,
+    /// The gate was not settled.
+    Unsettled(SettleFault),
+}
+
+impl From<AllocError> for ServeFault {
+    ghost use Rattle.std.specs.Prelude.{◌≡◌};
+    ghost use Rattle.line_server.specs.declared.fault.ServeFault.TheVariants as faults;
+
+    ghost from_gives = { λ _ told. told ≡ faults.NoMemory };
+
+    fn from(_: AllocError) -> ServeFault {
+        ServeFault::NoMemory
+    }
+}
+
+impl From<DeviceFault> for ServeFault {
+    ghost use Rattle.std.specs.Prelude.{◌≡◌};
+    ghost use Rattle.line_server.specs.declared.fault.ServeFault.TheVariants as faults;
+
+    ghost from_gives = { λ _ told. told ≡ faults.Device };
+
+    fn from(_: DeviceFault) -> ServeFault {
+        ServeFault::Device
+    }
+}
+
+impl From<DesksFull> for ServeFault {
+    ghost use Rattle.std.specs.Prelude.{◌≡◌};
+    ghost use Rattle.line_server.specs.declared.fault.ServeFault.TheVariants as faults;
+
+    ghost from_gives = { λ _ told. told ≡ faults.DesksFull };
+
+    fn from(_: DesksFull) -> ServeFault {
+        ServeFault::DesksFull
+    }
+}
+
+impl From<NoKeeper> for ServeFault {
+    ghost use Rattle.std.specs.Prelude.{◌≡◌};
+    ghost use Rattle.line_server.specs.Faults.{serve_fault};
+
+    ghost from_gives = { λ refusal told. told ≡ serve_fault refusal };
+
+    fn from(refusal: NoKeeper) -> ServeFault {
+        match refusal {
+            NoKeeper::DesksFull => ServeFault::DesksFull,
+            NoKeeper::NoMemory => ServeFault::NoMemory,
+        }
+    }
+}
+
+impl From<SettleFault> for ServeFault {
+    ghost use Rattle.std.specs.Prelude.{◌≡◌};
+    ghost use Rattle.line_server.specs.declared.fault.ServeFault.TheVariants as faults;
+
+    ghost from_gives = { λ fault told. told ≡ faults.Unsettled fault };
+
+    fn from(fault: SettleFault) -> ServeFault {
+        ServeFault::Unsettled(fault)
+    }
+}

@@ -1,0 +1,91 @@
+//! A worker of a server: it takes one client after the other, and serves each to its end.
+ghost use Rattle.std.specs.Prelude.{◌≡◌};
+
+use crate::fault::ServeFault;
+use crate::server::{Counters, Server};
+use crate::warden::Alarm;
+use client_wire::{AcceptFault, ClientStream, Waiting, close};
+use command_server::serve;
+use counted_io::{Counted, DeviceFault};
+use crawl_workers::{Clock, Fetcher};
+use gate_lock::{Gate, GateLock, Receipts};
+use keepers::DeskKeeper;
+use std::cell::Cell;
+use std::net::TcpStream;
+use std::sync::Wait;
+use std::sync::atomic::Ordering;
+use std::time;
+
+/// A worker: how many connections it took, and, once it has ended, the receipts of its desk or why it
+/// has none.
+#[derive(Drop)]
+pub(crate) struct Servant<G: Gate> {
+    pub(crate) taken: u64,
+    pub(crate) end: Option<Result<Receipts<G>, ServeFault>>,
+}
+
+impl<F: Fetcher, C: Clock, A: Alarm, R: Wait + time::Clock> Server<'_, F, C, A, R> {
+    /// Lets a worker serve until no connection is left to be taken.
+    pub(crate) fn employ<G: Gate>(
+        &self,
+        gate: &GateLock<G>,
+        counters: &Counters,
+        servant: &mut Servant<G>,
+    ) {
+        servant.end = Some(self.man_desk(gate, counters, &mut servant.taken));
+        counters.left.fetch_sub(1, Ordering::SeqCst);
+    }
+
+    // Opens a desk, takes clients at it, and closes it, whatever came of them.
+    fn man_desk<G: Gate>(
+        &self,
+        gate: &GateLock<G>,
+        counters: &Counters,
+        taken: &mut u64,
+    ) -> Result<Receipts<G>, ServeFault> {
+        let mut keeper = DeskKeeper::open(self.rt, self.alloc, gate, self.fetcher)?;
+        let ended = self.take_all(counters, &mut keeper, taken);
+        let receipts = keeper.close();
+        ended?;
+        Ok(receipts)
+    }
+
+    // Takes clients until no connection is left, or none can be accepted.
+    fn take_all<G: Gate>(
+        &self,
+        counters: &Counters,
+        keeper: &mut DeskKeeper<'_, '_, G, F, R>,
+        taken: &mut u64,
+    ) -> Result<(), DeviceFault> {
+        for _ in self.rt.forever() {
+            if counters.drawn.fetch_add(1, Ordering::SeqCst) >= self.connections {
+                return Ok(());
+            }
+            let stream = self.accept()?;
+            *taken = taken.saturating_add(1);
+            self.serve_client(stream, keeper);
+        }
+        unreachable!()
+    }
+
+    // Waits for a client, for as long as descriptors and memory are wanted.
+    fn accept(&self) -> Result<TcpStream, DeviceFault> {
+        for _ in self.rt.forever() {
+            match self.listener.accept(self.rt) {
+                Ok(stream) => return Ok(stream),
+                Err(AcceptFault::Want) => {}
+                Err(AcceptFault::Client | AcceptFault::Device) => return Err(DeviceFault),
+            }
+        }
+        unreachable!()
+    }
+
+    // Serves a client to its end. A fault of its session ends its connection alone.
+    fn serve_client<G: Gate>(&self, stream: TcpStream, keeper: &mut DeskKeeper<'_, '_, G, F, R>) {
+        let waiting = Cell::new(Waiting::new(self.patience));
+        let mut reader = Counted::new(ClientStream::new(self.rt, &stream, &waiting));
+        let mut writer = Counted::new(ClientStream::new(self.rt, &stream, &waiting));
+        let _ = serve(self.alloc, &mut reader, &mut writer, keeper, self.clock);
+        close(self.rt, stream);
+    }
+}

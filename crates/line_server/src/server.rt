@@ -1,0 +1,167 @@
+//! A server from its first client to the settlement of its gate.
+ghost use Rattle.std.specs.Prelude.{IfOk};
+ghost use Rattle.job_line.specs.Limits.{IsCrew};
+ghost use Rattle.line_server.specs.Servers.{IsServed};
+
+use crate::fault::ServeFault;
+use crate::servant::Servant;
+use crate::warden::Alarm;
+use client_wire::Listener;
+use crawl_workers::{Clock, Fetcher};
+use gate_lock::{Gate, GateLock, Receipts, settle};
+use job_line::MAX_WORKERS;
+use std::alloc::{AllocError, Global};
+use std::sync::Wait;
+use std::sync::atomic::AtomicU64;
+use std::thread::Threads;
+use std::time::Duration;
+use std::{thread, time};
+
+/// A server: by whom and for how many connections clients are served, and who fetches for them.
+#[derive(Drop)]
+pub struct Server<'a, F, C, A, R> {
+    pub rt: &'a R,
+    pub alloc: Global,
+    pub listener: &'a Listener,
+    pub fetcher: &'a F,
+    pub clock: &'a C,
+    /// Who is told that the history is full.
+    pub alarm: &'a A,
+    /// How many clients are served at a time, from 1 to 16.
+    pub workers: u64,
+    /// After how many connections it ends.
+    pub connections: u64,
+    /// How long a client is waited for.
+    pub patience: Duration,
+}
+
+/// How many numbers of connections were drawn, and how many workers are left.
+#[derive(Drop)]
+pub(crate) struct Counters {
+    pub(crate) drawn: AtomicU64,
+    pub(crate) left: AtomicU64,
+}
+
+/// What a server has done.
+#[derive(Clone, Copy, Debug, PartialEq, Eq)]
+pub struct Served {
+    /// How many connections were accepted.
+    pub connections: u64,
+    /// How many entries the history has.
+    pub events: u64,
+}
+
+impl<
+    F: Fetcher + Sync,
+    C: Clock + Sync,
+    A: Alarm + Sync,
+    R: Threads + Wait + time::Clock + Sync,
+> Server<'_, F, C, A, R> {
+    /// Serves clients over a gate that has made no entry, and settles it. Each worker has a thread of its
+    /// own, as far as threads can be had. What a session left out is given back at its end, whatever ended
+    /// it, so the faults of clients are none of the gate.
+    pub fn run<G: Gate + Send + Sync>(&self, gate: &GateLock<G>) -> Result<Served, ServeFault>
+        requires { IsCrew self.now.workers }
+        ensures { IfOk result IsServed }
+    {
+        let mut servants = hire(self.alloc, self.workers)?;
+        let mut receipts = Vec::new(self.alloc);
+        let own = self.serve_all(gate, &mut servants)?;
+        let connections = take_in(servants, &mut receipts)?;
+        receipts.push(own).map_err(AllocError::from)?;
+        let settled = settle(self.rt, self.alloc, gate, &receipts)?;
+        Ok(Served {
+            connections,
+            events: settled.events,
+        })
+    }
+
+    // Has the workers serve, and the gate seen to meanwhile; the receipts are those of who sees to it.
+    fn serve_all<G: Gate + Send + Sync>(
+        &self,
+        gate: &GateLock<G>,
+        servants: &mut [Servant<G>],
+    ) -> Result<Receipts<G>, ServeFault> {
+        let counters = Counters {
+            drawn: AtomicU64::new(0),
+            left: AtomicU64::new(self.workers),
+        };
+        serve_by(self.rt, self, gate, &counters, servants)
+    }
+}
+
+// Has the workers serve on threads of their own, and the gate seen to on this one. Without a thread the
+// workers come first, and then nothing is left to see to.
+fn serve_by<
+    G: Gate + Send + Sync,
+    F: Fetcher + Sync,
+    C: Clock + Sync,
+    A: Alarm + Sync,
+    R: Threads + Wait + time::Clock + Sync,
+>(
+    rt: &R,
+    server: &Server<'_, F, C, A, R>,
+    gate: &GateLock<G>,
+    counters: &Counters,
+    servants: &mut [Servant<G>],
+) -> Result<Receipts<G>, ServeFault> {
+    let (_, receipts) = thread::join(
+        rt,
+        || employ_all(rt, server, gate, counters, servants),
+        || server.watch(gate, counters),
+    );
+    receipts
+}
+
+// So many workers, who have taken nobody.
+fn hire<G: Gate>(alloc: Global, workers: u64) -> Result<Vec<Servant<G>>, AllocError> {
+    let mut servants = Vec::new(alloc);
+    for _ in 0..workers {
+        let servant = Servant {
+            taken: 0,
+            end: None,
+        };
+        servants.push(servant).map_err(AllocError::from)?;
+    }
+    Ok(servants)
+}
+
+// Lets each worker work on a thread of its own.
+fn employ_all<
+    G: Gate + Send + Sync,
+    F: Fetcher + Sync,
+    C: Clock + Sync,
+    A: Alarm + Sync,
+    R: Threads + Wait + time::Clock + Sync,
+>(
+    rt: &R,
+    server: &Server<'_, F, C, A, R>,
+    gate: &GateLock<G>,
+    counters: &Counters,
+    servants: &mut [Servant<G>],
+) {
+    thread::for_each_mut(
+        rt,
+        servants,
+        MAX_WORKERS as usize,
+        &|_: usize, servant: &mut Servant<G>| server.employ(gate, counters, servant),
+    );
+}
+
+// How many connections the workers took, whose receipts come to the others. The first that has none tells
+// why.
+fn take_in<G: Gate>(
+    servants: Vec<Servant<G>>,
+    receipts: &mut Vec<Receipts<G>>,
+) -> Result<u64, ServeFault> {
+    let mut all: u64 = 0;
+    for servant in servants {
+        let Servant { taken, end } = servant;
+        let Some(end) = end else {
+            continue;
+        };
+        receipts.push(end?).map_err(AllocError::from)?;
+        all = all.saturating_add(taken);
+    }
+    Ok(all)
+}

@@ -1,0 +1,98 @@
+//! What sees to a gate while workers serve: answers that are past are swept, and a full history is told of.
+//! RFC 9309, section 2.4.
+ghost use Rattle.std.specs.Prelude.{◌≡◌, IfOk};
+ghost use Rattle.gate_lock.specs.Desks.{KeepsOut, out_of};
+ghost use Rattle.line_server.specs.Sweeping.{is_due};
+
+use crate::fault::ServeFault;
+use crate::server::{Counters, Server};
+use crawl_workers::{Clock, Fetcher};
+use gate_lock::{Desk, Gate, GateLock, Receipts};
+use std::sync::Wait;
+use std::sync::atomic::Ordering;
+use std::time::Duration;
+use std::{thread, time};
+
+/// How many seconds lie between two sweeps at most.
+pub const SWEEP_SECONDS: u64 = 3_600;
+
+/// How many lie between them at least, where as many authorities are known as may be.
+pub const FULL_SECONDS: u64 = 60;
+
+// How long it sleeps before it looks again whether a worker is left.
+const NAP_MILLISECONDS: u64 = 100;
+
+/// Who is told that the history of the gate is full.
+pub trait Alarm {
+    /// It is full: nothing is asked, begun or swept any more.
+    fn log_is_full(&self);
+}
+
+/// When a gate was swept last, and whether it was told that its history is full.
+#[derive(Clone, Copy)]
+struct Rounds {
+    swept: u64,
+    told: bool,
+}
+
+impl<F: Fetcher, C: Clock, A: Alarm, R: Wait + time::Clock> Server<'_, F, C, A, R> {
+    /// Sees to the gate at a desk of its own, until no worker is left.
+    pub(crate) fn watch<G: Gate>(
+        &self,
+        gate: &GateLock<G>,
+        counters: &Counters,
+    ) -> Result<Receipts<G>, ServeFault> {
+        let mut desk = gate.desk(self.rt, self.alloc)?;
+        self.go_round(counters, &mut desk);
+        Ok(desk.close())
+    }
+
+    // Looks after the gate until no worker is left.
+    fn go_round<G: Gate>(&self, counters: &Counters, desk: &mut Desk<'_, G>)
+        ensures no { desk.new.no ≡ desk.old.no }
+        ensures out { KeepsOut desk.old desk.new }
+    {
+        let mut rounds = Rounds {
+            swept: self.clock.now(),
+            told: false,
+        };
+        for _ in self.rt.forever() {
+            if counters.left.load(Ordering::SeqCst) == 0 {
+                return;
+            }
+            self.see_to(desk, &mut rounds);
+            thread::sleep(self.rt, Duration::from_millis(NAP_MILLISECONDS));
+        }
+    }
+
+    // Sweeps where that is due, and tells once that the history is full.
+    fn see_to<G: Gate>(&self, desk: &mut Desk<'_, G>, rounds: &mut Rounds)
+        ensures no { desk.new.no ≡ desk.old.no }
+        ensures out { KeepsOut desk.old desk.new }
+    {
+        let now = self.clock.now();
+        let (has_room, is_full) = {
+            let held = desk.lend(self.rt);
+            let book = held.book();
+            let limit = book.limits().authority_limit;
+            (book.has_room(3), book.known_count() >= limit)
+        };
+        if !has_room && !rounds.told {
+            rounds.told = true;
+            self.alarm.log_is_full();
+        }
+        if has_room && is_due(rounds.swept, now, is_full) {
+            rounds.swept = now;
+            // Want of memory is met again at the next sweep.
+            let _ = desk.sweep(self.rt, now);
+        }
+    }
+}
+
+// Whether to sweep at a moment. A clock that was set back is taken for the time of a sweep.
+fn is_due(swept: u64, now: u64, is_full: bool) -> bool
+    ensures { result ≡ is_due swept now is_full }
+{
+    let seconds = if is_full { FULL_SECONDS } else { SWEEP_SECONDS };
+    now < swept || now - swept >= seconds
+}

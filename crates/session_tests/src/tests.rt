@@ -1,0 +1,71 @@
+//! Sessions of clients over memory, at a clock that stands.
+ghost use Rattle.std.specs.Prelude.{◌≡◌, [], IfOk};
+ghost use Rattle.gate_history.specs.Base.{empty_base};
+ghost use Rattle.gate_core.specs.Limits.{AreLimits};
+
+mod books;
+mod desks;
+mod faults;
+mod turns;
+
+use crawl_workers::{Clock, ScriptedPage};
+use gate_core::{Book, Config, Limits};
+use std::alloc::Global;
+use std::hash::RandomState;
+use std::random::RandomSource;
+use std::test::Fail;
+
+// A clock that stands.
+#[derive(Clone, Copy)]
+struct FixedClock(u64);
+
+impl Clock for FixedClock {
+    fn now(&self) -> u64 {
+        self.0
+    }
+}
+
+// The sites of the rows: `a.example` has no robots file and one page, `b.example` denies one of its pages.
+const PAGES: [ScriptedPage<'static>; 5] = [
+    ScriptedPage {
+        url: "http://a.example/robots.txt",
+        response: b"HTTP/1.1 404 Not Found\r\nContent-Length: 0\r\n\r\n",
+    },
+    ScriptedPage {
+        url: "http://a.example/x",
+        response: b"HTTP/1.1 200 OK\r\nContent-Length: 5\r\n\r\nhello",
+    },
+    ScriptedPage {
+        url: "http://a.example/to",
+        response: b"HTTP/1.1 302 Found\r\nLocation: /x\r\nContent-Length: 0\r\n\r\n",
+    },
+    ScriptedPage {
+        url: "http://b.example/robots.txt",
+        response: b"HTTP/1.1 200 OK\r\nContent-Length: 32\r\n\r\nUser-agent: *\nDisallow: /secret\n",
+    },
+    ScriptedPage {
+        url: "http://b.example/x",
+        response: b"HTTP/1.1 200 OK\r\nContent-Length: 0\r\n\r\n",
+    },
+];
+
+// A book with these limits.
+fn book(rt: &impl RandomSource, alloc: Global, limits: Limits) -> Result<Book, Fail>
+    requires { AreLimits limits }
+    ensures { IfOk result (λ book. (book.base ≡ empty_base) × (book.entries ≡ [])) }
+{
+    let config = Config {
+        limits,
+        keys: RandomState::new(rt)?,
+    };
+    Ok(Book::new(alloc, config)?)
+}
+
+// Holds where the row of this name is as it must be.
+fn demand(given: &[u8], want: &str, name: &str) -> Result<(), Fail> {
+    if given == want.as_bytes() {
+        Ok(())
+    } else {
+        Err(Fail::new(format_args!("{name}")))
+    }
+}

@@ -1,0 +1,118 @@
+//! Sessions at a desk whose read or write fails, at each place in turn: nothing stays out.
+
+use super::{FixedClock, PAGES, book};
+use command_server::{DeskKeeper, SessionFault, serve};
+use counted_io::FailAt;
+use crawl_workers::ScriptedSites;
+use gate_core::Limits;
+use gate_lock::{Gate, GateLock, SettleFault, Settled, Visit, settle, with_gate};
+use std::alloc::Global;
+use std::random::RandomSource;
+use std::sync::Wait;
+use std::test::Fail;
+
+const LINES: &str = "\
+REFRESH a.example
+ASK foobot http://a.example/x
+ASK foobot http://a.example/y
+START 65536 foobot http://a.example/x
+";
+
+// How many octets the replies to them have.
+const REPLIES: u64 = 61;
+
+// A session whose reads or writes fail behind so many calls, each of one octet.
+#[derive(Drop)]
+struct FaultRow<'r, R: Wait> {
+    rt: &'r R,
+    alloc: Global,
+    read_fails: Option<u64>,
+    write_fails: Option<u64>,
+}
+
+type Ended = (Result<(), SessionFault>, Result<Settled, SettleFault>);
+
+impl<R: Wait> Visit for FaultRow<'_, R> {
+    type Out = Result<Ended, Fail>;
+
+    fn visit<G: Gate>(self, gate: &GateLock<G>) -> Self::Out {
+        let lines = LINES.as_bytes().to_vec(self.alloc)?;
+        let reader = FailAt::new(lines, 1, self.read_fails);
+        let writer = FailAt::new(Vec::new(self.alloc), 1, self.write_fails);
+        session_at(self.rt, self.alloc, gate, reader, writer)
+    }
+}
+
+fn session_at<G: Gate, R: Wait>(
+    rt: &R,
+    alloc: Global,
+    gate: &GateLock<G>,
+    reader: FailAt,
+    writer: FailAt,
+) -> Result<Ended, Fail> {
+    let sites = ScriptedSites {
+        alloc,
+        pages: &PAGES,
+    };
+    let (mut reader, mut writer) = (reader, writer);
+    let mut all = Vec::with_capacity(alloc, 1)?;
+    let mut keeper = DeskKeeper::open(rt, alloc, gate, &sites)?;
+    let end = serve(
+        alloc,
+        &mut reader,
+        &mut writer,
+        &mut keeper,
+        &FixedClock(110),
+    );
+    all.push_reserved(keeper.close());
+    Ok((end, settle(rt, alloc, gate, all.as_slice())))
+}
+
+fn ended<R: Wait + RandomSource>(
+    rt: &R,
+    alloc: Global,
+    read_fails: Option<u64>,
+    write_fails: Option<u64>,
+) -> Result<Ended, Fail> {
+    let book = book(rt, alloc, Limits::usual())?;
+    let row = FaultRow {
+        rt,
+        alloc,
+        read_fails,
+        write_fails,
+    };
+    with_gate(book, row)
+}
+
+fn check(ended: Ended, want: SessionFault, at: u64) -> Result<(), Fail> {
+    let (end, settled) = ended;
+    if end == Err(want) && settled.is_ok() {
+        Ok(())
+    } else {
+        Err(Fail::new(format_args!("{want:?}, at {at}: {end:?}, {settled:?}")))
+    }
+}
+
+#[test]
+fn reads_that_fail(rt: HostRuntime) -> Result<(), Fail> {
+    for at in 0..LINES.len() as u64 {
+        check(
+            ended(&rt, rt.alloc(), Some(at), None)?,
+            SessionFault::Read,
+            at,
+        )?;
+    }
+    Ok(())
+}
+
+#[test]
+fn writes_that_fail(rt: HostRuntime) -> Result<(), Fail> {
+    for at in 0..REPLIES {
+        check(
+            ended(&rt, rt.alloc(), None, Some(at))?,
+            SessionFault::Write,
+            at,
+        )?;
+    }
+    Ok(())
+}

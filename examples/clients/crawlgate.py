@@ -1,0 +1,198 @@
+#!/usr/bin/env python3
+"""A client of `crawlgate serve`: permits and pages over one connection.
+
+    with Gate("127.0.0.1", 8300) as gate:
+        with gate.permit("foobot", url):
+            page = urllib.request.urlopen(url).read()
+        print(gate.fetch("foobot", url).body)
+
+A Gate is one session: what it was granted is its own, and goes back when it ends. Use one for each thread. The server ends
+a session that sends no line for 300 seconds, or what its --patience says; one that has more to do between two lines may
+send a `state` meanwhile. docs/FORMATS.md has every line and reply.
+
+As a program, `crawlgate.py PORT TOKEN URL` has the gate fetch a page, and writes its body, and its hops to standard error.
+"""
+import contextlib
+import socket
+import sys
+import time
+from dataclasses import dataclass
+from typing import List
+
+
+class Denied(Exception):
+    """The page may not be fetched now: `cause` is 'line <n>', 'closed', 'unknown', 'expired' or 'spent'."""
+
+    def __init__(self, authority, cause):
+        super().__init__(f"{authority}: {cause}")
+        self.authority, self.cause = authority, cause
+
+
+class Refused(Exception):
+    """The gate took no such line, or could not do it now: `word` is as 'url bad', 'permits', 'busy' or 'notout'."""
+
+    def __init__(self, word):
+        super().__init__(word)
+        self.word = word
+
+
+@dataclass
+class Fetched:
+    """What came of a page: its hops, as 'PAGE open 200 5 whole', and the body of the last, where that is a PAGE."""
+
+    hops: List[str]
+    body: bytes
+
+    @property
+    def is_page(self):
+        return self.hops[-1].startswith("PAGE ")
+
+
+class Gate:
+    """A session of a line server. It raises an OSError where the connection ends or nothing comes for `timeout` seconds;
+    without a timeout it waits as long as the server does: a fetch may take an hour."""
+
+    def __init__(self, host, port, timeout=None):
+        self._peer = socket.create_connection((host, port), timeout)
+        self._peer.setsockopt(socket.IPPROTO_TCP, socket.TCP_NODELAY, 1)
+        self._replies = self._peer.makefile("rb")
+
+    def __enter__(self):
+        return self
+
+    def __exit__(self, kind, error, trace):
+        """Ends the session, by which all its permits are given back."""
+        try:
+            if kind is None and not self._replies.closed:
+                self.quit()
+        finally:
+            self.close()
+
+    def close(self):
+        """Closes the connection. The server gives the session's permits back once it sees that."""
+        self._replies.close()
+        self._peer.close()
+
+    def ask(self, token, url):
+        """Asks for a permit to fetch a page, and returns its number."""
+        return int(self._say("PERMIT", "ASK", token, url))
+
+    def start(self, number, token, url):
+        """Starts the fetch of a permit, which is spent by it, and returns the reason: 'open', 'line <n>', 'norule' or
+        'robots'. A permit whose start is denied is spent too."""
+        return self._say("GO", "START", number, token, url).partition(" ")[2]
+
+    def back(self, number):
+        """Gives an unspent permit back."""
+        self._say("BACK", "BACK", number)
+
+    def done(self, number):
+        """Says that the fetch that was started under this number has ended."""
+        self._say("DONE", "DONE", number)
+
+    def state(self, authority):
+        """Returns what stands for an authority ('unknown', 'expired', 'closed', 'open' or 'rules'), and whether its robots
+        file is being fetched."""
+        _, word, turn = self._say("STATE", "STATE", authority).split(" ")
+        return word, turn == "fetching"
+
+    def refresh(self, authority):
+        """Has the robots file of an authority fetched, and returns 'rules', 'open' or 'closed'. It is Refused as
+        'inflight' while another session has it fetched."""
+        return self._say("TAKEN", "REFRESH", authority).partition(" ")[2]
+
+    def fetch(self, token, url):
+        """Has the gate fetch a page, the robots file before it where none is in force, and the pages to which it leads."""
+        hops = []
+        reply = self._send("FETCH", token, url)
+        while reply.startswith("HOP "):
+            hops.append(reply.split(" ", 2)[2])
+            reply = self._reply()
+        length = int(self._rest_of("BODY", reply))
+        octets = self._replies.read(length + 1)
+        if len(octets) <= length:
+            raise ConnectionError("the connection ended in a body")
+        return Fetched(hops, octets[:-1])
+
+    def quit(self):
+        """Ends the session. When it returns, the session's permits have gone back."""
+        self._say("BYE", "QUIT")
+        self.close()
+
+    @contextlib.contextmanager
+    def permit(self, token, url):
+        """Starts the fetch of a page, which the caller makes itself, and ends it on the way out. It gives the reason. The
+        robots file is fetched first, where none is in force."""
+        number = self._ask_informed(token, url)
+        try:
+            reason = self.start(number, token, url)
+        except Refused:
+            self.back(number)
+            raise
+        try:
+            yield reason
+        finally:
+            self.done(number)
+
+    def _ask_informed(self, token, url):
+        try:
+            return self.ask(token, url)
+        except Denied as denied:
+            if denied.cause not in ("unknown", "expired"):
+                raise
+            self._inform(denied.authority)
+            return self.ask(token, url)
+
+    def _inform(self, authority):
+        """Has a robots file fetched, or waits until another session has done so."""
+        try:
+            self.refresh(authority)
+        except Refused as refused:
+            if refused.word != "inflight":
+                raise
+            while self.state(authority)[1]:
+                time.sleep(0.1)
+
+    def _say(self, wanted, *words):
+        return self._rest_of(wanted, self._send(*words))
+
+    def _send(self, *words):
+        """Sends a line of these words, and returns the first line of the reply."""
+        for word in words:
+            # another octet would end the word, or the line
+            if not all("!" <= it <= "~" for it in str(word)):
+                raise ValueError(f"no word of a line: {word!r}")
+        self._peer.sendall(" ".join(map(str, words)).encode() + b"\n")
+        return self._reply()
+
+    def _reply(self):
+        line = self._replies.readline()
+        if not line.endswith(b"\n"):
+            raise ConnectionError("the connection ended without a reply")
+        return line[:-1].decode()
+
+    def _rest_of(self, wanted, reply):
+        """Returns what stands behind the first word of a reply, which must be this one."""
+        word, _, rest = reply.partition(" ")
+        if word == wanted:
+            return rest
+        if word == "NO":
+            raise Denied(*rest.split(" ", 1))
+        if word == "ERR":
+            raise Refused(rest)
+        raise ConnectionError(f"no reply of a gate: {reply!r}")
+
+
+def main(given):
+    if len(given) != 3:
+        sys.exit("usage: crawlgate.py PORT TOKEN URL")
+    port, token, url = given
+    with Gate("127.0.0.1", int(port)) as gate:
+        fetched = gate.fetch(token, url)
+    print(*fetched.hops, sep="\n", file=sys.stderr)
+    sys.stdout.buffer.write(fetched.body)
+    return 0 if fetched.is_page else 1
+
+
+if __name__ == "__main__":
+    sys.exit(main(sys.argv[1:]))

@@ -1,0 +1,106 @@
+#!/bin/bash
+# A client of `crawlgate serve`, for scripts. It needs bash (for /dev/tcp), head and sleep.
+#
+# usage: crawlgate.sh PORT fetch TOKEN URL
+#        crawlgate.sh PORT run TOKEN URL COMMAND ..
+#
+# `fetch` has the gate fetch a page, and writes its body; its hops go to standard error. `run` asks for a permit, has the
+# robots file fetched where none is in force, starts the fetch, runs the command, which fetches the page, and ends the
+# fetch:
+#
+#   crawlgate.sh 8300 run foobot http://a.example/ curl --silent --user-agent foobot http://a.example/
+#
+# The status is 0 for a page, or that of the command; 1 where the page is denied, refused or can't be had, which standard
+# error tells; 2 for words that are not understood. What the session was granted goes back when it ends, however that is; the
+# server ends one that sends no line for 300 seconds, or what its --patience says, so a command may not take longer.
+set -u
+LC_ALL=C
+
+fail() {
+    echo "crawlgate.sh: $1" >&2
+    exit "${2:-1}"
+}
+
+# Reads a line of a reply.
+receive() {
+    IFS= read -r reply <&3 || fail "the connection ended"
+}
+
+# Sends a line, and reads the first line of its reply.
+say() {
+    printf '%s\n' "$*" >&3 || fail "the connection ended"
+    receive
+}
+
+# Says a line whose reply must begin with this word.
+expect() {
+    local word=$1
+    shift
+    say "$@"
+    [ "${reply%% *}" = "$word" ] || fail "$reply"
+}
+
+# Has a robots file fetched, or waits until another session has had it fetched.
+inform() {
+    say REFRESH "$1"
+    case $reply in
+    'TAKEN '*) return ;;
+    'ERR inflight') ;;
+    *) fail "$reply" ;;
+    esac
+    while expect STATE STATE "$1" && [ "${reply##* }" = fetching ]; do
+        sleep 0.1
+    done
+}
+
+# The gate fetches the page.
+fetch() {
+    local hop=
+    say FETCH "$token" "$url"
+    while [ "${reply%% *}" = HOP ]; do
+        hop=${reply#HOP * }
+        echo "$hop" >&2
+        receive
+    done
+    [ "${reply%% *}" = BODY ] || fail "$reply"
+    head -c "${reply#BODY }" <&3
+    # a line end stands behind the body
+    receive
+    [ "${hop%% *}" = PAGE ]
+}
+
+# The command fetches the page.
+run() {
+    local status
+    say ASK "$token" "$url"
+    case $reply in
+    'NO '*' unknown' | 'NO '*' expired')
+        reply=${reply#NO }
+        inform "${reply% *}"
+        say ASK "$token" "$url"
+        ;;
+    esac
+    [ "${reply%% *}" = PERMIT ] || fail "$reply"
+    number=${reply#PERMIT }
+    expect GO START "$number" "$token" "$url"
+    # (the command has no part in the connection: it ends with this script)
+    "$@" 3>&-
+    status=$?
+    expect DONE DONE "$number"
+    return "$status"
+}
+
+[ $# -ge 4 ] || fail "usage: crawlgate.sh PORT fetch TOKEN URL, or PORT run TOKEN URL COMMAND .." 2
+port=$1 action=$2 token=$3 url=$4
+shift 4
+case $port in *[!0-9]* | '') fail "no port: $port" 2 ;; esac
+# Another octet would end the word, or the line.
+case $token in *[!!-~]* | '') fail "no token: $token" 2 ;; esac
+case $url in *[!!-~]* | '') fail "no URL: $url" 2 ;; esac
+case $action in
+fetch) [ $# = 0 ] || fail "fetch takes a token and a URL" 2 ;;
+run) [ $# -gt 0 ] || fail "run takes a token, a URL and a command" 2 ;;
+*) fail "neither fetch nor run: $action" 2 ;;
+esac
+exec 3<>"/dev/tcp/127.0.0.1/$port" || fail "no connection"
+"$action" "$@"
