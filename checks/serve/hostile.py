@@ -7,7 +7,9 @@ import sys
 import threading
 import time
 
-from line_server import HERE, HOST, SECONDS, Server, Session, free_port, open_site, response, same, side_by_side, suppressed
+from line_server import (
+    HERE, SECONDS, Server, Session, free_port, in_time, open_site, response, same, side_by_side, suppressed,
+)
 
 
 def numbers_of_others():
@@ -132,9 +134,9 @@ def nobody_holds_a_worker():
             return time.monotonic() - began
 
     took = side_by_side(seconds_held_by, HOLDERS)
-    told = ", ".join(f"{row[0].__name__} {seconds:.1f} s" for row, seconds in zip(HOLDERS, took))
-    assert all(least <= seconds <= most for (_, least, most), seconds in zip(HOLDERS, took)), told
-    return told
+    for (_, least, most), seconds in zip(HOLDERS, took):
+        in_time(seconds, most, least)
+    return ", ".join(f"{row[0].__name__} {seconds:.1f} s" for row, seconds in zip(HOLDERS, took))
 
 
 def gone_during_a_fetch():
@@ -147,7 +149,7 @@ def gone_during_a_fetch():
         began = time.monotonic()
         same(following.say(f"ASK foobot {site.url('/x')}"), "PERMIT 131072")
         took = time.monotonic() - began
-    assert took <= 4, f"it took {took:.1f} s"
+    in_time(took, 4)
 
 
 def patience_with_good_clients():
@@ -190,7 +192,7 @@ def few_descriptors():
                 began = time.monotonic()
                 same(third.lines(1), ["BYE"])
                 took = time.monotonic() - began
-    assert took <= 5, f"it took {took:.1f} s"
+    in_time(took, 5)
     return f"{took:.1f} s from the descriptor on"
 
 

@@ -164,6 +164,15 @@ class Session:
         return said
 
 
+class OutOfTime(AssertionError):
+    """Something took longer than it may, or less long. It may be the machine, which was busy: the case is tried again."""
+
+
+def in_time(seconds, most, least=0):
+    if not least <= seconds <= most:
+        raise OutOfTime(f"it took {seconds:.1f} s, and not {least:g} to {most:g}")
+
+
 def same(found, wanted):
     assert found == wanted, f"it is {short(found)}, and not {short(wanted)}"
 
