@@ -1,5 +1,6 @@
 /* Counts what a program asks of the allocator, for checks/memory/run: how many times, and how many octets in all. At the
-   program's end both numbers are written, on one line, to the file that GROWTHS names. It is loaded before the C library. */
+   program's end both numbers are written, on one line, to the file that GROWTHS names. Where REFUSED is a number, the
+   allocator refuses what is asked of it for that time, counted from 1. It is loaded before the C library. */
 #include <fcntl.h>
 #include <stddef.h>
 #include <stdio.h>
@@ -10,24 +11,29 @@
 void *__libc_malloc(size_t size);
 void *__libc_realloc(void *block, size_t size);
 
-static unsigned long calls, octets;
+static unsigned long calls, octets, refused;
 
-static void count(size_t size)
+__attribute__((constructor)) static void begin(void)
 {
-    __atomic_add_fetch(&calls, 1, __ATOMIC_RELAXED);
+    const char *number = getenv("REFUSED");
+    refused = number ? strtoul(number, NULL, 10) : 0;
+}
+
+/* Counts what is asked for, and tells whether it is refused. */
+static int is_refused(size_t size)
+{
     __atomic_add_fetch(&octets, size, __ATOMIC_RELAXED);
+    return __atomic_add_fetch(&calls, 1, __ATOMIC_RELAXED) == refused;
 }
 
 void *malloc(size_t size)
 {
-    count(size);
-    return __libc_malloc(size);
+    return is_refused(size) ? NULL : __libc_malloc(size);
 }
 
 void *realloc(void *block, size_t size)
 {
-    count(size);
-    return __libc_realloc(block, size);
+    return is_refused(size) ? NULL : __libc_realloc(block, size);
 }
 
 __attribute__((destructor)) static void tell(void)

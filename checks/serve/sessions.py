@@ -51,6 +51,48 @@ def two_sessions():
         same(server.end(), (b"SERVED connections 2 events 6\n", 0, b""))
 
 
+def sealed(it):
+    """Returns the lines of what a client is handed out, or none."""
+    word, count = it.say("SEAL").split(" ")
+    same(word, "SEALED")
+    return it.lines(int(count))
+
+
+def segments_are_what_was_served():
+    """Clients seal while others work: all that they are handed out, in order, is each entry once, as many as SERVED counts."""
+    site = open_site()
+    with Server("--connections", "6", "--workers", "6") as server:
+        with Session(server) as first:
+            same(first.say(f"REFRESH {site.authority}"), f"TAKEN {site.authority} open")
+
+        def rounds(client):
+            page, texts = site.url(f"/{client}"), []
+            with Session(server) as it:
+                for turn in range(60):
+                    number = it.say(f"ASK foobot {page}").removeprefix("PERMIT ")
+                    same(it.say(f"START {number} foobot {page}"), f"GO {number} open")
+                    if turn % 10 == client:
+                        texts.append(sealed(it))
+                    # the last one is left running, and QUIT ends it
+                    if turn < 59:
+                        same(it.say(f"DONE {number}"), f"DONE {number}")
+                same(it.say("QUIT"), "BYE")
+            return texts
+
+        texts = [text for texts in side_by_side(rounds, range(4)) for text in texts]
+        with Session(server) as last:
+            texts.append(sealed(last))
+            same(last.say("QUIT"), "BYE")
+        ended = server.end()
+    count = 0
+    for text in sorted(filter(None, texts), key=lambda text: int(text[1].split(" ")[1]) if text[0] == "V 3" else 0):
+        if text[0] == "V 3":
+            same(text[1].split(" ")[:2], ["T", str(count)])
+            text = text[text.index("E") :]
+        count += len(text) - 1
+    same((ended, count), ((f"SERVED connections 6 events {count}\n".encode(), 0, b""), 2 + 4 * 60 * 3))
+
+
 def fetches():
     site, ruled = open_site(), site_with_rules()
     a, b = site.authority, ruled.authority
@@ -152,6 +194,8 @@ def client_in_python():
             same(gate.fetch("foobot", ruled.url("/moved")).body, OCTETS)
             same(gate.fetch("foobot", ruled.url("/private")).hops, [f"NO {ruled.authority} line 2"])
             same(refusal_of(ValueError, gate.state, "a.example\nQUIT"), "no word of a line: 'a.example\\nQUIT'")
+            text = gate.seal()
+            same((text.split(b"\n")[0], text[-1:], gate.seal()), (b"V 2", b"\n", b""))
             # what is left out goes back at the end
             gate.ask("foobot", x)
         with client.Gate(HOST, server.port, SECONDS) as gate:
@@ -174,9 +218,13 @@ def client_in_bash():
             (["run", "foobot", private, "echo", "page"], (b"", f"crawlgate.sh: NO {ruled.authority} line 2\n".encode(), 1)),
             (["run", "foobot", f"{x}\nQUIT", "echo"], (b"", f"crawlgate.sh: no URL: {x}\nQUIT\n".encode(), 2)),
             (["fetch", "foobot", x], (b"hello", b"PAGE open 200 5 whole\n", 0)),
+            (["seal", "foobot", x], (b"", b"crawlgate.sh: seal takes nothing\n", 2)),
         ]
         for words, wanted in rows:
             same((words, client_of("sh", server, *words)), (words, wanted))
+        text, _, status = client_of("sh", server, "seal")
+        same((text.split(b"\n")[0], text[-1:], status), (b"V 2", b"\n", 0))
+        same(client_of("sh", server, "seal"), (b"", b"", 0))
 
 
 def clients_wait_for_a_robots_fetch():
@@ -263,7 +311,7 @@ def port_that_is_taken():
 
 
 CASES = [
-    quits, connections_are_counted, two_sessions, fetches, faults_of_lines, site_is_down, one_robots_fetch_at_a_time,
+    quits, connections_are_counted, two_sessions, segments_are_what_was_served, fetches, faults_of_lines, site_is_down, one_robots_fetch_at_a_time,
     client_in_python, client_in_bash, clients_wait_for_a_robots_fetch, thousand_lines_at_once, million_lines, line_by_octets, ends_of_lines, loopback_alone,
     port_that_is_taken,
 ]

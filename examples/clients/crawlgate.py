@@ -114,6 +114,14 @@ class Gate:
             raise ConnectionError("the connection ended in a body")
         return Fetched(hops, octets[:-1])
 
+    def seal(self):
+        """Returns the text of the history since the last seal, b"" where nothing was entered. Nobody else keeps it."""
+        count = int(self._say("SEALED", "SEAL"))
+        lines = [self._replies.readline() for _ in range(count)]
+        if not all(it.endswith(b"\n") for it in lines):
+            raise ConnectionError("the connection ended in a segment")
+        return b"".join(lines)
+
     def quit(self):
         """Ends the session. When it returns, the session's permits have gone back."""
         self._say("BYE", "QUIT")

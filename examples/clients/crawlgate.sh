@@ -3,6 +3,7 @@
 #
 # usage: crawlgate.sh PORT fetch TOKEN URL
 #        crawlgate.sh PORT run TOKEN URL COMMAND ..
+#        crawlgate.sh PORT seal
 #
 # `fetch` has the gate fetch a page, and writes its body; its hops go to standard error. `run` asks for a permit, has the
 # robots file fetched where none is in force, starts the fetch, runs the command, which fetches the page, and ends the
@@ -10,7 +11,11 @@
 #
 #   crawlgate.sh 8300 run foobot http://a.example/ curl --silent --user-agent foobot http://a.example/
 #
-# The status is 0 for a page, or that of the command; 1 where the page is denied, refused or can't be had, which standard
+# `seal` writes the history since the last seal, which nobody else keeps; nothing, where there is none:
+#
+#   crawlgate.sh 8300 seal > "segments/$(date -u +%Y%m%dT%H%M%SZ)"
+#
+# The status is 0 for a page or a segment, or that of the command; 1 where the page is denied, refused or can't be had, which standard
 # error tells; 2 for words that are not understood. What the session was granted goes back when it ends, however that is; the
 # server ends one that sends no line for 300 seconds, or what its --patience says, so a command may not take longer.
 set -u
@@ -90,9 +95,18 @@ run() {
     return "$status"
 }
 
-[ $# -ge 4 ] || fail "usage: crawlgate.sh PORT fetch TOKEN URL, or PORT run TOKEN URL COMMAND .." 2
-port=$1 action=$2 token=$3 url=$4
-shift 4
+# The gate hands out its history.
+seal() {
+    expect SEALED SEAL
+    head -n "${reply#SEALED }" <&3
+    # where the text was cut the connection has ended
+    expect BYE QUIT
+}
+
+[ $# -ge 4 ] || [ "$# ${2-}" = "2 seal" ] ||
+    fail "usage: crawlgate.sh PORT fetch TOKEN URL, or PORT run TOKEN URL COMMAND .., or PORT seal" 2
+port=$1 action=$2 token=${3-none} url=${4-none}
+shift $(($# < 4 ? $# : 4))
 case $port in *[!0-9]* | '') fail "no port: $port" 2 ;; esac
 # Another octet would end the word, or the line.
 case $token in *[!!-~]* | '') fail "no token: $token" 2 ;; esac
@@ -100,7 +114,8 @@ case $url in *[!!-~]* | '') fail "no URL: $url" 2 ;; esac
 case $action in
 fetch) [ $# = 0 ] || fail "fetch takes a token and a URL" 2 ;;
 run) [ $# -gt 0 ] || fail "run takes a token, a URL and a command" 2 ;;
-*) fail "neither fetch nor run: $action" 2 ;;
+seal) [ "$token $url" = "none none" ] || fail "seal takes nothing" 2 ;;
+*) fail "neither fetch, run nor seal: $action" 2 ;;
 esac
 exec 3<>"/dev/tcp/127.0.0.1/$port" || fail "no connection"
 "$action" "$@"

@@ -159,7 +159,7 @@ module _ {Y : Type 0} where
   found_known limit a es found all is some = by found.index is.some some
     where
       known : list_all (λ (p : List ℕ × State). is_known p.1) (said_entries es) ≡ true
-      known = all-map string_bytes said_site is_known es ∙ all
+      known = all-map string_bytes said_site is_known es ∙ all.known
 
       by : (o : Option ℕ) → IfSome o (λ i. slice_get (said_entries es) i ≡ Some (a, site_of (known_in limit es) a)) → is_some o ≡ true →
           is_known (site_of (known_in limit es) a) ≡ true

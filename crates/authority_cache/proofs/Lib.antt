@@ -2,6 +2,8 @@ pub mod EntryLaws
 pub mod SiteLaws
 pub mod FoundLaws
 pub mod EndLaws
+pub mod ListedLaws
 pub mod SweepLaws
 pub mod Telling
 pub mod Reading
+pub mod CallerLemmas

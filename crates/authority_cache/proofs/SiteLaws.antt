@@ -1,13 +1,17 @@
 -- What is known of authorities, after an entry of the map was written or added.
 -- Cited by the proofs of `cache.rt`, `look.rt`, `begin.rt` and `arrive.rt`.
-use Rattle.std.proofs.Common.{◌≡◌, ℕ, ◌+◌, ◌<◌, ◌≤◌, ◌==◌, ◌&&◌, ◌||◌, ◌↔◌, Bool, true, false, cond, not, nat_le, List, [], ◌∷◌, ◌++◌, length, filter, Option, Some, None, unwrap_or, Result, Ok, Err, IsErr, IsOk, OnErr, OnOk, is_some, string_bytes, refl, sym, ap, subst, ◌∙◌, true≢false, arith}
+use Rattle.std.proofs.Common.{◌≡◌, ℕ, ◌+◌, ◌<◌, ◌≤◌, ◌==◌, ◌&&◌, ◌||◌, ◌↔◌, All, Bool, true, false, cond, not, map, nat_le, List, [], ◌∷◌, ◌++◌, length, filter, Option, Some, None, unwrap_or, Result, Ok, Err, IsErr, IsOk, OnErr, OnOk, is_some, string_bytes, refl, sym, ap, subst, ◌∙◌, true≢false, arith}
 use Rattle.std.specs.declared.string.String.{String}
 use Rattle.std.specs.List.{list_all}
-use Rattle.std.specs.Map.{lookup, set_value}
+use Rattle.std.specs.Map.{keys_of, lookup, set_value}
 use Rattle.std.specs.Option.{option_map, option_map_or}
 use Rattle.std.specs.Str.{bytes_eq}
 use Rattle.std.proofs.lemmas.Bool.{and_right, le-leb, lt-leb}
+use Rattle.std.proofs.lemmas.List.{map-append}
+use Rattle.std.proofs.lemmas.List.Elements.{All-append, All-cons, All-nil}
+use Rattle.std.proofs.lemmas.Map.{keys-set_value}
 use Rattle.std.proofs.lemmas.Slice.Eq.{bytes_eq-Decides}
+use Rattle.path_normal.specs.Authority.{IsAuthority}
 use Rattle.authority_cache.specs.declared.refusal.FlightRefusal.{FlightRefusal}
 use Rattle.authority_cache.specs.declared.refusal.Stale.{Stale}
 use Rattle.authority_cache.specs.declared.site.Flight.{Flight}
@@ -15,7 +19,7 @@ use Rattle.authority_cache.specs.declared.site.Site.{Site}
 use Rattle.authority_cache.specs.Lives.{Timed}
 use Rattle.authority_cache.specs.Sites.{Answered, Known, State, arrived, count_of, flight_count, has_turn, is_flying, is_known, known_count, nothing_known, said_site, site_of, with_flight}
 use Rattle.authority_cache.specs.Calls.{Arrives, Changes, cannot_know, one_if}
-use Rattle.authority_cache.specs.Kept.{AllKnown, known_in, said_entries}
+use Rattle.authority_cache.specs.Kept.{AllKnown, known_in, names_in, said_entries}
 use Rattle.authority_cache.proofs.EntryLaws.{all-lookup, all-map, all-push, all-set_value, count-all, count-bound, count-map, count-push, count-set_value, lookup-map, lookup-push, lookup-push_other, set_value-same}
 
 -- an authority is itself
@@ -85,9 +89,22 @@ module _ {Y : Type 0} where
       count_of test (known_in limit es) ≡ length (filter (λ e. test (said_site e.1)) es)
   counted test limit es = count-map string_bytes said_site test es
 
+  -- entries of the same keys have the same names
+  pub names-kept : (es es' : List (String Y × Site)) → keys_of es' ≡ keys_of es → names_in es' ≡ names_in es
+  names-kept es es' same = by_keys es' ∙ (ap (map string_bytes) same ∙ sym (by_keys es))
+    where
+      by_keys : (es : List (String Y × Site)) → names_in es ≡ map string_bytes (keys_of es)
+      by_keys [] = refl
+      by_keys (e ∷ es) = ap (λ names. string_bytes e.0 ∷ names) (by_keys es)
+
+  -- the names are those by what is known
+  pub names-said : (es : List (String Y × Site)) → names_in es ≡ map (λ (e : List ℕ × State). e.0) (said_entries es)
+  names-said [] = refl
+  names-said (e ∷ es) = ap (λ names. string_bytes e.0 ∷ names) (names-said es)
+
   -- as many authorities are known as there are entries
   pub known_many : (limit : ℕ) (es : List (String Y × Site)) → AllKnown es → known_count (known_in limit es) ≡ length es
-  known_many limit es all = counted is_known limit es ∙ count-all (λ e. is_known (said_site e.1)) es all
+  known_many limit es all = counted is_known limit es ∙ count-all (λ e. is_known (said_site e.1)) es all.known
 
   -- an entry was written
   pub Changes-written : (limit : ℕ) (a : List ℕ) (es es' : List (String Y × Site)) (v w : Site) → lookup (is_named a) es ≡ Some v →
@@ -118,8 +135,10 @@ module _ {Y : Type 0} where
   -- all are known still where the one that is written is
   pub known-written : (a : List ℕ) (es es' : List (String Y × Site)) (w : Site) → AllKnown es →
       es' ≡ set_value (is_named a) es w → is_known (said_site w) ≡ true → AllKnown es'
-  known-written a es es' w all written known =
-      rw written (all-set_value (λ s. is_known (said_site s)) (is_named a) es w all known)
+  known-written a es es' w all written known = record {
+    known = rw written (all-set_value (λ s. is_known (said_site s)) (is_named a) es w all.known known);
+    named = subst (All IsAuthority) (sym (ap names_in written ∙ names-kept es (set_value (is_named a) es w) (keys-set_value (is_named a) es w))) all.named;
+  }
 
   -- a turn was begun at an authority that is known
   pub begun-known : (limit : ℕ) (a : List ℕ) (flight : Flight) (es es' : List (String Y × Site)) (v w : Site) → lookup (is_named a) es ≡ Some v →
@@ -156,7 +175,7 @@ module _ {Y : Type 0} where
       answered None is = absurd (true≢false (sym is))
   arrived-known limit a turn answer es es' v w (Err stale) all found written others has now same =
       let state = state-some limit a es v found in
-      let was_known = all-lookup (λ s. is_known (said_site s)) (is_named a) es v all found in (
+      let was_known = all-lookup (λ s. is_known (said_site s)) (is_named a) es v all.known found in (
         (rw state (by (has_turn turn (said_site v)) refl), unchanged-written limit a es es' v w found written same),
         known-written a es es' w all written (subst (λ s. is_known (said_site s) ≡ true) (sym same) was_known),
       )
@@ -213,14 +232,20 @@ module _ {Y : Type 0} where
       (Changes-added limit a (with_flight flight nothing_known) (said_entries es) unsaid))
 
   -- all are known still, with the one that was added
-  pub known-new : (a : List ℕ) (flight : Flight) (es es' : List (String Y × Site)) (r : Result Unit FlightRefusal) → AllKnown es →
+  pub known-new : (a : List ℕ) (flight : Flight) (es es' : List (String Y × Site)) (r : Result Unit FlightRefusal) → AllKnown es → IsAuthority a →
       OnOk r (said_entries es' ≡ said_entries es ++ (a, with_flight flight nothing_known) ∷ []) → OnErr r (es' ≡ es) → AllKnown es'
-  known-new a flight es es' (Ok done) all added same =
-      let old : list_all (λ (p : List ℕ × State). is_known p.1) (said_entries es) ≡ true = all-map string_bytes said_site is_known es ∙ all in
+  known-new a flight es es' (Ok done) all own added same =
+      let old : list_all (λ (p : List ℕ × State). is_known p.1) (said_entries es) ≡ true = all-map string_bytes said_site is_known es ∙ all.known in
       let new : list_all (λ (p : List ℕ × State). is_known p.1) (said_entries es') ≡ true =
       rw added (all-push (λ (p : List ℕ × State). is_known p.1) (said_entries es) (a, with_flight flight nothing_known) old refl) in
-      sym (all-map string_bytes said_site is_known es') ∙ new
-  known-new a flight es es' (Err refusal) all added same = subst (λ entries. AllKnown entries) (sym same) all
+      let names : names_in es' ≡ names_in es ++ a ∷ [] =
+      names-said es' ∙ (ap (map (λ (e : List ℕ × State). e.0)) added ∙ (map-append (λ (e : List ℕ × State). e.0) (said_entries es) ((a, with_flight flight nothing_known) ∷ [])
+      ∙ ap (λ names. names ++ a ∷ []) (sym (names-said es)))) in
+      record {
+        known = sym (all-map string_bytes said_site is_known es') ∙ new;
+        named = subst (All IsAuthority) (sym names) (All-append IsAuthority (names_in es) (a ∷ []) all.named (All-cons IsAuthority a [] own (All-nil IsAuthority)));
+      }
+  known-new a flight es es' (Err refusal) all own added same = subst (λ entries. AllKnown entries) (sym same) all
 
   -- no more turns are in flight than there are entries
   pub flights_bound : (limit : ℕ) (es : List (String Y × Site)) → flight_count (known_in limit es) ≤ length es

@@ -1,7 +1,7 @@
 -- What a sweep leaves of what is known: each state without an answer that is past, and no authority
 -- of which nothing is known any more. Cited by the proofs of `sweep.rt`.
-use Rattle.std.proofs.Common.{◌≡◌, ℕ, ◌+◌, ◌<◌, ◌≤◌, ◌==◌, ◌⊎◌, zero, suc, Bool, true, false, cond, not, if◌then◌else◌, List, [], ◌∷◌, ◌++◌, length, filter, inl, inr, Option, Some, None, IfSome, is_some, unwrap_or, string_bytes, refl, sym, ap, subst, ◌∙◌, true≢false, arith}
-use Rattle.std.specs.Prelude.{slice_get, swap_remove}
+use Rattle.std.proofs.Common.{◌≡◌, ℕ, ◌+◌, ◌-◌, ◌<◌, ◌≤◌, ◌==◌, ◌⊎◌, zero, suc, Bool, true, false, cond, not, if◌then◌else◌, List, [], ◌∷◌, ◌++◌, length, filter, inl, inr, Option, Some, None, IfSome, is_some, unwrap_or, string_bytes, refl, sym, ap, subst, ◌∙◌, true≢false, arith}
+use Rattle.std.specs.Prelude.{All, get_or, set, slice_get, swap_remove, take}
 use Rattle.std.specs.declared.string.String.{String}
 use Rattle.std.specs.List.{AllByRecursion, IsDistinct, list_all}
 use Rattle.std.specs.Map.{keys_of, lookup, values_of}
@@ -9,19 +9,23 @@ use Rattle.std.specs.Option.{option_map}
 use Rattle.std.specs.Str.{bytes_eq}
 use Rattle.std.specs.String.{string_eq}
 use Rattle.std.proofs.lemmas.Bool.{eqb-true, eqb-false, not-true}
+use Rattle.std.proofs.lemmas.List.{get_or_default}
+use Rattle.std.proofs.lemmas.List.Elements.{All-tail}
+use Rattle.std.proofs.lemmas.List.Sorted.{All-permutation, IsPermutation-map, IsPermutation-swap_remove}
 use Rattle.std.proofs.lemmas.Slice.Eq.{bytes_eq-Decides}
 use Rattle.indexmap.specs.IndexMap.{set_value_at}
 use Rattle.indexmap.specs.Layout.{length-set_value_at}
+use Rattle.path_normal.specs.Authority.{IsAuthority}
 use Rattle.authority_cache.specs.declared.site.Flight.{Flight}
 use Rattle.authority_cache.specs.declared.site.Site.{Site}
 use Rattle.authority_cache.specs.Sites.{Answered, AreApart, Known, State, count_of, flight_count, has_past, is_flying, is_known, nothing_known, past_count, said_site, site_of, swept}
 use Rattle.authority_cache.specs.Calls.{Changes, Sweeps, one_if}
 use Rattle.authority_cache.specs.Ends.{Covers, CoversBut, DropsAnswer, KeptEnds, Removes, SaysPastAt, SweepsPart, has_end, last_moment}
-use Rattle.authority_cache.specs.Kept.{AllKnown, known_in, said_entries}
+use Rattle.authority_cache.specs.Kept.{AllKnown, known_in, names_in, said_entries}
 use Rattle.authority_cache.proofs.EntryLaws.{all-at, all-from, all-lookup, at-push, at-swapped, at-written, at-written_other, count-alike, count-bound, count-none, count-swapped, entry-at, keys-written, length-swapped}
 use Rattle.authority_cache.proofs.EndLaws.{covers_all}
 use Rattle.authority_cache.proofs.FoundLaws.{found_at, others_at, said_at, written_at}
-use Rattle.authority_cache.proofs.SiteLaws.{Changes-written, counted, found-said, is_named, state-none, state-some}
+use Rattle.authority_cache.proofs.SiteLaws.{Changes-written, counted, found-said, is_named, names-kept, state-none, state-some}
 
 -- more was dropped
 pub part_more : (old between new : Known) (moment count more : ℕ) → SweepsPart old moment count between → SweepsPart between moment more new →
@@ -182,7 +186,10 @@ module _ {Y : Type 0} where
   -- all are known still where a turn is in flight at the one whose answer was dropped
   known_dropped : (es es' : List (String Y × Site)) (i : ℕ) (e : String Y × Site) (w : Site) → AllKnown es → slice_get es i ≡ Some e →
       is_known (said_site w) ≡ true → es' ≡ set_value_at es i w → AllKnown es'
-  known_dropped es es' i e w all at known wrote = all-from (λ e. is_known (said_site e.1)) es' each
+  known_dropped es es' i e w all at known wrote = record {
+    known = all-from (λ e. is_known (said_site e.1)) es' each;
+    named = subst (All IsAuthority) (sym (names-kept es es' (ap keys_of wrote ∙ keys-written es i w))) all.named;
+  }
     where
       each : (j : ℕ) (x : String Y × Site) → slice_get es' j ≡ Some x → is_known (said_site x.1) ≡ true
       each j x is = by (j == i) refl
@@ -195,18 +202,34 @@ module _ {Y : Type 0} where
               let here : Some (e.0, w) ≡ Some x = sym (at-written es i e w at) ∙ subst (λ j. slice_get (set_value_at es i w) j ≡ Some x) (eqb-true j i same) there in
               ap (λ o. is_known (said_site (unwrap_or o x).1)) (sym here) ∙ known
           by false other =
-              all-at (λ e. is_known (said_site e.1)) es j x all (sym (at-written_other es i j w (eqb-false j i other)) ∙ there)
+              all-at (λ e. is_known (said_site e.1)) es j x all.known (sym (at-written_other es i j w (eqb-false j i other)) ∙ there)
+
+  -- the names of the others are authorities still where one was taken away
+  named_removed : (es : List (String Y × Site)) (i : ℕ) (d : String Y × Site) → i < length es → All IsAuthority (names_in es) →
+      All IsAuthority (names_in (swap_remove es i d))
+  named_removed es i d low all =
+      let x = get_or es i d in
+      let moved = IsPermutation-swap_remove es i x low (get_or_default es i d x low) in
+      let same : swap_remove es i d ≡ swap_remove es i x = ap (λ last. take (length es - 1) (set es i last)) (get_or_default es (length es - 1) d x (omega (arith, low))) in
+      subst (λ (left : List (String Y × Site)). All IsAuthority (names_in left)) (sym same)
+      (All-tail IsAuthority (string_bytes x.0) (names_in (swap_remove es i x))
+      (All-permutation IsAuthority (names_in es) (names_in (x ∷ swap_remove es i x)) (IsPermutation-map (λ (e : String Y × Site). string_bytes e.0) es (x ∷ swap_remove es i x) moved) all))
 
   -- and where the one was taken away of which nothing is known
   known_removed : (es es' : List (String Y × Site)) (i : ℕ) (d : String Y × Site) (w : Site) → AllKnown es → i < length es →
       es' ≡ swap_remove (set_value_at es i w) i d → AllKnown es'
-  known_removed es es' i d w all low taken = all-from (λ e. is_known (said_site e.1)) es' each
+  known_removed es es' i d w all low taken = record {
+    known = all-from (λ e. is_known (said_site e.1)) es' each;
+    named = subst (λ (left : List (String Y × Site)). All IsAuthority (names_in left)) (sym taken)
+        (named_removed (set_value_at es i w) i d (rw (length-set_value_at es i w) low)
+        (subst (All IsAuthority) (sym (names-kept es (set_value_at es i w) (keys-written es i w))) all.named));
+  }
     where
       each : (j : ℕ) (x : String Y × Site) → slice_get es' j ≡ Some x → is_known (said_site x.1) ≡ true
       each j x is =
           let there : slice_get (swap_remove (set_value_at es i w) i d) j ≡ Some x = subst (λ es. slice_get es j ≡ Some x) taken is in
           let was = (at-swapped (set_value_at es i w) i j d x (rw (length-set_value_at es i w) low) there).1 in
-          all-at (λ e. is_known (said_site e.1)) es was.0 x all (sym (at-written_other es i was.0 w was.1) ∙ was.2)
+          all-at (λ e. is_known (said_site e.1)) es was.0 x all.known (sym (at-written_other es i was.0 w was.1) ∙ was.2)
 
   -- the others are covered still where one was written
   pub but_written : (es es' : List (String Y × Site)) (i : ℕ) (w : Site) (kept : KeptEnds) → es' ≡ set_value_at es i w → CoversBut i kept es → CoversBut i kept es'

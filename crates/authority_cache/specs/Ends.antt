@@ -50,6 +50,11 @@ pub record Adds (old : KeptEnds) (new_end : End) (new : KeptEnds) : Type 0 where
   pub many : length new.ends ≡ length old.ends + 1
   pub room : old.room ≤ new.room
 
+-- at most one end more is kept now
+pub record AddsOneAtMost (old new : KeptEnds) : Type 0 where
+  pub many : length new.ends ≤ length old.ends + 1
+  pub room : old.room ≤ new.room
+
 -- an end of this site is taken away, of an answer that is not in force any more at this moment
 pub record Takes (moment : ℕ) (old : KeptEnds) (site : ℕ) (new : KeptEnds) : Type 0 where
   pub last : ℕ
@@ -87,6 +92,11 @@ module _ {Y : Type 0} where
   abbrev pub CoversYoung : ℕ → ℕ → KeptEnds → List (String Y × Site) → Type 0
   CoversYoung moment site kept entries = (e : String Y × Site) → slice_get entries site ≡ Some e →
       has_past moment (said_site e.1) ≡ false → CoversAt kept site (said_site e.1)
+
+  -- the end of each other answer is kept, and that of the one at this index unless it is past
+  pub record CoversPast (moment site : ℕ) (kept : KeptEnds) (entries : List (String Y × Site)) : Type 0 where
+    pub others : CoversBut site kept entries
+    pub young : CoversYoung moment site kept entries
 
   -- whether the answer at this index is older than its life
   abbrev pub SaysPastAt : ℕ → List (String Y × Site) → ℕ → Bool → Type 0

@@ -1,12 +1,13 @@
--- What is true of every cache: each site is known, its count of turns is that of the sites, and the end
--- of each answer that stands is kept, with room for those of the turns in flight.
+-- What is true of every cache: each site is known, and its name is an authority; its count of turns is that
+-- of the sites; the end of each answer that stands is kept, with room for those of the turns in flight.
 -- The invariant of `cache.rt`.
-use Rattle.std.specs.Prelude.{◌≡◌, ℕ, true, List, map, string_bytes}
+use Rattle.std.specs.Prelude.{◌≡◌, ℕ, true, All, List, map, string_bytes}
 use Rattle.std.specs.List.{list_all}
 use Rattle.std.specs.declared.string.String.{String}
+use Rattle.path_normal.specs.Authority.{IsAuthority}
 use Rattle.authority_cache.specs.declared.cache.Cache.TheInside.{Inside}
 use Rattle.authority_cache.specs.declared.site.Site.{Site}
-use Rattle.authority_cache.specs.Ends.{Covers, HasRoomForEnds}
+use Rattle.authority_cache.specs.Ends.{Covers, HasRoomForEnds, KeptEnds}
 use Rattle.authority_cache.specs.Sites.{Known, State, flight_count, is_known, said_site}
 
 -- an entry of the map, by what is known
@@ -21,13 +22,25 @@ said_entries entries = map said_entry entries
 abbrev pub known_in : {Y : Type 0} → ℕ → List (String Y × Site) → Known
 known_in limit entries = record { limit = limit; sites = said_entries entries }
 
--- each site of the map is known
-abbrev pub AllKnown : {Y : Type 0} → List (String Y × Site) → Type 0
-AllKnown entries = list_all (λ e. is_known (said_site e.1)) entries ≡ true
+-- the names of the map's entries
+abbrev pub names_in : {Y : Type 0} → List (String Y × Site) → List (List ℕ)
+names_in entries = map (λ e. string_bytes e.0) entries
+
+-- each site of the map is known, and its name is an authority
+pub record AllKnown {Y : Type 0} (entries : List (String Y × Site)) : Type 0 where
+  pub known : list_all (λ e. is_known (said_site e.1)) entries ≡ true
+  pub named : All IsAuthority (names_in entries)
 
 -- the cache as its callers see it
 abbrev pub known_of : Inside → Known
 known_of c = known_in c.limit c.sites.entries
+
+-- all sites are known ones, the end of each answer that stands is kept, and there is room for the ends of
+-- the turns in flight
+pub record IsTended {Y : Type 0} (ends : KeptEnds) (entries : List (String Y × Site)) : Type 0 where
+  pub known : AllKnown entries
+  pub covered : Covers ends entries
+  pub room : HasRoomForEnds ends (flight_count (known_in 0 entries))
 
 -- what is true of every cache
 pub record IsSound (c : Inside) : Type 0 where

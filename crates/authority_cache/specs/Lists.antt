@@ -46,11 +46,19 @@ answers_in authority state = option_to_list (option_map (answer_for authority) s
 abbrev pub turns_in : List ℕ → State → List Turn
 turns_in authority state = option_to_list (option_map (turn_for authority) state.in_flight)
 
+-- the list has each answer that stands in the cache, once
+abbrev pub ListsAnswers : Known → List StandingAnswer → Type 0
+ListsAnswers k standing = (authority : List ℕ) → filter (is_answer_for authority) standing ≡ answers_in authority (site_of k authority)
+
+-- the list has each turn that is in flight in the cache, once
+abbrev pub ListsTurns : Known → List Turn → Type 0
+ListsTurns k in_flight = (authority : List ℕ) → filter (is_turn_of authority) in_flight ≡ turns_in authority (site_of k authority)
+
 -- the cache says what the lists say: of each authority the answers are none or the one that stands,
 -- and the turns none or the one in flight
 pub record TellsCache (k : Known) (standing : List StandingAnswer) (in_flight : List Turn) : Type 0 where
-  pub answers_are : (authority : List ℕ) → filter (is_answer_for authority) standing ≡ answers_in authority (site_of k authority)
-  pub turns_are : (authority : List ℕ) → filter (is_turn_of authority) in_flight ≡ turns_in authority (site_of k authority)
+  pub answers_are : ListsAnswers k standing
+  pub turns_are : ListsTurns k in_flight
 
 -- no answer of these stands for the turn's authority
 abbrev pub lacks_answer : List StandingAnswer → Turn → Bool

@@ -2,6 +2,7 @@
 //! RFC 9309, section 2.3.
 ghost use Rattle.std.specs.Prelude.{◌≡◌, ℕ, ◌+◌, ◌*◌, ◌^◌, ◌<◌, ◌≤◌, List, ◌∷◌, ◌++◌, [], None, IfErr, OnErr, OnOk, length};
 ghost use Rattle.std.specs.HashMap.{get_by_text};
+ghost use Rattle.path_normal.specs.Authority.{IsAuthority};
 ghost use Rattle.authority_cache.specs.Sites.{IsApart, nothing_known, site_of, with_flight};
 ghost use Rattle.authority_cache.specs.Calls.{Begins, Changes, IsFound, MayBegin};
 ghost use Rattle.authority_cache.specs.Ends.{Covers, HasRoomForEnds, KeptEnds};
@@ -50,7 +51,7 @@ impl Cache {
             turn,
             begun: moment,
         };
-        open(&mut self.sites, found, authority.text(), flight)?;
+        open(&mut self.sites, found, authority, flight)?;
         self.flights += 1;
         Ok(())
     }
@@ -108,7 +109,7 @@ fn renew(sites: &Sites, ends: &mut Ends)
 fn open(
     sites: &mut Sites,
     found: Found,
-    authority: &str,
+    authority: &Authority,
     flight: Flight,
 ) -> Result<(), FlightRefusal>
     requires all { AllKnown sites.old.entries }
@@ -133,8 +134,9 @@ fn open(
 }
 
 // A site that is new.
-fn add(sites: &mut Sites, authority: &str, flight: Flight) -> Result<(), FlightRefusal>
+fn add(sites: &mut Sites, authority: &Authority, flight: Flight) -> Result<(), FlightRefusal>
     requires { get_by_text sites.old authority.now ≡ None }
+    ensures own { IsAuthority authority.now }
     ensures ok { OnOk result (said_entries sites.new.entries ≡ said_entries sites.old.entries
         ++ (authority.now, with_flight flight nothing_known) ∷ []) }
     ensures err { IfErr result (λ refusal. refusal ≡ FlightRefusal.NoMemory) }
@@ -142,7 +144,7 @@ fn add(sites: &mut Sites, authority: &str, flight: Flight) -> Result<(), FlightR
     ensures covered { (kept : KeptEnds) → Covers kept sites.old.entries
         → Covers kept sites.new.entries }
 {
-    let name = String::from_str(*sites.allocator(), authority)?;
+    let name = String::from_str(*sites.allocator(), authority.text())?;
     let site = Site {
         standing: None,
         in_flight: Some(flight),

@@ -10,6 +10,7 @@ mod find;
 mod index;
 pub mod laws;
 mod life;
+mod listing;
 mod look;
 mod refusal;
 mod site;

@@ -5,8 +5,8 @@ ghost use Rattle.std.specs.HashMap.{IsUnique};
 ghost use Rattle.std.specs.String.{string_eq};
 ghost use Rattle.authority_cache.specs.Sites.{IsApart, flight_count};
 ghost use Rattle.authority_cache.specs.Calls.{Sweeps, one_if};
-ghost use Rattle.authority_cache.specs.Ends.{Covers, CoversBut, CoversYoung, DropsAnswer, HasRoomForEnds, KeepsEnd, Removes, SaysPastAt, SweepsPart};
-ghost use Rattle.authority_cache.specs.Kept.{AllKnown, known_in};
+ghost use Rattle.authority_cache.specs.Ends.{AddsOneAtMost, Covers, CoversBut, CoversPast, DropsAnswer, HasRoomForEnds, KeepsEnd, Removes, SaysPastAt, SweepsPart};
+ghost use Rattle.authority_cache.specs.Kept.{AllKnown, IsTended, known_in};
 
 use crate::cache::{Cache, Sites};
 use crate::ends::{Ends, keep_end};
@@ -26,15 +26,11 @@ impl Cache {
 
 // Drops the answers whose ends lie before this moment, and tells how many they were.
 fn drop_past(sites: &mut Sites, ends: &mut Ends, moment: u64) -> u64
-    requires known { AllKnown sites.old.entries }
-    requires covered { Covers ends.old sites.old.entries }
-    requires room { HasRoomForEnds ends.old (flight_count (known_in 0 sites.old.entries)) }
+    requires tended { IsTended ends.old sites.old.entries }
     requires few { length sites.old.entries < 2 ^ 63 }
     ensures swept { (limit : ℕ) → Sweeps (known_in limit sites.old.entries) moment result
         (known_in limit sites.new.entries) }
-    ensures known { AllKnown sites.new.entries }
-    ensures covered { Covers ends.new sites.new.entries }
-    ensures room { HasRoomForEnds ends.new (flight_count (known_in 0 sites.new.entries)) }
+    ensures tended { IsTended ends.new sites.new.entries }
 {
     let mut dropped = 0;
     while let Some(index) = ends.pop_before(moment) {
@@ -48,14 +44,11 @@ fn drop_past(sites: &mut Sites, ends: &mut Ends, moment: u64) -> u64
 // Drops the answer of the site at this index, where it is older than its life, and tells whether it was.
 fn drop_at(sites: &mut Sites, ends: &mut Ends, index: usize, moment: u64) -> bool
     requires known { AllKnown sites.old.entries }
-    requires others { CoversBut index ends.old sites.old.entries }
-    requires young { CoversYoung moment index ends.old sites.old.entries }
+    requires past { CoversPast moment index ends.old sites.old.entries }
     requires room { HasRoomForEnds ends.old (flight_count (known_in 0 sites.old.entries) + 1) }
     ensures part { SweepsPart (known_in 0 sites.old.entries) moment (one_if result)
         (known_in 0 sites.new.entries) }
-    ensures known { AllKnown sites.new.entries }
-    ensures covered { Covers ends.new sites.new.entries }
-    ensures room { HasRoomForEnds ends.new (flight_count (known_in 0 sites.new.entries)) }
+    ensures tended { IsTended ends.new sites.new.entries }
     ensures fewer { length sites.new.entries * 2 + length ends.new.ends
         ≤ length sites.old.entries * 2 + length ends.old.ends }
 {
@@ -103,8 +96,7 @@ fn remove(sites: &mut Sites, ends: &mut Ends, index: usize)
     requires room { length ends.old.ends < ends.old.room }
     ensures removed { Removes sites.old.entries index sites.new.entries }
     ensures covered { Covers ends.new sites.new.entries }
-    ensures many { length ends.new.ends ≤ length ends.old.ends + 1 }
-    ensures room { ends.old.room ≤ ends.new.room }
+    ensures one { AddsOneAtMost ends.old ends.new }
 {
     take_site(sites, index);
     keep_end(sites, ends, index);

@@ -5,3 +5,4 @@ pub mod Giving
 pub mod Serving
 pub mod Walking
 pub mod ReplyTexts
+pub mod SealTexts

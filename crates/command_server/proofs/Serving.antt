@@ -10,7 +10,7 @@ use Rattle.counted_io.specs.Device.{AppendsPrefix}
 use Rattle.counted_io.specs.Lines.{HasNoLineFeed, without_cr, TakesLine, TakesLast, line_feed}
 use Rattle.counted_io.specs.Limits.{output_buffer}
 use Rattle.counted_io.specs.Output.{Passes}
-use Rattle.counted_io.proofs.Writing.{Passes-push, Passes-written, Passes-cut, Passes-cut-all, Passes-further}
+use Rattle.counted_io.proofs.CallerLemmas.{Passes-cut, Passes-cut-all, Passes-further, Passes-push, Passes-written}
 use Rattle.command_server.specs.Answers.{AnswersLines, GivesReply, LosesReply}
 use Rattle.command_server.specs.Input.{with_line_feeds, TakesLines, FindsPart}
 use Rattle.command_server.specs.Session.{KeepsUp, Session, Meets, ResultsIn, StopsAtWrite, Writes, last_words}

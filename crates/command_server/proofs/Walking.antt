@@ -9,7 +9,7 @@ use Rattle.robots_fetch.specs.declared.walk.Step.TheVariants.{Go, Done}
 use Rattle.robots_fetch.specs.declared.walk.Walk.{Walk}
 use Rattle.robots_fetch.specs.Steps.{IsBegun, Steps, StepsOver}
 use Rattle.robots_fetch.specs.Walk.{AnswerOf}
-use Rattle.robots_fetch.proofs.Deciding.{as_decided, done}
+use Rattle.robots_fetch.proofs.CallerLemmas.{as_decided, done}
 use Rattle.command_server.specs.Arrival.{AreReplies, Brings, IsDecided, IsReply, TakesReply}
 use Rattle.command_server.specs.declared.fault.LineFault.TheVariants as faults
 

@@ -82,7 +82,7 @@ abbrev pub CanBeMade : Command → Type 0
 CanBeMade (commands.Call call) = HasSpare call
 CanBeMade _ = Unit {0}
 
--- check 8: the words that follow a verb, from left to right; BACK, DONE and QUIT use no moment
+-- check 8: the words that follow a verb, from left to right; BACK, DONE, SEAL and QUIT use no moment
 abbrev pub arguments_of : Verb → ℕ → List (List ℕ) → Capacity → Result Command LineFault
 arguments_of verbs.Begin moment words capacity = calling (begin_of moment words capacity)
 arguments_of verbs.Arrive moment words capacity =
@@ -94,6 +94,7 @@ arguments_of verbs.Done moment words capacity = calling (done_of words)
 arguments_of verbs.State moment words capacity =
     read_on (authority_alone words capacity) (λ authority. Ok (commands.State authority moment))
 arguments_of verbs.Sweep moment words capacity = Ok (commands.Call (calls.Sweep moment))
+arguments_of verbs.Seal moment words capacity = Ok commands.Seal
 arguments_of verbs.Refresh moment words capacity =
     read_on (authority_alone words capacity) (λ authority. Ok (commands.Refresh authority))
 arguments_of verbs.Fetch moment words capacity = read_on (job_words_of words capacity) (λ job. Ok (commands.Fetch job))

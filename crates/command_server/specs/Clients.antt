@@ -2,6 +2,7 @@
 -- The contract of `serve` cites it.
 use Rattle.std.specs.Prelude.{◌≡◌, ◌⊎◌, ℕ, Bool, true, false, List, Option, Some, None, Result, Ok, Err}
 use Rattle.path_normal.specs.Capacity.{Enough, Overflows, Refused}
+use Rattle.gate_history.specs.Segment.{Sealed}
 use Rattle.gate_core.specs.declared.call.Call.{Call}
 use Rattle.gate_core.specs.declared.call.Call.TheVariants as calls
 use Rattle.gate_core.specs.declared.refusal.BeginRefusal.{BeginRefusal}
@@ -62,6 +63,8 @@ module _ {S : Type 0} (deals : Deals S) where
   DoesCommand reads old (Ok (commands.Arrive arrival)) told new = TellsFault old faults.Verb told new
   DoesCommand reads old (Ok (commands.State authority m)) told new =
       (state : State) × (deals.reads old authority m state new × (told ≡ tolds.Known authority state))
+  DoesCommand reads old (Ok commands.Seal) told new =
+      (result : Result Sealed NoMemory) × (deals.seals old result new × (told ≡ tolds.Sealed result))
   DoesCommand reads old (Ok (commands.Refresh authority)) told new =
       (result : Option (Result Standing BeginRefusal)) × (deals.refreshes reads old authority result new × (told ≡ refreshed authority result))
   DoesCommand reads old (Ok (commands.Fetch job)) told new =

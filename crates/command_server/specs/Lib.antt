@@ -8,6 +8,7 @@ pub mod RefusalText
 pub mod FaultText
 pub mod ReplyText
 pub mod Input
+pub mod SealText
 pub mod Answers
 pub mod Session
 pub mod Steps

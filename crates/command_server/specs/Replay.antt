@@ -3,14 +3,17 @@
 use Rattle.std.specs.Prelude.{◌≡◌, ◌⊎◌, ℕ, Bool, true, false, List, Result, Ok, Err}
 use Rattle.path_normal.specs.Capacity.{Enough, Overflows, Refused}
 use Rattle.authority_cache.specs.Lives.{Timed}
+use Rattle.gate_history.specs.Segment.{Sealed}
 use Rattle.gate_core.specs.declared.call.Call.{Call}
 use Rattle.gate_core.specs.declared.call.Call.TheVariants as calls
 use Rattle.gate_core.specs.declared.call.Reply.{Reply}
+use Rattle.gate_core.specs.declared.refusal.NoMemory.{NoMemory}
 use Rattle.gate_core.specs.declared.state.State.{State}
 use Rattle.gate_core.specs.Gate.{Gate, history, Stays}
 use Rattle.gate_core.specs.Headline.{IsTold}
 use Rattle.gate_core.specs.Calls.{Step}
 use Rattle.gate_core.specs.Replies.{moment_at}
+use Rattle.gate_core.specs.Sealing.{Seals}
 use Rattle.gate_core.specs.States.{IsState}
 use Rattle.command_server.specs.declared.command.Command.{Command}
 use Rattle.command_server.specs.declared.command.Command.TheVariants as commands
@@ -21,6 +24,7 @@ use Rattle.command_server.specs.declared.arrival.Arrival.{Arrival}
 use Rattle.command_server.specs.Arrival.{Brings}
 use Rattle.command_server.specs.CallOf.{command_of}
 use Rattle.command_server.specs.FaultText.{line_fault_text}
+use Rattle.command_server.specs.SealText.{seal_text}
 use Rattle.command_server.specs.ReplyText.{bye_text, reply_text, state_text}
 
 -- the text is that of a reply which the call may have, which tells what the headline says, and which
@@ -49,6 +53,10 @@ AnswersArrival old arrival text new =
     (brought : Result Timed LineFault) × (Brings arrival.authority arrival.replies brought
     × AnswersBrought old arrival brought text new)
 
+-- the text is that of what was sealed
+abbrev pub AnswersSeal : Gate → List ℕ → Gate → Type 0
+AnswersSeal old text new = (result : Result Sealed NoMemory) × (Seals old result new × (text ≡ seal_text result))
+
 -- a verb that no line of a replay has
 abbrev pub AnswersNoVerb : Gate → List ℕ → Bool → Gate → Type 0
 AnswersNoVerb old text ended new = (text ≡ line_fault_text faults.Verb) × (ended ≡ false) × Stays old new
@@ -59,6 +67,7 @@ abbrev pub AnswersCommand : Gate → Result Command LineFault → List ℕ → B
 AnswersCommand old (Ok (commands.Call call)) text ended new = AnswersCall old call text new × (ended ≡ false)
 AnswersCommand old (Ok (commands.Arrive arrival)) text ended new = AnswersArrival old arrival text new × (ended ≡ false)
 AnswersCommand old (Ok (commands.State authority m)) text ended new = AnswersState old authority m text new × (ended ≡ false)
+AnswersCommand old (Ok commands.Seal) text ended new = AnswersSeal old text new × (ended ≡ false)
 AnswersCommand old (Ok (commands.Refresh authority)) text ended new = AnswersNoVerb old text ended new
 AnswersCommand old (Ok (commands.Fetch job)) text ended new = AnswersNoVerb old text ended new
 AnswersCommand old (Ok commands.Quit) text ended new = (text ≡ bye_text) × (ended ≡ true) × Stays old new

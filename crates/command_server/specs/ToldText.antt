@@ -13,6 +13,7 @@ use Rattle.command_server.specs.FaultText.{line_fault_text}
 use Rattle.command_server.specs.HopText.{hops_text}
 use Rattle.command_server.specs.RefusalText.{refusal_text}
 use Rattle.command_server.specs.ReplyText.{arrive_text, ask_text, back_text, begin_text, bye_text, denial_text, finish_text, go_text, state_text}
+use Rattle.command_server.specs.SealText.{seal_text}
 use Rattle.command_server.specs.declared.told.Told.{Told}
 use Rattle.command_server.specs.declared.told.Told.TheVariants as tolds
 
@@ -42,6 +43,7 @@ told_text (tolds.Begun number result) = spent_text number result
 told_text (tolds.Returned number result) = back_text number result
 told_text (tolds.Finished number result) = finish_text number result
 told_text (tolds.Known authority state) = state_text authority state
+told_text (tolds.Sealed result) = seal_text result
 told_text (tolds.Refreshed authority result) = refresh_text authority result
 told_text (tolds.Fetched outcome) = fetched_text outcome
 told_text tolds.NoMemory = refusal_text refusals.NoMemory

@@ -32,6 +32,7 @@ row_of verbs.Back = row (codes "BACK") 1 1
 row_of verbs.Done = row (codes "DONE") 1 1
 row_of verbs.State = row (codes "STATE") 1 1
 row_of verbs.Sweep = row (codes "SWEEP") 0 0
+row_of verbs.Seal = row (codes "SEAL") 0 0
 row_of verbs.Refresh = row (codes "REFRESH") 1 1
 row_of verbs.Fetch = row (codes "FETCH") 2 2
 row_of verbs.Quit = row (codes "QUIT") 0 0
@@ -40,7 +41,7 @@ row_of verbs.Quit = row (codes "QUIT") 0 0
 abbrev pub all_verbs : List Verb
 all_verbs =
     verbs.Begin ∷ verbs.Arrive ∷ verbs.Ask ∷ verbs.Start ∷ verbs.Back ∷ verbs.Done
-    ∷ verbs.State ∷ verbs.Sweep ∷ verbs.Refresh ∷ verbs.Fetch ∷ verbs.Quit ∷ []
+    ∷ verbs.State ∷ verbs.Sweep ∷ verbs.Seal ∷ verbs.Refresh ∷ verbs.Fetch ∷ verbs.Quit ∷ []
 
 -- whether the dialogue is that of a replay
 abbrev pub is_replay : Dialogue → Bool

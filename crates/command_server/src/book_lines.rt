@@ -4,7 +4,7 @@ ghost use Rattle.std.specs.Prelude.{◌≡◌, OnErr, OnOk};
 ghost use Rattle.counted_io.specs.Device.{failures_after};
 ghost use Rattle.command_server.specs.Answers.{CutsReply, GivesReply};
 ghost use Rattle.command_server.specs.Limits.{max_lines};
-ghost use Rattle.command_server.specs.Replay.{AnswersArrival, AnswersCall, AnswersLine};
+ghost use Rattle.command_server.specs.Replay.{AnswersArrival, AnswersCall, AnswersLine, AnswersSeal};
 ghost use Rattle.gate_core.specs.Calls.{HasSpare};
 ghost use Rattle.line_text.specs.Limits.{max_long_line};
 ghost use Rattle.command_server.specs.Session.{Session, failures_after_reads, failures_after_writes};
@@ -14,6 +14,7 @@ use crate::arrival::{Arrival, decide};
 use crate::command::{Command, read_command};
 use crate::fault::LineFault;
 use crate::reply_text::{bye_pieces, fault_pieces, reply_pieces, state_pieces};
+use crate::seal_text::push_sealed;
 use crate::session::run_session;
 use crate::session_fault::SessionFault;
 use crate::verbs::Dialogue;
@@ -50,6 +51,10 @@ impl Answerer<Book> for BookLines {
             Ok(Command::State { authority, moment }) => {
                 let state = book.state_of(authority.text(), moment);
                 state_pieces(&authority, state).push(output, sink)?;
+                Ok(Flow::Goes)
+            }
+            Ok(Command::Seal) => {
+                answer_seal(book, output, sink)?;
                 Ok(Flow::Goes)
             }
             Ok(Command::Refresh { .. } | Command::Fetch(_)) => {
@@ -113,6 +118,22 @@ fn answer_call<W: Sink>(
 {
     let reply = book.answer(call);
     reply_pieces(&reply).push(output, sink)
+}
+
+// Seals the book, and pushes what was sealed.
+fn answer_seal<W: Sink>(
+    book: &mut Book,
+    output: &mut Output,
+    sink: &mut W,
+) -> Result<(), DeviceFault>
+    ensures ok { OnOk result (GivesReply (λ reply. AnswersSeal book.old reply book.new)
+        (W.written sink.old) (W.written sink.new) output.old output.new) }
+    ensures err { OnErr result (CutsReply (λ reply. AnswersSeal book.old reply book.new)
+        (W.written sink.old) (W.written sink.new) output.old) }
+    ensures count { W.failures sink.new ≡ failures_after (W.failures sink.old) result }
+{
+    let sealed = book.seal();
+    push_sealed(&sealed, output, sink)
 }
 
 // Brings the answer that the replies decide, and pushes the text of the reply.

@@ -55,6 +55,7 @@ fn told_of<K: Keeper, C: Clock>(alloc: Global, clock: &C, keeper: &mut K, line: 
             let state = keeper.state(&authority, moment);
             Told::Known { authority, state }
         }
+        Ok(Command::Seal) => Told::Sealed(keeper.seal()),
         Ok(Command::Refresh { authority }) => {
             match keeper.refresh(alloc, &authority, clock) {
                 Some(result) => Told::Refreshed { authority, result },

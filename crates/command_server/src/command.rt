@@ -28,6 +28,8 @@ pub enum Command<'a> {
     Arrive(Arrival<'a>),
     /// What is known of an authority.
     State { authority: Authority, moment: u64 },
+    /// The entries since the last seal.
+    Seal,
     /// A robots fetch of an authority.
     Refresh { authority: Authority },
     /// The fetch of a page, and where redirects lead from it.
@@ -151,6 +153,7 @@ fn read_arguments(
             return Ok(Command::State { authority, moment });
         }
         Verb::Sweep => Call::Sweep { moment },
+        Verb::Seal => return Ok(Command::Seal),
         Verb::Refresh => {
             let authority = read_state(alloc, words)?;
             return Ok(Command::Refresh { authority });

@@ -18,6 +18,7 @@ mod job_words;
 mod refusal_text;
 mod reply_text;
 mod reply_words;
+mod seal_text;
 mod session;
 mod session_fault;
 mod told;

@@ -171,7 +171,8 @@ pub(crate) fn denial_pieces(denial: &Denial) -> Pieces<'_>
 
 // A line of two words, and those of a reason or a cause.
 fn worded<'a>(first: &'a str, second: Piece<'a>, wording: Wording) -> Pieces<'a>
-    ensures { pieces_text result ≡ line_of (first.now ∷ piece_text second.entry ∷ words_in wording) }
+    ensures { pieces_text result
+        ≡ line_of (first.now ∷ piece_text second.entry ∷ words_in wording) }
 {
     let word = Piece::Text(wording.word);
     match wording.line {

@@ -15,10 +15,11 @@ use crate::reply_text::{
     arrive_pieces, ask_pieces, back_pieces, begin_pieces, bye_pieces, denial_pieces, fault_pieces,
     finish_pieces, go_pieces, state_pieces,
 };
+use crate::seal_text::push_sealed;
 use counted_io::{DeviceFault, Output, Sink};
 use crawl_job::{Outcome, Refusal};
-use gate_core::{AskRefusal, BeginRefusal, Denial, Standing, State};
-use gate_history::Reason;
+use gate_core::{AskRefusal, BeginRefusal, Denial, NoMemory, Standing, State};
+use gate_history::{Reason, Segment};
 use line_text::{Piece, Pieces};
 use path_normal::Authority;
 use permit_book::{NotOut, PermitNo};
@@ -51,6 +52,7 @@ pub(crate) enum Told {
         result: Result<Standing, BeginRefusal>,
     },
     Fetched(Outcome),
+    Sealed(Result<Segment, NoMemory>),
     /// There was no memory to fetch.
     NoMemory,
     /// The session ends.
@@ -82,6 +84,7 @@ impl Told {
             Told::Returned { number, result } => back_pieces(*number, result).push(output, sink),
             Told::Finished { number, result } => finish_pieces(*number, result).push(output, sink),
             Told::Known { authority, state } => state_pieces(authority, *state).push(output, sink),
+            Told::Sealed(result) => push_sealed(result, output, sink),
             Told::Refreshed { authority, result } => {
                 refreshed_pieces(authority, result).push(output, sink)
             }

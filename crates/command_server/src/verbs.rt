@@ -14,12 +14,13 @@ pub enum Verb {
     Done,
     State,
     Sweep,
+    Seal,
     Refresh,
     Fetch,
     Quit,
 }
 
-const VERBS: [Verb; 11] = [
+const VERBS: [Verb; 12] = [
     Verb::Begin,
     Verb::Arrive,
     Verb::Ask,
@@ -28,6 +29,7 @@ const VERBS: [Verb; 11] = [
     Verb::Done,
     Verb::State,
     Verb::Sweep,
+    Verb::Seal,
     Verb::Refresh,
     Verb::Fetch,
     Verb::Quit,
@@ -70,7 +72,13 @@ impl Verb {
         ensures { result ≡ is_in dialogue self }
     {
         match self {
-            Verb::Ask | Verb::Start | Verb::Back | Verb::Done | Verb::State | Verb::Quit => true,
+            Verb::Ask
+            | Verb::Start
+            | Verb::Back
+            | Verb::Done
+            | Verb::State
+            | Verb::Seal
+            | Verb::Quit => true,
             Verb::Begin | Verb::Arrive | Verb::Sweep => dialogue == Dialogue::Replay,
             Verb::Refresh | Verb::Fetch => match dialogue {
                 Dialogue::Replay => false,
@@ -94,6 +102,7 @@ impl Verb {
             Verb::Done => row("DONE", 1, 1),
             Verb::State => row("STATE", 1, 1),
             Verb::Sweep => row("SWEEP", 0, 0),
+            Verb::Seal => row("SEAL", 0, 0),
             Verb::Refresh => row("REFRESH", 1, 1),
             Verb::Fetch => row("FETCH", 2, 2),
             Verb::Quit => row("QUIT", 0, 0),

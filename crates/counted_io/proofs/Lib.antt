@@ -2,3 +2,4 @@
 -- The proof files of this crate cite them, and those of the crates above.
 pub mod Taking
 pub mod Writing
+pub mod CallerLemmas

@@ -36,7 +36,8 @@ impl Model for Output {
 impl Output {
     /// An empty buffer of `OUTPUT_BUFFER` octets, which is all the memory that an output takes.
     pub fn new(alloc: Global) -> Result<Output, AllocError>
-        ensures { IfOk result (λ output. output ≡ []) }
+        ensures empty { IfOk result (λ output. output ≡ []) }
+        ensures size { OUTPUT_BUFFER ≡ output_buffer }
     {
         let mut buffer = Vec::new(alloc);
         buffer.resize(OUTPUT_BUFFER, 0)?;
@@ -51,13 +52,12 @@ impl Output {
         ensures err { OnErr result (AppendsPrefix (W.written sink.old) (W.written sink.new)
             (self.old ++ bytes.now)) }
         ensures lost { OnErr result (self.new ≡ []) }
-        ensures buffered { length self.old + length bytes.now ≤ OUTPUT_BUFFER
+        ensures buffered { length self.old + length bytes.now ≤ output_buffer
             → sink.new ≡ sink.old }
         ensures count { W.failures sink.new ≡ failures_after (W.failures sink.old) result }
         ensures pushes { Pushes (W.written sink.old) (W.written sink.new)
             (W.failures sink.old) (W.failures sink.new)
             self.old self.new bytes.now result }
-        ensures size { OUTPUT_BUFFER ≡ output_buffer }
     {
         if bytes.len() <= self.room() {
             self.hold(bytes);

@@ -10,7 +10,7 @@ use Rattle.std.proofs.lemmas.Slice.Eq.{bytes_eq-Decides}
 use Rattle.permit_book.specs.declared.out.Fetch.{Fetch}
 use Rattle.permit_book.specs.Outstanding.{fetch_of, is_numbered}
 use Rattle.permit_book.specs.Table.{is_fetch_of}
-use Rattle.permit_book.proofs.Filters.{list_any-both, list_any-filter}
+use Rattle.permit_book.proofs.CallerLemmas.{list_any-both, list_any-filter}
 use Rattle.robots_verdict.specs.declared.said.Said.{Said}
 use Rattle.authority_cache.specs.declared.site.Flight.{Flight}
 use Rattle.authority_cache.specs.Calls.{Arrives, Begins, Changes, Sweeps}
@@ -19,9 +19,8 @@ use Rattle.authority_cache.specs.declared.refusal.Stale.{Stale}
 use Rattle.authority_cache.specs.Laws.{ReadsAlike}
 use Rattle.authority_cache.specs.Lives.{life_of, Timed}
 use Rattle.authority_cache.specs.Sites.{arrived, has_turn as site_turn, is_flying, IsApart, Known, site_of, with_flight}
-use Rattle.authority_cache.proofs.Reading as reading
-use Rattle.authority_cache.proofs.Telling as telling
-use Rattle.gate_history.specs.declared.entry.Entry.TheVariants.{Begun, Arrived, Granted, Started, StartDenied, Returned, Finished, Swept}
+use Rattle.authority_cache.proofs.CallerLemmas as cache_laws
+use Rattle.gate_history.specs.declared.entry.Entry.TheVariants.{Begun, Arrived, AskDenied, Granted, Started, StartDenied, Returned, Finished, Swept}
 use Rattle.gate_history.specs.declared.outcome.Cause.{Cause}
 use Rattle.gate_history.specs.declared.outcome.Reason.{Reason}
 use Rattle.gate_history.specs.Cause.{Decides}
@@ -29,8 +28,7 @@ use Rattle.gate_history.specs.History.{History, ◌▸◌, now}
 use Rattle.gate_history.specs.Legal.{IsLegal, MayFollow, SpendsAs}
 use Rattle.gate_history.specs.Outstanding.{is_unspent, stands, unspent}
 use Rattle.gate_history.specs.Standing.{has_turn, in_flight, is_fetching, past_count, standing}
-use Rattle.gate_history.proofs.Deciding.{decides_once}
-use Rattle.gate_history.proofs.Soundness.{stands_once}
+use Rattle.gate_history.proofs.CallerLemmas.{decides_once, stands_once}
 use Rattle.crawl_audit.specs.declared.ledger.Ledger.{Ledger}
 use Rattle.crawl_audit.specs.declared.numbers.Numbers.{Numbers}
 use Rattle.crawl_audit.specs.declared.numbers.Phase.{Phase}
@@ -48,7 +46,7 @@ on_time moment now clock same fit = omega arith
 
 module _ (l : Ledger) (h : History) (t : Tells l h) where
   abbrev reads : ReadsAlike l.cache (standing h) (in_flight h)
-  reads = reading.reads_alike l.cache (standing h) (in_flight h) t.cache_tells
+  reads = cache_laws.reads_alike l.cache (standing h) (in_flight h) t.cache_tells
 
   -- ---- begins
 
@@ -63,7 +61,7 @@ module _ (l : Ledger) (h : History) (t : Tells l h) where
     record {
       clock_is = on_time moment (now h) l.clock t.clock_is fit;
       begins_are = counted ∙ next ∙ ap (λ n. n + 1) t.begins_are;
-      cache_tells = telling.begun l.cache cache (standing h) (in_flight h) authority (record { turn = turn; begun = moment }) t.cache_tells free changes;
+      cache_tells = cache_laws.begun l.cache cache (standing h) (in_flight h) authority (record { turn = turn; begun = moment }) t.cache_tells free changes;
       numbers_tell = record { unspent_are = t.numbers_tell.unspent_are; running_are = t.numbers_tell.running_are; granted_are = t.numbers_tell.granted_are };
     },
   )
@@ -82,7 +80,7 @@ module _ (l : Ledger) (h : History) (t : Tells l h) where
         record {
           clock_is = on_time moment (now h) l.clock t.clock_is fit;
           begins_are = t.begins_are;
-          cache_tells = telling.arrives l.cache cache (standing h) (in_flight h) authority turn life says t.cache_tells flying ((stands_once h legal).own_turn authority turn there) changes;
+          cache_tells = cache_laws.arrives l.cache cache (standing h) (in_flight h) authority turn life says t.cache_tells flying ((stands_once h legal).own_turn authority turn there) changes;
           numbers_tell = record { unspent_are = t.numbers_tell.unspent_are; running_are = t.numbers_tell.running_are; granted_are = t.numbers_tell.granted_are };
         },
       )
@@ -90,7 +88,7 @@ module _ (l : Ledger) (h : History) (t : Tells l h) where
   -- ---- sweeps
 
   pub swept_count : (moment count : ℕ) (cache : Known) → Sweeps l.cache moment count cache → IsApart l.cache → count ≡ past_count h moment
-  swept_count moment count cache sweeps apart = sweeps.dropped ∙ (telling.counts_alike l.cache (standing h) (in_flight h) t.cache_tells apart).past moment
+  swept_count moment count cache sweeps apart = sweeps.dropped ∙ (cache_laws.counts_alike l.cache (standing h) (in_flight h) t.cache_tells apart).past moment
 
   pub swept_follows : (moment count swept : ℕ) (cache : Known) → l.clock ≤ moment → swept ≡ count → Sweeps l.cache moment swept cache → IsApart l.cache →
       MayFollow h (Swept moment count) × Tells (record { clock = moment; begins = l.begins; cache = cache; numbers = l.numbers }) (h ▸ Swept moment count)
@@ -99,7 +97,7 @@ module _ (l : Ledger) (h : History) (t : Tells l h) where
     record {
       clock_is = on_time moment (now h) l.clock t.clock_is fit;
       begins_are = t.begins_are;
-      cache_tells = telling.swept_away l.cache cache (standing h) (in_flight h) moment swept t.cache_tells sweeps;
+      cache_tells = cache_laws.swept_away l.cache cache (standing h) (in_flight h) moment swept t.cache_tells sweeps;
       numbers_tell = record { unspent_are = t.numbers_tell.unspent_are; running_are = t.numbers_tell.running_are; granted_are = t.numbers_tell.granted_are };
     },
   )
@@ -134,6 +132,20 @@ module _ (l : Ledger) (h : History) (t : Tells l h) where
 
   pub not_so : (token url : List ℕ) (moment : ℕ) (one other : Result Reason Cause) → Decides h token url moment one → (one ≡ other → ⊥) → Decides h token url moment other → ⊥
   not_so token url moment one other decided apart so = apart (decides_once h token url moment one other decided so)
+
+  -- ---- denied asks
+
+  pub ask_denied_follows : (moment : ℕ) (fetch : Fetch) (cause : Cause) → l.clock ≤ moment → Decides h fetch.token fetch.url moment (Err cause) →
+      MayFollow h (AskDenied moment fetch cause) × Tells (record { clock = moment; begins = l.begins; cache = l.cache; numbers = l.numbers }) (h ▸ AskDenied moment fetch cause)
+  ask_denied_follows moment fetch cause fit decided = (
+    (omega (arith, t.clock_is), decided),
+    record {
+      clock_is = on_time moment (now h) l.clock t.clock_is fit;
+      begins_are = t.begins_are;
+      cache_tells = t.cache_tells;
+      numbers_tell = record { unspent_are = t.numbers_tell.unspent_are; running_are = t.numbers_tell.running_are; granted_are = t.numbers_tell.granted_are };
+    },
+  )
 
   -- ---- permits
 
@@ -255,6 +267,10 @@ module _ (l : Ledger) (h : History) (t : Tells l h) where
       running_one (Some (Unspent fetch)) is = absurd (true≢false (sym is))
       running_one (Some Running) is = refl
       running_one (Some Ended) is = absurd (true≢false (sym is))
+
+-- the ledger whose rules may have an index more tells the same
+pub told : (l : Ledger) (known : Known) (h : History) → known ≡ l.cache → Tells l h → Tells (record l { cache = known }) h
+told l known h same t = subst (λ (k : Known). Tells (record l { cache = k }) h) (sym same) t
 
 -- ---- what calls answered
 

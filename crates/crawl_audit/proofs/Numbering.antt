@@ -7,8 +7,7 @@ use Rattle.std.proofs.lemmas.Bool.Decides.{eqb_tells}
 use Rattle.permit_book.specs.declared.out.Fetch.{Fetch}
 use Rattle.permit_book.specs.declared.granted_permit.GrantedPermit.{GrantedPermit}
 use Rattle.permit_book.specs.Outstanding.{is_listed, is_numbered, permit_for, without}
-use Rattle.permit_book.proofs.Filters.{list_any-filter, numbered-added, numbered-gone, numbered-new, numbered-without}
-use Rattle.permit_book.proofs.TableLaws.{same_number}
+use Rattle.permit_book.proofs.CallerLemmas.{list_any-filter, numbered-added, numbered-gone, numbered-new, numbered-without, same_number}
 use Rattle.gate_history.specs.declared.entry.Entry.TheVariants.{Granted, Started, StartDenied, Returned, Finished}
 use Rattle.gate_history.specs.declared.outcome.Cause.{Cause}
 use Rattle.gate_history.specs.declared.outcome.Reason.{Reason}

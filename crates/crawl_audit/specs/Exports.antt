@@ -1,12 +1,16 @@
 -- Which histories a text can have: legal ones that nothing was sealed of, within the limit.
 -- RFC 9309, sections 2.2.2, 2.3.1 and 2.4, by the legality of `gate_history`.
-use Rattle.std.specs.Prelude.{◌≤◌, All, List, length}
+use Rattle.std.specs.Prelude.{◌<◌, ◌≤◌, All, List, length}
 use Rattle.gate_history.specs.declared.entry.Entry.{Entry}
 use Rattle.gate_history.specs.Base.{empty_base}
 use Rattle.gate_history.specs.History.{History, followed_by, from}
 use Rattle.gate_history.specs.Legal.{IsLegal}
+use Rattle.gate_history.specs.Segment.{history_in, Sealed}
+use Rattle.gate_core.specs.Gate.{Gate}
 use Rattle.gate_core.specs.Limits.{most_entries}
 use Rattle.crawl_audit.specs.declared.version.Version.{Version}
+use Rattle.crawl_audit.specs.declared.version.Version.TheVariants.{Two}
+use Rattle.crawl_audit.specs.BaseFields.{HasBaseFields}
 use Rattle.crawl_audit.specs.Entries.{IsEntry}
 
 -- the history of entries before which nothing was
@@ -18,3 +22,13 @@ pub record IsExport (version : Version) (entries : List Entry) : Type 0 where
   pub spelled : All (IsEntry version) entries
   pub legal : IsLegal (history_of entries)
   pub within : length entries ≤ most_entries
+
+-- the segment of a book's history that is not sealed yet
+abbrev pub present_segment : Gate → Sealed
+present_segment g = record { base = g.base; entries = g.entries }
+
+-- the segment is a legal history, and has the fields of a text of version 2 or 3
+pub record IsSegmentText (s : Sealed) : Type 0 where
+  pub legal : IsLegal (history_in s)
+  pub entries : All (IsEntry Two) s.entries
+  pub base : 0 < s.base.entries → HasBaseFields s.base

@@ -16,7 +16,8 @@ use crate::record::Record;
 use crate::version::Version;
 use gate_history::Entry;
 use line_text::Pieces;
-use permit_book::Fetch;
+use path_normal::PageUrl;
+use robots_text::Token;
 use robots_verdict::{Answer, Said};
 
 /// The line of an entry.
@@ -85,12 +86,22 @@ pub(crate) fn record_pieces(version: Version, found: &Record) -> Pieces<'_>
             moment,
             number,
             fetch,
-        } => granted(*moment, *number, token_text(fetch), url_text(fetch)),
+        } => granted(
+            *moment,
+            *number,
+            token_octets(&fetch.token),
+            url_octets(&fetch.url),
+        ),
         Record::AskDenied {
             moment,
             fetch,
             cause,
-        } => ask_denied(*moment, token_text(fetch), url_text(fetch), *cause),
+        } => ask_denied(
+            *moment,
+            token_octets(&fetch.token),
+            url_octets(&fetch.url),
+            *cause,
+        ),
         Record::Started {
             moment,
             number,
@@ -107,18 +118,20 @@ pub(crate) fn record_pieces(version: Version, found: &Record) -> Pieces<'_>
     }
 }
 
-fn token_text(fetch: &Fetch) -> &[u8]
-    ensures value { result.now ≡ fetch.now.token }
-    ensures own { token_of fetch.now.token ≡ Some fetch.now.token }
+/// The octets of a token.
+pub(crate) fn token_octets(token: &Token) -> &[u8]
+    ensures value { result.now ≡ token.now }
+    ensures own { token_of token.now ≡ Some token.now }
 {
-    fetch.token.text().as_bytes()
+    token.text().as_bytes()
 }
 
-fn url_text(fetch: &Fetch) -> &[u8]
-    ensures value { result.now ≡ fetch.now.url }
-    ensures page { IsPage fetch.now.url }
+/// The octets of a URL.
+pub(crate) fn url_octets(url: &PageUrl) -> &[u8]
+    ensures value { result.now ≡ url.now }
+    ensures page { IsPage url.now }
 {
-    fetch.url.text().as_bytes()
+    url.text().as_bytes()
 }
 
 /// What an answer says.
@@ -133,8 +146,8 @@ fn told_by(answer: &Answer) -> Told<'_>
     }
 }
 
-/// What the history says of an answer.
-fn told_in(says: &Said) -> Told<'_>
+//// What the history says of an answer.
+pub(crate) fn told_in(says: &Said) -> Told<'_>
     ensures said { told_said result ≡ says.now }
     ensures body { IsSaid says.now }
 {

@@ -196,7 +196,8 @@ fn wording_pieces(wording: Wording) -> FourPieces<'static>
     }
 }
 
-fn answer_pieces(version: Version, told: Told<'_>, life: u64) -> FourPieces<'_>
+/// What an answer says, in the pieces behind its other fields.
+pub(crate) fn answer_pieces(version: Version, told: Told<'_>, life: u64) -> FourPieces<'_>
     ensures { spaced_fields (answer_fields version (told_said told.entry) life)
         ≡ piece_text result.0 ++ (piece_text result.1 ++ (piece_text result.2
         ++ (piece_text result.3 ++ []))) }

@@ -4,6 +4,7 @@
 
 mod audit_text;
 mod auditor;
+mod base_kinds;
 mod entry_pieces;
 mod export_text;
 mod fault;
@@ -12,13 +13,15 @@ mod kinds;
 pub mod laws;
 mod ledger;
 mod numbers;
+mod parts;
 mod read;
 mod record;
+mod row;
 mod unread_line;
 mod version;
 
 pub use audit_text::audit;
 pub use auditor::MAX_LINE;
-pub use export_text::export;
+pub use export_text::{export, export_segment, push_segment_text};
 pub use fault::{AuditFault, Audited};
 pub use version::Version;

@@ -11,7 +11,8 @@ use crate::report::Crawled;
 
 /// Puts what came of each job in the place of its number. No number comes twice.
 pub(crate) fn place_all(outcomes: &mut [Crawled], done: Vec<Vec<Done>>)
-    requires { (n : ℕ) → weigh_all (one_at_number n) (all_numbers (map (λ list. list.items) done.items))
+    requires { (n : ℕ)
+        → weigh_all (one_at_number n) (all_numbers (map (λ list. list.items) done.items))
         ≤ one_below (length outcomes.old) n }
     ensures len { length outcomes.new ≡ length outcomes.old }
     ensures placed { AllPlaced outcomes.new (map (λ list. list.items) done.items) }

@@ -23,8 +23,7 @@ use Rattle.gate_history.specs.History.{History, at_moment, from}
 use Rattle.gate_history.specs.Legal.{IsLegal}
 use Rattle.gate_history.specs.Outstanding.{stands}
 use Rattle.gate_history.specs.Standing.{standing_of}
-use Rattle.gate_history.proofs.Deciding as deciding
-use Rattle.gate_history.proofs.KnownLaws as known
+use Rattle.gate_history.proofs.CallerLemmas as history_laws
 use Rattle.gate_core.specs.declared.call.Call.{Call}
 use Rattle.gate_core.specs.declared.call.Call.TheVariants as calls
 use Rattle.gate_core.specs.declared.call.Reply.{Reply}
@@ -110,7 +109,7 @@ allowed h token url m reason legal decides =
       answer = judged.0;
       standing = judged.1.0;
       in_force = judged.1.1.0;
-      day = (known.lives_bounded h (authority_of url) judged.0 legal judged.1.0).1;
+      day = (history_laws.lives_bounded h (authority_of url) judged.0 legal judged.1.0).1;
       reason = reason;
       says = judged.1.1.1;
     }
@@ -130,7 +129,7 @@ decides h token url m a =
 -- what is denied is not allowed
 not_both : (h : History) (token url : List ℕ) (m : ℕ) (cause : Cause) → Decides h token url m (Err cause) → Allows h token url m → ⊥
 not_both h token url m cause denied a =
-    let same : denying cause ≡ allowing a.reason = deciding.decides_once h token url m (Err cause) (Ok a.reason) denied (decides h token url m a) in cc
+    let same : denying cause ≡ allowing a.reason = history_laws.decides_once h token url m (Err cause) (Ok a.reason) denied (decides h token url m a) in cc
 
 -- the cause of a start that has its permit
 cause_of_start : (h : History) (number : ℕ) (token url : List ℕ) (m : ℕ) (cause : Cause) → stands h number token url ≡ true →

@@ -9,10 +9,10 @@ use Rattle.robots_verdict.specs.declared.said.Said.TheVariants as says
 use Rattle.authority_cache.specs.declared.standing_answer.StandingAnswer.{StandingAnswer}
 use Rattle.authority_cache.specs.Lists.{answer_for, is_past_answer}
 use Rattle.authority_cache.specs.Sites.{has_past, has_turn, is_flying, site_of, State}
-use Rattle.authority_cache.proofs.Reading as reading
+use Rattle.authority_cache.proofs.CallerLemmas as cache_laws
 use Rattle.gate_history.specs.History.{History}
 use Rattle.gate_history.specs.Standing.{has_turn as standing_turn, in_flight, is_fetching, standing, standing_of}
-use Rattle.gate_history.proofs.Looking.{if_false, if_true, in_force_of, IsInForce, IsPast, past_of}
+use Rattle.gate_history.proofs.CallerLemmas.{IsInForce, IsPast, if_false, if_true, in_force_of, past_of}
 use Rattle.gate_core.specs.declared.book.Book.TheInside.{Inside}
 use Rattle.gate_core.specs.declared.state.Standing.TheVariants as standings
 use Rattle.gate_core.specs.Kept.{IsKept}
@@ -24,7 +24,7 @@ module _ (b : Inside) (kept : IsKept b) (authority : List ℕ) (moment : ℕ) wh
   state = site_of b.cache authority
 
   found : option_map (answer_for authority) state.standing ≡ standing_of (told b) authority
-  found = (reading.reads_alike b.cache (standing (told b)) (in_flight (told b)) kept.cache).answers authority
+  found = (cache_laws.reads_alike b.cache (standing (told b)) (in_flight (told b)) kept.cache).answers authority
 
   pub none_stands : state.standing ≡ None → standing_of (told b) authority ≡ None
   none_stands is = sym found ∙ ap (option_map (answer_for authority)) is
@@ -50,10 +50,10 @@ stands_as_said found moment says force =
     (if_false (is_past_answer moment force.answer) _ _ force.in_force (sym (ap standing_as force.said)))
 
 pub fetching_is : (b : Inside) → IsKept b → (authority : List ℕ) → is_flying (site_of b.cache authority) ≡ is_fetching (told b) authority
-fetching_is b kept authority = (reading.reads_alike b.cache (standing (told b)) (in_flight (told b)) kept.cache).flying authority
+fetching_is b kept authority = (cache_laws.reads_alike b.cache (standing (told b)) (in_flight (told b)) kept.cache).flying authority
 
 pub rules_in_force : (h : History) (authority : List ℕ) (moment : ℕ) (text : List ℕ) → IsInForce (standing_of h authority) moment (says.Rules text) → HasRulesInForce h authority moment text
 rules_in_force h authority moment text force = record { answer = force.answer; stands = force.stands; in_force = force.in_force; rules = force.said }
 
 pub turn_is : (b : Inside) → IsKept b → (authority : List ℕ) (turn : ℕ) → has_turn turn (site_of b.cache authority) ≡ standing_turn (told b) authority turn
-turn_is b kept authority turn = (reading.reads_alike b.cache (standing (told b)) (in_flight (told b)) kept.cache).turns authority turn
+turn_is b kept authority turn = (cache_laws.reads_alike b.cache (standing (told b)) (in_flight (told b)) kept.cache).turns authority turn

@@ -10,8 +10,7 @@ use Rattle.authority_cache.specs.Calls.{Begins as CacheBegins, cannot_know as Ca
 use Rattle.authority_cache.specs.declared.refusal.Stale.{Stale}
 use Rattle.authority_cache.specs.Sites.{has_turn, IsApart, Known, site_of}
 use Rattle.authority_cache.specs.Lives.{Timed}
-use Rattle.authority_cache.proofs.Reading as reading
-use Rattle.authority_cache.proofs.Telling as telling
+use Rattle.authority_cache.proofs.CallerLemmas as cache_laws
 use Rattle.gate_history.specs.Cause.{Decides}
 use Rattle.gate_history.specs.Standing.{has_turn as standing_turn, in_flight, is_fetching, standing}
 use Rattle.gate_history.specs.History.{now}
@@ -67,15 +66,15 @@ cache_same old authority flight cache.NoMemory new is = is.2
 -- whether one authority more would be one too many
 pub cannot_is : (b : Inside) → IsKept b → IsApart b.cache → (authority : List ℕ) → CacheCannot b.cache authority ≡ cannot_know (gate_of b) authority
 cannot_is b kept apart authority =
-    let read = reading.reads_alike b.cache (standing (told b)) (in_flight (told b)) kept.cache in
-    let count = telling.counts_alike b.cache (standing (told b)) (in_flight (told b)) kept.cache apart in
+    let read = cache_laws.reads_alike b.cache (standing (told b)) (in_flight (told b)) kept.cache in
+    let count = cache_laws.counts_alike b.cache (standing (told b)) (in_flight (told b)) kept.cache apart in
     λ i. not (read.known authority i) && nat_le (kept.authorities i) (count.known i)
 
 -- what the cache answers to a begin of an authority that is idle, as the last step of a begin
 pub opens_refused : (b : Inside) → IsKept b → (g : Gate) → gate_of b ≡ g → IsApart b.cache → (authority : List ℕ) (moment turn : ℕ) (x : FlightRefusal) (new : Known) →
     is_fetching (history g) authority ≡ false → CacheBegins b.cache authority (record { turn = turn; begun = moment }) (Err x) new → OpensTurn g authority moment (Err (begin_refusal x)) (gate_of b)
 opens_refused b kept g is apart authority moment turn cache.InFlight new idle refused =
-    let flying = (reading.reads_alike b.cache (standing (told b)) (in_flight (told b)) kept.cache).flying authority in
+    let flying = (cache_laws.reads_alike b.cache (standing (told b)) (in_flight (told b)) kept.cache).flying authority in
     absurd (true≢false (sym refused.0 ∙ flying ∙ ap (λ (g : Gate). is_fetching (history g) authority) is ∙ idle))
 opens_refused b kept g is apart authority moment turn cache.AuthoritiesFull new idle refused =
     (ap (λ (g : Gate). cannot_know g authority) (sym is) ∙ sym (cannot_is b kept apart authority) ∙ refused.1, is)
@@ -89,6 +88,6 @@ pub arrives_refused : (b : Inside) → IsKept b → (g : Gate) → gate_of b ≡
 arrives_refused b kept g is authority turn answer moment (Ok done) err none = absurd (true≢false (sym err))
 arrives_refused b kept g is authority turn answer moment (Err stale) err none = (
   subst (λ (g : Gate). standing_turn (history g) authority turn ≡ false) is
-      (sym ((reading.reads_alike b.cache (standing (told b)) (in_flight (told b)) kept.cache).turns authority turn) ∙ none),
+      (sym ((cache_laws.reads_alike b.cache (standing (told b)) (in_flight (told b)) kept.cache).turns authority turn) ∙ none),
   is,
 )

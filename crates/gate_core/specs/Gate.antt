@@ -1,6 +1,6 @@
 -- What contracts see of a book: its limits, its base and the entries since, which together are its history.
 -- RFC 9309, sections 2.3.1 and 2.4.
-use Rattle.std.specs.Prelude.{◌≡◌, ℕ, ◌+◌, ◌*◌, ◌<◌, ◌≤◌, List, [], ◌∷◌, ◌++◌, length}
+use Rattle.std.specs.Prelude.{◌≡◌, ℕ, ◌+◌, ◌-◌, ◌*◌, ◌<◌, ◌≤◌, min, List, [], ◌∷◌, ◌++◌, length}
 use Rattle.permit_book.specs.Outstanding.{listed_for}
 use Rattle.gate_history.specs.declared.entry.Entry.{Entry}
 use Rattle.gate_history.specs.Base.{Base}
@@ -9,6 +9,7 @@ use Rattle.gate_history.specs.Legal.{IsLegal, MayFollow}
 use Rattle.gate_history.specs.Outstanding.{running, unspent}
 use Rattle.gate_history.specs.Standing.{in_flight}
 use Rattle.gate_core.specs.declared.config.Limits.{Limits}
+use Rattle.gate_core.specs.Limits.{greatest_number}
 
 -- a book as its callers see it
 pub record Gate : Type 0 where
@@ -25,17 +26,22 @@ history g = followed_by (from g.base) g.entries
 abbrev pub promised : History → ℕ
 promised h = length (in_flight h) + 2 * length (unspent h) + length (running h)
 
--- the room that a book takes under the limit of its log: its entries, and those that it has promised
+-- the room that a book takes: its entries, and those that it has promised
 abbrev pub room : Gate → ℕ
 room g = length g.entries + promised (history g)
 
--- this many more fit under the limit of the log
-abbrev pub HasRoom : Gate → ℕ → Type 0
-HasRoom g more = room g + more ≤ g.limits.log_limit
+-- the most room that a book may take: that under the limit of its log, and with the entries that were
+-- sealed no more than a number counts
+abbrev pub most_room : Limits → Base → ℕ
+most_room limits base = min limits.log_limit (greatest_number - base.entries)
 
--- this many more do not fit under it
+-- this many more fit into it
+abbrev pub HasRoom : Gate → ℕ → Type 0
+HasRoom g more = room g + more ≤ most_room g.limits g.base
+
+-- this many more do not fit into it
 abbrev pub IsFull : Gate → ℕ → Type 0
-IsFull g more = g.limits.log_limit < room g + more
+IsFull g more = most_room g.limits g.base < room g + more
 
 -- how many permits are out for an authority, unspent or running
 abbrev pub held : History → List ℕ → ℕ

@@ -8,6 +8,7 @@ pub mod Refused
 pub mod Kept
 pub mod Judged
 pub mod Replies
+pub mod Sealing
 pub mod Opened
 pub mod States
 pub mod Calls

@@ -109,11 +109,13 @@ impl Book {
         self.cache.flight_count() + 2 * self.permits.unspent_count() + self.permits.running_count()
     }
 
-    /// Whether this many more entries fit under the limit of the log.
+    /// Whether this many more entries fit under the limit of the log, and with those that were sealed under
+    /// 18,446,744,073,709,551,615.
     pub fn has_room(&self, more: u64) -> bool
         requires { more ≤ 3 }
         ensures { IsTrue result ↔ HasRoom self.now more }
     {
-        self.entries.len() as u64 + self.promised() + more <= self.limits.log_limit
+        let most = self.limits.log_limit.min(u64::MAX - self.base.entries());
+        self.entries.len() as u64 + self.promised() + more <= most
     }
 }

@@ -16,6 +16,7 @@ mod places;
 mod readers;
 mod refusal;
 pub mod rows;
+mod seal;
 mod start;
 mod state;
 mod sweep;

@@ -24,7 +24,8 @@ impl TurnNames {
 
     /// Keeps the name of a turn's authority.
     pub(crate) fn put(&mut self, turn: TurnNo, name: Authority) -> Result<(), AllocError>
-        ensures ok { OnOk result (KeepsName (names_by self.old) turn (Some name) (names_by self.new)) }
+        ensures ok { OnOk result
+            (KeepsName (names_by self.old) turn (Some name) (names_by self.new)) }
         ensures err { OnErr result (names_by self.new ≡ names_by self.old) }
     {
         match self.by_turn.insert(turn.number(), name) {

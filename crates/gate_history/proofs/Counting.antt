@@ -4,7 +4,7 @@ use Rattle.std.proofs.Common.{◌≡◌, ◌+◌, ◌<◌, ◌≤◌, Bool, true
 use Rattle.std.specs.List.{list_all, list_any}
 use Rattle.std.proofs.lemmas.List.Elements.{filter-append}
 use Rattle.authority_cache.specs.Calls.{one_if}
-use Rattle.authority_cache.proofs.EntryLaws.{count-cons}
+use Rattle.authority_cache.proofs.CallerLemmas.{count-cons}
 
 -- a count in two lists that were joined
 pub count-append : {X : Type 0} (p : X → Bool) (xs ys : List X) →

@@ -7,7 +7,7 @@ use Rattle.path_normal.specs.PageText.{authority_of, target_of}
 use Rattle.robots_text.specs.Records.{numbered_records}
 use Rattle.robots_verdict.specs.declared.said.Said.{Said}
 use Rattle.robots_verdict.specs.declared.said.Said.TheVariants as says
-use Rattle.robots_verdict.proofs.OneVerdict as verdicts
+use Rattle.robots_verdict.proofs.CallerLemmas as verdict_laws
 use Rattle.authority_cache.specs.declared.standing_answer.StandingAnswer.{StandingAnswer}
 use Rattle.authority_cache.specs.Lists.{is_past_answer}
 use Rattle.gate_history.specs.declared.outcome.Cause.{Cause}
@@ -20,7 +20,7 @@ use Rattle.gate_history.specs.Laws.{DecidesOnce}
 -- an answer says one thing of a fetch
 says_once : (said : Said) (token url : List ℕ) (one other : Result Reason Cause) → Says said token url one → Says said token url other → one ≡ other
 says_once (says.Rules text) token url one other is is' =
-    is.1.1 ∙ (ap outcome_of (verdicts.one (numbered_records text) token (normal_path (target_of url)) is.0 is'.0 is.1.0 is'.1.0) ∙ sym is'.1.1)
+    is.1.1 ∙ (ap outcome_of (verdict_laws.one (numbered_records text) token (normal_path (target_of url)) is.0 is'.0 is.1.0 is'.1.0) ∙ sym is'.1.1)
 says_once (says.Open _) token url one other is is' = is ∙ sym is'
 says_once (says.Closed _) token url one other is is' = is ∙ sym is'
 

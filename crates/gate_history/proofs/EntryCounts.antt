@@ -6,7 +6,7 @@ use Rattle.std.proofs.lemmas.List.Filters.{length-filter_both}
 use Rattle.permit_book.specs.declared.granted_permit.GrantedPermit.{GrantedPermit}
 use Rattle.permit_book.specs.Outstanding.{fetch_of, is_numbered, permit_for, without}
 use Rattle.permit_book.specs.Table.{is_fetch_of}
-use Rattle.permit_book.proofs.Filters.{list_any-more}
+use Rattle.permit_book.proofs.CallerLemmas.{list_any-more}
 use Rattle.authority_cache.specs.declared.turn.Turn.{Turn}
 use Rattle.authority_cache.specs.Lists.{has_number, is_turn_of, turn_for}
 use Rattle.gate_history.specs.declared.entry.Entry.TheVariants.{Begun, Arrived, Granted, AskDenied, Started, StartDenied, Returned, Finished, Swept}

@@ -7,9 +7,9 @@ use Rattle.std.proofs.lemmas.Bool.Decides.{eqb_tells, leb_tells}
 use Rattle.std.proofs.lemmas.List.Folds.{list_any-append}
 use Rattle.permit_book.specs.Numbers.{slot_of, generation_of}
 use Rattle.permit_book.specs.Outstanding.{granted_in}
-use Rattle.permit_book.proofs.Filters.{filter-dropped, filter-kept}
+use Rattle.permit_book.proofs.CallerLemmas.{filter-dropped, filter-kept}
 use Rattle.authority_cache.specs.Calls.{one_if}
-use Rattle.authority_cache.proofs.EntryLaws.{count-push}
+use Rattle.authority_cache.proofs.CallerLemmas.{count-push}
 use Rattle.gate_history.specs.declared.base.SlotGrant.{SlotGrant}
 use Rattle.gate_history.specs.Grants.{generation_in, greatest_of, is_covered, is_in, with_grant}
 

@@ -13,8 +13,7 @@ use Rattle.authority_cache.specs.declared.turn.Turn.{Turn}
 use Rattle.authority_cache.specs.Calls.{one_if}
 use Rattle.authority_cache.specs.Lists.{is_answer_for, is_turn_of, lacks_answer}
 use Rattle.authority_cache.specs.Lives.{greatest_life, least_life, life_of}
-use Rattle.authority_cache.proofs.EntryLaws.{count-cons}
-use Rattle.authority_cache.proofs.SiteLaws.{other_text, same_text}
+use Rattle.authority_cache.proofs.CallerLemmas.{count-cons, other_text, same_text}
 use Rattle.gate_history.specs.Base.{AreTurns, has_its_life}
 use Rattle.gate_history.specs.History.{begins, now}
 use Rattle.gate_history.specs.Standing.{in_flight, standing}

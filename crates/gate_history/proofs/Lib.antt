@@ -5,9 +5,11 @@ pub mod Soundness
 pub mod SealLaws
 pub mod Saying
 pub mod OrderLaws
+pub mod Reordering
 pub mod LegalLaws
 pub mod LeftOpenLaws
 pub mod EntryCounts
 pub mod KnownLaws
 pub mod Deciding
 pub mod Looking
+pub mod CallerLemmas

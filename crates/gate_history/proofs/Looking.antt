@@ -10,7 +10,7 @@ use Rattle.authority_cache.specs.declared.standing_answer.StandingAnswer.{Standi
 use Rattle.authority_cache.specs.declared.turn.Turn.{Turn}
 use Rattle.authority_cache.specs.Lists.{answer_for, is_answer_for, is_past_answer, TellsCache}
 use Rattle.authority_cache.specs.Sites.{Answered, has_past, is_past, Known, site_of}
-use Rattle.authority_cache.proofs.Reading as reading
+use Rattle.authority_cache.proofs.CallerLemmas as cache_laws
 use Rattle.gate_history.specs.declared.outcome.Cause.{Cause}
 use Rattle.gate_history.specs.declared.outcome.Cause.TheVariants as causes
 use Rattle.gate_history.specs.declared.outcome.Reason.{Reason}
@@ -65,7 +65,7 @@ decides_by found token url moment says outcome force is =
 
 module _ (k : Known) (answers : List StandingAnswer) (turns : List Turn) (tells : TellsCache k answers turns) (a authority token url : List ℕ) (same : a ≡ authority) (moment : ℕ) where
   found : option_map (answer_for a) (site_of k a).standing ≡ find (is_answer_for authority) answers
-  found = (reading.reads_alike k answers turns tells).answers a ∙ ap (λ b. find (is_answer_for b) answers) same
+  found = (cache_laws.reads_alike k answers turns tells).answers a ∙ ap (λ b. find (is_answer_for b) answers) same
 
   pub judges_unknown : (site_of k a).standing ≡ None → Judges (find (is_answer_for authority) answers) token url moment (Err causes.Unknown)
   judges_unknown is = decides_unknown _ token url moment (sym found ∙ ap (option_map (answer_for a)) is)

@@ -34,7 +34,7 @@ of_slot (x ∷ xs) slot = by (is_in slot x) refl (of_slot xs slot)
     by false is rest = let none : generation_in slot x ≡ 0 = rw is refl in omega arith
 
 -- grants that say the same have the same greatest generations
-greatest_alike : (xs ys : List SlotGrant) → SaySame is_in xs ys → (slot : ℕ) → greatest_of xs slot ≡ greatest_of ys slot
+pub greatest_alike : (xs ys : List SlotGrant) → SaySame is_in xs ys → (slot : ℕ) → greatest_of xs slot ≡ greatest_of ys slot
 greatest_alike xs ys same slot = of_slot xs slot ∙ (ap (λ zs. greatest_of zs slot) (same.each slot) ∙ sym (of_slot ys slot))
 
 -- and after one more grant
@@ -51,7 +51,7 @@ grants_alike number xs ys same =
     equal = ap (λ n. (let g : SlotGrant = record { slot = slot_of number; generation = max (generation_of number) n } in g) ∷ []) (greatest_alike xs ys same (slot_of number))
 
 -- the same numbers are covered
-covered_alike : (xs ys : List SlotGrant) → SaySame is_in xs ys → (number : ℕ) → is_covered xs number ≡ is_covered ys number
+pub covered_alike : (xs ys : List SlotGrant) → SaySame is_in xs ys → (number : ℕ) → is_covered xs number ≡ is_covered ys number
 covered_alike xs ys same number =
     rw (says-any is_in xs ys same (is_in (slot_of number)), greatest_alike xs ys same (slot_of number)) refl
 

@@ -1,9 +1,11 @@
 -- Lists that say the same in whatever order, after they were joined, filtered or mapped.
 -- Cited by the laws on histories that say the same.
-use Rattle.std.proofs.Common.{◌≡◌, Bool, true, false, cond, not, ◌&&◌, List, [], ◌∷◌, ◌++◌, Some, length, filter, map, refl, sym, ap, ◌∙◌, true≢false, arith}
+use Rattle.std.proofs.Common.{◌≡◌, ℕ, ◌+◌, ◌≤◌, zero, suc, Bool, true, false, cond, not, ◌&&◌, List, [], ◌∷◌, ◌++◌, Some, length, filter, map, refl, sym, ap, ◌∙◌, true≢false, arith}
 use Rattle.std.specs.List.{find, list_all, list_any}
 use Rattle.std.proofs.lemmas.List.Elements.{filter-append}
-use Rattle.permit_book.proofs.Filters.{filter-all}
+use Rattle.permit_book.proofs.CallerLemmas.{filter-all}
+use Rattle.authority_cache.specs.Calls.{one_if}
+use Rattle.authority_cache.proofs.CallerLemmas.{count-bound, count-cons}
 use Rattle.gate_history.specs.Seal.{SaySame}
 use Rattle.gate_history.proofs.Counting.{count-append, count-map, none-found, some-found}
 
@@ -120,3 +122,48 @@ all-pass p (x ∷ xs) none = by (p x) (all-pass p xs) none
 -- a test that all of the one list pass all of the other do
 pub says-all : {K X : Type 0} (is_of : K → X → Bool) (xs ys : List X) → SaySame is_of xs ys → (p : X → Bool) → list_all p ys ≡ true → list_all p xs ≡ true
 says-all is_of xs ys same p all = all-pass p xs (same.counts (λ x. not (p x)) ∙ none-fails p ys all)
+
+-- a count is that of what passes another test and that of what does not
+count-parts : {X : Type 0} (p q : X → Bool) (xs : List X) →
+    length (filter p xs) ≡ length (filter p (filter q xs)) + length (filter p (filter (λ x. not (q x)) xs))
+count-parts p q [] = refl
+count-parts p q (x ∷ xs) = by (q x) (count-parts p q xs)
+  where
+    by : (b : Bool) → length (filter p xs) ≡ length (filter p (filter q xs)) + length (filter p (filter (λ y. not (q y)) xs)) →
+        length (filter p (x ∷ xs)) ≡ length (filter p (cond b (x ∷ filter q xs) (filter q xs))) + length (filter p (cond (not b) (x ∷ filter (λ y. not (q y)) xs) (filter (λ y. not (q y)) xs)))
+    by true rest = omega (arith, rest, count-cons p x xs, count-cons p x (filter q xs))
+    by false rest = omega (arith, rest, count-cons p x xs, count-cons p x (filter (λ y. not (q y)) xs))
+
+-- what is left without those of a key that one of them has is shorter
+fewer-left : {X : Type 0} (q : X → Bool) (x : X) (xs : List X) (n : ℕ) → q x ≡ true → length (x ∷ xs) ≤ n + 1 → length (filter (λ y. not (q y)) (x ∷ xs)) ≤ n
+fewer-left q x xs n is few =
+    rw is (let bound = count-bound (λ y. not (q y)) xs in omega (arith, bound, few))
+
+-- a list of which no key has one is empty
+no-key : {K X : Type 0} (is_of : K → X → Bool) (key : X → K) → ((x : X) → is_of (key x) x ≡ true) → (ys : List X) →
+    ((k : K) → filter (is_of k) ys ≡ []) → ys ≡ []
+no-key is_of key own [] none = refl
+no-key is_of key own (y ∷ ys) none =
+    absurd (let gone = ap length (none (key y)) in let first = count-cons (is_of (key y)) y ys in
+    let passes : one_if (is_of (key y) y) ≡ 1 = ap one_if (own y) in omega (arith, gone, first, passes))
+
+-- lists of which each key has the same have as many of each test
+each-counts : {K X : Type 0} (is_of : K → X → Bool) (key : X → K) → ((x : X) → is_of (key x) x ≡ true) → (n : ℕ) (xs ys : List X) → length xs ≤ n →
+    ((k : K) → filter (is_of k) xs ≡ filter (is_of k) ys) → (p : X → Bool) → length (filter p xs) ≡ length (filter p ys)
+each-counts is_of key own n [] ys few each p = ap (λ zs. length (filter p zs)) (sym (no-key is_of key own ys (λ k. sym (each k))))
+each-counts is_of key own zero (x ∷ xs) ys few each p = absurd (omega (arith, few))
+each-counts {X = X} is_of key own (suc n) (x ∷ xs) ys few each p =
+    let k = key x in
+    let others : X → Bool = λ y. not (is_of k y) in
+    let rest = each-counts is_of key own n (filter others (x ∷ xs)) (filter others ys) (fewer-left (is_of k) x xs n (own x) (omega (arith, few)))
+    (λ j. filter-swap (is_of j) others (x ∷ xs) ∙ (ap (filter others) (each j) ∙ sym (filter-swap (is_of j) others ys))) p in
+    let own_ones = ap (λ zs. length (filter p zs)) (each k) in
+    omega (arith, rest, own_ones, count-parts p (is_of k) (x ∷ xs), count-parts p (is_of k) ys)
+
+-- they say the same
+pub says-each : {K X : Type 0} (is_of : K → X → Bool) (key : X → K) → ((x : X) → is_of (key x) x ≡ true) → (xs ys : List X) →
+    ((k : K) → filter (is_of k) xs ≡ filter (is_of k) ys) → SaySame is_of xs ys
+says-each is_of key own xs ys each = record {
+  each = each;
+  counts = λ p. each-counts is_of key own (length xs) xs ys (omega arith) each p;
+}

@@ -10,14 +10,13 @@ use Rattle.robots_verdict.specs.declared.said.Said.{Said}
 use Rattle.permit_book.specs.declared.out.Fetch.{Fetch}
 use Rattle.permit_book.specs.declared.granted_permit.GrantedPermit.{GrantedPermit}
 use Rattle.permit_book.specs.Outstanding.{is_numbered, permit_for, without}
-use Rattle.permit_book.proofs.Filters.{filter-dropped, filter-parts}
-use Rattle.permit_book.proofs.TableLaws.{same_number}
+use Rattle.permit_book.proofs.CallerLemmas.{filter-dropped, filter-parts, same_number}
 use Rattle.authority_cache.specs.declared.standing_answer.StandingAnswer.{StandingAnswer}
 use Rattle.authority_cache.specs.declared.turn.Turn.{Turn}
 use Rattle.authority_cache.specs.Calls.{one_if}
 use Rattle.authority_cache.specs.Lives.{life_of}
 use Rattle.authority_cache.specs.Lists.{answered, has_number, is_answer_for, is_past_answer, is_turn_of, turn_for}
-use Rattle.authority_cache.proofs.EntryLaws.{all-push, count-bound, count-push}
+use Rattle.authority_cache.proofs.CallerLemmas.{all-push, count-bound, count-push}
 use Rattle.gate_history.specs.declared.base.SlotGrant.{SlotGrant}
 use Rattle.gate_history.specs.Base.{ArePermits, AreTurns, has_its_life, is_of_turn, times_out, times_turned}
 use Rattle.gate_history.specs.Grants.{is_covered, with_grant}

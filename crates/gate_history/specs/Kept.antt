@@ -3,21 +3,22 @@
 use Rattle.std.specs.Prelude.{◌≡◌, ℕ, ◌≤◌, List, Some, drop, length, take}
 use Rattle.path_normal.specs.PageUrl.{IsPage}
 use Rattle.robots_text.specs.Token.{token_of}
-use Rattle.gate_history.specs.declared.base.Base.TheInside.{Inside}
+use Rattle.gate_history.specs.declared.base.LeftOpen.{LeftOpen}
+use Rattle.gate_history.specs.declared.base.Numbers.{Numbers}
 use Rattle.gate_history.specs.Base.{Base}
 
--- the lists and the numbers of a base
-abbrev pub base_of : Inside → Base
-base_of b = record {
-  standing = b.standing.items;
-  in_flight = b.in_flight.items;
-  unspent = b.unspent.items;
-  running = b.running.items;
-  grants = b.grants.items;
-  begins = b.begins;
-  moment = b.moment;
-  entries = b.entries;
-  started = b.started;
+-- what was left open, and the numbers
+abbrev pub base_with : LeftOpen → Numbers → Base
+base_with left numbers = record {
+  standing = left.standing.items;
+  in_flight = left.in_flight.items;
+  unspent = left.unspent.items;
+  running = left.running.items;
+  grants = left.grants.items;
+  begins = numbers.begins;
+  moment = numbers.moment;
+  entries = numbers.entries;
+  started = numbers.started;
 }
 
 -- a token up to this place, and the text of a page from it on

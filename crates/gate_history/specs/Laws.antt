@@ -3,24 +3,28 @@
 use Rattle.std.specs.Prelude.{◌≡◌, ◌↔◌, ℕ, ◌+◌, ◌<◌, ◌≤◌, true, false, List, [], ◌∷◌, ◌++◌, Some, Result, length, map, filter}
 use Rattle.std.specs.Str.{bytes_eq}
 use Rattle.permit_book.specs.Numbers.{slot_of, generation_of}
-use Rattle.permit_book.specs.Outstanding.{IsNextBy}
+use Rattle.permit_book.specs.declared.granted_permit.GrantedPermit.{GrantedPermit}
+use Rattle.permit_book.specs.Outstanding.{IsNextBy, is_numbered}
 use Rattle.authority_cache.specs.Calls.{one_if}
 use Rattle.authority_cache.specs.declared.standing_answer.StandingAnswer.{StandingAnswer}
-use Rattle.authority_cache.specs.Lists.{has_number, is_turn_of, lacks_answer}
+use Rattle.authority_cache.specs.declared.turn.Turn.{Turn}
+use Rattle.authority_cache.specs.Lists.{has_number, is_answer_for, is_turn_of, lacks_answer}
 use Rattle.authority_cache.specs.Lives.{greatest_life, least_life}
 use Rattle.gate_history.specs.declared.entry.Entry.{Entry}
 use Rattle.gate_history.specs.declared.entry.Entry.TheVariants.{Begun, Arrived, Granted, AskDenied, Started, StartDenied, Returned, Finished, Swept}
 use Rattle.gate_history.specs.declared.outcome.Cause.{Cause}
 use Rattle.gate_history.specs.declared.outcome.Reason.{Reason}
 use Rattle.gate_history.specs.Base.{ArePermits, AreTurns, Base, IsBase}
-use Rattle.gate_history.specs.Grants.{is_covered}
+use Rattle.gate_history.specs.declared.base.SlotGrant.{SlotGrant}
+use Rattle.gate_history.specs.Grants.{is_covered, is_in}
 use Rattle.gate_history.specs.History.{History, from, ◌▸◌, begins, entry_count, followed_by, now, started_count}
 use Rattle.gate_history.specs.Outstanding.{grants, greatest_in, running, unspent, was_granted}
 use Rattle.gate_history.specs.Standing.{has_turn, in_flight, is_known, known_count, standing, standing_of}
 use Rattle.gate_history.specs.Cause.{Decides}
 use Rattle.gate_history.specs.Legal.{AllRise, IsLegal, MayFollow}
 use Rattle.gate_history.specs.LeftOpen.{answers_opened, closes_answer, closes_permit, closes_run, closes_turn, left_open, permits_opened, runs_opened, turns_opened}
-use Rattle.gate_history.specs.Seal.{AnswersAlike, SaysAs, base_after}
+use Rattle.gate_history.specs.Order.{Reorders}
+use Rattle.gate_history.specs.Seal.{AnswersAlike, SaySame, SaysAs, base_after}
 
 -- a history with one more entry at the end of its list
 abbrev pub OneMore : Type 0
@@ -49,6 +53,18 @@ SealSaysAlike = (h : History) → SaysAs (from (base_after h)) h
 -- whatever says what a legal history does is a base, in whatever order
 abbrev pub SaysBase : Type 0
 SaysBase = (b : Base) (h : History) → IsLegal h → SaysAs (from b) h → IsBase b
+
+-- lists of which each key has the same say the same
+pub record KeysSayAlike : Type 0 where
+  pub answers : (xs ys : List StandingAnswer) → ((authority : List ℕ) → filter (is_answer_for authority) xs ≡ filter (is_answer_for authority) ys)
+      → SaySame is_answer_for xs ys
+  pub turns : (xs ys : List Turn) → ((authority : List ℕ) → filter (is_turn_of authority) xs ≡ filter (is_turn_of authority) ys) → SaySame is_turn_of xs ys
+  pub permits : (xs ys : List GrantedPermit) → ((number : ℕ) → filter (is_numbered number) xs ≡ filter (is_numbered number) ys) → SaySame is_numbered xs ys
+  pub grants : (xs ys : List SlotGrant) → ((slot : ℕ) → filter (is_in slot) xs ≡ filter (is_in slot) ys) → SaySame is_in xs ys
+
+-- a base says what it said before it was put in another order
+abbrev pub ReorderingSaysAlike : Type 0
+ReorderingSaysAlike = (given made : Base) → IsBase given → Reorders given made → SaysAs (from made) (from given)
 
 -- histories that say the same say the same after any entries
 abbrev pub GoOnAlike : Type 0

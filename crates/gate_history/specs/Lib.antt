@@ -3,6 +3,7 @@
 pub mod Grants
 pub mod Base
 pub mod Kept
+pub mod Order
 pub mod History
 pub mod Outstanding
 pub mod Standing
@@ -12,5 +13,6 @@ pub mod Ruling
 pub mod Legal
 pub mod LeftOpen
 pub mod Seal
+pub mod Segment
 pub mod Laws
 pub mod Rows

@@ -2,6 +2,8 @@
 //! RFC 9309, sections 2.3.1 and 2.4.
 ghost use Rattle.std.specs.Prelude.{◌≡◌};
 ghost use Rattle.gate_history.specs.Base.{IsBase, empty_base};
+ghost use Rattle.gate_history.specs.Kept.{base_with};
+ghost use Rattle.gate_history.specs.Order.{IsInOrder, Reorders};
 
 use authority_cache::{StandingAnswer, Turn};
 use permit_book::GrantedPermit;
@@ -17,29 +19,53 @@ pub struct SlotGrant {
     pub generation: u64,
 }
 
-/// What a history goes on from, in the place of entries that were sealed.
+/// What a history left open.
+#[derive(Drop)]
+pub struct LeftOpen {
+    /// The answers that stand.
+    pub standing: Vec<StandingAnswer>,
+    /// The turns in flight.
+    pub in_flight: Vec<Turn>,
+    /// The permits that no start has spent.
+    pub unspent: Vec<GrantedPermit>,
+    /// The permits whose fetch was started and has not ended.
+    pub running: Vec<GrantedPermit>,
+    /// Of each slot in which something was granted, the greatest generation.
+    pub grants: Vec<SlotGrant>,
+}
+
+/// The numbers of a history.
+#[derive(Clone, Copy, Debug, PartialEq, Eq)]
+pub struct Numbers {
+    /// How many begins it has.
+    pub begins: u64,
+    /// Its greatest moment, in seconds.
+    pub moment: u64,
+    /// How many entries it has.
+    pub entries: u64,
+    /// How many of them are started fetches.
+    pub started: u64,
+}
+
+/// What a history goes on from, in the place of entries that were sealed: what they left open, in order,
+/// and their numbers.
 #[derive(Drop)]
 pub struct Base {
-    standing: Vec<StandingAnswer>,
-    in_flight: Vec<Turn>,
-    unspent: Vec<GrantedPermit>,
-    running: Vec<GrantedPermit>,
-    grants: Vec<SlotGrant>,
-    begins: u64,
-    moment: u64,
-    entries: u64,
-    started: u64,
+    left: LeftOpen,
+    numbers: Numbers,
 }
 
 impl Model for Base {
     ghost use Rattle.gate_history.specs.Base.{Base, IsBase};
-    ghost use Rattle.gate_history.specs.Kept.{base_of};
+    ghost use Rattle.gate_history.specs.Kept.{base_with};
+    ghost use Rattle.gate_history.specs.Order.{IsInOrder};
 
     ghost Value = { Base };
 
-    ghost view = { base_of };
+    ghost view = { λ base. base_with base.left base.numbers };
 
-    ghost invariant = { λ base. IsBase (base_of base) };
+    ghost invariant = { λ base. IsBase (base_with base.left base.numbers)
+        × IsInOrder (base_with base.left base.numbers) };
 }
 
 impl Base {
@@ -48,79 +74,103 @@ impl Base {
         ensures value { result ≡ empty_base }
         ensures base { IsBase result }
     {
-        Base {
+        let left = LeftOpen {
             standing: Vec::new(alloc),
             in_flight: Vec::new(alloc),
             unspent: Vec::new(alloc),
             running: Vec::new(alloc),
             grants: Vec::new(alloc),
+        };
+        let numbers = Numbers {
             begins: 0,
             moment: 0,
             entries: 0,
             started: 0,
-        }
+        };
+        Base { left, numbers }
+    }
+
+    /// The base of what was left open, which it puts in order, with these numbers. It takes no memory.
+    pub fn of(left: LeftOpen, numbers: Numbers) -> Base
+        requires base { IsBase (base_with left numbers) }
+        ensures same { Reorders (base_with left numbers) result }
+        ensures order { IsInOrder result }
+    {
+        let mut left = left;
+        left.standing.sort_unstable_by(|one, other| one
+            .authority
+            .text()
+            .cmp(other.authority.text()));
+        left.in_flight
+            .sort_unstable_by_key(|turn| turn.turn.number());
+        left.unspent
+            .sort_unstable_by_key(|permit| permit.number.number());
+        left.running
+            .sort_unstable_by_key(|permit| permit.number.number());
+        left.grants.sort_unstable_by_key(|grant| grant.slot);
+        Base { left, numbers }
     }
 
     /// The answers that stand.
     pub fn standing(&self) -> &[StandingAnswer]
         ensures { result.now ≡ self.now.standing }
     {
-        self.standing.as_slice()
+        self.left.standing.as_slice()
     }
 
     /// The turns in flight.
     pub fn in_flight(&self) -> &[Turn]
         ensures { result.now ≡ self.now.in_flight }
     {
-        self.in_flight.as_slice()
+        self.left.in_flight.as_slice()
     }
 
     /// The permits that no start has spent.
     pub fn unspent(&self) -> &[GrantedPermit]
         ensures { result.now ≡ self.now.unspent }
     {
-        self.unspent.as_slice()
+        self.left.unspent.as_slice()
     }
 
     /// The permits whose fetch was started and has not ended.
     pub fn running(&self) -> &[GrantedPermit]
         ensures { result.now ≡ self.now.running }
     {
-        self.running.as_slice()
+        self.left.running.as_slice()
     }
 
     /// Of each slot in which something was granted, the greatest generation.
     pub fn grants(&self) -> &[SlotGrant]
         ensures { result.now ≡ self.now.grants }
     {
-        self.grants.as_slice()
+        self.left.grants.as_slice()
     }
 
     /// How many begins were sealed.
     pub fn begins(&self) -> u64
         ensures { result ≡ self.now.begins }
     {
-        self.begins
+        self.numbers.begins
     }
 
     /// The greatest moment of what was sealed, in seconds.
     pub fn moment(&self) -> u64
         ensures { result ≡ self.now.moment }
     {
-        self.moment
+        self.numbers.moment
     }
 
     /// How many entries were sealed.
     pub fn entries(&self) -> u64
         ensures { result ≡ self.now.entries }
     {
-        self.entries
+        self.numbers.entries
     }
 
     /// How many of them are started fetches.
     pub fn started(&self) -> u64
         ensures { result ≡ self.now.started }
     {
-        self.started
+        self.numbers.started
     }
 }

@@ -2,9 +2,9 @@
 //! RFC 9309, sections 2.3.1 and 2.4.
 ghost use Rattle.gate_history.specs.Laws.{AboveIsNew, DecideAlike, DecidesOnce, EachEntryCounts};
 ghost use Rattle.gate_history.specs.Laws.{EachStandsOnce, GoOnAlike, GrantedIsCovered};
-ghost use Rattle.gate_history.specs.Laws.{KnownAreCounted, LeadsToBase, LegalAhead, LegalBehind};
+ghost use Rattle.gate_history.specs.Laws.{KeysSayAlike, KnownAreCounted, LeadsToBase, LegalAhead, LegalBehind};
 ghost use Rattle.gate_history.specs.Laws.{LivesAreBounded, NamesAreKnown, NextIsNew};
-ghost use Rattle.gate_history.specs.Laws.{NoLaterEntryCloses, OneMore, SaysBase};
+ghost use Rattle.gate_history.specs.Laws.{NoLaterEntryCloses, OneMore, ReorderingSaysAlike, SaysBase};
 ghost use Rattle.gate_history.specs.Laws.{SayingAnswersAlike, SealSaysAlike};
 
 /// Turns in flight, answers, permits and runs stand exactly where they were opened, by the base or
@@ -23,6 +23,8 @@ pub fn sealing_changes_nothing()
 
 /// Histories whose lists say the same, in whatever order, answer alike and go on alike.
 pub fn order_changes_nothing()
+    ensures keys { KeysSayAlike }
+    ensures reordered { ReorderingSaysAlike }
     ensures base { SaysBase }
     ensures goes_on { GoOnAlike }
     ensures answers { SayingAnswersAlike }

@@ -9,11 +9,13 @@ pub mod laws;
 mod outcome;
 pub mod rows;
 mod ruling;
+mod segment;
 mod wording;
 
-pub use base::{Base, SlotGrant};
+pub use base::{Base, LeftOpen, Numbers, SlotGrant};
 pub use entry::Entry;
 pub use fetch_text::FetchText;
 pub use outcome::{Cause, Reason};
 pub use ruling::{Ruling, decide};
+pub use segment::Segment;
 pub use wording::Wording;

@@ -1,11 +1,22 @@
 -- The balance of a gate behind one more entry.
 -- Used by the methods of `Round`.
 use Rattle.std.proofs.Common.{◌≡◌, ℕ, ◌+◌, List, [], ◌∷◌, length, sym, ap, ◌∙◌, subst, arith}
+use Rattle.std.specs.Prelude.{Result, Ok, Err}
+use Rattle.authority_cache.specs.Lists.{is_turn_of}
+use Rattle.permit_book.specs.Outstanding.{is_numbered}
 use Rattle.gate_history.specs.declared.entry.Entry.{Entry}
+use Rattle.gate_history.specs.Base.{Base}
 use Rattle.gate_history.specs.History.{History, ◌▸◌, entry_count, followed_by, from}
 use Rattle.gate_history.specs.Laws.{Counts, OneMore}
+use Rattle.gate_history.specs.Outstanding.{running, unspent}
+use Rattle.gate_history.specs.Seal.{SaysAs}
+use Rattle.gate_history.specs.Segment.{Sealed}
+use Rattle.gate_history.specs.Standing.{in_flight}
+use Rattle.gate_history.proofs.CallerLemmas.{says-length}
+use Rattle.gate_core.specs.declared.refusal.NoMemory.{NoMemory}
 use Rattle.gate_core.specs.Gate.{Adds, Gate, history}
-use Rattle.gate_lock.specs.Balance.{Balance, IsBalanceOf, IsRound, Loses}
+use Rattle.gate_core.specs.Sealing.{HandsOut, Seals}
+use Rattle.gate_lock.specs.Balance.{Balance, IsBalanceOf, Loses}
 
 -- the history behind one more entry
 pub grown : OneMore → (old new : Gate) (e : Entry) → Adds old e new → history new ≡ history old ▸ e
@@ -13,36 +24,50 @@ grown more old new e adds = ap history adds.adds ∙ more (from old.base) old.en
 
 -- an entry that ends something: what was counted is one entry more, and less what it ends
 pub ended : OneMore → (old new : Gate) (e : Entry) (permits runs turns : ℕ) → Adds old e new → Counts (history old) e 0 0 permits 0 runs 0 turns →
-    (b entered left : Balance) → IsRound old b → entered ≡ record b { entries = b.entries + 1 } → Loses entered left permits runs turns →
-    IsRound new left
-ended more old new e permits runs turns adds counts b entered left round enters loses =
-    let is = round.balance in
-    record {
-      balance = subst (λ (h : History). IsBalanceOf h left) (sym (grown more old new e adds)) (record {
-        entries = omega (arith, ap (λ (b : Balance). b.entries) enters, loses.entries_are, is.entries, counts.entries_are);
-        starts = omega (arith, ap (λ (b : Balance). b.starts) enters, loses.starts_are, is.starts, counts.started_are);
-        unspent = omega (arith, ap (λ (b : Balance). b.unspent) enters, loses.unspent_are, is.unspent, counts.unspent_are);
-        running = omega (arith, ap (λ (b : Balance). b.running) enters, loses.running_are, is.running, counts.running_are);
-        turns = omega (arith, ap (λ (b : Balance). b.turns) enters, loses.turns_are, is.turns, counts.flights_are);
-      });
-      base = ap (λ (g : Gate). g.base) adds.adds ∙ round.base;
-    }
+    (b entered left : Balance) → IsBalanceOf (history old) b → entered ≡ record b { entries = b.entries + 1 } → Loses entered left permits runs turns →
+    IsBalanceOf (history new) left
+ended more old new e permits runs turns adds counts b entered left is enters loses =
+    subst (λ (h : History). IsBalanceOf h left) (sym (grown more old new e adds)) (record {
+      entries = omega (arith, ap (λ (b : Balance). b.entries) enters, loses.entries_are, is.entries, counts.entries_are);
+      starts = omega (arith, ap (λ (b : Balance). b.starts) enters, loses.starts_are, is.starts, counts.started_are);
+      unspent = omega (arith, ap (λ (b : Balance). b.unspent) enters, loses.unspent_are, is.unspent, counts.unspent_are);
+      running = omega (arith, ap (λ (b : Balance). b.running) enters, loses.running_are, is.running, counts.running_are);
+      turns = omega (arith, ap (λ (b : Balance). b.turns) enters, loses.turns_are, is.turns, counts.flights_are);
+    })
 
 -- an allowed start: one entry and one started fetch more, which runs, and one unspent permit less
 pub begun : OneMore → (old new : Gate) (e : Entry) → Adds old e new → Counts (history old) e 1 0 1 1 0 0 0 →
-    (b entered left now : Balance) → IsRound old b → entered ≡ record b { entries = b.entries + 1 } → Loses entered left 1 0 0 →
-    now ≡ record left { starts = left.starts + 1; running = left.running + 1 } → IsRound new now
-begun more old new e adds counts b entered left now round enters loses starts =
-    let is = round.balance in
-    let base = ap (λ (g : Gate). g.base) adds.adds ∙ round.base in
-    let balance = subst (λ (h : History). IsBalanceOf h now) (sym (grown more old new e adds)) (record {
+    (b entered left now : Balance) → IsBalanceOf (history old) b → entered ≡ record b { entries = b.entries + 1 } → Loses entered left 1 0 0 →
+    now ≡ record left { starts = left.starts + 1; running = left.running + 1 } → IsBalanceOf (history new) now
+begun more old new e adds counts b entered left now is enters loses starts =
+    subst (λ (h : History). IsBalanceOf h now) (sym (grown more old new e adds)) (record {
       entries = omega (arith, ap (λ (b : Balance). b.entries) starts, ap (λ (b : Balance). b.entries) enters, loses.entries_are, is.entries, counts.entries_are);
       starts = omega (arith, ap (λ (b : Balance). b.starts) starts, ap (λ (b : Balance). b.starts) enters, loses.starts_are, is.starts, counts.started_are);
       unspent = omega (arith, ap (λ (b : Balance). b.unspent) starts, ap (λ (b : Balance). b.unspent) enters, loses.unspent_are, is.unspent, counts.unspent_are);
       running = omega (arith, ap (λ (b : Balance). b.running) starts, ap (λ (b : Balance). b.running) enters, loses.running_are, is.running, counts.running_are);
       turns = omega (arith, ap (λ (b : Balance). b.turns) starts, ap (λ (b : Balance). b.turns) enters, loses.turns_are, is.turns, counts.flights_are);
-    }) in
-    record { balance = balance; base = base }
+    })
+
+-- a base that says what a history did has its balance
+says_balance : (base : Base) (h : History) (b : Balance) → SaysAs (from base) h → IsBalanceOf h b → IsBalanceOf (from base) b
+says_balance base h b says is = record {
+  entries = is.entries ∙ sym says.entries;
+  starts = is.starts ∙ sym says.started;
+  unspent = is.unspent ∙ sym (says-length is_numbered base.unspent (unspent h) says.permits);
+  running = is.running ∙ sym (says-length is_numbered base.running (running h) says.runs);
+  turns = is.turns ∙ sym (says-length is_turn_of base.in_flight (in_flight h) says.turns);
+}
+
+-- what was sealed leaves the balance as it was
+handed_out : (entries : List Entry) (old new : Gate) (s : Sealed) (b : Balance) → HandsOut entries old s new → IsBalanceOf (history old) b → IsBalanceOf (history new) b
+handed_out [] old new s b hands is = subst (λ (g : Gate). IsBalanceOf (history g) b) (sym hands.1) is
+handed_out (e ∷ later) old new s b hands is =
+    subst (λ (es : List Entry). IsBalanceOf (followed_by (from new.base) es) b) (sym hands.1.entries) (says_balance new.base (history old) b hands.1.says is)
+
+-- so does a seal, and one that was refused
+pub sealed : (old new : Gate) (result : Result Sealed NoMemory) (b : Balance) → Seals old result new → IsBalanceOf (history old) b → IsBalanceOf (history new) b
+sealed old new (Ok s) b seals is = handed_out old.entries old new s b seals is
+sealed old new (Err refusal) b stays is = subst (λ (g : Gate). IsBalanceOf (history g) b) (sym stays) is
 
 -- entries count for themselves
 pub counted : (h : History) (later : List Entry) → entry_count (followed_by h later) ≡ entry_count h + length later

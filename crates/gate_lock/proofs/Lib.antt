@@ -3,4 +3,3 @@ pub mod Holding
 pub mod Keeping
 pub mod Replying
 pub mod Starts
-mod StartTotals

@@ -73,6 +73,11 @@ pub record GainsPermit (b : BagView) (p : Pass) (b2 : BagView) : Type 0 where
   pub permits_are : IsPermutation (p ∷ b.permits) b2.permits
   pub runs_are : b2.runs ≡ b.runs
 
+-- a permit was put in, so one more is held
+pub record KeepsPermit (b : BagView) (p : Pass) (b2 : BagView) : Type 0 where
+  pub gains : GainsPermit b p b2
+  pub one_more : held_in b2 ≡ held_in b + 1
+
 -- a permit was taken out
 pub record LosesPermit (b : BagView) (p : Pass) (b2 : BagView) : Type 0 where
   pub desk_is : b2.desk ≡ b.desk

@@ -1,11 +1,9 @@
 -- The numbers of a gate that its ledgers count, and how the ledgers are cut into parts.
 -- RFC 9309 has none of it: permits make each fetch look at the answer in force (2.4).
 use Rattle.std.specs.Prelude.{◌≡◌, ℕ, ◌+◌, ◌≤◌, length}
-use Rattle.gate_history.specs.Base.{empty_base}
 use Rattle.gate_history.specs.History.{History, entry_count, started_count}
 use Rattle.gate_history.specs.Outstanding.{running, unspent}
 use Rattle.gate_history.specs.Standing.{in_flight}
-use Rattle.gate_core.specs.Gate.{Gate, history}
 
 -- entries, started fetches, unspent permits, running fetches, turns in flight, and desks that were made
 pub record Balance : Type 0 where
@@ -61,11 +59,6 @@ pub record IsBalanceOf (h : History) (b : Balance) : Type 0 where
   pub unspent : b.unspent ≡ length (unspent h)
   pub running : b.running ≡ length (running h)
   pub turns : b.turns ≡ length (in_flight h)
-
--- what lies under a lock: a balance of the book's history, which begins with nothing
-pub record IsRound (g : Gate) (b : Balance) : Type 0 where
-  pub balance : IsBalanceOf (history g) b
-  pub base : g.base ≡ empty_base
 
 -- one unspent permit, one running fetch and one turn in flight are less, as told, and all else stays
 pub record Loses (old new : Balance) (permits runs turns_less : ℕ) : Type 0 where

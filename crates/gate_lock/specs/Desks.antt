@@ -4,7 +4,6 @@ use Rattle.std.specs.Prelude.{◌≡◌, ℕ, ◌+◌, ◌*◌, ◌≤◌, List,
 use Rattle.gate_history.specs.declared.entry.Entry.{Entry}
 use Rattle.gate_history.specs.declared.entry.Entry.TheVariants.{Begun, Arrived, Granted, AskDenied, Started, StartDenied, Returned, Finished, Swept}
 use Rattle.gate_history.specs.declared.outcome.Reason.{Reason}
-use Rattle.gate_history.specs.Base.{empty_base}
 use Rattle.gate_history.specs.History.{entry_count}
 use Rattle.gate_core.specs.declared.config.Limits.{Limits}
 use Rattle.gate_core.specs.Gate.{Gate, HasLegalHistory, history}
@@ -46,11 +45,9 @@ pub record DeskView : Type 0 where
   pub turns : ℕ
   pub marks : List Mark
 
--- a gate that a lock of these limits kept: its history begins with nothing, is legal, and has at least the
--- entries that were seen
+-- a gate that a lock of these limits kept: its history is legal, and has at least the entries that were seen
 pub record IsGateOf (limits : Limits) (seen : ℕ) (g : Gate) : Type 0 where
   pub limits_are : g.limits ≡ limits
-  pub base_is : g.base ≡ empty_base
   pub legal : HasLegalHistory g
   pub seen_are : seen ≤ entry_count (history g)
 

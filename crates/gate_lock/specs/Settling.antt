@@ -4,12 +4,13 @@ use Rattle.std.specs.Prelude.{◌≡◌, ℕ, ◌+◌, ◌-◌, ◌<◌, ◌≤�
 use Rattle.std.specs.List.{slice_get, slice_index_or}
 use Rattle.authority_cache.specs.Calls.{one_if}
 use Rattle.gate_history.specs.declared.entry.Entry.{Entry}
-use Rattle.gate_history.specs.Base.{empty_base}
 use Rattle.gate_history.specs.History.{History, entry_count, started_count}
 use Rattle.gate_history.specs.Outstanding.{running, unspent}
+use Rattle.gate_history.specs.Segment.{Sealed}
 use Rattle.gate_history.specs.Standing.{in_flight}
 use Rattle.gate_core.specs.Gate.{Gate, HasLegalHistory, history}
 use Rattle.gate_lock.specs.declared.mark.Mark.{Mark}
+use Rattle.gate_lock.specs.Marks.{starts_in_all}
 use Rattle.gate_lock.specs.declared.settlement.Settled.{Settled}
 use Rattle.gate_lock.specs.declared.settlement.SettleFault.{SettleFault}
 use Rattle.gate_lock.specs.declared.settlement.SettleFault.TheVariants.{Mismatch, NoMemory, StillOut}
@@ -58,6 +59,20 @@ pub record MarksFit (sealed : ℕ) (entries : List Entry) (mss : List (List Mark
   pub each : EachFits sealed entries mss
   pub once : EachOnce (sealed + length entries) mss
 
+-- the marks are the gate's history: they fit it, and as many of them are started fetches as it has
+pub record AreHistory (g : Gate) (mss : List (List Mark)) : Type 0 where
+  pub fit : MarksFit g.base.entries g.entries mss
+  pub starts : starts_in_all mss ≡ started_count (history g)
+
+-- the mark is the entry at its place, where that is one of these, before which so many were sealed
+abbrev pub AgreesFrom : ℕ → List Entry → Mark → Type 0
+AgreesFrom sealed entries m = sealed ≤ m.place → m.place < sealed + length entries → slice_get entries (m.place - sealed) ≡ Some m.entry
+
+-- each mark whose place lies in the segment is its entry there
+abbrev pub Agrees : Sealed → List Mark → Type 0
+Agrees s [] = Unit {0}
+Agrees s (m ∷ ms) = AgreesFrom s.base.entries s.entries m × Agrees s ms
+
 -- a place is among those that were found, which counts one
 abbrev pub found_at : List Bool → ℕ → ℕ
 found_at found place = one_if (slice_index_or found place false)
@@ -75,14 +90,14 @@ pub record NothingOut (h : History) : Type 0 where
 -- the gate is settled: nothing is out, and the receipts are its history
 pub record IsSettled (g : Gate) (mss : List (List Mark)) (s : Settled) : Type 0 where
   pub nothing_out : NothingOut (history g)
-  pub fit : MarksFit g.base.entries g.entries mss
+  pub are : AreHistory g mss
   pub events_are : s.events ≡ entry_count (history g)
   pub starts_are : s.starts ≡ started_count (history g)
 
 -- why it is not: StillOut, where something is out; Mismatch, where the receipts are not its history
 abbrev pub IsUnsettled : Gate → List (List Mark) → SettleFault → Type 0
 IsUnsettled g mss StillOut = NothingOut (history g) → ⊥
-IsUnsettled g mss Mismatch = NothingOut (history g) × (MarksFit g.base.entries g.entries mss → ⊥)
+IsUnsettled g mss Mismatch = NothingOut (history g) × (AreHistory g mss → ⊥)
 IsUnsettled g mss NoMemory = NothingOut (history g)
 
 -- the settlement of a gate
@@ -90,6 +105,6 @@ abbrev pub Settles : Gate → List (List Mark) → Result Settled SettleFault �
 Settles g mss (Ok s) = IsSettled g mss s
 Settles g mss (Err fault) = IsUnsettled g mss fault
 
--- that of some gate that the lock kept, whose history is legal and whole
+-- that of some gate that the lock kept, whose history is legal
 abbrev pub SettlesSome : List (List Mark) → Result Settled SettleFault → Type 0
-SettlesSome mss result = (g : Gate) × (HasLegalHistory g × (g.base ≡ empty_base) × Settles g mss result)
+SettlesSome mss result = (g : Gate) × (HasLegalHistory g × Settles g mss result)

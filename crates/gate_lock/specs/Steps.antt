@@ -4,14 +4,17 @@ use Rattle.std.specs.Prelude.{◌≡◌, ℕ, true, List, Result, Ok, Err}
 use Rattle.authority_cache.specs.Lives.{Timed}
 use Rattle.gate_history.specs.declared.entry.Entry.TheVariants.{Begun, Arrived, Granted, AskDenied, Started, StartDenied, Returned, Finished, Swept}
 use Rattle.gate_history.specs.Outstanding.{stands}
+use Rattle.gate_history.specs.Segment.{Sealed}
 use Rattle.gate_core.specs.declared.refusal.AskRefusal.{AskRefusal}
 use Rattle.gate_core.specs.declared.refusal.AskRefusal.TheVariants as ask
 use Rattle.gate_core.specs.declared.refusal.BeginRefusal.{BeginRefusal}
 use Rattle.gate_core.specs.declared.refusal.Denial.{Denial}
+use Rattle.gate_core.specs.declared.refusal.NoMemory.{NoMemory}
 use Rattle.gate_core.specs.declared.refusal.SweepRefusal.{SweepRefusal}
 use Rattle.gate_core.specs.declared.state.State.{State}
 use Rattle.gate_core.specs.Gate.{Gate, history}
 use Rattle.gate_core.specs.Replies.{Arrives, Asks, Begins, Finishes, moment_at, Returns, Starts, Sweeps}
+use Rattle.gate_core.specs.Sealing.{Seals}
 use Rattle.gate_core.specs.States.{IsState}
 use Rattle.gate_lock.specs.Desks.{DeskView, Errand, IsGateOf, Looks, Makes, Pass, Run}
 
@@ -68,6 +71,10 @@ DeskArrives d old t answer m new d2 =
 abbrev pub DeskSweeps : DeskView → Gate → ℕ → Result ℕ SweepRefusal → Gate → DeskView → Type 0
 DeskSweeps d old m (Ok count) new d2 = Sweeps old m (Ok count) new × Makes d old (Swept (moment_at old m) count) d2
 DeskSweeps d old m (Err refusal) new d2 = Sweeps old m (Err refusal) new × Looks d old d2
+
+-- seal: the entries since the last seal are handed out with what they follow, and none is made
+abbrev pub DeskSeals : DeskView → Gate → Result Sealed NoMemory → Gate → DeskView → Type 0
+DeskSeals d old result new d2 = Seals old result new × Looks d old d2
 
 -- state: what is known of an authority; nothing changes
 abbrev pub DeskReads : DeskView → Gate → List ℕ → ℕ → State → Gate → DeskView → Type 0

@@ -6,13 +6,12 @@ ghost use Rattle.gate_core.specs.Gate.{history};
 ghost use Rattle.gate_lock.specs.Desks.{HasOut, KeepsOut};
 ghost use Rattle.gate_lock.specs.Steps.{DeskAsks, Somewhere};
 
-use crate::desk::Desk;
+use crate::desk::{Desk, make_room};
 use crate::desk_ask::DeskAsk;
 use crate::ledgers::Gate;
 use crate::lock::Held;
 use crate::tokens::Permit;
 use gate_core::AskRefusal;
-use gate_history::Entry;
 use path_normal::PageUrl;
 use robots_text::Token;
 use robots_verdict::with_index;
@@ -38,6 +37,9 @@ impl<'a, G: Gate> Desk<'a, G> {
         ensures err { OnErr result (KeepsOut self.old self.new) }
     {
         let alloc: Global = *self.marks.allocator();
+        // The room that `ask_in` asks for; where it is refused here, it is asked for again there.
+        let promised = self.promised();
+        let _ = make_room(&mut self.marks, promised, 3);
         let Ok(ask) = DeskAsk::new(alloc, token, url) else {
             let held = self.lend(rt);
             self.seen = held.guard.entry_count();
@@ -66,8 +68,8 @@ impl<'a, G: Gate> Desk<'a, G> {
         requires { self.old.seen ≤ entry_count (history held.old) }
         ensures { DeskAsks self.old held.old ask.token ask.url moment result held.new self.new }
     {
-        let promised = 2 * self.permits + self.runs + self.turns;
-        if self.marks.reserve(promised as usize + 3).is_err() {
+        let promised = self.promised();
+        if make_room(&mut self.marks, promised, 3).is_err() {
             self.seen = held.guard.entry_count();
             return Err(held.guard.refuse_ask(moment));
         }
@@ -83,12 +85,8 @@ impl<'a, G: Gate> Desk<'a, G> {
         match result {
             Ok((number, one)) => {
                 self.permits += 1;
-                let last = round.last();
-                self.marks.push_reserved(last.mark(Entry::Granted {
-                    moment: last.moment,
-                    number,
-                    fetch,
-                }));
+                self.marks
+                    .push_reserved(round.last().granted(number, fetch));
                 Ok(Permit {
                     number,
                     token,
@@ -98,12 +96,8 @@ impl<'a, G: Gate> Desk<'a, G> {
                 })
             }
             Err(AskRefusal::Denied(denial)) => {
-                let last = round.last();
-                self.marks.push_reserved(last.mark(Entry::AskDenied {
-                    moment: last.moment,
-                    fetch,
-                    cause: denial.cause,
-                }));
+                let mark = round.last().ask_denied(fetch, denial.cause);
+                self.marks.push_reserved(mark);
                 Err(AskRefusal::Denied(denial))
             }
             Err(refusal) => Err(refusal),

@@ -2,7 +2,7 @@
 //! RFC 9309 has none of it: permits make each fetch look at the answer in force (2.4).
 ghost use Rattle.std.specs.Prelude.{◌≡◌, ◌+◌, ◌<◌, [], false, IfErr, IfNone, IfOk, IfSome, length, OnErr, OnOk, IsOk};
 ghost use Rattle.std.specs.List.{All};
-ghost use Rattle.gate_lock.specs.Bags.{BagFinishes, BagReturns, BagStarts, Clears, FinishesEach, GainsPermit, has_permit, held_in, HoldsSame, IsCleared, KeepsBalance, kept_in, LosesPermit, ReturnsEach};
+ghost use Rattle.gate_lock.specs.Bags.{BagFinishes, BagReturns, BagStarts, Clears, FinishesEach, has_permit, held_in, HoldsSame, IsCleared, KeepsBalance, KeepsPermit, kept_in, LosesPermit, ReturnsEach};
 ghost use Rattle.gate_lock.specs.Desks.{out_of};
 
 use crate::desk::Desk;
@@ -137,8 +137,7 @@ impl<G: Gate> Bag<G> {
     /// Keeps a permit of the bag's desk, or hands it back where memory is refused.
     pub fn keep(&mut self, permit: Permit<G>) -> Result<(), (Permit<G>, AllocError)>
         requires { permit.desk ≡ self.old.desk }
-        ensures ok { OnOk result (GainsPermit self.old permit self.new) }
-        ensures count { OnOk result (held_in self.new ≡ held_in self.old + 1) }
+        ensures ok { OnOk result (KeepsPermit self.old permit self.new) }
         ensures desk { self.new.desk ≡ self.old.desk }
         ensures err { OnErr result (HoldsSame self.old self.new) }
         ensures handed_back { IfErr result (λ both. both.0 ≡ permit) }

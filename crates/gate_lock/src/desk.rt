@@ -1,6 +1,6 @@
 //! A desk: one thread's part of a gate. It makes the book's calls, and keeps a mark of each entry that it made.
 //! RFC 9309, sections 2.2 to 2.4.
-ghost use Rattle.std.specs.Prelude.{◌≡◌, ◌≤◌, IfOk, length};
+ghost use Rattle.std.specs.Prelude.{◌≡◌, ◌+◌, ◌*◌, ◌^◌, ◌<◌, ◌≤◌, IfOk, length, OnOk, vec_capacity};
 ghost use Rattle.gate_core.specs.Gate.{history};
 ghost use Rattle.gate_lock.specs.Awaiting.{IsMet};
 ghost use Rattle.gate_lock.specs.Desks.{IsGateOf, IsNew, out_of};
@@ -12,7 +12,7 @@ use crate::mark::Mark;
 use crate::receipts::Receipts;
 use crate::shares::Mine;
 use crate::tally::DesksFull;
-use std::alloc::Global;
+use std::alloc::{AllocError, Global};
 use std::marker::Model;
 use std::sync::Wait;
 
@@ -107,6 +107,14 @@ impl<'a, G: Gate> Desk<'a, G> {
         self.permits + self.runs + self.turns
     }
 
+    // How many marks what must still be spent may make.
+    pub(crate) fn promised(&self) -> u64
+        ensures value { result ≡ 2 * self.now.permits + self.now.runs + self.now.turns }
+        ensures bound { result < 2 ^ 63 }
+    {
+        2 * self.permits + self.runs + self.turns
+    }
+
     /// The lock, once the history has the entries that this desk has seen: for the calls that end in `_in`.
     pub fn lend<R: Wait>(&self, rt: &R) -> Held<'a, G>
         ensures { IsGateOf self.now.limits self.now.seen result }
@@ -138,4 +146,14 @@ impl<'a, G: Gate> Desk<'a, G> {
         } = self;
         Receipts { marks, mine }
     }
+}
+
+// Makes room for more marks beside those that are promised.
+pub(crate) fn make_room(marks: &mut Vec<Mark>, promised: u64, more: usize) -> Result<(), AllocError>
+    requires { (promised < 2 ^ 63) × (more ≤ 3) }
+    ensures items { marks.new.items ≡ marks.old.items }
+    ensures capacity { vec_capacity marks.old ≤ vec_capacity marks.new }
+    ensures room { OnOk result (length marks.old.items + promised + more ≤ vec_capacity marks.new) }
+{
+    marks.reserve(promised as usize + more)
 }

@@ -50,10 +50,9 @@ impl<'a, G: Gate> Model for Held<'a, G> {
 }
 
 impl<'a, G: Gate> Held<'a, G> {
-    /// The book. Its history begins with nothing.
+    /// The book.
     pub fn book(&self) -> &Book
         ensures value { result.now ≡ self.now }
-        ensures base { self.now.base ≡ empty_base }
         ensures legal { HasLegalHistory self.now }
     {
         let book = self.guard.book();

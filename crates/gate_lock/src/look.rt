@@ -7,7 +7,7 @@ ghost use Rattle.gate_lock.specs.Desks.{KeepsOut};
 ghost use Rattle.gate_lock.specs.Steps.{DeskReads, DeskSweeps, Somewhere};
 
 use crate::awaited::Awaited;
-use crate::desk::Desk;
+use crate::desk::{Desk, make_room};
 use crate::ledgers::Gate;
 use crate::lock::Held;
 use gate_core::{State, SweepRefusal};
@@ -23,6 +23,9 @@ impl<'a, G: Gate> Desk<'a, G> {
         ensures no { self.new.no ≡ self.old.no }
         ensures out { KeepsOut self.old self.new }
     {
+        // The room that `sweep_in` asks for; where it is refused here, it is asked for again there.
+        let promised = self.promised();
+        let _ = make_room(&mut self.marks, promised, 1);
         let mut held = self.lend(rt);
         self.sweep_in(&mut held, moment)
     }
@@ -33,8 +36,8 @@ impl<'a, G: Gate> Desk<'a, G> {
         ensures { DeskSweeps self.old held.old moment result held.new self.new }
     {
         let round = &mut *held.guard;
-        let promised = 2 * self.permits + self.runs + self.turns;
-        if self.marks.reserve(promised as usize + 1).is_err() {
+        let promised = self.promised();
+        if make_room(&mut self.marks, promised, 1).is_err() {
             self.seen = round.entry_count();
             return Err(round.refuse_sweep(moment));
         }

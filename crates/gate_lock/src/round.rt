@@ -3,12 +3,15 @@
 ghost use Rattle.std.specs.Prelude.{◌≡◌, ◌+◌, ◌<◌, ◌≤◌, ◌↔◌, [], Err, IfOk, IfSome, IsTrue, length, List, Ok, true, false, ℕ};
 ghost use Rattle.gate_history.specs.Base.{empty_base};
 ghost use Rattle.gate_history.specs.History.{entry_count, moment_of};
+ghost use Rattle.gate_history.specs.declared.entry.Entry.TheVariants.{AskDenied, Granted};
 ghost use Rattle.gate_history.specs.Outstanding.{is_running, is_unspent, stands, unspent};
 ghost use Rattle.gate_history.specs.Standing.{has_turn};
 ghost use Rattle.gate_core.specs.Gate.{HasRoom, history};
 ghost use Rattle.gate_history.specs.Ruling.{IsRuling};
+ghost use Rattle.gate_core.specs.Sealing.{Seals};
 ghost use Rattle.gate_core.specs.Replies.{Arrives, Asks, Begins, Finishes, Returns, Starts, Sweeps};
 ghost use Rattle.gate_lock.specs.Balance.{nothing_counted};
+ghost use Rattle.gate_lock.specs.Marks.{mark_at};
 ghost use Rattle.gate_lock.specs.Results.{IsLastEntry, entries_of_ask, entries_of_ok, is_denial, reply_in};
 
 use crate::ledgers::{Gate, RunningLedger, TurnLedger, UnspentLedger};
@@ -16,9 +19,9 @@ use crate::mark::Mark;
 use crate::shares::{Mine, One};
 use crate::tally::{DesksFull, Tally};
 use authority_cache::{TimedAnswer, TurnNo};
-use gate_core::{AskRefusal, BeginRefusal, Book, Denial, Judged, Started, SweepRefusal};
+use gate_core::{AskRefusal, BeginRefusal, Book, Denial, Judged, NoMemory, Started, SweepRefusal};
 use gate_history::laws::{each_entry_counts, no_later_entry_closes};
-use gate_history::{Entry, Ruling};
+use gate_history::{Cause, Entry, FetchText, Ruling, Segment};
 use path_normal::{Authority, PageUrl};
 use permit_book::PermitNo;
 use robots_text::Token;
@@ -42,6 +45,28 @@ impl Last {
             entry,
         }
     }
+
+    // The same, of a grant.
+    pub fn granted(self, number: PermitNo, fetch: FetchText) -> Mark
+        ensures { result ≡ mark_at self.place (Granted self.moment number fetch) }
+    {
+        self.mark(Entry::Granted {
+            moment: self.moment,
+            number,
+            fetch,
+        })
+    }
+
+    // The same, of an ask that was denied.
+    pub fn ask_denied(self, fetch: FetchText, cause: Cause) -> Mark
+        ensures { result ≡ mark_at self.place (AskDenied self.moment fetch cause) }
+    {
+        self.mark(Entry::AskDenied {
+            moment: self.moment,
+            fetch,
+            cause,
+        })
+    }
 }
 
 // The book, and the ledgers by which its numbers are the sums of what desks and values have.
@@ -52,14 +77,14 @@ pub(crate) struct Round<G: Gate> {
 }
 
 impl<G: Gate> Model for Round<G> {
-    ghost use Rattle.gate_core.specs.Gate.{Gate};
-    ghost use Rattle.gate_lock.specs.Balance.{IsRound};
+    ghost use Rattle.gate_core.specs.Gate.{Gate, history};
+    ghost use Rattle.gate_lock.specs.Balance.{IsBalanceOf};
 
     ghost Value = { Gate };
 
     ghost view = { λ round. round.book };
 
-    ghost invariant = { λ round. IsRound round.book round.tally };
+    ghost invariant = { λ round. IsBalanceOf (history round.book) round.tally };
 }
 
 impl<G: Gate> Round<G> {
@@ -74,8 +99,7 @@ impl<G: Gate> Round<G> {
 
     // The book.
     pub fn book(&self) -> &Book
-        ensures value { result.now ≡ self.now }
-        ensures base { self.now.base ≡ empty_base }
+        ensures { result.now ≡ self.now }
     {
         &self.book
     }
@@ -259,6 +283,13 @@ impl<G: Gate> Round<G> {
             }
             Err(refusal) => Err(refusal),
         }
+    }
+
+    // Makes the book's seal.
+    pub fn seal(&mut self) -> Result<Segment, NoMemory>
+        ensures { Seals self.old result self.new }
+    {
+        self.book.seal()
     }
 
     // The share of a permit shows that a permit is unspent.

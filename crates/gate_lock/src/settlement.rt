@@ -8,6 +8,7 @@ use crate::fit::marks_fit;
 use crate::ledgers::Gate;
 use crate::lock::{GateLock, Held};
 use crate::receipts::Receipts;
+use crate::started::has_starts;
 use std::alloc::{AllocError, Global};
 use std::sync::Wait;
 
@@ -71,11 +72,9 @@ pub fn settle_in<G: Gate>(
         return Err(SettleFault::StillOut);
     }
     let events = book.entry_count();
-    if !marks_fit(alloc, book.base().entries(), book.history(), all)? {
+    let starts = book.started_count();
+    if !marks_fit(alloc, book.base().entries(), book.history(), all)? || !has_starts(all, starts) {
         return Err(SettleFault::Mismatch);
     }
-    Ok(Settled {
-        events,
-        starts: book.started_count(),
-    })
+    Ok(Settled { events, starts })
 }

@@ -1,6 +1,6 @@
 //! `Desk::begin` and `arrive`: a turn to fetch a robots file, and the answer that it brings.
 //! RFC 9309, section 2.3.
-ghost use Rattle.std.specs.Prelude.{◌≡◌, ◌+◌, ◌^◌, ◌<◌, ◌≤◌, IfOk, OnErr, OnOk, length, true, vec_capacity};
+ghost use Rattle.std.specs.Prelude.{◌≡◌, ◌<◌, ◌≤◌, Err, IfOk, OnErr, true};
 ghost use Rattle.gate_history.specs.History.{entry_count};
 ghost use Rattle.gate_history.specs.Standing.{has_turn};
 ghost use Rattle.gate_core.specs.Gate.{history};
@@ -8,10 +8,9 @@ ghost use Rattle.gate_lock.specs.Desks.{HasOut, KeepsOut};
 ghost use Rattle.gate_lock.specs.Steps.{DeskArrives, DeskBegins, Somewhere};
 
 use crate::awaited::Awaited;
-use crate::desk::Desk;
+use crate::desk::{Desk, make_room};
 use crate::ledgers::Gate;
 use crate::lock::Held;
-use crate::mark::Mark;
 use crate::tokens::RobotsTurn;
 use authority_cache::TimedAnswer;
 use gate_core::BeginRefusal;
@@ -36,8 +35,15 @@ impl<'a, G: Gate> Desk<'a, G> {
             × HasOut self.old self.new 0 0 0 0 1 0) }
         ensures err { OnErr result (KeepsOut self.old self.new) }
     {
+        // The room that is asked for under the lock; where it is refused here, it is asked for again there.
+        let promised = self.promised();
+        let _ = make_room(&mut self.marks, promised, 2);
+        let Ok((named, kept)) = copy_twice(authority) else {
+            let held = self.lend(rt);
+            return Err(self.refuse_begin(&held, authority, moment));
+        };
         let mut held = self.lend(rt);
-        self.begin_in(&mut held, authority, moment)
+        self.begin_copied(&mut held, named, kept, moment)
     }
 
     /// Begins a fetch of the authority's robots file while the lock is held. Room is made for the mark
@@ -51,13 +57,44 @@ impl<'a, G: Gate> Desk<'a, G> {
         requires { self.old.seen ≤ entry_count (history held.old) }
         ensures { DeskBegins self.old held.old authority.now moment result held.new self.new }
     {
-        let round = &mut *held.guard;
-        let promised = 2 * self.permits + self.runs + self.turns;
-        let Ok((named, kept)) = prepare(&mut self.marks, promised, authority) else {
-            self.seen = round.entry_count();
-            return Err(round.refuse_begin(authority, moment));
+        let Ok((named, kept)) = copy_twice(authority) else {
+            return Err(self.refuse_begin(held, authority, moment));
         };
-        let result = round.begin(authority, moment, &mut self.mine);
+        self.begin_copied(held, named, kept, moment)
+    }
+
+    // What a begin is answered for which memory was refused before it was made.
+    fn refuse_begin(
+        &mut self,
+        held: &Held<'_, G>,
+        authority: &Authority,
+        moment: u64,
+    ) -> BeginRefusal
+        requires { self.old.seen ≤ entry_count (history held.now) }
+        ensures { DeskBegins self.old held.now authority.now moment (Err result) held.now self.new }
+    {
+        self.seen = held.guard.entry_count();
+        held.guard.refuse_begin(authority, moment)
+    }
+
+    // The same with copies of the authority for the mark and for the turn.
+    fn begin_copied(
+        &mut self,
+        held: &mut Held<'_, G>,
+        named: Authority,
+        kept: Authority,
+        moment: u64,
+    ) -> Result<RobotsTurn<G>, BeginRefusal>
+        requires seen { self.old.seen ≤ entry_count (history held.old) }
+        requires same { named ≡ kept }
+        ensures { DeskBegins self.old held.old kept moment result held.new self.new }
+    {
+        let promised = self.promised();
+        if make_room(&mut self.marks, promised, 2).is_err() {
+            return Err(self.refuse_begin(held, &kept, moment));
+        }
+        let round = &mut *held.guard;
+        let result = round.begin(&kept, moment, &mut self.mine);
         self.seen = round.entry_count();
         match result {
             Ok((turn, one)) => {
@@ -144,20 +181,10 @@ impl<'a, G: Gate> Desk<'a, G> {
     }
 }
 
-// Makes room for the marks of the turn beside those that are promised, and copies the authority for the
-// first of them and for the turn.
-fn prepare(
-    marks: &mut Vec<Mark>,
-    promised: u64,
-    authority: &Authority,
-) -> Result<(Authority, Authority), AllocError>
-    requires { promised < 2 ^ 63 }
-    ensures items { marks.new.items ≡ marks.old.items }
-    ensures capacity { vec_capacity marks.old ≤ vec_capacity marks.new }
-    ensures room { OnOk result (length marks.old.items + promised + 2 ≤ vec_capacity marks.new) }
-    ensures copies { IfOk result
+// Two copies of an authority.
+fn copy_twice(authority: &Authority) -> Result<(Authority, Authority), AllocError>
+    ensures { IfOk result
         (λ copies. (copies.0 ≡ authority.now) × (copies.1 ≡ authority.now)) }
 {
-    marks.reserve(promised as usize + 2)?;
     Ok((authority.copy()?, authority.copy()?))
 }

@@ -24,6 +24,11 @@ EndTells text ends.Whole = (rest : List ℕ) × (text ≡ crlf_bytes ++ rest)
 EndTells text ends.Open = IsOpenEnd text
 EndTells text ends.Bad = NeverHasEnd text
 
+-- so many octets stand there, and the end of a chunk behind them
+pub record StandsWhole (size : ℕ) (text : List ℕ) : Type 0 where
+  pub within : size ≤ length text
+  pub ends : EndTells (drop size text) ends.Whole
+
 -- what octets that trailers may have are
 abbrev pub SectionTells : List ℕ → TrailerSection → Type 0
 SectionTells text sections.Whole = (rest : List ℕ) × ReadsTrailers text rest

@@ -1,6 +1,6 @@
 -- What the reader of heads finds in the octets that have come.
 -- The contracts of its parts cite it.
-use Rattle.std.specs.Prelude.{◌≡◌, ℕ, ◌*◌, ◌+◌, ◌<◌, ◌≤◌, ◌⊎◌, Bool, ◌||◌, false, true, IsTrue, List, ◌++◌, length, drop, Option, Some, None, option_map, Ok, Err, ⊤}
+use Rattle.std.specs.Prelude.{◌≡◌, ℕ, ◌*◌, ◌+◌, ◌<◌, ◌≤◌, ◌⊎◌, Bool, ◌||◌, false, true, IsTrue, List, ◌++◌, length, take, drop, Option, Some, None, option_map, Ok, Err, ⊤}
 use Rattle.std.specs.String.{string_bytes}
 use Rattle.httparse.specs.Grammar.{ResponseHead, status_code, HasNoResponse, NeverHasResponse, MayBecomeResponse}
 use Rattle.httparse.specs.Spans.{IsResponseAt, IsResponseWithin, ResponseOverflows, ResponseExceeds}
@@ -51,6 +51,11 @@ pub record Passes (finder : HeadFinder) (bytes : List ℕ) : Type 0 where
   pub few : finder.passed ≤ max_interim_heads
   pub within : finder.at ≤ length bytes
   pub soon : finder.at ≤ finder.passed * max_head
+
+-- the finder looks at the text from where it stands, so far as a head may reach
+pub record LooksAt (finder : HeadFinder) (bytes text : List ℕ) : Type 0 where
+  pub passes : Passes finder bytes
+  pub prefix : text ≡ take max_head (drop finder.at bytes)
 
 -- the text is a prefix of a head, and short of the longest
 pub record IsHeadPrefix (text : List ℕ) : Type 0 where

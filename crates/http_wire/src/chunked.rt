@@ -1,7 +1,7 @@
 //! Bodies in chunks, decoded from all the octets that have come.
 //! RFC 9112, section 7.1.
 ghost use Rattle.std.specs.Prelude.{◌≡◌, ◌+◌, ◌-◌, ◌<◌, ◌≤◌, ℕ, List, IfOk, drop, length, vec_len};
-ghost use Rattle.http_wire.specs.Decoding.{Decodes, EndTells, KeepsBounds, Stands, DecodesOrMoves};
+ghost use Rattle.http_wire.specs.Decoding.{Decodes, EndTells, KeepsBounds, Stands, StandsWhole, DecodesOrMoves};
 
 use crate::limits::MAX_TRAILER_BYTES;
 use crate::line_ends::{begins_with_line_end, has_empty_line, has_line_end};
@@ -193,8 +193,7 @@ impl ChunkDecoder {
         requires stands { Stands self.old bytes.now }
         requires place { self.old.place ≡ Place.Octets size }
         requires fits { size + vec_len self.old.octets ≤ self.old.limit }
-        requires within { size ≤ length bytes.now - self.old.at }
-        requires ends { EndTells (drop size (drop self.old.at bytes.now)) ChunkEnd.Whole }
+        requires whole { StandsWhole size (drop self.old.at bytes.now) }
         ensures bounds { KeepsBounds self.old self.new }
         ensures moves { IfOk result (λ _. (self.old.at < self.new.at) × Stands self.new bytes.now) }
     {

@@ -5,7 +5,7 @@ ghost use Rattle.std.specs.String.{string_bytes};
 ghost use Rattle.httparse.specs.Grammar.{ResponseHead};
 ghost use Rattle.httparse.specs.Spans.{IsResponseWithin, header_bytes};
 ghost use Rattle.http_wire.specs.Fields.{IsLocation};
-ghost use Rattle.http_wire.specs.Finding.{Faults, FindsHead, HasNoPlan, IsClass, IsFound, IsHeadAt, IsPlan, Parses, Passes, SeesHead};
+ghost use Rattle.http_wire.specs.Finding.{Faults, FindsHead, HasNoPlan, IsClass, IsFound, IsHeadAt, IsPlan, LooksAt, Parses, Passes, SeesHead};
 ghost use Rattle.http_wire.specs.Left.{pairs};
 ghost use Rattle.http_wire.specs.Response.{Cause};
 
@@ -195,8 +195,7 @@ impl HeadFinder {
         spans: ResponseSpans,
         headers: &[HeaderSpan],
     ) -> Result<Seen, WireFault>
-        requires passes { Passes self.old bytes.now }
-        requires prefix { text.now ≡ take MAX_HEAD (drop self.old.at bytes.now) }
+        requires looks { LooksAt self.old bytes.now text.now }
         requires at { (head : ResponseHead) × IsHeadAt text.now headers.now spans head }
         requires room { length headers.now ≡ MAX_HEADER_LINES }
         ensures sees { IfOk result (λ seen. (last : Bool)

@@ -70,7 +70,8 @@ pub(crate) fn fill_until<S: Source, P: Part>(
     ensures kept { P.kept part.new ≡ P.kept part.old }
     ensures ok { IfOk result (Stops (P.waits part.new) (P.gives (P.kept part.old))
         (S.left source.old) (S.left source.new) buffer.old buffer.new) }
-    ensures err { IfErr result (Breaks (P.refuses (P.kept part.old)) (S.left source.old) buffer.old) }
+    ensures err { IfErr result
+        (Breaks (P.refuses (P.kept part.old)) (S.left source.old) buffer.old) }
     ensures count { S.failures source.new ≡ failures_after_reading (S.failures source.old) result }
 {
     loop {

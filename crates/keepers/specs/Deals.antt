@@ -3,6 +3,7 @@
 use Rattle.std.specs.Prelude.{ℕ, Bool, List, Option, Result}
 use Rattle.permit_book.specs.declared.refusal.NotOut.{NotOut}
 use Rattle.gate_history.specs.declared.outcome.Reason.{Reason}
+use Rattle.gate_history.specs.Segment.{Sealed}
 use Rattle.gate_core.specs.declared.refusal.AskRefusal.{AskRefusal}
 use Rattle.gate_core.specs.declared.refusal.BeginRefusal.{BeginRefusal}
 use Rattle.gate_core.specs.declared.refusal.Denial.{Denial}
@@ -22,4 +23,5 @@ pub record Deals (S : Type 0) : Type 1 where
   pub reads : S → (authority : List ℕ) (moment : ℕ) → State → S → Type 0
   pub refreshes : (reads : ℕ → Type 0) → S → (authority : List ℕ) → Option (Result Standing BeginRefusal) → S → Type 0
   pub fetches : (reads : ℕ → Type 0) → S → Job → Option (Result Outcome NoMemory) → S → Type 0
+  pub seals : S → Result Sealed NoMemory → S → Type 0
   pub ends : S → S → Type 0

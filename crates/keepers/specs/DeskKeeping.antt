@@ -1,6 +1,7 @@
 -- What a desk and the bag of its session do: each step is one of the desk, whose marks say what was told, and
 -- only what the bag holds is spent. The contracts of `DeskKeeper`. RFC 9309, sections 2.2 to 2.4.
 use Rattle.std.specs.Prelude.{◌≡◌, ◌⊎◌, ℕ, List, Option, Some, None, Result, Ok, Err}
+use Rattle.gate_history.specs.Segment.{Sealed}
 use Rattle.gate_core.specs.declared.refusal.AskRefusal.{AskRefusal}
 use Rattle.gate_core.specs.declared.refusal.AskRefusal.TheVariants as ask
 use Rattle.gate_core.specs.declared.refusal.BeginRefusal.{BeginRefusal}
@@ -10,7 +11,7 @@ use Rattle.gate_core.specs.declared.state.State.{State}
 use Rattle.gate_lock.specs.declared.mark.Mark.{Mark}
 use Rattle.gate_lock.specs.Bags.{BagView, Clears, GainsPermit, HoldsSame, IsCleared}
 use Rattle.gate_lock.specs.Desks.{DeskView, Pass}
-use Rattle.gate_lock.specs.Steps.{DeskAsks, DeskReads, Somewhere}
+use Rattle.gate_lock.specs.Steps.{DeskAsks, DeskReads, DeskSeals, Somewhere}
 use Rattle.crawl_job.specs.declared.job.Job.{Job}
 use Rattle.crawl_job.specs.declared.job.Outcome.{Outcome}
 use Rattle.crawl_workers.specs.Outcomes.{Works}
@@ -31,6 +32,10 @@ KeeperAsks d b token url m (Err refusal) d2 b2 =
 abbrev pub KeeperReads : DeskView → BagView → List ℕ → ℕ → State → DeskView → BagView → Type 0
 KeeperReads d b authority m state d2 b2 =
     Somewhere d (λ old new. DeskReads d old authority m state new d2) × (b2 ≡ b)
+
+-- seal: a look of the desk, which leaves no mark
+abbrev pub KeeperSeals : DeskView → BagView → Result Sealed NoMemory → DeskView → BagView → Type 0
+KeeperSeals d b result d2 b2 = Somewhere d (λ old new. DeskSeals d old result new d2) × (b2 ≡ b)
 
 -- refresh: a turn of the desk, whose answer is what fetches give
 abbrev pub KeeperRefreshes : World → DeskView → BagView → List ℕ → Option (Result Standing BeginRefusal) → DeskView → BagView → Type 0

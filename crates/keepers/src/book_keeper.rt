@@ -5,7 +5,7 @@ use crate::keeper::Keeper;
 use crawl_job::{Job, Outcome};
 use crawl_workers::Clock;
 use gate_core::{AskRefusal, BeginRefusal, Book, Denial, NoMemory, Standing, Started, State};
-use gate_history::Reason;
+use gate_history::{Reason, Segment};
 use path_normal::{Authority, PageUrl};
 use permit_book::{NotOut, PermitNo};
 use robots_text::Token;
@@ -30,6 +30,7 @@ impl<'a> BookKeeper<'a> {
 impl<'a> Keeper for BookKeeper<'a> {
     ghost use Rattle.std.specs.Prelude.{◌≡◌, false};
     ghost use Rattle.gate_core.specs.Replies.{Asks, Finishes, Returns};
+    ghost use Rattle.gate_core.specs.Sealing.{Seals};
     ghost use Rattle.keepers.specs.BookKeeping.{BookReads, BookStarts, OffersNone};
 
     ghost deals = { record {
@@ -41,6 +42,7 @@ impl<'a> Keeper for BookKeeper<'a> {
       reads = λ k authority m state k2. (k2.book.ghost_name ≡ k.book.ghost_name) × BookReads k.book.now authority m state k2.book.now;
       refreshes = λ _ k _ result k2. (k2.book.ghost_name ≡ k.book.ghost_name) × OffersNone k.book.now result k2.book.now;
       fetches = λ _ k _ result k2. (k2.book.ghost_name ≡ k.book.ghost_name) × OffersNone k.book.now result k2.book.now;
+      seals = λ k result k2. (k2.book.ghost_name ≡ k.book.ghost_name) × Seals k.book.now result k2.book.now;
       ends = λ k k2. k2 ≡ k;
     } };
 
@@ -91,6 +93,10 @@ impl<'a> Keeper for BookKeeper<'a> {
         _clock: &C,
     ) -> Option<Result<Outcome, NoMemory>> {
         None
+    }
+
+    fn seal(&mut self) -> Result<Segment, NoMemory> {
+        self.book.seal()
     }
 
     fn end(&mut self) {}

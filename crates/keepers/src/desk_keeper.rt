@@ -9,7 +9,7 @@ use crate::keeper::Keeper;
 use crawl_job::{Job, Outcome};
 use crawl_workers::{Clock, Fetcher, refresh, work};
 use gate_core::{AskRefusal, BeginRefusal, Denial, NoMemory, Standing, State};
-use gate_history::Reason;
+use gate_history::{Reason, Segment};
 use gate_lock::{Bag, Desk, DesksFull, Gate, GateLock, Receipts};
 use path_normal::{Authority, PageUrl};
 use permit_book::{NotOut, PermitNo};
@@ -96,7 +96,7 @@ impl<'a, 'g, G: Gate, F: Fetcher, R: Wait> Keeper for DeskKeeper<'a, 'g, G, F, R
     ghost use Rattle.std.specs.Prelude.{◌≡◌, true};
     ghost use Rattle.gate_lock.specs.Bags.{BagFinishes, BagReturns, BagStarts};
     ghost use Rattle.crawl_workers.specs.World.{world_of};
-    ghost use Rattle.keepers.specs.DeskKeeping.{KeeperAsks, KeeperEnds, KeeperFetches, KeeperReads, KeeperRefreshes};
+    ghost use Rattle.keepers.specs.DeskKeeping.{KeeperAsks, KeeperEnds, KeeperFetches, KeeperReads, KeeperRefreshes, KeeperSeals};
 
     ghost deals = { record {
       can_fetch = λ _. true;
@@ -107,6 +107,7 @@ impl<'a, 'g, G: Gate, F: Fetcher, R: Wait> Keeper for DeskKeeper<'a, 'g, G, F, R
       reads = λ k authority m state k2. (k2.fetcher ≡ k.fetcher) × KeeperReads k.desk k.bag authority m state k2.desk k2.bag;
       refreshes = λ reads k authority told k2. (k2.fetcher ≡ k.fetcher) × KeeperRefreshes (world_of (F.gives k.fetcher.now) reads) k.desk k.bag authority told k2.desk k2.bag;
       fetches = λ reads k job told k2. (k2.fetcher ≡ k.fetcher) × KeeperFetches (world_of (F.gives k.fetcher.now) reads) k.desk k.bag job told k2.desk k2.bag;
+      seals = λ k result k2. (k2.fetcher ≡ k.fetcher) × KeeperSeals k.desk k.bag result k2.desk k2.bag;
       ends = λ k k2. (k2.fetcher ≡ k.fetcher) × KeeperEnds k.desk k.bag k2.desk k2.bag;
     } };
 
@@ -173,6 +174,10 @@ impl<'a, 'g, G: Gate, F: Fetcher, R: Wait> Keeper for DeskKeeper<'a, 'g, G, F, R
             Ok(outcome) => Some(Ok(outcome)),
             Err(_) => Some(Err(NoMemory)),
         }
+    }
+
+    fn seal(&mut self) -> Result<Segment, NoMemory> {
+        self.desk.seal(self.rt)
     }
 
     fn end(&mut self) {

@@ -4,7 +4,7 @@ ghost use Rattle.std.specs.Prelude.{◌≡◌};
 use crawl_job::{Job, Outcome};
 use crawl_workers::Clock;
 use gate_core::{AskRefusal, BeginRefusal, Denial, NoMemory, Standing, State};
-use gate_history::Reason;
+use gate_history::{Reason, Segment};
 use path_normal::{Authority, PageUrl};
 use permit_book::{NotOut, PermitNo};
 use robots_text::Token;
@@ -65,6 +65,10 @@ pub trait Keeper {
         clock: &C,
     ) -> Option<Result<Outcome, NoMemory>>
         ensures { deals.fetches (C.reads clock.now) self.old job result self.new };
+
+    /// Hands out the entries of the gate since the last seal, of whatever session, with what they follow.
+    fn seal(&mut self) -> Result<Segment, NoMemory>
+        ensures { deals.seals self.old result self.new };
 
     /// Gives back and finishes all that the session has out. The next session may begin.
     fn end(&mut self)

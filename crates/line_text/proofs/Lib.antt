@@ -3,3 +3,4 @@ pub mod WordSplits
 pub mod Numerals
 pub mod Pushing
 pub mod Stripping
+pub mod CallerLemmas

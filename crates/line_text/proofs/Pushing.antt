@@ -6,7 +6,7 @@ use Rattle.std.proofs.lemmas.List.Concat.{flat_map-append}
 use Rattle.std.specs.Prelude.{Result, Ok, Err, IsErr}
 use Rattle.counted_io.specs.Device.{AppendsPrefix, one_more}
 use Rattle.counted_io.specs.Output.{Passes, Pushes}
-use Rattle.counted_io.proofs.Writing.{Passes-push, Passes-cut, Passes-pieces, Passes-cut-piece, prefix_longer}
+use Rattle.counted_io.proofs.CallerLemmas.{Passes-cut, Passes-cut-piece, Passes-pieces, Passes-push, prefix_longer}
 
 -- the texts of a row, cut at one of them
 pub cut_at : {X : Type 0} (f : X → List ℕ) (xs : List X) (i : ℕ) (d : X) → i < length xs →

@@ -3,3 +3,4 @@
 pub mod NormalLemmas
 pub mod PageLemmas
 pub mod AuthorityLemmas
+pub mod CallerLemmas

@@ -57,6 +57,16 @@ impl Authority {
         })
     }
 
+    /// The authority of a text that was taken of one before. It is not read again.
+    pub fn of_known(alloc: Global, text: &str) -> Result<Authority, AllocError>
+        requires { IsAuthority text.now }
+        ensures { IfOk result (λ authority. authority ≡ text.now) }
+    {
+        Ok(Authority {
+            text: String::from_str(alloc, text)?,
+        })
+    }
+
     /// A second authority of the same text.
     pub fn copy(&self) -> Result<Authority, AllocError>
         ensures { IfOk result (λ copy. copy ≡ self.now) }

@@ -3,3 +3,4 @@
 pub mod PlaceLemmas
 pub mod SpellsLemmas
 pub mod StarLemmas
+pub mod CallerLemmas

@@ -28,27 +28,27 @@ same_authority (Running fetch) authority is = absurd (true≢false (sym is))
 same_authority Nothing authority is = absurd (true≢false (sym is))
 
 -- a grant
-pub granted : GrantHolds
-granted t n fetch authority next =
+pub held_granted : GrantHolds
+held_granted t n fetch authority next =
     let there = free_there t (slot_of n) next.free in
     let change = written t n Nothing (Unspent fetch) authority there.0 (nothing_is (slot_at t (slot_of n)).out there.1) in
     omega (arith, change)
 
 -- an allowed start
-pub started : StartHolds
-started t n authority is =
+pub held_started : StartHolds
+held_started t n authority is =
     let out = out_under t n in
     let there = out_there t n (unspent_something out is).0 in
     let change = written t n out (decided true out) authority there.2 (sym there.1) in
     omega (arith, change, same_authority out authority is)
 
 -- a denied start, a return and a finish
-pub ended : EndHolds
-ended t n authority some =
+pub held_ended : EndHolds
+held_ended t n authority some =
     let there = out_there t n some in
     let change = written t n (out_under t n) Nothing authority there.2 (sym there.1) in
     omega (arith, change)
 
 -- a new table
-pub new : NewHolds
-new first slots authority = none_pass (λ slot. is_out_for authority slot.out) refl slots
+pub held_new : NewHolds
+held_new first slots authority = none_pass (λ slot. is_out_for authority slot.out) refl slots

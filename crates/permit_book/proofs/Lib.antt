@@ -4,3 +4,5 @@ pub mod Filters
 pub mod Telling
 pub mod TellingFree
 pub mod HeldLaws
+pub mod ListedPermits
+pub mod CallerLemmas

@@ -1,6 +1,6 @@
 -- What a table keeps when one of its slots is written.
 -- Cited by the proofs of `permits.rt`, `drafts.rt` and `ends.rt`.
-use Rattle.std.proofs.Common.{◌≡◌, ◌≢◌, ℕ, ◌+◌, ◌*◌, ◌<◌, ◌≤◌, ◌==◌, ◌&&◌, Bool, true, false, cond, nat_lt, List, zero, suc, replicate, length, filter, count_by, get_or, set, inl, inr, refl, sym, ◌∙◌, true≢false, arith}
+use Rattle.std.proofs.Common.{subst, ◌≡◌, ◌≢◌, ℕ, ◌+◌, ◌*◌, ◌<◌, ◌≤◌, ◌==◌, ◌&&◌, Bool, true, false, cond, nat_lt, List, zero, suc, replicate, length, filter, count_by, get_or, set, inl, inr, refl, sym, ◌∙◌, true≢false, arith}
 use Rattle.std.proofs.lemmas.Bool.{lt-ltb, ltb-true}
 use Rattle.std.proofs.lemmas.Bool.Decides.{eqb_tells, leb_tells}
 use Rattle.std.proofs.lemmas.List.{get_or-set_same, get_or-set_other, get_or_past, length-set, length-replicate}
@@ -85,8 +85,8 @@ pub IsKept-set : (t : Table) (bits bits' : List ℕ) (unspent running unspent' r
     ((j : ℕ) → j ≢ place → bit_of bits' j ≡ bit_of bits j) → bit_of bits' place ≡ one_if (is_free slot) → length bits' ≡ length bits →
     unspent' + one_if (is_unspent_out (slot_at t place).out) ≡ unspent + one_if (is_unspent_out slot.out) →
     running' + one_if (is_running_out (slot_at t place).out) ≡ running + one_if (is_running_out slot.out) →
-    IsKept (with_slot t place slot) bits' unspent' running'
-IsKept-set t bits bits' unspent running unspent' running' place slot kept within others here room more_unspent more_running = record {
+    slot.last ≤ last_generation → IsKept (with_slot t place slot) bits' unspent' running'
+IsKept-set t bits bits' unspent running unspent' running' place slot kept within others here room more_unspent more_running low = record {
   within = record {
     some_generation = kept.within.some_generation;
     generations = kept.within.generations;
@@ -100,6 +100,11 @@ IsKept-set t bits bits' unspent running unspent' running' place slot kept within
   running_is =
       let counted = count-set (λ s. is_running_out s.out) t.slots place slot unused within in
       let was = kept.running_is in omega arith;
+  lasts = λ j. elim (eqb_tells j place) [
+    | inl e ↦ subst (λ (k : ℕ). last_in (with_slot t place slot) k ≤ last_generation) (sym e.1)
+        (subst (λ (s : Slot). s.last ≤ last_generation) (sym (get_or-set_same t.slots place slot unused within)) low)
+    | inr d ↦ subst (λ (s : Slot). s.last ≤ last_generation) (sym (get_or-set_other t.slots place j slot unused d.1)) (kept.lasts j)
+  ];
 }
 
 -- each place of unused slots is one, and past them too
@@ -123,6 +128,7 @@ IsKept-new count first bits few some last bits_are room = record {
   room = rw (length-replicate count unused) room;
   unspent_is = sym (none_pass (λ slot. is_unspent_out slot.out) refl count);
   running_is = sym (none_pass (λ slot. is_running_out slot.out) refl count);
+  lasts = λ slot. subst (λ (s : Slot). s.last ≤ last_generation) (sym (unused_at count slot)) (omega arith);
 }
   where
     and_true : (b : Bool) → (b && true) ≡ b
@@ -172,7 +178,7 @@ pub IsKept-vacated : (t : Table) (bits bits' : List ℕ) (slots : List Slot) (un
     IsKept (record { first_generation = t.first_generation; slots = slots }) bits' unspent' running'
 IsKept-vacated t bits bits' slots unspent running unspent' running' place kept some ends less_unspent less_running =
     rw ends.slots (IsKept-set t bits bits' unspent running unspent' running' place (vacated (slot_at t place)) kept
-    (within_table t place some) others here ends.room (omega arith) (omega arith))
+    (within_table t place some) others here ends.room (omega arith) (omega arith) (kept.lasts place))
   where
     others : (j : ℕ) → j ≢ place → bit_of bits' j ≡ bit_of bits j
     others j apart = ends.free j ∙ elim (eqb_tells j place) [ inl e ↦ absurd (apart e.1) | inr d ↦ rw d.0 refl ]
@@ -230,4 +236,4 @@ IsKept-started t bits unspent running unspent' running' place slot kept is same 
     let started : Slot = record { last = last_in t place; out = decided true (slot_at t place).out } in
     let here : bit_of bits place ≡ one_if (is_free started) = kept.free place ∙ rw (was.0, now.2, and_false (nat_lt place (length t.slots))) refl in
     rw same (IsKept-set t bits bits unspent running unspent' running' place started kept (within_table t place was.0) (λ j apart. refl) here refl
-    (rw (is, now.0) (omega arith)) (rw (was.1, now.1) (omega arith)))
+    (rw (is, now.0) (omega arith)) (rw (was.1, now.1) (omega arith)) (kept.lasts place))

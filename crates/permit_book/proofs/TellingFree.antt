@@ -20,7 +20,7 @@ use Rattle.permit_book.proofs.TableLaws.{one_if, free_there, same_number, runnin
 use Rattle.permit_book.proofs.Filters.{filter-all, found, list_any-both, list_any-filter, list_any-more}
 
 -- a number is of its slot and its generation
-number_parts : (slot generation : ℕ) → slot < most_slots →
+pub number_parts : (slot generation : ℕ) → slot < most_slots →
     (slot_of (number_in slot generation) ≡ slot) × (generation_of (number_in slot generation) ≡ generation)
 number_parts slot generation small = (omega arith, omega arith)
 

@@ -5,7 +5,7 @@ use Rattle.permit_book.specs.declared.out.Slot.{Slot}
 use Rattle.permit_book.specs.declared.permits.Permits.TheInside.{Inside}
 use Rattle.permit_book.specs.Numbers.{most_slots, last_generation}
 use Rattle.permit_book.specs.Bits.{bit_of}
-use Rattle.permit_book.specs.Table.{Table, is_free, running_count, unspent_count, unused, vacated}
+use Rattle.permit_book.specs.Table.{Table, is_free, last_in, running_count, unspent_count, unused, vacated}
 use Rattle.permit_book.specs.Next.{is_free_in}
 
 -- the table as its callers see it
@@ -29,13 +29,14 @@ pub record IsWithin (t : Table) : Type 0 where
   pub generations : t.first_generation ≤ last_generation
   pub slots : length t.slots ≤ most_slots
 
--- the free slots and the counts are those of the table
+-- the free slots and the counts are those of the table, and no grant is of a generation above the last
 pub record IsKept (t : Table) (bits : List ℕ) (unspent running : ℕ) : Type 0 where
   pub within : IsWithin t
   pub free : ShowsFree bits t
   pub room : length t.slots ≤ 64 * length bits
   pub unspent_is : unspent ≡ unspent_count t
   pub running_is : running ≡ running_count t
+  pub lasts : (slot : ℕ) → last_in t slot ≤ last_generation
 
 -- what is true of every table of permits
 abbrev pub IsSound : Inside → Type 0

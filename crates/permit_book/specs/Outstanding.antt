@@ -36,6 +36,14 @@ abbrev pub running_in : ℕ → Out → List GrantedPermit
 running_in number (Running fetch) = permit_for number fetch ∷ []
 running_in number _ = []
 
+-- the list has each unspent permit that is out, once
+abbrev pub ListsUnspent : Table → List GrantedPermit → Type 0
+ListsUnspent t unspent = (number : ℕ) → filter (is_numbered number) unspent ≡ unspent_in number (out_under t number)
+
+-- the list has each running one, once
+abbrev pub ListsRunning : Table → List GrantedPermit → Type 0
+ListsRunning t running = (number : ℕ) → filter (is_numbered number) running ≡ running_in number (out_under t number)
+
 -- what is out is an unspent permit whose fetch passes the test
 abbrev pub is_unspent_for : (Fetch → Bool) → Out → Bool
 is_unspent_for test (Unspent fetch) = test fetch
@@ -56,8 +64,8 @@ count_for test permits = length (filter (λ p. test (fetch_of p)) permits)
 pub record TellsPermits (t : Table) (unspent running : List GrantedPermit) (greatest : ℕ → ℕ) : Type 0 where
   pub within : IsWithin t
   pub last : (slot : ℕ) → slot < length t.slots → last_in t slot ≡ greatest slot
-  pub unspent_under : (number : ℕ) → filter (is_numbered number) unspent ≡ unspent_in number (out_under t number)
-  pub running_under : (number : ℕ) → filter (is_numbered number) running ≡ running_in number (out_under t number)
+  pub unspent_under : ListsUnspent t unspent
+  pub running_under : ListsRunning t running
   pub unspent_for : (test : Fetch → Bool) → count_for test unspent ≡ length (filter (λ slot. is_unspent_for test slot.out) t.slots)
   pub running_for : (test : Fetch → Bool) → count_for test running ≡ length (filter (λ slot. is_running_for test slot.out) t.slots)
 

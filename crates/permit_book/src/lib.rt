@@ -7,6 +7,7 @@ mod ends;
 mod free_slots;
 mod granted_permit;
 pub mod laws;
+mod listing;
 mod number;
 mod out;
 mod permits;

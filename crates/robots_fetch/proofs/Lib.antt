@@ -3,3 +3,4 @@
 pub mod Replies
 pub mod Taken
 pub mod Deciding
+pub mod CallerLemmas

@@ -14,3 +14,4 @@ pub mod Walks
 pub mod Plains
 pub mod Bounds
 pub mod GroupLaws
+pub mod CallerLemmas

@@ -15,7 +15,7 @@ use Rattle.std.proofs.lemmas.List.{get_or-drop, get_or-map, get_or-take, get_or_
 use Rattle.std.proofs.lemmas.List.Sorted.{IsNonDecreasingBy-from_default, ranks_by, sorted_far}
 use Rattle.std.proofs.lemmas.Map.Text.{is_eq-slice_cmp}
 use Rattle.std.proofs.lemmas.Slice.Eq.{bytes_eq-Decides}
-use Rattle.robots_text.proofs.Plains.{any_passes, passes_any}
+use Rattle.robots_text.proofs.CallerLemmas.{any_passes, passes_any}
 use Rattle.robots_verdict.specs.Heads.{compare_names, has_name, is_name_before}
 use Rattle.robots_verdict.specs.Placed.{NamedGroup}
 use Rattle.robots_verdict.proofs.Weighing.{last_level}

@@ -18,3 +18,4 @@ pub mod Placing
 pub mod PlainHits
 pub mod OtherHits
 pub mod Joining
+pub mod CallerLemmas

@@ -15,8 +15,7 @@ use Rattle.path_normal.specs.Normal.{is_anchored, unanchored}
 use Rattle.path_normal.specs.Octets.{star}
 use Rattle.path_pattern.specs.Matches.{Matches, Spells}
 use Rattle.path_pattern.specs.Runs.{HasNoStar}
-use Rattle.path_pattern.proofs.StarLemmas.{no_star}
-use Rattle.path_pattern.proofs.SpellsLemmas.{off_last, on_last}
+use Rattle.path_pattern.proofs.CallerLemmas.{no_star, off_last, on_last}
 use Rattle.robots_verdict.specs.Index.{FindsLeast}
 use Rattle.robots_verdict.specs.Placed.{Placed}
 use Rattle.robots_verdict.specs.Rows.{is_row_above, row_at, no_row, weight_at}

@@ -6,14 +6,13 @@ use Rattle.std.specs.List.Sorted.{IsNonDecreasing}
 use Rattle.std.proofs.lemmas.List.Elements.{All-tail, Contains-append_cases, Contains-append_left, Contains-append_right}
 use Rattle.std.proofs.lemmas.Slice.Eq.{bytes_eq-Decides}
 use Rattle.path_normal.specs.Normal.{is_anchored, normal_pattern}
-use Rattle.path_normal.proofs.NormalLemmas.{pattern_small}
+use Rattle.path_normal.proofs.CallerLemmas.{pattern_small}
 use Rattle.robots_text.specs.declared.record.RuleKind.{RuleKind}
 use Rattle.robots_text.specs.Grouped.{Grouped, grouped_from, grouped_records, IsWithin, value_octets, values_octets}
 use Rattle.robots_text.specs.Grouping.{begins_behind, group_at}
 use Rattle.robots_text.specs.Groups.{record_ruled, Ruled}
 use Rattle.robots_text.specs.Records.{Record, agent, rule, other, Numbered, numbered_from, numbered_records, records_of}
-use Rattle.robots_text.proofs.GroupLaws.{grouped_stands, numbered_stands}
-use Rattle.robots_text.proofs.LineEntries.{at, behind, entry_of, first_of, late_from, none_of, numbered_above}
+use Rattle.robots_text.proofs.CallerLemmas.{at, behind, entry_of, first_of, grouped_stands, late_from, none_of, numbered_above, numbered_stands}
 use Rattle.robots_verdict.specs.Placed.{Placed, placed_at, placed_in}
 use Rattle.robots_verdict.specs.Rewritten.{FormOfLine, rewritten_at, rewritten_in}
 use Rattle.robots_verdict.proofs.Verdicts.{grouped, of_line}

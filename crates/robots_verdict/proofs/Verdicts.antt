@@ -16,8 +16,7 @@ use Rattle.robots_text.specs.Grouping.{begins_behind, group_at}
 use Rattle.robots_text.specs.Groups.{is_agent, is_named, IsRuleFor, names_everybody, names_token, record_ruled, Ruled, speaks_to}
 use Rattle.robots_text.specs.Records.{everybody, token, nobody, Record, agent, rule, other, numbered_from, numbered_records, records_of}
 use Rattle.robots_text.specs.Token.{is_token, lower_case, token_of}
-use Rattle.robots_text.proofs.GroupLaws.{group_governs, grouped_stands}
-use Rattle.robots_text.proofs.LineEntries.{behind, entry_of, first_of, none_of}
+use Rattle.robots_text.proofs.CallerLemmas.{behind, entry_of, first_of, group_governs, grouped_stands, none_of}
 use Rattle.robots_verdict.specs.Heads.{has_name, IsGroupFor}
 use Rattle.robots_verdict.specs.Index.{FindsLeast, IsHit, IsIndex}
 use Rattle.robots_verdict.specs.Placed.{everybody_at, everybody_in, named_at, named_in, NamedGroup, Names, Placed, placed_at, placed_in, Table}

@@ -12,7 +12,7 @@ use Rattle.path_normal.specs.Normal.{normal_pattern}
 use Rattle.path_pattern.specs.Matches.{Matches}
 use Rattle.robots_text.specs.Groups.{Ruled, IsRuleFor, AreRulesFor}
 use Rattle.robots_text.specs.Records.{Numbered}
-use Rattle.robots_text.proofs.LineEntries.{entry_of, behind, first_of, none_of}
+use Rattle.robots_text.proofs.CallerLemmas.{behind, entry_of, first_of, none_of}
 use Rattle.robots_verdict.specs.declared.weight.Weight.{Weight}
 use Rattle.robots_verdict.specs.Strongest.{IsBest, stronger}
 use Rattle.robots_verdict.specs.Weights.{falling, is_above, weight_of}

@@ -66,6 +66,11 @@ IsLastBegun rows plain count text (Some last) =
 abbrev pub AreParents : List Placed → List ℕ → List (Option ℕ) → ℕ → Type 0
 AreParents rows plain parents count = (index : ℕ) (past : Option ℕ) → index < count → IsLastBegun rows plain index (key_at rows plain index) (slice_index_or parents index past)
 
+-- so many of the first places are there, and so many of their parents
+pub record IsCountOf (places : List ℕ) (parents : List (Option ℕ)) (count : ℕ) : Type 0 where
+  pub places_have : count ≤ length places
+  pub parents_have : count ≤ length parents
+
 -- these are the places below the count whose rows are plain, or those whose are not
 pub record ArePlaces (rows : List Placed) (plain : Bool) (places : List ℕ) (count : ℕ) : Type 0 where
   pub few : length places ≤ count

@@ -89,6 +89,18 @@ impl Answer {
         }
     }
 
+    /// What it says, beside the answer. It takes none of the spares, and no memory for a text; a handle of a
+    /// policy can be refused all the same.
+    pub fn says(&self) -> Result<Said, AllocError>
+        ensures { IfOk result (λ says. says ≡ said self.now) }
+    {
+        match self {
+            Answer::Rules(rules) => Ok(Said::Rules(rules.policy_handle()?)),
+            Answer::Open(opening) => Ok(Said::Open(*opening)),
+            Answer::Closed(closure) => Ok(Said::Closed(*closure)),
+        }
+    }
+
     /// What it says, for a history to keep. It takes no memory.
     pub fn into_said(self) -> Said
         ensures { result ≡ said self }

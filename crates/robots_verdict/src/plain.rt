@@ -10,7 +10,7 @@ ghost use Rattle.path_normal.specs.Normal.{is_anchored};
 ghost use Rattle.robots_text.specs.Lines.{text_limit};
 ghost use Rattle.robots_verdict.specs.Index.{FindsLeast};
 ghost use Rattle.robots_verdict.specs.Rows.{is_row_above, row_at};
-ghost use Rattle.robots_verdict.specs.Search.{AreParents, ArePlaces, common, groups_at, IsCut, IsLastBegun, IsPlainHit, IsPlainIndex, IsPlainOrder, key_at};
+ghost use Rattle.robots_verdict.specs.Search.{AreParents, ArePlaces, common, groups_at, IsCountOf, IsCut, IsLastBegun, IsPlainHit, IsPlainIndex, IsPlainOrder, key_at};
 
 use crate::keys::in_order;
 use crate::places::groups_at;
@@ -114,8 +114,7 @@ fn last_begun(
     path: &[u8],
 ) -> Option<u32>
     requires few { length places.now ≤ text_limit }
-    requires fits { count ≤ length places.now }
-    requires known { count ≤ length parents.now }
+    requires fits { IsCountOf places.now parents.now count }
     requires rise { IsPlainOrder rows.now.rows places.now }
     requires parents { AreParents rows.now.rows places.now parents.now count }
     requires behind { (index : ℕ) → index < count

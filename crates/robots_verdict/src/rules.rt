@@ -91,6 +91,15 @@ impl Rules {
         &self.policy
     }
 
+    /// A handle of the policy, which takes none of the spares, for a history.
+    pub(crate) fn policy_handle(&self) -> Result<PolicyHandle, AllocError>
+        ensures { IfOk result (λ handle. handle ≡ self.now.text) }
+    {
+        Ok(PolicyHandle {
+            policy: self.handle()?,
+        })
+    }
+
     /// The handle of the policy, without the spares.
     pub(crate) fn into_handle(self) -> PolicyHandle
         ensures { result ≡ self.text }

@@ -13,7 +13,7 @@ use Rattle.url.specs.Scheme.{scheme_type, default_port, is_special}
 use Rattle.url.proofs.Theorems.{parse_url-serialize_special}
 use Rattle.path_normal.specs.PageText.{authority_of}
 use Rattle.path_normal.specs.PageUrl.{page_of_parts, port_text, IsPage, IsPageParts, IsWritten}
-use Rattle.path_normal.proofs.PageLemmas.{page_splits}
+use Rattle.path_normal.proofs.CallerLemmas.{page_splits}
 use Rattle.tcp_wire.specs.Server.{IsServerOf, bare_host, http_port}
 
 -- what is known of the parts of a text that were cut out of it

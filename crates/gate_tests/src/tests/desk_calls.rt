@@ -73,7 +73,8 @@ pub(super) fn granted<G: Gate, R: Wait>(
     page: &str,
 ) -> Option<Permit<G>>
     ensures no { desk.new.no ≡ desk.old.no }
-    ensures some { IfSome result (λ p. (p.desk ≡ desk.old.no) × HasOut desk.old desk.new 1 0 0 0 0 0) }
+    ensures some { IfSome result
+        (λ p. (p.desk ≡ desk.old.no) × HasOut desk.old desk.new 1 0 0 0 0 0) }
     ensures none { IfNone result (KeepsOut desk.old desk.new) }
 {
     let token = Token::new(alloc, b"foobot").ok()?;

@@ -36,7 +36,7 @@ returns-in_default-clause-opened c =
 
 pub returns-in_default-clause-known : goal.returns-in_default-clause-known
 returns-in_default-clause-known c =
-    known-new c.args.authority.now c.args.flight c.args.sites.now.entries c.add.new.sites.entries c.add.result c.requires.all c.add.ensures.ok c.add.ensures.same
+    known-new c.args.authority.now c.args.flight c.args.sites.now.entries c.add.new.sites.entries c.add.result c.requires.all c.add.ensures.own c.add.ensures.ok c.add.ensures.same
 
 pub returns-clause-opened : goal.returns-clause-opened
 returns-clause-opened c = λ limit.

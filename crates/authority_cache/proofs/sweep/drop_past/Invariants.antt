@@ -1,12 +1,11 @@
 use Rattle.std.proofs.Common.{◌+◌, ◌*◌, length}
-use Rattle.authority_cache.specs.Sites.{flight_count}
-use Rattle.authority_cache.specs.Ends.{Covers, HasRoomForEnds, SweepsPart}
-use Rattle.authority_cache.specs.Kept.{AllKnown, known_in}
+use Rattle.authority_cache.specs.Ends.{SweepsPart}
+use Rattle.authority_cache.specs.Kept.{IsTended, known_in}
 use Rattle.authority_cache.proofs.sweep.drop_past.Given as goal
 
 abbrev pub invariant-loop-index : goal.invariant-loop-index
 invariant-loop-index l =
-    AllKnown l.sites.entries × Covers l.ends l.sites.entries × HasRoomForEnds l.ends (flight_count (known_in 0 l.sites.entries))
+    IsTended l.ends l.sites.entries
     × SweepsPart (known_in 0 l.initial.sites.entries) l.moment l.dropped (known_in 0 l.sites.entries)
 
 abbrev pub decreases-loop-index : goal.decreases-loop-index

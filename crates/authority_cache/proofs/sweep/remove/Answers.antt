@@ -10,3 +10,6 @@ returns-clause-covered c =
     let e = entry-at es c.args.index c.requires.within in
     covers_kept c.args.index c.take_site.new.sites.entries c.args.ends.now c.keep_end.new.ends
     (but_removed es c.take_site.new.sites.entries c.args.index e.0 c.args.ends.now c.requires.within (c.take_site.ensures e.0 e.1).0 c.requires.others) c.keep_end.ensures
+
+pub returns-clause-one : goal.returns-clause-one
+returns-clause-one c = record { many = c.keep_end.ensures.many; room = c.keep_end.ensures.room }

@@ -4,8 +4,8 @@ use Rattle.std.proofs.lemmas.List.{take_all}
 use Rattle.counted_io.specs.Device.{AppendsPrefix}
 use Rattle.counted_io.specs.Output.{Pushes}
 use Rattle.counted_io.specs.declared.fault.DeviceFault.{DeviceFault}
-use Rattle.counted_io.proofs.Writing.{prefix_piece}
-use Rattle.line_text.proofs.Pushing.{pushes_cut, pushes_then}
+use Rattle.counted_io.proofs.CallerLemmas.{prefix_piece}
+use Rattle.line_text.proofs.CallerLemmas.{pushes_cut, pushes_then}
 use Rattle.command_server.specs.HopText.{hop_text, hops_text, lead_text}
 use Rattle.crawl_job.specs.declared.hop.Hop.{Hop}
 use Rattle.line_text.specs.Pieces.{piece_text}

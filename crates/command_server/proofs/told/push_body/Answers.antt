@@ -3,8 +3,8 @@ use Rattle.std.proofs.Common.{ℕ, List, [], ◌∷◌, ◌++◌, length, subst}
 use Rattle.std.specs.Prelude.{codes, decimal}
 use Rattle.counted_io.specs.Device.{AppendsPrefix}
 use Rattle.counted_io.specs.Output.{Passes}
-use Rattle.counted_io.proofs.Writing.{prefix_piece}
-use Rattle.line_text.proofs.Pushing.{pushes_cut, pushes_then}
+use Rattle.counted_io.proofs.CallerLemmas.{prefix_piece}
+use Rattle.line_text.proofs.CallerLemmas.{pushes_cut, pushes_then}
 use Rattle.counted_io.specs.Lines.{line_feed}
 use Rattle.line_text.specs.Pieces.{line_of}
 use Rattle.command_server.proofs.told.push_body.Goals as goal

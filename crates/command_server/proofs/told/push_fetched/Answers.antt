@@ -1,8 +1,8 @@
 -- The lines of the hops are pushed, and the body behind them.
 use Rattle.std.proofs.Common.{◌≡◌}
 use Rattle.std.specs.Prelude.{codes}
-use Rattle.counted_io.proofs.Writing.{prefix_piece}
-use Rattle.line_text.proofs.Pushing.{pushes_cut, pushes_then}
+use Rattle.counted_io.proofs.CallerLemmas.{prefix_piece}
+use Rattle.line_text.proofs.CallerLemmas.{pushes_cut, pushes_then}
 use Rattle.command_server.specs.HopText.{hops_text}
 use Rattle.command_server.specs.ToldText.{body_text}
 use Rattle.command_server.proofs.told.push_fetched.Goals as goal

@@ -1,7 +1,7 @@
 -- The octets are pushed, and the line end behind them.
 
-use Rattle.counted_io.proofs.Writing.{prefix_piece}
-use Rattle.line_text.proofs.Pushing.{pushes_cut, pushes_then}
+use Rattle.counted_io.proofs.CallerLemmas.{prefix_piece}
+use Rattle.line_text.proofs.CallerLemmas.{pushes_cut, pushes_then}
 use Rattle.std.proofs.Common.{[], ◌∷◌}
 use Rattle.counted_io.specs.Lines.{line_feed}
 use Rattle.command_server.proofs.told.push_octets.Goals as goal

@@ -1,6 +1,6 @@
 -- The head and the lines are pushed one after the other.
-use Rattle.counted_io.proofs.Writing.{prefix_piece}
-use Rattle.line_text.proofs.Pushing.{pushes_cut, pushes_then}
+use Rattle.counted_io.proofs.CallerLemmas.{prefix_piece}
+use Rattle.line_text.proofs.CallerLemmas.{pushes_cut, pushes_then}
 use Rattle.crawl_audit.specs.declared.version.Version.TheVariants.{Two}
 use Rattle.crawl_audit.specs.Spell.{version_line, entry_lines}
 use Rattle.crawl_audit.proofs.export_text.push_history.Goals as goal
@@ -12,4 +12,4 @@ returns-in_err-push-clause-pushes g c =
 
 pub returns-clause-pushes : goal.returns-clause-pushes
 returns-clause-pushes g c =
-    pushes_then _ _ _ _ _ _ _ _ _ _ _ c.push_entries.result c.in_ok-push.ensures.ok c.in_ok-push.ensures.count c.push_entries.ensures.pushes
+    pushes_then _ _ _ _ _ _ _ _ _ _ _ c.push_rows.result c.in_ok-push.ensures.ok c.in_ok-push.ensures.count c.push_rows.ensures.pushes

@@ -1,7 +1,14 @@
 -- The order of what stands changes nothing.
 use Rattle.gate_history.proofs.OrderLaws as order
 use Rattle.gate_history.proofs.LegalLaws as legal
+use Rattle.gate_history.proofs.Reordering as reordering
 use Rattle.gate_history.proofs.laws.order_changes_nothing.Goals as goal
+
+pub returns-clause-keys : goal.returns-clause-keys
+returns-clause-keys c = reordering.keys_say
+
+pub returns-clause-reordered : goal.returns-clause-reordered
+returns-clause-reordered c = reordering.reordering_says
 
 pub returns-clause-base : goal.returns-clause-base
 returns-clause-base c = legal.says_base

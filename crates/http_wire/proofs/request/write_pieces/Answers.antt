@@ -1,6 +1,6 @@
 -- What was written of a piece stands behind the pieces before it.
 -- The lemma `cut_piece` says so over plain lists.
-use Rattle.counted_io.proofs.Writing.{on_err}
+use Rattle.counted_io.proofs.CallerLemmas.{on_err}
 use Rattle.http_wire.proofs.RequestPieces.{cut_piece}
 use Rattle.http_wire.proofs.request.write_pieces.Goals as goal
 

@@ -4,7 +4,7 @@ use Rattle.std.proofs.lemmas.List.{length-take}
 use Rattle.std.specs.Io.KnownBytes.{Consumes}
 use Rattle.std.proofs.KnownBytes.{Consumes-trans}
 use Rattle.robots_text.specs.Lines.{text_limit}
-use Rattle.counted_io.proofs.Writing.{on_err}
+use Rattle.counted_io.proofs.CallerLemmas.{on_err}
 use Rattle.robots_lines.specs.Prints.{ReadsPart, ReadsLost}
 use Rattle.robots_lines.proofs.Reading.{ends_body, reads_body}
 use Rattle.robots_lines.proofs.body.read_body.Goals as goal

@@ -5,7 +5,7 @@ use Rattle.std.proofs.KnownBytes.{Appends-nil, Appends-trans}
 use Rattle.std.proofs.lemmas.Result.{err_from_is_err_and}
 use Rattle.counted_io.specs.Device.{AppendsPrefix}
 use Rattle.counted_io.specs.Output.{Passes}
-use Rattle.counted_io.proofs.Writing.{Passes-cut-all}
+use Rattle.counted_io.proofs.CallerLemmas.{Passes-cut-all}
 use Rattle.robots_text.specs.Lines.{kept}
 use Rattle.robots_text.specs.Records.{Numbered, numbered_records}
 use Rattle.robots_lines.specs.LinesText.{numbered_text, lines_text}
@@ -33,7 +33,7 @@ returns-in_err-output-clause-prints g c =
 pub returns-in_err-flush-clause-prints : goal.returns-in_err-flush-clause-prints
 returns-in_err-flush-clause-prints g c =
     let p = err_from_is_err_and c.from_residual-in_err-flush.result c.from_residual-in_err-flush.ensures.1 in
-    let text = pushed_text _ _ _ c.in_ok-body.body.items _ c.in_ok-output.ensures c.records.ensures.records c.in_ok-text.ensures.kept c.as_slice.ensures.value in
+    let text = pushed_text _ _ _ c.in_ok-body.body.items _ c.in_ok-output.ensures.empty c.records.ensures.records c.in_ok-text.ensures.kept c.as_slice.ensures.value in
     rw (p.1, p.2) (
       c.in_ok-body.body.items,
       c.in_ok-body.ensures.body,
@@ -43,7 +43,7 @@ returns-in_err-flush-clause-prints g c =
 
 pub returns-clause-prints : goal.returns-clause-prints
 returns-clause-prints g c =
-    let text = pushed_text _ _ _ c.in_ok-body.body.items _ c.in_ok-output.ensures c.records.ensures.records c.in_ok-text.ensures.kept c.as_slice.ensures.value in (
+    let text = pushed_text _ _ _ c.in_ok-body.body.items _ c.in_ok-output.ensures.empty c.records.ensures.records c.in_ok-text.ensures.kept c.as_slice.ensures.value in (
       c.in_ok-body.body.items,
       c.in_ok-body.ensures.body,
       subst (λ l. Appends (g.W.Sink.written c.args.writer.now) (g.W.Sink.written c.flush.new.sink) l) text

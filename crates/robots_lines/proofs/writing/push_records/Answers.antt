@@ -2,9 +2,9 @@
 use Rattle.std.proofs.Common.{◌≡◌, ℕ, List, ◌∷◌, ◌++◌, Option, flat_map, append_assoc, sym, subst, ap, ◌∙◌}
 use Rattle.counted_io.specs.Device.{AppendsPrefix, one_more}
 use Rattle.counted_io.specs.Output.{Passes}
-use Rattle.counted_io.proofs.Writing.{Passes-pieces, Passes-cut-piece, prefix_piece}
+use Rattle.counted_io.proofs.CallerLemmas.{Passes-cut-piece, Passes-pieces, prefix_piece}
 use Rattle.robots_text.specs.Records.{Numbered, line_seen}
-use Rattle.line_text.proofs.Pushing.{pushes_cut}
+use Rattle.line_text.proofs.CallerLemmas.{pushes_cut}
 use Rattle.robots_lines.specs.LinesText.{numbered_text}
 use Rattle.robots_lines.proofs.writing.push_records.Goals as goal
 

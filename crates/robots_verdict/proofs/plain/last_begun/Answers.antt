@@ -9,12 +9,12 @@ use Rattle.robots_verdict.proofs.plain.last_begun.Goals as goal
 
 pub returns-then-group : goal.returns-then-group
 returns-then-group c =
-    none_of_group c.args.rows.now.rows c.args.places.now c.requires.rise c.args.count c.requires.fits c.args.group c.args.path.now c.requires.behind (omega (arith, c.if-count-eq0.false))
+    none_of_group c.args.rows.now.rows c.args.places.now c.requires.rise c.args.count c.requires.fits.places_have c.args.group c.args.path.now c.requires.behind (omega (arith, c.if-count-eq0.false))
     (λ same. c.if-group.true (c.group.ensures ∙ same))
 
 pub loop-parent-init : goal.loop-parent-init
 loop-parent-init c =
-    near_top c.args.rows.now.rows c.args.places.now c.requires.rise c.args.count c.requires.fits (c.args.group ∷ c.args.path.now) c.requires.behind (omega (arith, c.if-count-eq0.false))
+    near_top c.args.rows.now.rows c.args.places.now c.requires.rise c.args.count c.requires.fits.places_have (c.args.group ∷ c.args.path.now) c.requires.behind (omega (arith, c.if-count-eq0.false))
 
 no_parent : (found : Option ℕ) → ((parent : ℕ) → found ≡ Some parent → ⊥) → found ≡ None
 no_parent None never = refl
@@ -32,9 +32,9 @@ returns-in_default c =
     let is = c.common-common.ensures ∙ ap (λ (t : List ℕ). common t c.args.path.now) c.form.ensures in
     let form = (row_at rows (slice_index places last)).form in
     let short : c.common-common.result < length form = omega (arith, c.loop-parent-test.true, ap length c.form-in-loop-parent.ensures) in
-    let not = begun rows places c.requires.rise c.args.count c.requires.fits text c.requires.behind some last c.loop-parent.invariant
+    let not = begun rows places c.requires.rise c.args.count c.requires.fits.places_have text c.requires.behind some last c.loop-parent.invariant
     ∙ falls_short top.group c.args.group (length form) c.common-common.result top.form c.args.path.now same is short in
-    none_near rows places c.requires.rise c.args.count c.requires.fits text c.requires.behind some last c.loop-parent.invariant not
+    none_near rows places c.requires.rise c.args.count c.requires.fits.places_have text c.requires.behind some last c.loop-parent.invariant not
     (subst (IsLastBegun rows places last (key_at rows places last)) (no_parent _ c.in_default.not-Some) (c.requires.parents last None c.loop-parent.invariant.within))
 
 pub loop-parent-preserved : goal.loop-parent-preserved
@@ -49,9 +49,9 @@ loop-parent-preserved c =
     let is = c.common-common.ensures ∙ ap (λ (t : List ℕ). common t c.args.path.now) c.form.ensures in
     let form = (row_at rows (slice_index places last)).form in
     let short : c.common-common.result < length form = omega (arith, c.loop-parent-test.true, ap length c.form-in-loop-parent.ensures) in
-    let not = begun rows places c.requires.rise c.args.count c.requires.fits text c.requires.behind some last c.loop-parent.invariant
+    let not = begun rows places c.requires.rise c.args.count c.requires.fits.places_have text c.requires.behind some last c.loop-parent.invariant
     ∙ falls_short top.group c.args.group (length form) c.common-common.result top.form c.args.path.now same is short in
-    near_parent rows places c.requires.rise c.args.count c.requires.fits text c.requires.behind some last c.loop-parent.invariant c.in-Some.parent not
+    near_parent rows places c.requires.rise c.args.count c.requires.fits.places_have text c.requires.behind some last c.loop-parent.invariant c.in-Some.parent not
     (subst (IsLastBegun rows places last (key_at rows places last)) c.in-Some.is (c.requires.parents last None c.loop-parent.invariant.within))
 
 pub returns : goal.returns
@@ -66,6 +66,6 @@ returns c =
     let is = c.common-common.ensures ∙ ap (λ (t : List ℕ). common t c.args.path.now) c.form.ensures in
     let form = (row_at rows (slice_index places last)).form in
     let len : length form ≤ c.common-common.result = omega (arith, c.loop-parent-test.false, ap length c.form-in-loop-parent.ensures) in
-    found rows places c.requires.rise c.args.count c.requires.fits text c.requires.behind some last c.loop-parent.invariant
-    (begun rows places c.requires.rise c.args.count c.requires.fits text c.requires.behind some last c.loop-parent.invariant
+    found rows places c.requires.rise c.args.count c.requires.fits.places_have text c.requires.behind some last c.loop-parent.invariant
+    (begun rows places c.requires.rise c.args.count c.requires.fits.places_have text c.requires.behind some last c.loop-parent.invariant
     ∙ reaches top.group c.args.group (length form) c.common-common.result top.form c.args.path.now same is len)

@@ -16,9 +16,8 @@ make_room-requires-clause-flights c = omega (arith, flights_bound c.self.inside.
 pub invariant_of-self-2 : goal.invariant_of-self-2
 invariant_of-self-2 c =
     let p = c.self.inside in
-    let t = c.text.result.now in
     let found = subst (λ (k : Known). IsFound k c.args.authority.now c.args.found) (sym c.self.view_is) c.requires in
-    let may = c.in_ok-may_begin.ensures.may t (subst (λ a. IsFound (known_of p) a c.args.found) (sym c.text.ensures.value) found) in
+    let may = c.in_ok-may_begin.ensures.may c.args.authority.now found in
     let changes = c.in_ok-open.ensures.opened p.limit in
     let was = ap one_if may.0 in
     record {
@@ -35,5 +34,5 @@ returns-clause-reply c =
     let new = known_in p.limit c.open.new.sites.entries in
     let found = subst (λ (k : Known). IsFound k c.args.authority.now c.args.found) (sym c.self.view_is) c.requires in
     let may = c.in_ok-may_begin.ensures.may c.args.authority.now found in
-    let changes = subst (λ a. Changes (known_of p) a (with_flight flight (site_of (known_of p) a)) new) c.text.ensures.value (c.in_ok-open.ensures.opened p.limit) in
+    let changes = c.in_ok-open.ensures.opened p.limit in
     subst (λ (k : Known). Begins k c.args.authority.now flight (Ok tt) new) c.self.view_is (may.0, may.1, changes)

@@ -7,6 +7,13 @@ use Rattle.authority_cache.specs.Sites.{IsApart, Known, is_flying}
 use Rattle.authority_cache.proofs.SweepLaws.{apart_from}
 use Rattle.authority_cache.proofs.cache.Cache.sweep.Goals as goal
 
+pub drop_past-requires-clause-tended : goal.drop_past-requires-clause-tended
+drop_past-requires-clause-tended c = record {
+  known = c.self.invariant.known;
+  covered = c.self.invariant.covered;
+  room = subst (λ n. HasRoomForEnds c.self.inside.ends n) c.self.invariant.flights c.self.invariant.room;
+}
+
 pub returns-clause-swept : goal.returns-clause-swept
 returns-clause-swept c =
     let p = c.self.inside in
@@ -21,8 +28,8 @@ invariant_of-self c =
     let p = c.self.inside in
     let turns = sym ((c.drop_past.ensures.swept p.limit).counts is_flying refl) in
     record {
-      known = c.drop_past.ensures.known;
+      known = c.drop_past.ensures.tended.known;
       flights = c.self.invariant.flights ∙ turns;
-      covered = c.drop_past.ensures.covered;
-      room = subst (λ n. HasRoomForEnds c.drop_past.new.ends n) (sym (c.self.invariant.flights ∙ turns)) c.drop_past.ensures.room;
+      covered = c.drop_past.ensures.tended.covered;
+      room = subst (λ n. HasRoomForEnds c.drop_past.new.ends n) (sym (c.self.invariant.flights ∙ turns)) c.drop_past.ensures.tended.room;
     }

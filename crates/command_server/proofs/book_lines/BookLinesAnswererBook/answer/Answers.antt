@@ -1,7 +1,7 @@
 -- A farewell that was cut is still the reply to QUIT.
 use Rattle.std.proofs.Common.{true, refl, sym, ap, ◌∙◌, subst, inl}
 use Rattle.std.specs.Prelude.{Result, Ok}
-use Rattle.counted_io.proofs.Writing.{on_err}
+use Rattle.counted_io.proofs.CallerLemmas.{on_err}
 use Rattle.command_server.specs.declared.command.Command.{Command}
 use Rattle.command_server.specs.declared.fault.LineFault.{LineFault}
 use Rattle.line_text.specs.Pieces.{pieces_text}

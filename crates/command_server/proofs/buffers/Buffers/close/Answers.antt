@@ -1,7 +1,7 @@
 -- A flush that fails behind the last words leaves a part of them.
 -- The lemma `Passes-cut` joins the push and the flush.
 use Rattle.std.proofs.lemmas.Result.{err_from_is_err_and}
-use Rattle.counted_io.proofs.Writing.{Passes-cut-all}
+use Rattle.counted_io.proofs.CallerLemmas.{Passes-cut-all}
 use Rattle.command_server.proofs.buffers.Buffers.close.Goals as goal
 
 pub returns-in_err-flush-clause-wrote : goal.returns-in_err-flush-clause-wrote

@@ -1,6 +1,6 @@
 -- What the client is told passes to the output, or is cut there.
 use Rattle.std.proofs.Common.{refl}
-use Rattle.counted_io.proofs.Writing.{on_err}
+use Rattle.counted_io.proofs.CallerLemmas.{on_err}
 use Rattle.command_server.specs.Clients.{is_farewell}
 use Rattle.command_server.specs.ToldText.{told_text}
 use Rattle.command_server.proofs.client_lines.ClientLinesAnswerer.answer.Goals as goal

@@ -1,16 +1,8 @@
 -- A grant is legal where it comes in time, its number is new, and its fetch is allowed.
-use Rattle.std.proofs.Common.{◌≡◌, sym, subst, ◌∙◌}
-use Rattle.authority_cache.specs.Sites.{Known}
-use Rattle.gate_history.specs.History.{History}
+use Rattle.std.proofs.Common.{sym, ◌∙◌}
 use Rattle.gate_history.specs.Standing.{in_flight, standing}
-use Rattle.crawl_audit.specs.declared.ledger.Ledger.{Ledger}
-use Rattle.crawl_audit.specs.Tables.{Tells}
-use Rattle.crawl_audit.proofs.Following.{allowed_by, granted_follows, not_allowed}
+use Rattle.crawl_audit.proofs.Following.{allowed_by, granted_follows, not_allowed, told}
 use Rattle.crawl_audit.proofs.ledger.Ledger.enter_granted.Goals as goal
-
--- the ledger whose rules may have an index more tells the same
-told : (ledger : Ledger) (known : Known) (h : History) → known ≡ ledger.cache → Tells ledger h → Tells (record ledger { cache = known }) h
-told ledger known h same t = subst (λ (k : Known). Tells (record ledger { cache = k }) h) (sym same) t
 
 pub returns-then-is_err : goal.returns-then-is_err
 returns-then-is_err c = λ h t' may.

@@ -4,7 +4,7 @@ use Rattle.std.proofs.Common.{Ok, sym, subst, arith}
 use Rattle.gate_history.specs.declared.entry.Entry.TheVariants.{Started}
 use Rattle.gate_history.specs.Legal.{MayFollow, SpendsAs}
 use Rattle.gate_core.specs.Gate.{Gate, history}
-use Rattle.gate_core.proofs.Keeping.{entries_many, few_starts, spends_out, started_kept}
+use Rattle.gate_core.proofs.Keeping.{entries_many, few_starts, spends_out, spends_some, started_kept}
 use Rattle.gate_core.proofs.book.Book.enter_start.Goals as goal
 
 pub decide-requires : goal.decide-requires
@@ -26,4 +26,6 @@ overflow_add-self c =
     let few = few_starts b c.self.invariant in
     let logged = c.self.invariant.logged in
     let sealed = c.self.invariant.sealed in
-    omega (arith, many, few, logged, sealed)
+    let spends = subst (λ (g : Gate). SpendsAs (history g) c.args.number c.args.moment (Ok c.args.reason)) (sym c.self.view_is) c.requires.spends in
+    let some = spends_some b c.self.invariant b.entries c.args.number c.args.moment (Ok c.args.reason) spends in
+    omega (arith, many, few, logged, sealed, some)

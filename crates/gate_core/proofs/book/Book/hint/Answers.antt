@@ -10,7 +10,7 @@ use Rattle.gate_core.specs.Gate.{Gate, history}
 use Rattle.gate_core.specs.Replies.{moment_at}
 use Rattle.gate_core.specs.States.{HasRulesInForce}
 use Rattle.gate_core.proofs.Keeping.{told}
-use Rattle.gate_history.proofs.Looking.{IsInForce}
+use Rattle.gate_history.proofs.CallerLemmas.{IsInForce}
 use Rattle.gate_core.proofs.Looking.{rules_in_force, stands_in_force}
 use Rattle.gate_core.proofs.book.Book.hint.Goals as goal
 

@@ -5,7 +5,7 @@ use Rattle.robots_verdict.specs.Answer.{said}
 use Rattle.authority_cache.specs.declared.look.Look.TheVariants.{Unknown, Expired, InForce}
 use Rattle.authority_cache.specs.Calls.{LooksAt}
 use Rattle.authority_cache.specs.Sites.{State}
-use Rattle.authority_cache.proofs.FoundLaws.{state_found}
+use Rattle.authority_cache.proofs.CallerLemmas.{state_found}
 use Rattle.gate_history.specs.Standing.{standing_of}
 use Rattle.gate_core.specs.Gate.{Gate, history}
 use Rattle.gate_core.specs.States.{IsState, StandsAs}

@@ -4,6 +4,8 @@ use Rattle.std.proofs.Common.{◌<◌, ◌≤◌, arith, ap, length, drop}
 use Rattle.std.proofs.lemmas.List.{take_rest}
 use Rattle.http_wire.specs.declared.chunked.Place.TheVariants as places
 use Rattle.http_wire.specs.Chunks.{IsOpenEnd, NeverHasEnd}
+use Rattle.http_wire.specs.declared.chunked.ChunkEnd.TheVariants as chunk_ends
+use Rattle.http_wire.specs.Decoding.{EndTells}
 use Rattle.http_wire.proofs.ChunkPlaces.{octets_end, chunk_open, chunk_bad}
 use Rattle.http_wire.proofs.ChunkMoves.{at_place, text_behind}
 use Rattle.http_wire.proofs.chunked.ChunkDecoder.look_chunk.Goals as goal
@@ -33,3 +35,9 @@ returns-in-Bad-clause-steps c =
     let stand : c.args.size ≤ length rest = omega (arith, ap length (take_rest c.args.bytes.now old.at), c.if-text-size.false) in
     let never = text_behind NeverHasEnd c.args.bytes.now old.at c.args.size c.in-Bad.ensures in
     chunk_bad old.limit c.args.size _ old.octets.items rest d (omega (arith, c.requires.fits, old.octets.ok)) stand never
+
+pub take_chunk-requires-clause-whole : goal.take_chunk-requires-clause-whole
+take_chunk-requires-clause-whole c = record {
+  within = omega (arith, ap length (take_rest c.args.bytes.now c.args.self.now.at), c.if-text-size.false);
+  ends = text_behind (λ text. EndTells text chunk_ends.Whole) c.args.bytes.now c.args.self.now.at c.args.size c.in-Whole.ensures;
+}

@@ -9,34 +9,34 @@ use Rattle.http_wire.proofs.head.HeadFinder.take.Goals as goal
 
 pub returns-in-Interim-clause-sees : goal.returns-in-Interim-clause-sees
 returns-in-Interim-clause-sees c last =
-    let found = subst (λ (t : List ℕ). IsHeadAt t c.args.headers.now c.args.spans c.requires.at.0) c.requires.prefix c.requires.at.1 in (
-      passes_next c.args.self.now _ c.args.bytes.now c.args.headers.now c.args.spans c.requires.at.0 c.requires.passes found
+    let found = subst (λ (t : List ℕ). IsHeadAt t c.args.headers.now c.args.spans c.requires.at.0) c.requires.looks.prefix c.requires.at.1 in (
+      passes_next c.args.self.now _ c.args.bytes.now c.args.headers.now c.args.spans c.requires.at.0 c.requires.looks.passes found
           c.in-Interim.ensures (omega arith) refl refl,
       refl,
     )
 
 pub returns-in-Interim-2-clause-faults : goal.returns-in-Interim-2-clause-faults
 returns-in-Interim-2-clause-faults c more limit =
-    let found = subst (λ (t : List ℕ). IsHeadAt t c.args.headers.now c.args.spans c.requires.at.0) c.requires.prefix c.requires.at.1 in
-    too_many c.args.self.now c.args.bytes.now more c.args.headers.now c.args.spans c.requires.at.0 c.requires.passes found
+    let found = subst (λ (t : List ℕ). IsHeadAt t c.args.headers.now c.args.spans c.requires.at.0) c.requires.looks.prefix c.requires.at.1 in
+    too_many c.args.self.now c.args.bytes.now more c.args.headers.now c.args.spans c.requires.at.0 c.requires.looks.passes found
     c.in-Interim-2.ensures (omega arith)
 
 pub returns-in_ok-plan-in-Final-clause-sees : goal.returns-in_ok-plan-in-Final-clause-sees
 returns-in_ok-plan-in-Final-clause-sees c last =
-    let found = subst (λ (t : List ℕ). IsHeadAt t c.args.headers.now c.args.spans c.requires.at.0) c.requires.prefix c.requires.at.1 in
-    let plan = subst (λ (t : List ℕ). IsPlan c.args.spans.code (map (header_bytes t) (take c.args.spans.headers c.args.headers.now)) (c.args.self.now.at + c.args.spans.len) c.in_ok-plan-in-Final.field-0) c.requires.prefix c.in_ok-plan-in-Final.ensures.ok in
-    planned c.args.self.now c.args.bytes.now c.args.headers.now c.args.spans c.requires.at.0 c.in_ok-plan-in-Final.field-0 c.requires.passes found
+    let found = subst (λ (t : List ℕ). IsHeadAt t c.args.headers.now c.args.spans c.requires.at.0) c.requires.looks.prefix c.requires.at.1 in
+    let plan = subst (λ (t : List ℕ). IsPlan c.args.spans.code (map (header_bytes t) (take c.args.spans.headers c.args.headers.now)) (c.args.self.now.at + c.args.spans.len) c.in_ok-plan-in-Final.field-0) c.requires.looks.prefix c.in_ok-plan-in-Final.ensures.ok in
+    planned c.args.self.now c.args.bytes.now c.args.headers.now c.args.spans c.requires.at.0 c.in_ok-plan-in-Final.field-0 c.requires.looks.passes found
     c.in-Final.ensures plan
 
 pub returns-in_err-plan-in-Final-clause-faults : goal.returns-in_err-plan-in-Final-clause-faults
 returns-in_err-plan-in-Final-clause-faults c =
-    let found = subst (λ (t : List ℕ). IsHeadAt t c.args.headers.now c.args.spans c.requires.at.0) c.requires.prefix c.requires.at.1 in
-    let none = subst (λ (t : List ℕ). HasNoPlan c.args.spans.code (map (header_bytes t) (take c.args.spans.headers c.args.headers.now)) c.in_err-plan-in-Final.field-0.0) c.requires.prefix c.in_err-plan-in-Final.ensures.err in
+    let found = subst (λ (t : List ℕ). IsHeadAt t c.args.headers.now c.args.spans c.requires.at.0) c.requires.looks.prefix c.requires.at.1 in
+    let none = subst (λ (t : List ℕ). HasNoPlan c.args.spans.code (map (header_bytes t) (take c.args.spans.headers c.args.headers.now)) c.in_err-plan-in-Final.field-0.0) c.requires.looks.prefix c.in_err-plan-in-Final.ensures.err in
     fault_passed (Faults c.args.bytes.now) c.from_residual.result c.in_err-plan-in-Final.field-0.0 c.from_residual.ensures.1
-    (unplanned c.args.self.now c.args.bytes.now c.args.headers.now c.args.spans c.requires.at.0 c.in_err-plan-in-Final.field-0.0 c.requires.passes found
+    (unplanned c.args.self.now c.args.bytes.now c.args.headers.now c.args.spans c.requires.at.0 c.in_err-plan-in-Final.field-0.0 c.requires.looks.passes found
     c.in-Final.ensures none)
 
 pub returns-in-Strange-clause-faults : goal.returns-in-Strange-clause-faults
 returns-in-Strange-clause-faults c more limit =
-    let found = subst (λ (t : List ℕ). IsHeadAt t c.args.headers.now c.args.spans c.requires.at.0) c.requires.prefix c.requires.at.1 in
-    strange c.args.self.now c.args.bytes.now more c.args.headers.now c.args.spans c.requires.at.0 c.requires.passes found c.in-Strange.ensures
+    let found = subst (λ (t : List ℕ). IsHeadAt t c.args.headers.now c.args.spans c.requires.at.0) c.requires.looks.prefix c.requires.at.1 in
+    strange c.args.self.now c.args.bytes.now more c.args.headers.now c.args.spans c.requires.at.0 c.requires.looks.passes found c.in-Strange.ensures

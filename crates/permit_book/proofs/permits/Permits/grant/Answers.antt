@@ -22,4 +22,5 @@ invariant_of-self c =
     rw c.slot-2.ensures.value
     (IsKept-set (table_of p) p.free c.remove.new.self p.unspent p.running (p.unspent + 1) p.running place _ c.self.invariant there.0
     (SetsBit-other _ _ place 0 taken) (SetsBit-here _ _ place 0 taken) c.remove.ensures.room
-    (rw (nothing_unspent _ there.1) (omega arith)) (rw (nothing_running _ there.1) (omega arith)))
+    (rw (nothing_unspent _ there.1) (omega arith)) (rw (nothing_running _ there.1) (omega arith))
+    (omega (arith, c.generation.ensures.value, c.generation.ensures.bound)))

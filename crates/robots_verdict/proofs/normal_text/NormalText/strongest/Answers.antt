@@ -8,7 +8,7 @@ use Rattle.path_pattern.specs.Matches.{Matches}
 use Rattle.robots_text.specs.Groups.{IsRuleFor, record_ruled, Ruled}
 use Rattle.robots_text.specs.Records.{numbered_records}
 use Rattle.robots_text.specs.Walk.{rule_seen, rules_left}
-use Rattle.robots_text.proofs.LineEntries.{first_of}
+use Rattle.robots_text.proofs.CallerLemmas.{first_of}
 use Rattle.robots_verdict.specs.Strongest.{IsBest, stronger}
 use Rattle.robots_verdict.specs.Weights.{weight_of}
 use Rattle.robots_verdict.proofs.Walking.{IsWalked, pass_over, walked_all, weigh}

@@ -2,7 +2,7 @@
 -- Used by `Rows::push`.
 use Rattle.std.proofs.Common.{◌≡◌, ◌-◌, ℕ, List, ◌++◌, ◌∷◌, [], ◌+◌, length, refl, ap, ◌∙◌, arith, length-append}
 use Rattle.path_normal.specs.Normal.{is_anchored, normal_pattern}
-use Rattle.path_normal.proofs.NormalLemmas.{pattern_small}
+use Rattle.path_normal.proofs.CallerLemmas.{pattern_small}
 use Rattle.robots_verdict.specs.Placed.{Table}
 use Rattle.robots_verdict.proofs.RowLemmas.{all_there, row_pushed, there_more}
 use Rattle.robots_verdict.proofs.rows.Rows.push.Goals as goal

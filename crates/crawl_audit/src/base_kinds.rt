@@ -1,0 +1,80 @@
+//! The line of each kind of thing that a base left open, by its fields.
+//! docs/FORMATS.md has the kinds as a table.
+ghost use Rattle.std.specs.Prelude.{◌≡◌, ◌++◌, [], ◌∷◌, codes, decimal};
+ghost use Rattle.line_text.specs.Pieces.{pieces_text};
+ghost use Rattle.path_normal.specs.Authority.{IsAuthority};
+ghost use Rattle.crawl_audit.specs.declared.version.Version.TheVariants.{Two};
+ghost use Rattle.crawl_audit.specs.Entries.{IsNumber};
+ghost use Rattle.crawl_audit.specs.Records.{told_said};
+ghost use Rattle.crawl_audit.specs.Spell.{answer_fields, spaced_fields};
+
+use crate::kinds::{Told, answer_pieces};
+use crate::version::Version;
+use authority_cache::TurnNo;
+use line_text::{Piece, Pieces};
+use path_normal::Authority;
+
+const SPACE: Piece<'static> = Piece::Text(" ");
+
+/// An answer that stands.
+pub(crate) fn standing<'a>(
+    authority: &'a Authority,
+    turn: TurnNo,
+    begun: u64,
+    told: Told<'a>,
+    life: u64,
+) -> Pieces<'a>
+    ensures text { pieces_text result ≡ codes "H" ++ spaced_fields (authority.now ∷ decimal turn
+        ∷ decimal begun ∷ answer_fields Two (told_said told.entry) life) }
+    ensures authority { IsAuthority authority.now }
+    ensures turn { IsNumber turn }
+    ensures begun { IsNumber begun }
+    ensures life { IsNumber life }
+{
+    let says = answer_pieces(Version::Two, told, life);
+    Pieces::of(&[
+        Piece::Text("H "),
+        Piece::Text(authority.text()),
+        SPACE,
+        Piece::Number(turn.number()),
+        SPACE,
+        Piece::Number(begun),
+        says.0,
+        says.1,
+        says.2,
+        says.3,
+    ])
+}
+
+/// A turn in flight.
+pub(crate) fn in_flight(authority: &Authority, turn: TurnNo, begun: u64) -> Pieces<'_>
+    ensures text { pieces_text result ≡ codes "I"
+        ++ spaced_fields (authority.now ∷ decimal turn ∷ decimal begun ∷ []) }
+    ensures authority { IsAuthority authority.now }
+    ensures turn { IsNumber turn }
+    ensures begun { IsNumber begun }
+{
+    Pieces::of(&[
+        Piece::Text("I "),
+        Piece::Text(authority.text()),
+        SPACE,
+        Piece::Number(turn.number()),
+        SPACE,
+        Piece::Number(begun),
+    ])
+}
+
+/// The greatest generation of a slot.
+pub(crate) fn greatest(slot: u64, generation: u64) -> Pieces<'static>
+    ensures text { pieces_text result ≡ codes "L"
+        ++ spaced_fields (decimal slot ∷ decimal generation ∷ []) }
+    ensures slot { IsNumber slot }
+    ensures generation { IsNumber generation }
+{
+    Pieces::of(&[
+        Piece::Text("L "),
+        Piece::Number(slot),
+        SPACE,
+        Piece::Number(generation),
+    ])
+}

@@ -1,0 +1,126 @@
+-- A base that is made of what a book's tables list says what its history does.
+-- Cited by `Book::next_base` and `Book::seal`.
+use Rattle.std.proofs.Common.{◌≡◌, ℕ, ◌<◌, ◌≤◌, Bool, true, false, cond, List, [], ◌∷◌, length, filter, inl, inr, refl, sym, ap, ◌∙◌, arith, eqb-true}
+use Rattle.std.specs.Prelude.{◌&&◌, nat_le, nat_lt}
+use Rattle.std.specs.List.{list_all}
+use Rattle.std.proofs.lemmas.Bool.{and_parts, ltb-true}
+use Rattle.std.proofs.lemmas.Bool.Decides.{eqb_tells, leb_tells}
+use Rattle.std.proofs.lemmas.List.{get_or_past}
+use Rattle.authority_cache.specs.Lists.{ListsAnswers, ListsTurns}
+use Rattle.permit_book.specs.Numbers.{last_generation}
+use Rattle.permit_book.specs.Outstanding.{ListsRunning, ListsUnspent}
+use Rattle.permit_book.specs.Table.{last_in, unused}
+use Rattle.gate_history.specs.declared.base.SlotGrant.{SlotGrant}
+use Rattle.gate_history.specs.Base.{Base}
+use Rattle.gate_history.specs.Grants.{generation_in, greatest_of, is_in}
+use Rattle.gate_history.specs.History.{History, entry_count, from}
+use Rattle.gate_history.specs.Outstanding.{grants, running, unspent}
+use Rattle.gate_history.specs.Seal.{SaySame, SaysAs}
+use Rattle.gate_history.specs.Standing.{in_flight, standing}
+use Rattle.gate_history.proofs.CallerLemmas.{covered_alike, granted_covered, greatest_alike, greatest_is, keys_say, stands_once}
+use Rattle.gate_core.specs.declared.book.Book.TheInside.{Inside}
+use Rattle.gate_core.specs.declared.config.Limits.{Limits}
+use Rattle.gate_core.specs.Kept.{IsKept, is_grant_of}
+use Rattle.gate_core.specs.Sealing.{ListsGrants, grants_at}
+use Rattle.gate_core.proofs.Keeping.{told}
+use Rattle.gate_core.proofs.ListedGrants.{none_at, some_at}
+
+-- lists that say the same as lists that say the same
+same_on : {K X : Type 0} (is_of : K → X → Bool) (xs ys zs : List X) → SaySame is_of xs ys → SaySame is_of ys zs → SaySame is_of xs zs
+same_on is_of xs ys zs one other = record { each = λ k. one.each k ∙ other.each k; counts = λ p. one.counts p ∙ other.counts p }
+
+-- what says what a history does that says what another does says that
+pub says_on : (f g h : History) → SaysAs f g → SaysAs g h → SaysAs f h
+says_on f g h one other = record {
+  answers = same_on _ (standing f) (standing g) (standing h) one.answers other.answers;
+  turns = same_on _ (in_flight f) (in_flight g) (in_flight h) one.turns other.turns;
+  permits = same_on _ (unspent f) (unspent g) (unspent h) one.permits other.permits;
+  runs = same_on _ (running f) (running g) (running h) one.runs other.runs;
+  slots = same_on _ (grants f) (grants g) (grants h) one.slots other.slots;
+  greatest = λ slot. one.greatest slot ∙ other.greatest slot;
+  granted = λ number is. one.granted number (other.granted number is);
+  begun = one.begun ∙ other.begun;
+  moment = one.moment ∙ other.moment;
+  entries = one.entries ∙ other.entries;
+  started = one.started ∙ other.started;
+}
+
+-- what is listed of no slot has no greatest generation
+none_greatest : (limits : Limits) (slot : ℕ) (xs : List SlotGrant) → length (filter (is_in slot) xs) ≡ 0 → greatest_of xs slot ≡ 0
+none_greatest limits slot [] none = refl
+none_greatest limits slot (x ∷ xs) none = by (is_in slot x) refl (none_greatest limits slot xs) none
+  where
+    by : (t : Bool) → is_in slot x ≡ t → (length (filter (is_in slot) xs) ≡ 0 → greatest_of xs slot ≡ 0) →
+        length (cond t (x ∷ filter (is_in slot) xs) (filter (is_in slot) xs)) ≡ 0 → greatest_of (x ∷ xs) slot ≡ 0
+    by true is rest none = absurd (omega (arith, none))
+    by false is rest none = let here : generation_in slot x ≡ 0 = rw is refl in omega (arith, here, rest none)
+
+no_elements : {X : Type 0} (xs : List X) → length xs ≡ 0 → xs ≡ []
+no_elements [] none = refl
+no_elements (x ∷ xs) none = absurd (omega (arith, none))
+
+-- a slot that is listed once at most is listed with its greatest generation
+listed_once : (limits : Limits) (slot : ℕ) (xs : List SlotGrant) → list_all (is_grant_of limits) xs ≡ true → length (filter (is_in slot) xs) ≤ 1 →
+    filter (is_in slot) xs ≡ grants_at slot (greatest_of xs slot)
+listed_once limits slot [] all once = refl
+listed_once limits slot (x ∷ xs) all once =
+    let parts = and_parts (is_grant_of limits x) (list_all (is_grant_of limits) xs) all in
+    let own = and_parts (nat_lt 0 x.generation) (nat_le x.generation last_generation) (and_parts (nat_lt x.slot limits.slots) (nat_lt 0 x.generation && nat_le x.generation last_generation) parts.0).1 in
+    by (is_in slot x) refl (ltb-true 0 x.generation own.0) (listed_once limits slot xs parts.1) once
+  where
+    by : (t : Bool) → is_in slot x ≡ t → 0 < x.generation → (length (filter (is_in slot) xs) ≤ 1 → filter (is_in slot) xs ≡ grants_at slot (greatest_of xs slot)) →
+        length (cond t (x ∷ filter (is_in slot) xs) (filter (is_in slot) xs)) ≤ 1 →
+        cond t (x ∷ filter (is_in slot) xs) (filter (is_in slot) xs) ≡ grants_at slot (greatest_of (x ∷ xs) slot)
+    by true is some rest once =
+        let none : length (filter (is_in slot) xs) ≡ 0 = omega (arith, once) in
+        let here : generation_in slot x ≡ x.generation = rw is refl in
+        let greatest : greatest_of (x ∷ xs) slot ≡ x.generation = omega (arith, here, none_greatest limits slot xs none) in
+        let same : x.slot ≡ slot = eqb-true x.slot slot is in
+        ap (λ gs. x ∷ gs) (no_elements (filter (is_in slot) xs) none)
+        ∙ ((λ i. record { slot = same i; generation = x.generation } ∷ []) ∙ (sym (some_at slot x.generation some) ∙ ap (grants_at slot) (sym greatest)))
+    by false is some rest once =
+        let here : generation_in slot x ≡ 0 = rw is refl in
+        let greatest : greatest_of (x ∷ xs) slot ≡ greatest_of xs slot = omega (arith, here) in
+        rest once ∙ ap (grants_at slot) (sym greatest)
+
+-- a slot past the last is not listed
+not_listed : (limits : Limits) (slot : ℕ) (xs : List SlotGrant) → list_all (is_grant_of limits) xs ≡ true → limits.slots ≤ slot → filter (is_in slot) xs ≡ []
+not_listed limits slot [] all past = refl
+not_listed limits slot (x ∷ xs) all past =
+    let parts = and_parts (is_grant_of limits x) (list_all (is_grant_of limits) xs) all in
+    let within = ltb-true x.slot limits.slots (and_parts (nat_lt x.slot limits.slots) (nat_lt 0 x.generation && nat_le x.generation last_generation) parts.0).0 in
+    elim (eqb_tells x.slot slot) [
+      | inl e ↦ absurd (omega (arith, within, past, e.1))
+      | inr d ↦ rw d.0 (not_listed limits slot xs parts.1 past)
+    ]
+
+module _ (b : Inside) (kept : IsKept b) where
+  -- the grants of the history, by the table
+  grants_told : (slot : ℕ) → filter (is_in slot) (grants (told b)) ≡ grants_at slot (last_in b.permits slot)
+  grants_told slot = elim (leb_tells (length b.permits.slots) slot) [
+    | inl past ↦ not_listed b.limits slot (grants (told b)) kept.grants (omega (arith, kept.slots, past.1))
+        ∙ sym (none_at slot (last_in b.permits slot) (omega (arith, ap (λ s. s.last) (get_or_past b.permits.slots slot unused past.1))))
+    | inr low ↦ listed_once b.limits slot (grants (told b)) kept.grants ((stands_once (told b) kept.legal).permits.slots_once slot)
+        ∙ ap (grants_at slot) (greatest_is (told b) slot ∙ sym (kept.permits.last slot (omega (arith, low.1))))
+  ]
+
+  -- a base of what the tables list says what the history does
+  pub given_says : (given : Base) → ListsAnswers b.cache given.standing → ListsTurns b.cache given.in_flight → ListsUnspent b.permits given.unspent →
+      ListsRunning b.permits given.running → ListsGrants b.permits given.grants → given.begins ≡ b.begins → given.moment ≡ b.clock →
+      given.entries ≡ entry_count (told b) → given.started ≡ b.starts → SaysAs (from given) (told b)
+  given_says given answers turns permits runs slots begun moment entries started = record {
+    answers = keys_say.answers given.standing (standing (told b)) (λ a. answers a ∙ sym (kept.cache.answers_are a));
+    turns = keys_say.turns given.in_flight (in_flight (told b)) (λ a. turns a ∙ sym (kept.cache.turns_are a));
+    permits = keys_say.permits given.unspent (unspent (told b)) (λ n. permits n ∙ sym (kept.permits.unspent_under n));
+    runs = keys_say.permits given.running (running (told b)) (λ n. runs n ∙ sym (kept.permits.running_under n));
+    slots = same;
+    greatest = λ slot. greatest_alike given.grants (grants (told b)) same slot ∙ greatest_is (told b) slot;
+    granted = λ n is. covered_alike given.grants (grants (told b)) same n ∙ granted_covered (told b) n is;
+    begun = begun ∙ kept.begins;
+    moment = moment ∙ kept.clock;
+    entries = entries;
+    started = started ∙ kept.starts;
+  }
+    where
+      same : SaySame is_in given.grants (grants (told b))
+      same = keys_say.grants given.grants (grants (told b)) (λ slot. slots slot ∙ sym (grants_told slot))

@@ -1,0 +1,13 @@
+-- The turn that was begun is one more that must be spent, and there is room for its marks.
+use Rattle.std.proofs.Common.{rules, arith}
+use Rattle.std.proofs.lemmas.Grind.{common_steps}
+use Rattle.gate_lock.proofs.Starts.{starts_in_push}
+use Rattle.gate_lock.proofs.desk.Desk.begin_copied.Goals as goal
+
+pub invariant_of-self-in-Ok : goal.invariant_of-self-in-Ok
+invariant_of-self-in-Ok g c = record {
+  entries_are = grind (arith, common_steps);
+  starts_are = grind (arith, common_steps, starts_in_push);
+  few = grind (arith, common_steps);
+  fits = grind (arith, common_steps);
+}

@@ -1,0 +1,10 @@
+-- What is left of the marks agrees exactly where all of them do.
+use Rattle.std.proofs.Common.{◌↔◌, length}
+use Rattle.gate_lock.specs.Settling.{Agrees}
+use Rattle.gate_lock.proofs.receipts.Receipts.agrees.Given as goal
+
+abbrev pub invariant-loop-rest : goal.invariant-loop-rest
+invariant-loop-rest g l = Agrees l.segment l.rest ↔ Agrees l.segment l.self
+
+abbrev pub decreases-loop-rest : goal.decreases-loop-rest
+decreases-loop-rest g l = length l.rest

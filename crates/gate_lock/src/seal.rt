@@ -1,0 +1,39 @@
+//! `Desk::seal`: the entries since the last seal are handed out.
+//! RFC 9309, sections 2.3.1 and 2.4: what they left open goes on to hold.
+ghost use Rattle.std.specs.Prelude.{◌≡◌, ◌≤◌};
+ghost use Rattle.gate_history.specs.History.{entry_count};
+ghost use Rattle.gate_core.specs.Gate.{history};
+ghost use Rattle.gate_lock.specs.Desks.{KeepsOut};
+ghost use Rattle.gate_lock.specs.Steps.{DeskSeals, Somewhere};
+
+use crate::desk::Desk;
+use crate::ledgers::Gate;
+use crate::lock::Held;
+use gate_core::NoMemory;
+use gate_history::Segment;
+use std::sync::Wait;
+
+#[tactic(auto)]
+impl<'a, G: Gate> Desk<'a, G> {
+    /// Hands out the entries of the gate since the last seal, of whatever desk, with what they follow. The gate
+    /// goes on from what they left open; its places, and what is out, stay as they are. No desk makes an
+    /// entry, and no moment is brought. Where memory is refused nothing changes.
+    pub fn seal<R: Wait>(&mut self, rt: &R) -> Result<Segment, NoMemory>
+        ensures step { Somewhere self.old
+            (λ old new. DeskSeals self.old old result new self.new) }
+        ensures no { self.new.no ≡ self.old.no }
+        ensures out { KeepsOut self.old self.new }
+    {
+        let mut held = self.lend(rt);
+        self.seal_in(&mut held)
+    }
+
+    /// Hands them out while the lock is held.
+    pub fn seal_in(&mut self, held: &mut Held<'_, G>) -> Result<Segment, NoMemory>
+        requires { self.old.seen ≤ entry_count (history held.old) }
+        ensures { DeskSeals self.old held.old result held.new self.new }
+    {
+        self.seen = held.guard.entry_count();
+        held.guard.seal()
+    }
+}

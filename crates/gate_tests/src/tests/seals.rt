@@ -1,0 +1,187 @@
+//! Rows over a gate that is sealed while two threads work at it: what is handed out is what their receipts have.
+//! RFC 9309, sections 2.2 and 2.4.
+ghost use Rattle.std.specs.Prelude.{◌≡◌, []};
+ghost use Rattle.gate_history.specs.Base.{empty_base};
+ghost use Rattle.gate_lock.specs.Desks.{out_of};
+
+use super::desk_calls::{Form, bring, round, worked};
+use super::gates::book;
+use gate_core::{Book, NoMemory};
+use gate_history::Segment;
+use gate_lock::{Blanks, Desk, DesksFull, Gate, GateLock, Receipts, SettleFault, Settled, settle};
+use std::alloc::Global;
+use std::hash::RandomState;
+use std::marker::Brand;
+use std::sync::Wait;
+use std::test::Fail;
+use std::thread;
+use std::thread::Threads;
+
+// What came of a gate: its settlement, how many entries were handed out, and whether all receipts agree with all
+// of them.
+#[derive(Clone, Copy, Debug, PartialEq)]
+struct Outcome {
+    settled: Result<Settled, SettleFault>,
+    handed_out: usize,
+    agree: bool,
+}
+
+// What a desk was closed with, and what it was handed out.
+struct ClosedDesk<G: Gate> {
+    receipts: Receipts<G>,
+    segments: Vec<Segment>,
+}
+
+fn sealed_by_one<G: Gate + Send + Sync, R: Threads + Wait + Sync>(
+    rt: &R,
+    alloc: Global,
+    book: Book,
+    blanks: Blanks,
+) -> Result<Outcome, Fail>
+    requires book { (book.base ≡ empty_base) × (book.entries ≡ []) }
+    requires blanks { blanks ≡ G.ledgers }
+{
+    let gate: GateLock<G> = GateLock::new(book, blanks);
+    let mut all = Vec::new(alloc);
+    bring(rt, alloc, &gate, Form::Plain, &mut all)?;
+    at_a_gate(rt, alloc, &gate, &mut all)
+}
+
+// Two threads make a hundred rounds each, and one of them seals. A third desk seals what is left.
+fn at_a_gate<G: Gate + Send + Sync, R: Threads + Wait + Sync>(
+    rt: &R,
+    alloc: Global,
+    gate: &GateLock<G>,
+    all: &mut Vec<Receipts<G>>,
+) -> Result<Outcome, Fail> {
+    let (one, other) = thread::join(
+        rt,
+        move || seal_meanwhile(rt, alloc, gate, 10),
+        move || worked(rt, alloc, gate),
+    );
+    let last = seal_meanwhile(rt, alloc, gate, 0);
+    let mut segments = Vec::new(alloc);
+    let kept = [
+        keep_sealed(all, &mut segments, one),
+        keep_sealed(all, &mut segments, last),
+        keep(all, other),
+    ];
+    if kept != [true, true, true] {
+        return Err(Fail::new("no desk, or no memory for its receipts"));
+    }
+    Ok(Outcome {
+        settled: settle(rt, alloc, gate, all.as_slice()),
+        handed_out: entries_of(segments.as_slice()),
+        agree: all_agree(all.as_slice(), segments.as_slice()),
+    })
+}
+
+// A desk that is closed after ten rounds each time, behind which it seals, and once more.
+fn seal_meanwhile<G: Gate, R: Wait>(
+    rt: &R,
+    alloc: Global,
+    gate: &GateLock<G>,
+    times: u64,
+) -> Result<ClosedDesk<G>, DesksFull> {
+    let mut segments = Vec::new(alloc);
+    let mut desk = gate.desk(rt, alloc)?;
+    for _ in 0..times {
+        ten_rounds(rt, alloc, &mut desk);
+        keep_segment(&mut segments, desk.seal(rt));
+    }
+    keep_segment(&mut segments, desk.seal(rt));
+    Ok(ClosedDesk {
+        receipts: desk.close(),
+        segments,
+    })
+}
+
+fn ten_rounds<G: Gate, R: Wait>(rt: &R, alloc: Global, desk: &mut Desk<'_, G>)
+    requires { out_of desk.old ≡ 0 }
+    ensures { out_of desk.new ≡ 0 }
+{
+    for _ in 0..10 {
+        if !round(rt, alloc, desk) {
+            break;
+        }
+    }
+}
+
+fn keep_segment(segments: &mut Vec<Segment>, made: Result<Segment, NoMemory>) {
+    if let Ok(segment) = made {
+        let _ = segments.push(segment);
+    }
+}
+
+// Whether the desk was made, and its receipts and segments are added.
+fn keep_sealed<G: Gate>(
+    all: &mut Vec<Receipts<G>>,
+    segments: &mut Vec<Segment>,
+    made: Result<ClosedDesk<G>, DesksFull>,
+) -> bool {
+    let Ok(
+        ClosedDesk {
+            receipts,
+            segments: handed_out,
+        },
+    ) = made
+    else {
+        return false;
+    };
+    for segment in handed_out {
+        keep_segment(segments, Ok(segment));
+    }
+    all.push(receipts).is_ok()
+}
+
+fn keep<G: Gate>(all: &mut Vec<Receipts<G>>, made: Result<Receipts<G>, DesksFull>) -> bool {
+    match made {
+        Ok(receipts) => all.push(receipts).is_ok(),
+        Err(_) => false,
+    }
+}
+
+fn entries_of(segments: &[Segment]) -> usize {
+    let mut count: usize = 0;
+    for segment in segments {
+        count = count.saturating_add(segment.entries().len());
+    }
+    count
+}
+
+fn all_agree<G: Gate>(all: &[Receipts<G>], segments: &[Segment]) -> bool {
+    for segment in segments {
+        if !agree(all, segment) {
+            return false;
+        }
+    }
+    true
+}
+
+fn agree<G: Gate>(all: &[Receipts<G>], segment: &Segment) -> bool {
+    for receipts in all {
+        if !receipts.agrees(segment) {
+            return false;
+        }
+    }
+    true
+}
+
+#[test]
+fn a_gate_is_sealed_meanwhile(rt: HostRuntime) -> Result<(), Fail> {
+    let keys = RandomState::new(&rt)?;
+    let want = Outcome {
+        settled: Ok(Settled {
+            events: 602,
+            starts: 200,
+        }),
+        handed_out: 602,
+        agree: true,
+    };
+    for _ in 0..10 {
+        let book = book(rt.alloc(), keys, 2, 65_536)?;
+        let got = sealed_by_one::<Brand, HostRuntime>(&rt, rt.alloc(), book, Blanks::new())?;
+        assert_eq!(rt; got, want, "a hundred rounds of each");
+    }
+    Ok(())
+}

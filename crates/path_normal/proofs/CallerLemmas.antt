@@ -1,0 +1,3 @@
+-- What proofs of other crates cite of this one; all other lemmas of `proofs/` are its own.
+pub use Rattle.path_normal.proofs.NormalLemmas.{pattern_small}
+pub use Rattle.path_normal.proofs.PageLemmas.{page_splits}
