@@ -1,134 +1,88 @@
 -- What one more line does to what was read so far, and why a line is bad.
 -- Used by the calls of the auditor and by `audit`.
-use Rattle.std.proofs.Common.{◌≡◌, ◌≢◌, ℕ, ◌+◌, ◌<◌, ◌≤◌, ◌==◌, All, Bool, true, false, cond, List, [], ◌∷◌, ◌++◌, Some, None, Ok, Err, length, inl, inr, refl, sym, ap, subst, ◌∙◌, arith, append_assoc, append-nil, length-append, codes, get_or}
+use Rattle.std.proofs.Common.{◌≡◌, ◌≢◌, ℕ, ◌+◌, ◌<◌, ◌≤◌, ◌==◌, Bool, true, false, cond, List, [], ◌∷◌, ◌++◌, Some, None, Ok, Err, filter, length, inl, inr, refl, sym, ap, subst, ◌∙◌, arith, append_assoc, append-nil, length-append, get_or}
 use Rattle.std.specs.Prelude.{Option}
 use Rattle.std.specs.Io.KnownBytes.{Consumes, IsAtEnd, prepend_known}
 use Rattle.std.proofs.KnownBytes.{Consumes-trans, Keeps-refl, prepend_known-end}
 use Rattle.std.proofs.lemmas.Bool.Decides.{nat_tests}
-use Rattle.std.proofs.lemmas.List.{flat_map_more}
-use Rattle.std.proofs.lemmas.List.Elements.{All-nil, All-cons, All-head, All-tail, All-push}
+use Rattle.std.proofs.lemmas.List.Concat.{flat_map-append}
+use Rattle.std.proofs.lemmas.List.Elements.{All-head, All-tail, filter-append}
 use Rattle.counted_io.specs.Lines.{FindsEnd, FindsTooLongTo, HasNoLineFeed, TakesLast, TakesLineTo}
 use Rattle.counted_io.specs.declared.line_end.LineEnd.TheVariants.{Lf}
-use Rattle.authority_cache.specs.Lives.{life_of}
-use Rattle.robots_verdict.specs.declared.said.Said.TheVariants as says
-use Rattle.gate_history.specs.declared.entry.Entry.{Entry}
-use Rattle.gate_history.specs.declared.entry.Entry.TheVariants.{Begun, Arrived, Granted, AskDenied, Started, StartDenied, Returned, Finished, Swept}
-use Rattle.gate_history.specs.Base.{empty_base, IsBase}
-use Rattle.gate_history.specs.History.{History, ◌▸◌, followed_by, from, is_start, started_count}
-use Rattle.gate_history.specs.Legal.{IsLegal, MayFollow}
-use Rattle.gate_core.specs.Limits.{most_entries}
+use Rattle.gate_history.specs.Base.{empty_base}
+use Rattle.gate_history.specs.History.{from}
+use Rattle.gate_history.specs.Legal.{IsLegal}
 use Rattle.crawl_audit.specs.declared.auditor.Auditor.{Auditor}
+use Rattle.crawl_audit.specs.declared.auditor.Stage.TheVariants as stages
 use Rattle.crawl_audit.specs.declared.fault.AuditFault.{AuditFault}
 use Rattle.crawl_audit.specs.declared.fault.AuditFault.TheVariants.{BadLine, Read, NoMemory}
 use Rattle.crawl_audit.specs.declared.fault.Audited.{Audited}
-use Rattle.crawl_audit.specs.declared.ledger.Ledger.{Ledger}
-use Rattle.crawl_audit.specs.declared.version.Version.{Version}
-use Rattle.crawl_audit.specs.declared.version.Version.TheVariants.{One, Two}
-use Rattle.crawl_audit.specs.Audit.{ContinuesNot, head_lines, Heard, Holds, IsAudited, IsBadAt, IsFault, line_limit, TakesEntryLine}
-use Rattle.crawl_audit.specs.Entries.{HasLife, IsEntry}
-use Rattle.crawl_audit.specs.Exports.{history_of}
-use Rattle.crawl_audit.specs.Spell.{entry_line, entry_text, version_line, entry_lines, spell}
-use Rattle.crawl_audit.specs.Tables.{Tells}
-use Rattle.crawl_audit.proofs.Spelling.{cut_lines, HasNoFeed, no_feed, one_entry, text_then}
-
-followed_push : (h : History) (es : List Entry) (e : Entry) → followed_by h (es ++ e ∷ []) ≡ followed_by h es ▸ e
-followed_push h [] e = refl
-followed_push h (first ∷ es) e = followed_push (h ▸ first) es e
-
-pushed : (es : List Entry) (e : Entry) → length (es ++ e ∷ []) ≡ length es + 1
-pushed es e = length-append es (e ∷ [])
-
-started_more : (h : History) (e : Entry) → started_count (h ▸ e) ≡ cond (is_start e) (started_count h + 1) (started_count h)
-started_more h (Begun _ _ _) = refl
-started_more h (Arrived _ _ _ _ _) = refl
-started_more h (Granted _ _ _) = refl
-started_more h (AskDenied _ _ _) = refl
-started_more h (Started _ _ _) = refl
-started_more h (StartDenied _ _ _) = refl
-started_more h (Returned _) = refl
-started_more h (Finished _) = refl
-started_more h (Swept _ _) = refl
-
--- an entry that a text can spell has a life that its answer may have
-pub lawful : (version : Version) (e : Entry) → IsEntry version e → HasLife Two e
-lawful version (Begun _ _ _) is = tt
-lawful One (Arrived _ _ _ (says.Rules text) life) is = ap (life_of (says.Rules text)) is.life ∙ sym is.life
-lawful One (Arrived _ _ _ (says.Open opening) life) is = sym is.life
-lawful One (Arrived _ _ _ (says.Closed closure) life) is = sym is.life
-lawful Two (Arrived _ _ _ said life) is = is.life
-lawful version (Granted _ _ _) is = tt
-lawful version (AskDenied _ _ _) is = tt
-lawful version (Started _ _ _) is = tt
-lawful version (StartDenied _ _ _) is = tt
-lawful version (Returned _) is = tt
-lawful version (Finished _) is = tt
-lawful version (Swept _ _) is = tt
+use Rattle.crawl_audit.specs.declared.version.Version.TheVariants.{One}
+use Rattle.crawl_audit.specs.Audit.{AddsLine, GoesTo, Heard, HeardAll, Holds, is_entry_line, is_start_line, IsFault, LeadsNowhere}
+use Rattle.crawl_audit.specs.ChainAudit.{IsChainAudited, IsChainBadAt}
+use Rattle.crawl_audit.specs.Chains.{IsFront, line_limit, most_lines}
+use Rattle.crawl_audit.specs.SpellBase.{ended, lines_text}
+use Rattle.crawl_audit.specs.Steps.{MayEnd, Place, Runs, start, Steps}
+use Rattle.crawl_audit.specs.Tables.{TellsAll}
+use Rattle.crawl_audit.proofs.ChainLines.{good_begins, IsGoodLine}
+use Rattle.crawl_audit.proofs.CountedLines.{all_behind, entries_of_chain, starts_of_chain}
+use Rattle.crawl_audit.proofs.Reaching.{ends_are_chains, reads_are_fronts}
+use Rattle.crawl_audit.proofs.Spelling.{cut_lines, HasNoFeed, not_empty}
+use Rattle.crawl_audit.proofs.Stepping.{chain_ends, fronts_are_read, one_run, run_front, runs_then}
+use Rattle.crawl_audit.proofs.AuditSteps.{stands_still}
 
 -- ---- one more line
 
--- how many lines were taken
-pub few_lines : (a : Auditor) (entries : List Entry) → Holds a entries → a.lines ≤ most_entries + 1
-few_lines a entries holds = by a.version holds.lines_are
+counted_more : (test : List ℕ → Bool) (lines : List (List ℕ)) (line : List ℕ) →
+    length (filter test (lines ++ line ∷ [])) ≡ cond (test line) (length (filter test lines) + 1) (length (filter test lines))
+counted_more test lines line = ap length (filter-append test lines (line ∷ [])) ∙ length-append (filter test lines) (filter test (line ∷ [])) ∙ by (test line)
   where
-    by : (v : Version) → a.lines ≡ head_lines v + length entries → a.lines ≤ most_entries + 1
-    by One is = let w = holds.within in omega arith
-    by Two is = let w = holds.within in omega arith
+    by : (b : Bool) → length (filter test lines) + length (cond b (line ∷ []) []) ≡ cond b (length (filter test lines) + 1) (length (filter test lines))
+    by true = refl
+    by false = omega arith
 
-pub holds_more : (a a' : Auditor) (entries : List Entry) (e : Entry) → Holds a entries → IsEntry a.version e → MayFollow (history_of entries) e → Tells a'.ledger (history_of entries ▸ e) →
-    a'.version ≡ a.version → a'.events ≡ a.events + 1 → a'.starts ≡ cond (is_start e) (a.starts + 1) a.starts → a'.lines ≡ a.lines + 1 → length entries < most_entries → Holds a' (entries ++ e ∷ [])
-holds_more a a' entries e holds is fit tells same events starts lines room =
-    let longer : history_of (entries ++ e ∷ []) ≡ history_of entries ▸ e = followed_push (from empty_base) entries e in
-    let many = pushed entries e in
+-- no more lines are counted than there are
+few_counted : (test : List ℕ → Bool) (lines : List (List ℕ)) → length (filter test lines) ≤ length lines
+few_counted test [] = omega arith
+few_counted test (l ∷ ls) = by (test l) (few_counted test ls)
+  where
+    by : (b : Bool) → length (filter test ls) ≤ length ls → length (cond b (l ∷ filter test ls) (filter test ls)) ≤ length (l ∷ ls)
+    by true rest = omega (arith, rest)
+    by false rest = omega (arith, rest)
+
+-- a line that leads somewhere was taken
+pub holds_more : (a a' a'' : Auditor) (lines : List (List ℕ)) (place : Place) (line : List ℕ) → Holds a lines place → (goes : GoesTo place line a a') → length lines < most_lines →
+    a''.stage ≡ a'.stage → a''.ledger ≡ a'.ledger → a''.version ≡ a'.version → a''.count ≡ a'.count → a''.events ≡ a'.events → a''.starts ≡ a'.starts → a''.lines ≡ a.lines + 1 →
+    Holds a'' (lines ++ line ∷ []) goes.next
+holds_more a a' a'' lines place line holds goes room stage ledger version count events starts more =
+    let many = length-append lines (line ∷ []) in
+    let counts = goes.counts in
     record {
-      spelled = subst (λ (v : Version). All (IsEntry v) (entries ++ e ∷ [])) (sym same) (All-push (IsEntry a.version) entries e holds.spelled is);
-      legal = subst IsLegal (sym longer) (holds.legal, fit);
-      within = omega (arith, many);
-      tells = subst (Tells a'.ledger) (sym longer) tells;
-      events_are = events ∙ ap (λ n. n + 1) holds.events_are ∙ sym many;
-      starts_are = starts ∙ ap (λ n. cond (is_start e) (n + 1) n) holds.starts_are ∙ sym (started_more (history_of entries) e) ∙ ap started_count (sym longer);
-      few_starts = fewer (is_start e) starts;
-      lines_are = lines ∙ ap (λ n. n + 1) holds.lines_are ∙ (let h : head_lines a.version + length entries + 1 ≡ head_lines a.version + length (entries ++ e ∷ []) = omega (arith, many) in h) ∙ ap (λ v. head_lines v + length (entries ++ e ∷ [])) (sym same);
+      runs = runs_then start place goes.next lines (line ∷ []) holds.runs (goes.next, (goes.steps, refl));
+      stands = stands_still a' a'' goes.next stage ledger version count goes.stands;
+      lines_are = omega (arith, more, holds.lines_are, many);
+      few = omega (arith, many, room);
+      events_are = events ∙ counts.events (omega (arith, holds.events_are, few_counted is_entry_line lines, room))
+          ∙ ap (λ n. cond (is_entry_line line) (n + 1) n) holds.events_are ∙ sym (counted_more is_entry_line lines line);
+      starts_are = starts ∙ counts.starts (omega (arith, holds.starts_are, few_counted is_start_line lines, room))
+          ∙ ap (λ n. cond (is_start_line line) (n + 1) n) holds.starts_are ∙ sym (counted_more is_start_line lines line);
     }
-  where
-    fewer : (b : Bool) → a'.starts ≡ cond b (a.starts + 1) a.starts → a'.starts ≤ a'.events
-    fewer true s = let w = holds.few_starts in omega (arith, s, events)
-    fewer false s = let w = holds.few_starts in omega (arith, s, events)
 
-pub spell_more : (version : Version) (entries : List Entry) (e : Entry) → spell version (entries ++ e ∷ []) ≡ spell version entries ++ (entry_line version e ++ 10 ∷ [])
-spell_more version entries e = sym (flat_map_more (entry_text version) (version_line version) entries e)
-
-none_yet : (v : Version) (entries : List Entry) → 0 ≡ head_lines v + length entries → (v ≡ One) × (entries ≡ [])
-none_yet One [] is = (refl, refl)
-none_yet One (e ∷ entries) is = absurd (omega arith)
-none_yet Two entries is = absurd (omega arith)
-
--- the head of version 2
-pub head_taken : (a a' : Auditor) (entries : List Entry) (line : List ℕ) → Holds a entries → a.lines ≡ 0 → line ≡ codes "V 2" → a'.version ≡ Two → a'.ledger ≡ a.ledger → a'.events ≡ a.events → a'.starts ≡ a.starts → a'.lines ≡ 1 →
-    Holds a' [] × (spell a'.version [] ≡ spell a.version entries ++ (line ++ 10 ∷ []))
-head_taken a a' entries line holds first is version ledger events starts lines =
-    let none = none_yet a.version entries (sym first ∙ holds.lines_are) in (
-      record {
-        spelled = All-nil (IsEntry a'.version);
-        legal = subst (λ (es : List Entry). IsLegal (history_of es)) none.1 holds.legal;
-        within = omega arith;
-        tells = subst (λ (x : Ledger). Tells x (history_of [])) (sym ledger) (subst (λ (es : List Entry). Tells a.ledger (history_of es)) none.1 holds.tells);
-        events_are = events ∙ holds.events_are ∙ ap length none.1;
-        starts_are = starts ∙ holds.starts_are ∙ ap (λ es. started_count (history_of es)) none.1;
-        few_starts = let w = holds.few_starts in omega (arith, events, starts);
-        lines_are = lines ∙ ap (λ v. head_lines v + 0) (sym version);
-      },
-      ap (λ v. spell v []) version ∙ sym ((λ i. spell (none.0 i) (none.1 i) ++ (is i ++ 10 ∷ []))),
-    )
-
--- another entry's line is refused
-pub other_line : (version : Version) (entries : List Entry) (line : List ℕ) (d : Entry) → IsEntry version d → line ≡ entry_line version d → (MayFollow (history_of entries) d → ⊥) →
-    ContinuesNot version entries (λ e. line ≡ entry_line version e)
-other_line version entries line d is spelled unfit = λ e is' fit room short same.
-    unfit (subst (MayFollow (history_of entries)) (sym (one_entry version d e is is' (sym spelled ∙ same))) fit)
+-- what was read is the same where the reader and its line changed alone
+pub moved : (a a' : Auditor) (lines : List (List ℕ)) (place : Place) → a'.stage ≡ a.stage → a'.ledger ≡ a.ledger → a'.version ≡ a.version → a'.count ≡ a.count → a'.lines ≡ a.lines → a'.events ≡ a.events → a'.starts ≡ a.starts →
+    Holds a lines place → Holds a' lines place
+moved a a' lines place stage ledger version count taken events starts holds = record {
+  runs = holds.runs;
+  stands = stands_still a a' place stage ledger version count holds.stands;
+  lines_are = taken ∙ holds.lines_are;
+  few = holds.few;
+  events_are = events ∙ holds.events_are;
+  starts_are = starts ∙ holds.starts_are;
+}
 
 -- ---- where line feeds stand
 
-pub feedless : (line : List ℕ) → HasNoLineFeed line → HasNoFeed line
+feedless : (line : List ℕ) → HasNoLineFeed line → HasNoFeed line
 feedless line none = λ k d within. unequal _ (none k d within)
   where
     unequal : (o : ℕ) → (o ≡ 10 → ⊥) → (o == 10) ≡ false
@@ -142,73 +96,61 @@ beyond (o ∷ raw) (p ∷ l) x r none is short =
     let rest : raw ++ x ≡ l ++ 10 ∷ r = cc in
     beyond raw l x r (All-tail (λ octet. octet ≢ 10) o raw none) rest (omega arith)
 
--- no entry's line is the head of version 2
-pub not_head : (version : Version) (e : Entry) → entry_line version e ≡ codes "V 2" → ⊥
-not_head version (Begun _ _ _) is = omega (arith, ap (λ k. get_or k 0 0) is)
-not_head version (Arrived _ _ _ _ _) is = omega (arith, ap (λ k. get_or k 0 0) is)
-not_head version (Granted _ _ _) is = omega (arith, ap (λ k. get_or k 0 0) is)
-not_head version (AskDenied _ _ _) is = omega (arith, ap (λ k. get_or k 0 0) is)
-not_head version (Started _ _ _) is = omega (arith, ap (λ k. get_or k 0 0) is)
-not_head version (StartDenied _ _ _) is = omega (arith, ap (λ k. get_or k 0 0) is)
-not_head version (Returned _) is = omega (arith, ap (λ k. get_or k 0 0) is)
-not_head version (Finished _) is = omega (arith, ap (λ k. get_or k 0 0) is)
-not_head version (Swept _ _) is = omega (arith, ap (λ k. get_or k 0 0) is)
-
-pub head_feedless : HasNoLineFeed (codes "V 2")
-head_feedless = All-cons (λ o. o ≢ 10) 86 (32 ∷ 50 ∷ []) (λ e. omega arith) (All-cons (λ o. o ≢ 10) 32 (50 ∷ []) (λ e. omega arith) (All-cons (λ o. o ≢ 10) 50 [] (λ e. omega arith) (All-nil (λ o. o ≢ 10))))
-
--- a text that begins with no entry begins with the head of version 2 only where what stands there does
-headless : (version : Version) (entries : List Entry) (text behind : List ℕ) → All (IsEntry version) entries → version ≡ One → text ≡ spell version entries ++ behind →
-    ((after : List ℕ) → length entries ≡ 0 → behind ≢ version_line Two ++ after) → (after : List ℕ) → text ≢ version_line Two ++ after
-headless One [] text behind all one is first after begins = first after refl (sym is ∙ begins)
-headless One (e ∷ entries) text behind all one is first after begins =
-    not_head One e (cut_lines (entry_line One e) (codes "V 2") (entry_lines One entries ++ behind) after (no_feed One e (All-head (IsEntry One) e entries all)) (feedless (codes "V 2") head_feedless)
-    (sym (ap (λ k. k ++ behind) (text_then One e (entry_lines One entries)) ∙ append_assoc (entry_line One e) (10 ∷ entry_lines One entries) behind) ∙ sym is ∙ begins)).0
-headless Two entries text behind all one is first after begins = absurd (clash one)
-  where
-    clash : Two ≡ One → ⊥
-    clash e = cc
+line_then : (line after : List ℕ) → ended line ++ after ≡ line ++ 10 ∷ after
+line_then line after = append_assoc line (10 ∷ []) after
 
 -- ---- bad lines
 
-module _ (a : Auditor) (input : Option (List ℕ)) (entries : List Entry) (holds : Holds a entries) (text : List ℕ) where
-  -- what stands behind the lines so far is something that does not go on
-  bad_at : (behind : List ℕ) → text ≡ spell a.version entries ++ behind → 0 < length behind → (number : ℕ) → number ≡ a.lines + 1 →
-      ContinuesNot a.version entries (λ e. (after : List ℕ) × (behind ≡ entry_text a.version e ++ after)) →
-      ((after : List ℕ) → length entries ≡ 0 → a.version ≡ One → behind ≢ version_line Two ++ after) → IsBadAt text number
-  bad_at behind is some number count bad first = record {
-    version = a.version;
-    entries = entries;
-    legal = record { spelled = holds.spelled; legal = holds.legal; within = holds.within };
+-- the text is known, and these lines are its front
+module _ (a : Auditor) (lines : List (List ℕ)) (place : Place) (holds : Holds a lines place) (text : List ℕ) where
+  -- a line with which a right text may go on leads somewhere
+  front_steps : (next : List ℕ) → IsFront (lines ++ next ∷ []) → (p : Place) × Steps place next p
+  front_steps next is =
+      let run = fronts_are_read (lines ++ next ∷ []) is in
+      let cut = run_front start run.0 lines (next ∷ []) run.1 in
+      let same = one_run start cut.0 place lines cut.1.0 holds.runs in
+      let last = subst (λ (q : Place). Runs q (next ∷ []) run.0) same cut.1.1 in
+      (last.0, last.1.0)
+
+  front_feedless : (next : List ℕ) → IsFront (lines ++ next ∷ []) → HasNoFeed next
+  front_feedless next is = let good = All-head IsGoodLine next [] (all_behind IsGoodLine lines (next ∷ []) (good_begins (lines ++ next ∷ []) is)) in good.feedless
+
+  -- what stands behind the lines so far does not begin with a line with which a right text may go on
+  bad_at : (behind : List ℕ) → text ≡ lines_text lines ++ behind → (number : ℕ) → number ≡ a.lines + 1 → (behind ≡ [] → MayEnd place → ⊥) →
+      ((next after : List ℕ) → length next ≤ line_limit → behind ≡ next ++ 10 ∷ after → IsFront (lines ++ next ∷ []) → ⊥) → IsChainBadAt text number
+  bad_at behind is number count ends bad = record {
+    front = lines;
+    before = reads_are_fronts lines place holds.runs holds.few;
     behind = behind;
     text_is = is;
-    some = some;
+    whole = λ none first later chain same.
+        let run = chain_ends first later chain in
+        ends none (subst MayEnd (one_run start run.0 place lines (subst (λ (ls : List (List ℕ)). Runs start ls run.0) same run.1.0) holds.runs) run.1.1);
     line_is = count ∙ ap (λ n. n + 1) holds.lines_are;
-    bad = bad;
-    headless = λ one. headless a.version entries text behind holds.spelled one is (λ after none. first after none one);
+    bad = λ next after short then is_front. bad next after short (then ∙ line_then next after) is_front;
   }
 
-  no_lines : length entries ≡ 0 → a.version ≡ One → a.lines ≡ 0
-  no_lines none one = holds.lines_are ∙ ap (λ v. head_lines v + length entries) one ∙ (let z : 0 + length entries ≡ 0 = omega arith in z)
-
   -- a whole line
-  pub bad_line : (raw rest : List ℕ) → text ≡ spell a.version entries ++ (raw ++ 10 ∷ rest) → HasNoLineFeed raw → (number : ℕ) → number ≡ a.lines + 1 →
-      ContinuesNot a.version entries (λ e. raw ≡ entry_line a.version e) → (a.lines ≡ 0 → raw ≢ codes "V 2") → IsBadAt text number
-  bad_line raw rest is none number count bad first =
-      bad_at (raw ++ 10 ∷ rest) is (omega (arith, length-append raw (10 ∷ rest))) number count
-      (λ e ise fit room short next. bad e ise fit room short
-      (cut_lines raw (entry_line a.version e) rest next.0 (feedless raw none) (no_feed a.version e ise) (next.1 ∙ text_then a.version e next.0)).0)
-      (λ after zero one begins. first (no_lines zero one) (cut_lines raw (codes "V 2") rest after (feedless raw none) (feedless (codes "V 2") head_feedless) begins).0)
+  pub bad_line : (raw rest : List ℕ) → text ≡ lines_text lines ++ (raw ++ 10 ∷ rest) → HasNoLineFeed raw → (number : ℕ) → number ≡ a.lines + 1 → LeadsNowhere lines place raw → IsChainBadAt text number
+  bad_line raw rest is none number count nowhere =
+      bad_at (raw ++ 10 ∷ rest) is number count (λ empty. absurd (not_empty raw rest (sym empty)))
+      (λ next after short then is_front.
+      let same = (cut_lines raw next rest after (feedless raw none) (front_feedless next is_front) then).0 in
+      let step = front_steps next is_front in
+      let few = is_front.few in
+      nowhere (omega (arith, few, length-append lines (next ∷ []))) step.0 (subst (λ (l : List ℕ). Steps place l step.0) (sym same) step.1))
 
   -- octets without a line feed that are too long, or all that there is
-  pub bad_part : (raw rest : List ℕ) → text ≡ spell a.version entries ++ (raw ++ rest) → HasNoLineFeed raw → 0 < length raw → (number : ℕ) → number ≡ a.lines + 1 →
-      ((l r : List ℕ) → length l ≤ line_limit → raw ++ rest ≡ l ++ 10 ∷ r → length l < length raw) → IsBadAt text number
+  pub bad_part : (raw rest : List ℕ) → text ≡ lines_text lines ++ (raw ++ rest) → HasNoLineFeed raw → 0 < length raw → (number : ℕ) → number ≡ a.lines + 1 →
+      ((l r : List ℕ) → length l ≤ line_limit → raw ++ rest ≡ l ++ 10 ∷ r → length l < length raw) → IsChainBadAt text number
   bad_part raw rest is none some number count long =
-      bad_at (raw ++ rest) is (omega (arith, length-append raw rest)) number count
-      (λ e ise fit room short next.
-      let same = next.1 ∙ text_then a.version e next.0 in
-      beyond raw (entry_line a.version e) rest next.0 none same (long (entry_line a.version e) next.0 short same))
-      (λ after zero one begins. beyond raw (codes "V 2") rest after none begins (long (codes "V 2") after (omega arith) begins))
+      bad_at (raw ++ rest) is number count (λ empty. absurd (omega (arith, some, ap length empty, length-append raw rest)))
+      (λ next after short then is_front. beyond raw next rest after none then (long next after short then))
+
+  -- nothing, where a base is not whole
+  pub bad_end : text ≡ lines_text lines → (MayEnd place → ⊥) → (number : ℕ) → number ≡ a.lines + 1 → IsChainBadAt text number
+  bad_end is ends number count =
+      bad_at [] (is ∙ sym (append-nil (lines_text lines))) number count (λ empty. ends) (λ next after short then is_front. not_empty next after then)
 
 -- ---- what the source gave
 
@@ -223,132 +165,120 @@ split_twice input behind after text front more is first then =
     let two = split_known one.0 after more (subst (λ (b : Option (List ℕ)). Consumes b after more) one.1 then) in
     (two.0, two.1, one.2 ∙ ap (λ k. front ++ k) two.2)
 
+-- the text of lines and one more
+text_more : (lines : List (List ℕ)) (line : List ℕ) → lines_text (lines ++ line ∷ []) ≡ lines_text lines ++ (line ++ 10 ∷ [])
+text_more lines line = flat_map-append ended lines (line ∷ []) ∙ ap (λ t. lines_text lines ++ t) (append-nil (ended line))
+
 module _ (a : Auditor) (input behind : Option (List ℕ)) (heard : Heard a input behind) where
   -- a whole line does not go on
-  pub line_fault : (line : List ℕ) (after : Option (List ℕ)) (fault : AuditFault) (a' : Auditor) → TakesLineTo Lf line_limit behind after line → TakesEntryLine a heard.entries line (Err fault) a' →
+  pub line_fault : (line : List ℕ) (after : Option (List ℕ)) (fault : AuditFault) (a' : Auditor) → TakesLineTo Lf line_limit behind after line → AddsLine heard.lines heard.place line (Err fault) a' →
       (text : List ℕ) → input ≡ Some text → IsFault text fault
   line_fault line after (BadLine number) a' t b text is =
-      let s = split_twice input behind after text (spell a.version heard.entries) (t.raw ++ 10 ∷ []) is heard.taken t.consumed in
-      bad_line a input heard.entries heard.holds text t.raw s.0 (s.2 ∙ ap (λ k. spell a.version heard.entries ++ k) (append_assoc t.raw (10 ∷ []) s.0)) t.no_line_feed number b.0
-      (λ e ise fit room short same. b.1 e ise fit room short (t.line_is ∙ same)) (λ zero same. b.2 zero (t.line_is ∙ same))
+      let s = split_twice input behind after text (lines_text heard.lines) (t.raw ++ 10 ∷ []) is heard.taken t.consumed in
+      let holds = heard.holds in
+      bad_line a heard.lines heard.place heard.holds text t.raw s.0 (s.2 ∙ ap (λ k. lines_text heard.lines ++ k) (append_assoc t.raw (10 ∷ []) s.0)) t.no_line_feed number
+      (b.0 ∙ ap (λ n. n + 1) (sym holds.lines_are)) (subst (LeadsNowhere heard.lines heard.place) t.line_is b.1)
   line_fault line after Read a' t b text is = tt
   line_fault line after NoMemory a' t b text is = tt
 
   -- a last line has no end
-  pub last_fault : (line pending : List ℕ) (left : Option (List ℕ)) (number : ℕ) → number ≡ a.lines + 1 → TakesLast line_limit behind pending left line → (text : List ℕ) → input ≡ Some text → IsBadAt text number
+  pub last_fault : (line pending : List ℕ) (left : Option (List ℕ)) (number : ℕ) → number ≡ a.lines + 1 → TakesLast line_limit behind pending left line → (text : List ℕ) → input ≡ Some text → IsChainBadAt text number
   last_fault line pending left number count t text is =
-      let s = split_twice input behind (prepend_known pending left) text (spell a.version heard.entries) line is heard.taken t.consumed in
+      let s = split_twice input behind (prepend_known pending left) text (lines_text heard.lines) line is heard.taken t.consumed in
       let end = prepend_known-end (prepend_known pending left) left pending (Keeps-refl (prepend_known pending left)) t.drained.empty t.drained.at_end in
       let none : s.0 ≡ [] = subst IsAtEnd s.1 end in
-      bad_part a input heard.entries heard.holds text line s.0 s.2 t.no_line_feed t.some number count
+      bad_part a heard.lines heard.place heard.holds text line s.0 s.2 t.no_line_feed t.some number count
       (λ l r short same. omega (arith, ap length same, ap length none, length-append line s.0, length-append l (10 ∷ r)))
 
   -- octets that are too long for a line
-  pub long_fault : (pending : List ℕ) (left : Option (List ℕ)) (number : ℕ) → number ≡ a.lines + 1 → FindsTooLongTo Lf line_limit behind pending left → (text : List ℕ) → input ≡ Some text → IsBadAt text number
+  pub long_fault : (pending : List ℕ) (left : Option (List ℕ)) (number : ℕ) → number ≡ a.lines + 1 → FindsTooLongTo Lf line_limit behind pending left → (text : List ℕ) → input ≡ Some text → IsChainBadAt text number
   long_fault pending left number count t text is =
-      let s = split_twice input behind (prepend_known pending left) text (spell a.version heard.entries) t.raw is heard.taken t.consumed in
+      let s = split_twice input behind (prepend_known pending left) text (lines_text heard.lines) t.raw is heard.taken t.consumed in
       let over : line_limit < length t.raw = elim t.too_long [ inl h ↦ h | inr h ↦ h.0 ] in
-      bad_part a input heard.entries heard.holds text t.raw s.0 s.2 t.no_line_feed (omega arith) number count (λ l r short same. omega arith)
-
-  -- one more line was taken
-  pub line_heard : (line : List ℕ) (after : Option (List ℕ)) (a' : Auditor) → TakesLineTo Lf line_limit behind after line → TakesEntryLine a heard.entries line (Ok tt) a' → Heard a' input after
-  line_heard line after a' t b = record {
-    entries = b.0;
-    holds = b.1.0;
-    taken = subst (Consumes input after) (sym (b.1.1 ∙ ap (λ k. spell a.version heard.entries ++ (k ++ 10 ∷ [])) t.line_is))
-        (Consumes-trans input behind after (spell a.version heard.entries) (t.raw ++ 10 ∷ []) heard.taken t.consumed);
-  }
+      bad_part a heard.lines heard.place heard.holds text t.raw s.0 s.2 t.no_line_feed (omega arith) number count (λ l r short same. omega arith)
 
   -- nothing more was there
-  pub end_heard : (line pending : List ℕ) (left : Option (List ℕ)) (a' : Auditor) → a'.ledger ≡ a.ledger → a'.version ≡ a.version → a'.lines ≡ a.lines → a'.events ≡ a.events → a'.starts ≡ a.starts →
-      FindsEnd behind pending left line → Heard a' input (prepend_known pending left) × IsAtEnd (prepend_known pending left)
-  end_heard line pending left a' ledger version lines events starts f = (
-    record {
-      entries = heard.entries;
-      holds = record {
-        spelled = subst (λ (v : Version). All (IsEntry v) heard.entries) (sym version) heard.holds.spelled;
-        legal = heard.holds.legal;
-        within = heard.holds.within;
-        tells = subst (λ (x : Ledger). Tells x (history_of heard.entries)) (sym ledger) heard.holds.tells;
-        events_are = events ∙ heard.holds.events_are;
-        starts_are = starts ∙ heard.holds.starts_are;
-        few_starts = let w = heard.holds.few_starts in omega (arith, events, starts);
-        lines_are = lines ∙ heard.holds.lines_are ∙ ap (λ v. head_lines v + length heard.entries) (sym version);
-      };
-      taken = subst (λ (v : Version). Consumes input (prepend_known pending left) (spell v heard.entries)) (sym version)
-          (subst (Consumes input (prepend_known pending left)) (append-nil (spell a.version heard.entries))
-          (Consumes-trans input behind (prepend_known pending left) (spell a.version heard.entries) [] heard.taken f.kept));
-    },
+  ended_at : (line pending : List ℕ) (left : Option (List ℕ)) → FindsEnd behind pending left line → Consumes input (prepend_known pending left) (lines_text heard.lines) × IsAtEnd (prepend_known pending left)
+  ended_at line pending left f = (
+    subst (Consumes input (prepend_known pending left)) (append-nil (lines_text heard.lines))
+        (Consumes-trans input behind (prepend_known pending left) (lines_text heard.lines) [] heard.taken f.kept),
     prepend_known-end (prepend_known pending left) left pending (Keeps-refl (prepend_known pending left)) f.drained.empty f.drained.at_end,
   )
 
-  -- all was taken
-  pub all_audited : (audited : Audited) → audited.events ≡ a.events → audited.starts ≡ a.starts → IsAtEnd behind → (text : List ℕ) → input ≡ Some text → IsAudited text audited
-  all_audited audited events starts end text is =
-      let s = split_known text behind (spell a.version heard.entries) (subst (λ (i : Option (List ℕ)). Consumes i behind (spell a.version heard.entries)) is heard.taken) in
-      let none : s.0 ≡ [] = subst IsAtEnd s.1 end in
+  -- but a base is not whole
+  pub end_fault : (line pending : List ℕ) (left : Option (List ℕ)) (number : ℕ) → number ≡ a.lines + 1 → FindsEnd behind pending left line → (MayEnd heard.place → ⊥) → (text : List ℕ) → input ≡ Some text → IsChainBadAt text number
+  end_fault line pending left number count f ends text is =
+      let at = ended_at line pending left f in
+      let s = split_known text (prepend_known pending left) (lines_text heard.lines) (subst (λ (i : Option (List ℕ)). Consumes i (prepend_known pending left) (lines_text heard.lines)) is at.0) in
+      let none : s.0 ≡ [] = subst IsAtEnd s.1 at.1 in
+      bad_end a heard.lines heard.place heard.holds text (s.2 ∙ ap (λ k. lines_text heard.lines ++ k) none ∙ append-nil (lines_text heard.lines)) ends number count
+
+  -- and texts are whole
+  pub end_heard : (line pending : List ℕ) (left : Option (List ℕ)) (a' : Auditor) → Holds a' heard.lines heard.place → FindsEnd behind pending left line → MayEnd heard.place → HeardAll a' input (prepend_known pending left)
+  end_heard line pending left a' holds f ends =
+      let at = ended_at line pending left f in
       record {
-        version = a.version;
-        entries = heard.entries;
-        legal = record { spelled = heard.holds.spelled; legal = heard.holds.legal; within = heard.holds.within };
-        text_is = s.2 ∙ ap (λ k. spell a.version heard.entries ++ k) none ∙ append-nil (spell a.version heard.entries);
-        events_are = events ∙ heard.holds.events_are;
-        starts_are = starts ∙ heard.holds.starts_are;
+        heard = record { lines = heard.lines; place = heard.place; holds = holds; taken = at.0 };
+        ends = ends;
+        at_end = at.1;
       }
 
-  pub few_heard : a.lines ≤ most_entries + 1
-  few_heard = few_lines a heard.entries heard.holds
+  -- one more line was taken
+  pub line_heard : (line : List ℕ) (after : Option (List ℕ)) (a' : Auditor) → TakesLineTo Lf line_limit behind after line → AddsLine heard.lines heard.place line (Ok tt) a' → Heard a' input after × (a'.lines ≡ a.lines + 1)
+  line_heard line after a' t b =
+      let holds = b.1 in
+      let before = heard.holds in (
+        record {
+          lines = heard.lines ++ line ∷ [];
+          place = b.0;
+          holds = b.1;
+          taken = subst (Consumes input after) (sym (text_more heard.lines line ∙ ap (λ k. lines_text heard.lines ++ (k ++ 10 ∷ [])) t.line_is))
+              (Consumes-trans input behind after (lines_text heard.lines) (t.raw ++ 10 ∷ []) heard.taken t.consumed);
+        },
+        omega (arith, holds.lines_are, before.lines_are, length-append heard.lines (line ∷ [])),
+      )
+
+  pub few_heard : a.lines ≤ most_lines
+  few_heard = let holds = heard.holds in omega (arith, holds.lines_are, holds.few)
+
+-- all was taken
+pub all_audited : (a : Auditor) (input behind : Option (List ℕ)) → HeardAll a input behind → (audited : Audited) → audited.events ≡ a.events → audited.starts ≡ a.starts → (text : List ℕ) → input ≡ Some text → IsChainAudited text audited
+all_audited a input behind all audited events starts text is =
+    let heard = all.heard in
+    let holds = heard.holds in
+    let s = split_known text behind (lines_text heard.lines) (subst (λ (i : Option (List ℕ)). Consumes i behind (lines_text heard.lines)) is heard.taken) in
+    let none : s.0 ≡ [] = subst IsAtEnd s.1 all.at_end in
+    let chain = ends_are_chains heard.lines heard.place holds.runs all.ends in
+    let first = chain.0 in
+    let later = chain.1.0 in
+    let lines = chain.1.1.1 in
+    record {
+      first = first;
+      later = later;
+      chain = chain.1.1.0;
+      few = subst (λ (ls : List (List ℕ)). length ls ≤ most_lines) (sym lines) holds.few;
+      text_is = s.2 ∙ ap (λ k. lines_text heard.lines ++ k) none ∙ append-nil (lines_text heard.lines) ∙ ap lines_text (sym lines);
+      events_are = events ∙ holds.events_are ∙ ap (λ ls. length (filter is_entry_line ls)) (sym lines) ∙ entries_of_chain first later;
+      starts_are = starts ∙ holds.starts_are ∙ ap (λ ls. length (filter is_start_line ls)) (sym lines) ∙ starts_of_chain first later;
+    }
 
 -- before the first line
-pub heard_start : (a : Auditor) (left : Option (List ℕ)) (pending : List ℕ) → pending ≡ [] → a.version ≡ One → Tells a.ledger (from empty_base) → a.events ≡ 0 → a.starts ≡ 0 → a.lines ≡ 0 → IsLegal (from empty_base) → Heard a left (prepend_known pending left)
-heard_start a left pending none version tells events starts lines legal = record {
-  entries = [];
+pub heard_start : (a : Auditor) (left : Option (List ℕ)) (pending : List ℕ) → pending ≡ [] → a.stage ≡ stages.Start → a.version ≡ One → a.count ≡ 0 → TellsAll a.ledger (from empty_base) → a.ledger.numbers.rising ≡ false →
+    a.events ≡ 0 → a.starts ≡ 0 → a.lines ≡ 0 → IsLegal (from empty_base) → Heard a left (prepend_known pending left)
+heard_start a left pending none stage version count tells any events starts lines legal = record {
+  lines = [];
+  place = start;
   holds = record {
-    spelled = All-nil (IsEntry a.version);
-    legal = legal;
-    within = omega arith;
-    tells = tells;
+    runs = refl;
+    stands = (stage, record { version_is = version; rising_is = any; count_is = count; tells = tells; legal = legal });
+    lines_are = lines;
+    few = omega arith;
     events_are = events;
     starts_are = starts;
-    few_starts = omega (arith, starts);
-    lines_are = lines ∙ ap (λ v. head_lines v + 0) (sym version);
   };
-  taken = subst (λ (v : Version). Consumes left (prepend_known pending left) (spell v [])) (sym version) (begun left);
+  taken = begun left;
 }
   where
     begun : (l : Option (List ℕ)) → Consumes l (prepend_known pending l) []
     begun None = tt
     begun (Some xs) = ap (λ k. k ++ xs) (sym none)
-
--- what was read is the same where the reader and its line changed alone
-pub moved : (a a' : Auditor) (entries : List Entry) → a'.ledger ≡ a.ledger → a'.version ≡ a.version → a'.lines ≡ a.lines → a'.events ≡ a.events → a'.starts ≡ a.starts → Holds a entries → Holds a' entries
-moved a a' entries ledger version lines events starts holds = record {
-  spelled = subst (λ (v : Version). All (IsEntry v) entries) (sym version) holds.spelled;
-  legal = holds.legal;
-  within = holds.within;
-  tells = subst (λ (x : Ledger). Tells x (history_of entries)) (sym ledger) holds.tells;
-  events_are = events ∙ holds.events_are;
-  starts_are = starts ∙ holds.starts_are;
-  few_starts = let w = holds.few_starts in omega (arith, events, starts);
-  lines_are = lines ∙ holds.lines_are ∙ ap (λ v. head_lines v + length entries) (sym version);
-}
-
--- the base of no entry
-pub empty_is_base : IsBase empty_base
-empty_is_base = record {
-  permits = record {
-    numbers_once = λ n. omega arith;
-    numbers_granted = λ n some. absurd (omega arith);
-    slots_once = λ s. omega arith;
-  };
-  turns = record {
-    flights_once = λ a. omega arith;
-    answers_once = λ a. omega arith;
-    turns_once = λ n. omega arith;
-    turns_begun = λ n some. omega arith;
-    flights_begun = refl;
-    answers_begun = refl;
-    lives = refl;
-  };
-  counts = omega arith;
-}

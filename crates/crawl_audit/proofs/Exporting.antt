@@ -1,6 +1,6 @@
 -- The entries of a legal history, of which each has its fields, are those of a text.
 -- Used by `export`.
-use Rattle.std.proofs.Common.{◌≡◌, ◌≢◌, ℕ, ◌<◌, ◌≤◌, ◌==◌, All, List, [], ◌∷◌, ◌++◌, ap, cond, false, flat_map, map, refl, subst, ◌∙◌, append_assoc, arith, codes, sym}
+use Rattle.std.proofs.Common.{◌≡◌, ◌≢◌, ℕ, ◌<◌, ◌≤◌, ◌==◌, All, List, [], ◌∷◌, ◌++◌, ap, cond, false, flat_map, map, inl, inr, refl, subst, ◌∙◌, append_assoc, arith, codes, sym}
 use Rattle.std.specs.Prelude.{OnErr, OnOk, Option, Result, Ok, Err}
 use Rattle.std.proofs.lemmas.Bool.Decides.{nat_tests}
 use Rattle.counted_io.specs.Device.{AppendsPrefix}
@@ -16,7 +16,9 @@ use Rattle.gate_history.specs.declared.entry.Entry.{Entry}
 use Rattle.gate_history.specs.declared.entry.Entry.TheVariants.{Begun, Arrived, Granted, AskDenied, Started, StartDenied, Returned, Finished, Swept}
 use Rattle.gate_history.specs.Base.{Base, empty_base}
 use Rattle.gate_history.specs.History.{History, ◌▸◌, followed_by, from}
-use Rattle.gate_history.specs.Legal.{IsLegal, MayFollow}
+use Rattle.gate_history.specs.Legal.{AllRise, IsLegal, MayFollow}
+use Rattle.gate_history.specs.Grants.{IsSlotGrant}
+use Rattle.gate_history.specs.Order.{IsInOrder}
 use Rattle.gate_history.specs.Segment.{history_in, Sealed}
 use Rattle.gate_core.specs.Gate.{Gate, HasLegalHistory, room}
 use Rattle.gate_core.specs.Limits.{AreLimits}
@@ -71,8 +73,29 @@ on_ok (Err _) p = tt
 -- ---- segments
 
 -- the segment has the entries and the fields of a text
-pub segment_text : (s : Sealed) → IsLegal (history_in s) → (0 < s.base.entries → HasBaseFields s.base) → All HasFields s.entries → IsSegmentText s
-segment_text s legal base fields = record { legal = legal; entries = entries_of_legal (from s.base) s.entries legal fields; base = base }
+pub segment_text : (s : Sealed) → IsLegal (history_in s) → AllRise (from s.base) s.entries → All IsSlotGrant s.base.grants → IsInOrder s.base → (0 < s.base.entries → HasBaseFields s.base) →
+    All HasFields s.entries → IsSegmentText s
+segment_text s legal rises grants order base fields =
+    let entries = entries_of_legal (from s.base) s.entries legal fields in
+    record {
+      legal = legal;
+      entries = entries;
+      base = base;
+      text = λ can. record {
+        follows = elim can.begins [
+          | inl none ↦ inl none
+          | inr some ↦ inr (record {
+            base = record { fields = base some; slots = grants; base = legal_before (from s.base) s.entries legal; order = order; some = some };
+            version = refl;
+            rises = rises;
+          })
+        ];
+        spelled = entries;
+        legal = legal;
+        within = can.within;
+        counted = can.counted;
+      };
+    }
 
 -- the segment of a base and entries
 abbrev pub segment_with : Base → List Entry → Sealed

@@ -20,21 +20,22 @@ use Rattle.authority_cache.specs.Laws.{ReadsAlike}
 use Rattle.authority_cache.specs.Lives.{life_of, Timed}
 use Rattle.authority_cache.specs.Sites.{arrived, has_turn as site_turn, is_flying, IsApart, Known, site_of, with_flight}
 use Rattle.authority_cache.proofs.CallerLemmas as cache_laws
+use Rattle.gate_history.specs.declared.entry.Entry.{Entry}
 use Rattle.gate_history.specs.declared.entry.Entry.TheVariants.{Begun, Arrived, AskDenied, Granted, Started, StartDenied, Returned, Finished, Swept}
 use Rattle.gate_history.specs.declared.outcome.Cause.{Cause}
 use Rattle.gate_history.specs.declared.outcome.Reason.{Reason}
 use Rattle.gate_history.specs.Cause.{Decides}
 use Rattle.gate_history.specs.History.{History, ◌▸◌, now}
-use Rattle.gate_history.specs.Legal.{IsLegal, MayFollow, SpendsAs}
-use Rattle.gate_history.specs.Outstanding.{is_unspent, stands, unspent}
+use Rattle.gate_history.specs.Legal.{IsLegal, MayFollow, Rises, SpendsAs}
+use Rattle.gate_history.specs.Outstanding.{is_running, is_unspent, running, stands, unspent}
 use Rattle.gate_history.specs.Standing.{has_turn, in_flight, is_fetching, past_count, standing}
 use Rattle.gate_history.proofs.CallerLemmas.{decides_once, stands_once}
 use Rattle.crawl_audit.specs.declared.ledger.Ledger.{Ledger}
 use Rattle.crawl_audit.specs.declared.numbers.Numbers.{Numbers}
 use Rattle.crawl_audit.specs.declared.numbers.Phase.{Phase}
-use Rattle.crawl_audit.specs.declared.numbers.Phase.TheVariants.{Unspent, Running, Ended}
-use Rattle.crawl_audit.specs.Tables.{GivesUnspent, is_running_in, is_unspent_in, KeepsPhase, phases_of, Tells, unspent_under}
-use Rattle.crawl_audit.proofs.Numbering.{finished_tells, granted_tells, returned_tells, start_denied_tells, started_tells}
+use Rattle.crawl_audit.specs.declared.numbers.Phase.TheVariants.{Unspent, Running}
+use Rattle.crawl_audit.specs.Tables.{Enters, GivesUnspent, Grants, is_new, is_running_in, is_unspent_in, MayCome, phases_of, Puts, running_under, StartsRun, Tells, unspent_under}
+use Rattle.crawl_audit.proofs.Numbering.{finished_tells, granted_tells, new_rises, new_ungranted, returned_tells, start_denied_tells, started_tells, still}
 
 -- ---- the moment
 
@@ -45,6 +46,10 @@ on_time : (moment now clock : ℕ) → clock ≡ now → clock ≤ moment → mo
 on_time moment now clock same fit = omega arith
 
 module _ (l : Ledger) (h : History) (t : Tells l h) where
+  -- an entry that may come was entered
+  comes : (e : Entry) (l' : Ledger) → MayFollow h e → (l.numbers.rising ≡ true → Rises h e) → Tells l' (h ▸ e) → l'.numbers.rising ≡ l.numbers.rising → MayCome l.numbers.rising h e × Enters l.numbers.rising (h ▸ e) l'
+  comes e l' fit rises tells same = (record { fit = fit; rises = rises }, record { tells = tells; still = same })
+
   abbrev reads : ReadsAlike l.cache (standing h) (in_flight h)
   reads = cache_laws.reads_alike l.cache (standing h) (in_flight h) t.cache_tells
 
@@ -55,16 +60,15 @@ module _ (l : Ledger) (h : History) (t : Tells l h) where
 
   pub begun_follows : (moment turn count : ℕ) (a authority : List ℕ) (cache : Known) → a ≡ authority → l.clock ≤ moment → false ≡ is_flying (site_of l.cache a) → turn ≡ l.begins + 1 → count ≡ turn →
       is_flying (site_of l.cache authority) ≡ false → Changes l.cache authority (with_flight (record { turn = turn; begun = moment }) (site_of l.cache authority)) cache →
-      MayFollow h (Begun moment authority turn) × Tells (record { clock = moment; begins = count; cache = cache; numbers = l.numbers }) (h ▸ Begun moment authority turn)
-  begun_follows moment turn count a authority cache same fit idle next counted free changes = (
-    (omega (arith, t.clock_is), fetching a authority same false idle, next ∙ ap (λ n. n + 1) t.begins_are),
-    record {
-      clock_is = on_time moment (now h) l.clock t.clock_is fit;
-      begins_are = counted ∙ next ∙ ap (λ n. n + 1) t.begins_are;
-      cache_tells = cache_laws.begun l.cache cache (standing h) (in_flight h) authority (record { turn = turn; begun = moment }) t.cache_tells free changes;
-      numbers_tell = record { unspent_are = t.numbers_tell.unspent_are; running_are = t.numbers_tell.running_are; granted_are = t.numbers_tell.granted_are };
-    },
-  )
+      MayCome l.numbers.rising h (Begun moment authority turn) × Enters l.numbers.rising (h ▸ Begun moment authority turn) (record l { clock = moment; begins = count; cache = cache; numbers = l.numbers })
+  begun_follows moment turn count a authority cache same fit idle next counted free changes =
+      comes (Begun moment authority turn) _ (omega (arith, t.clock_is), fetching a authority same false idle, next ∙ ap (λ n. n + 1) t.begins_are) (λ _. tt)
+      (record {
+        clock_is = on_time moment (now h) l.clock t.clock_is fit;
+        begins_are = counted ∙ next ∙ ap (λ n. n + 1) t.begins_are;
+        cache_tells = cache_laws.begun l.cache cache (standing h) (in_flight h) authority (record { turn = turn; begun = moment }) t.cache_tells free changes;
+        numbers_tell = still l.numbers h (h ▸ Begun moment authority turn) refl refl refl (λ _. refl) t.numbers_tell;
+      }) refl
 
   -- ---- arrivals
 
@@ -73,17 +77,16 @@ module _ (l : Ledger) (h : History) (t : Tells l h) where
 
   pub arrived_follows : IsLegal h → (moment turn life : ℕ) (authority : List ℕ) (says : Said) (cache : Known) → l.clock ≤ moment → life_of says life ≡ life →
       site_turn turn (site_of l.cache authority) ≡ true → Changes l.cache authority (arrived turn says life (site_of l.cache authority)) cache →
-      MayFollow h (Arrived moment authority turn says life) × Tells (record { clock = moment; begins = l.begins; cache = cache; numbers = l.numbers }) (h ▸ Arrived moment authority turn says life)
+      MayCome l.numbers.rising h (Arrived moment authority turn says life) × Enters l.numbers.rising (h ▸ Arrived moment authority turn says life) (record l { clock = moment; begins = l.begins; cache = cache; numbers = l.numbers })
   arrived_follows legal moment turn life authority says cache fit lasting flying changes =
-      let there = flying_turn authority turn ∙ flying in (
-        (omega (arith, t.clock_is), there, lasting),
-        record {
-          clock_is = on_time moment (now h) l.clock t.clock_is fit;
-          begins_are = t.begins_are;
-          cache_tells = cache_laws.arrives l.cache cache (standing h) (in_flight h) authority turn life says t.cache_tells flying ((stands_once h legal).own_turn authority turn there) changes;
-          numbers_tell = record { unspent_are = t.numbers_tell.unspent_are; running_are = t.numbers_tell.running_are; granted_are = t.numbers_tell.granted_are };
-        },
-      )
+      let there = flying_turn authority turn ∙ flying in
+      comes (Arrived moment authority turn says life) _ (omega (arith, t.clock_is), there, lasting) (λ _. tt)
+      (record {
+        clock_is = on_time moment (now h) l.clock t.clock_is fit;
+        begins_are = t.begins_are;
+        cache_tells = cache_laws.arrives l.cache cache (standing h) (in_flight h) authority turn life says t.cache_tells flying ((stands_once h legal).own_turn authority turn there) changes;
+        numbers_tell = still l.numbers h (h ▸ Arrived moment authority turn says life) refl refl refl (λ _. refl) t.numbers_tell;
+      }) refl
 
   -- ---- sweeps
 
@@ -91,35 +94,29 @@ module _ (l : Ledger) (h : History) (t : Tells l h) where
   swept_count moment count cache sweeps apart = sweeps.dropped ∙ (cache_laws.counts_alike l.cache (standing h) (in_flight h) t.cache_tells apart).past moment
 
   pub swept_follows : (moment count swept : ℕ) (cache : Known) → l.clock ≤ moment → swept ≡ count → Sweeps l.cache moment swept cache → IsApart l.cache →
-      MayFollow h (Swept moment count) × Tells (record { clock = moment; begins = l.begins; cache = cache; numbers = l.numbers }) (h ▸ Swept moment count)
-  swept_follows moment count swept cache fit same sweeps apart = (
-    (omega (arith, t.clock_is), sym same ∙ swept_count moment swept cache sweeps apart),
-    record {
-      clock_is = on_time moment (now h) l.clock t.clock_is fit;
-      begins_are = t.begins_are;
-      cache_tells = cache_laws.swept_away l.cache cache (standing h) (in_flight h) moment swept t.cache_tells sweeps;
-      numbers_tell = record { unspent_are = t.numbers_tell.unspent_are; running_are = t.numbers_tell.running_are; granted_are = t.numbers_tell.granted_are };
-    },
-  )
+      MayCome l.numbers.rising h (Swept moment count) × Enters l.numbers.rising (h ▸ Swept moment count) (record l { clock = moment; begins = l.begins; cache = cache; numbers = l.numbers })
+  swept_follows moment count swept cache fit same sweeps apart =
+      comes (Swept moment count) _ (omega (arith, t.clock_is), sym same ∙ swept_count moment swept cache sweeps apart) (λ _. tt)
+      (record {
+        clock_is = on_time moment (now h) l.clock t.clock_is fit;
+        begins_are = t.begins_are;
+        cache_tells = cache_laws.swept_away l.cache cache (standing h) (in_flight h) moment swept t.cache_tells sweeps;
+        numbers_tell = still l.numbers h (h ▸ Swept moment count) refl refl refl (λ _. refl) t.numbers_tell;
+      }) refl
 
   -- ---- grants
 
-  pub granted_follows : (moment n : ℕ) (fetch : Fetch) (reason : Reason) (numbers : Numbers) → l.clock ≤ moment → is_some (phases_of l.numbers n) ≡ false → Decides h fetch.token fetch.url moment (Ok reason) →
-      KeepsPhase (phases_of l.numbers) n (Some (Unspent fetch)) (phases_of numbers) →
-      MayFollow h (Granted moment n fetch) × Tells (record { clock = moment; begins = l.begins; cache = l.cache; numbers = numbers }) (h ▸ Granted moment n fetch)
-  granted_follows moment n fetch reason numbers fit new decided keeps = (
-    (omega (arith, t.clock_is), t.numbers_tell.granted_are n ∙ new, (reason, decided)),
-    record {
-      clock_is = on_time moment (now h) l.clock t.clock_is fit;
-      begins_are = t.begins_are;
-      cache_tells = t.cache_tells;
-      numbers_tell = granted_tells (phases_of l.numbers) (phases_of numbers) h n t.numbers_tell moment fetch (none_of (phases_of l.numbers n) new) keeps;
-    },
-  )
-    where
-      none_of : (o : Option Phase) → is_some o ≡ false → o ≡ None
-      none_of None is = refl
-      none_of (Some x) is = absurd (true≢false is)
+  pub granted_follows : (moment n : ℕ) (fetch : Fetch) (reason : Reason) (numbers : Numbers) → l.clock ≤ moment → is_new l.numbers n ≡ true → Decides h fetch.token fetch.url moment (Ok reason) →
+      Grants l.numbers n fetch numbers →
+      MayCome l.numbers.rising h (Granted moment n fetch) × Enters l.numbers.rising (h ▸ Granted moment n fetch) (record l { clock = moment; begins = l.begins; cache = l.cache; numbers = numbers })
+  granted_follows moment n fetch reason numbers fit new decided grants =
+      comes (Granted moment n fetch) _ (omega (arith, t.clock_is), new_ungranted l.numbers l.numbers h n t.numbers_tell new, (reason, decided)) (new_rises l.numbers l.numbers h n t.numbers_tell new)
+      (record {
+        clock_is = on_time moment (now h) l.clock t.clock_is fit;
+        begins_are = t.begins_are;
+        cache_tells = t.cache_tells;
+        numbers_tell = granted_tells l.numbers numbers h n t.numbers_tell moment fetch new grants;
+      }) grants.rising
 
   -- a fetch that is denied is not allowed
   pub not_allowed : (token url : List ℕ) (moment : ℕ) (outcome : Result Reason Cause) → Decides h token url moment outcome → is_err outcome ≡ true →
@@ -136,16 +133,15 @@ module _ (l : Ledger) (h : History) (t : Tells l h) where
   -- ---- denied asks
 
   pub ask_denied_follows : (moment : ℕ) (fetch : Fetch) (cause : Cause) → l.clock ≤ moment → Decides h fetch.token fetch.url moment (Err cause) →
-      MayFollow h (AskDenied moment fetch cause) × Tells (record { clock = moment; begins = l.begins; cache = l.cache; numbers = l.numbers }) (h ▸ AskDenied moment fetch cause)
-  ask_denied_follows moment fetch cause fit decided = (
-    (omega (arith, t.clock_is), decided),
-    record {
-      clock_is = on_time moment (now h) l.clock t.clock_is fit;
-      begins_are = t.begins_are;
-      cache_tells = t.cache_tells;
-      numbers_tell = record { unspent_are = t.numbers_tell.unspent_are; running_are = t.numbers_tell.running_are; granted_are = t.numbers_tell.granted_are };
-    },
-  )
+      MayCome l.numbers.rising h (AskDenied moment fetch cause) × Enters l.numbers.rising (h ▸ AskDenied moment fetch cause) (record l { clock = moment; begins = l.begins; cache = l.cache; numbers = l.numbers })
+  ask_denied_follows moment fetch cause fit decided =
+      comes (AskDenied moment fetch cause) _ (omega (arith, t.clock_is), decided) (λ _. tt)
+      (record {
+        clock_is = on_time moment (now h) l.clock t.clock_is fit;
+        begins_are = t.begins_are;
+        cache_tells = t.cache_tells;
+        numbers_tell = still l.numbers h (h ▸ AskDenied moment fetch cause) refl refl refl (λ _. refl) t.numbers_tell;
+      }) refl
 
   -- ---- permits
 
@@ -159,8 +155,15 @@ module _ (l : Ledger) (h : History) (t : Tells l h) where
       there : (o : Option Phase) → list_any (λ _. true) (unspent_under n o) ≡ is_unspent_in o
       there None = refl
       there (Some (Unspent fetch)) = refl
-      there (Some Running) = refl
-      there (Some Ended) = refl
+      there (Some (Running fetch)) = refl
+
+  pub running_of : (n : ℕ) → is_running h n ≡ is_running_in (phases_of l.numbers n)
+  running_of n = list_any-filter (is_numbered n) (running h) ∙ ap (list_any (λ _. true)) (t.numbers_tell.running_are n) ∙ there (phases_of l.numbers n)
+    where
+      there : (o : Option Phase) → list_any (λ _. true) (running_under n o) ≡ is_running_in o
+      there None = refl
+      there (Some (Unspent fetch)) = refl
+      there (Some (Running fetch)) = refl
 
   pub no_spend : (n moment : ℕ) (outcome : Result Reason Cause) → is_unspent_in (phases_of l.numbers n) ≡ false → SpendsAs h n moment outcome → ⊥
   no_spend n moment outcome none spends =
@@ -169,8 +172,7 @@ module _ (l : Ledger) (h : History) (t : Tells l h) where
       nothing : (o : Option Phase) → is_unspent_in o ≡ false → list_any (λ p. is_fetch_of spends.0 spends.1.0 (fetch_of p)) (unspent_under n o) ≡ false
       nothing None is = refl
       nothing (Some (Unspent fetch)) is = absurd (true≢false is)
-      nothing (Some Running) is = refl
-      nothing (Some Ended) is = refl
+      nothing (Some (Running fetch)) is = refl
 
   or_none : (b : Bool) → (b || false) ≡ b
   or_none true = refl
@@ -209,64 +211,60 @@ module _ (l : Ledger) (h : History) (t : Tells l h) where
       by : (o : Option Phase) → phases_of l.numbers n ≡ o → (fetch : Fetch) × (phases_of l.numbers n ≡ Some (Unspent fetch))
       by None is = absurd (no_spend n moment outcome (ap is_unspent_in is) spends)
       by (Some (Unspent fetch)) is = (fetch, is)
-      by (Some Running) is = absurd (no_spend n moment outcome (ap is_unspent_in is) spends)
-      by (Some Ended) is = absurd (no_spend n moment outcome (ap is_unspent_in is) spends)
+      by (Some (Running fetch)) is = absurd (no_spend n moment outcome (ap is_unspent_in is) spends)
 
-  pub started_follows : (moment n : ℕ) (reason : Reason) (numbers : Numbers) → l.clock ≤ moment → SpendsAs h n moment (Ok reason) → KeepsPhase (phases_of l.numbers) n (Some Running) (phases_of numbers) →
-      MayFollow h (Started moment n reason) × Tells (record { clock = moment; begins = l.begins; cache = l.cache; numbers = numbers }) (h ▸ Started moment n reason)
-  started_follows moment n reason numbers fit spends keeps =
-      let fetch = fetch_spent n moment (Ok reason) spends in (
-        (omega (arith, t.clock_is), spends),
-        record {
-          clock_is = on_time moment (now h) l.clock t.clock_is fit;
-          begins_are = t.begins_are;
-          cache_tells = t.cache_tells;
-          numbers_tell = started_tells (phases_of l.numbers) (phases_of numbers) h n t.numbers_tell moment reason fetch.0 fetch.1 keeps;
-        },
-      )
+  pub started_follows : (moment n : ℕ) (reason : Reason) (numbers : Numbers) → l.clock ≤ moment → SpendsAs h n moment (Ok reason) → StartsRun l.numbers n numbers →
+      MayCome l.numbers.rising h (Started moment n reason) × Enters l.numbers.rising (h ▸ Started moment n reason) (record l { clock = moment; begins = l.begins; cache = l.cache; numbers = numbers })
+  started_follows moment n reason numbers fit spends starts =
+      let fetch = fetch_spent n moment (Ok reason) spends in
+      let puts = starts fetch.0 fetch.1 in
+      comes (Started moment n reason) _ (omega (arith, t.clock_is), spends) (λ _. tt)
+      (record {
+        clock_is = on_time moment (now h) l.clock t.clock_is fit;
+        begins_are = t.begins_are;
+        cache_tells = t.cache_tells;
+        numbers_tell = started_tells l.numbers numbers h n t.numbers_tell moment reason fetch.0 fetch.1 puts;
+      }) puts.rising
 
-  pub start_denied_follows : (moment n : ℕ) (cause : Cause) (numbers : Numbers) → l.clock ≤ moment → SpendsAs h n moment (Err cause) → KeepsPhase (phases_of l.numbers) n (Some Ended) (phases_of numbers) →
-      MayFollow h (StartDenied moment n cause) × Tells (record { clock = moment; begins = l.begins; cache = l.cache; numbers = numbers }) (h ▸ StartDenied moment n cause)
-  start_denied_follows moment n cause numbers fit spends keeps =
-      let fetch = fetch_spent n moment (Err cause) spends in (
-        (omega (arith, t.clock_is), spends),
-        record {
-          clock_is = on_time moment (now h) l.clock t.clock_is fit;
-          begins_are = t.begins_are;
-          cache_tells = t.cache_tells;
-          numbers_tell = start_denied_tells (phases_of l.numbers) (phases_of numbers) h n t.numbers_tell moment cause fetch.0 fetch.1 keeps;
-        },
-      )
+  pub start_denied_follows : (moment n : ℕ) (cause : Cause) (numbers : Numbers) → l.clock ≤ moment → SpendsAs h n moment (Err cause) → Puts l.numbers n None numbers →
+      MayCome l.numbers.rising h (StartDenied moment n cause) × Enters l.numbers.rising (h ▸ StartDenied moment n cause) (record l { clock = moment; begins = l.begins; cache = l.cache; numbers = numbers })
+  start_denied_follows moment n cause numbers fit spends puts =
+      let fetch = fetch_spent n moment (Err cause) spends in
+      comes (StartDenied moment n cause) _ (omega (arith, t.clock_is), spends) (λ _. tt)
+      (record {
+        clock_is = on_time moment (now h) l.clock t.clock_is fit;
+        begins_are = t.begins_are;
+        cache_tells = t.cache_tells;
+        numbers_tell = start_denied_tells l.numbers numbers h n t.numbers_tell moment cause fetch.0 fetch.1 puts;
+      }) puts.rising
 
-  pub returned_follows : (n : ℕ) (fetch : Fetch) (numbers : Numbers) → phases_of l.numbers n ≡ Some (Unspent fetch) → KeepsPhase (phases_of l.numbers) n (Some Ended) (phases_of numbers) →
-      MayFollow h (Returned n) × Tells (record { clock = l.clock; begins = l.begins; cache = l.cache; numbers = numbers }) (h ▸ Returned n)
-  returned_follows n fetch numbers some keeps = (
-    unspent_of n ∙ ap is_unspent_in some,
-    record {
-      clock_is = omega (arith, t.clock_is);
-      begins_are = t.begins_are;
-      cache_tells = t.cache_tells;
-      numbers_tell = returned_tells (phases_of l.numbers) (phases_of numbers) h n t.numbers_tell fetch some keeps;
-    },
-  )
+  pub returned_follows : (n : ℕ) (fetch : Fetch) (numbers : Numbers) → phases_of l.numbers n ≡ Some (Unspent fetch) → Puts l.numbers n None numbers →
+      MayCome l.numbers.rising h (Returned n) × Enters l.numbers.rising (h ▸ Returned n) (record l { clock = l.clock; begins = l.begins; cache = l.cache; numbers = numbers })
+  returned_follows n fetch numbers some puts =
+      comes (Returned n) _ (unspent_of n ∙ ap is_unspent_in some) (λ _. tt)
+      (record {
+        clock_is = omega (arith, t.clock_is);
+        begins_are = t.begins_are;
+        cache_tells = t.cache_tells;
+        numbers_tell = returned_tells l.numbers numbers h n t.numbers_tell fetch some puts;
+      }) puts.rising
 
-  pub finished_follows : (n : ℕ) (numbers : Numbers) → is_running_in (phases_of l.numbers n) ≡ true → KeepsPhase (phases_of l.numbers) n (Some Ended) (phases_of numbers) →
-      MayFollow h (Finished n) × Tells (record { clock = l.clock; begins = l.begins; cache = l.cache; numbers = numbers }) (h ▸ Finished n)
-  finished_follows n numbers runs keeps = (
-    t.numbers_tell.running_are n ∙ runs,
-    record {
-      clock_is = omega (arith, t.clock_is);
-      begins_are = t.begins_are;
-      cache_tells = t.cache_tells;
-      numbers_tell = finished_tells (phases_of l.numbers) (phases_of numbers) h n t.numbers_tell (running_one (phases_of l.numbers n) runs) keeps;
-    },
-  )
+  pub finished_follows : (n : ℕ) (numbers : Numbers) → is_running_in (phases_of l.numbers n) ≡ true → Puts l.numbers n None numbers →
+      MayCome l.numbers.rising h (Finished n) × Enters l.numbers.rising (h ▸ Finished n) (record l { clock = l.clock; begins = l.begins; cache = l.cache; numbers = numbers })
+  finished_follows n numbers runs puts =
+      let one = running_one (phases_of l.numbers n) runs in
+      comes (Finished n) _ (running_of n ∙ runs) (λ _. tt)
+      (record {
+        clock_is = omega (arith, t.clock_is);
+        begins_are = t.begins_are;
+        cache_tells = t.cache_tells;
+        numbers_tell = finished_tells l.numbers numbers h n t.numbers_tell one.0 one.1 puts;
+      }) puts.rising
     where
-      running_one : (o : Option Phase) → is_running_in o ≡ true → o ≡ Some Running
+      running_one : (o : Option Phase) → is_running_in o ≡ true → (fetch : Fetch) × (o ≡ Some (Running fetch))
       running_one None is = absurd (true≢false (sym is))
       running_one (Some (Unspent fetch)) is = absurd (true≢false (sym is))
-      running_one (Some Running) is = refl
-      running_one (Some Ended) is = absurd (true≢false (sym is))
+      running_one (Some (Running fetch)) is = (fetch, refl)
 
 -- the ledger whose rules may have an index more tells the same
 pub told : (l : Ledger) (known : Known) (h : History) → known ≡ l.cache → Tells l h → Tells (record l { cache = known }) h

@@ -1,12 +1,10 @@
 -- A text that an export writes is bad at no line.
 -- Used by `laws`.
-use Rattle.std.proofs.Common.{◌≡◌, ◌≢◌, ℕ, ◌+◌, ◌*◌, ◌^◌, ◌<◌, ◌≤◌, ◌==◌, All, Bool, true, false, cond, List, [], ◌∷◌, ◌++◌, Some, length, decimal, refl, sym, ap, subst, ◌∙◌, arith, append_assoc, length-append, codes}
+use Rattle.std.proofs.Common.{◌≡◌, ℕ, ◌+◌, ◌*◌, ◌^◌, ◌<◌, ◌≤◌, ◌==◌, Bool, true, false, cond, List, [], ◌∷◌, Some, length, decimal, refl, sym, ap, ◌∙◌, arith, length-append, codes}
 use Rattle.std.specs.Prelude.{None}
 use Rattle.std.specs.Str.{bytes_eq}
 use Rattle.std.proofs.lemmas.Bool.Decides.{nat_tests}
 use Rattle.std.proofs.lemmas.Fmt.{length-decimal-le}
-use Rattle.std.proofs.lemmas.List.{append_cancel_left}
-use Rattle.std.proofs.lemmas.List.Elements.{All-head, All-tail}
 use Rattle.std.proofs.lemmas.Option.{none-some}
 use Rattle.percent_encoding.specs.Percent.{percent_encode_byte}
 use Rattle.path_normal.specs.Normal.{is_unreserved}
@@ -21,27 +19,20 @@ use Rattle.gate_history.specs.declared.outcome.Cause.{Cause}
 use Rattle.gate_history.specs.declared.outcome.Cause.TheVariants as causes
 use Rattle.gate_history.specs.declared.outcome.Reason.{Reason}
 use Rattle.gate_history.specs.declared.outcome.Reason.TheVariants as reasons
-use Rattle.gate_history.specs.Base.{empty_base}
-use Rattle.gate_history.specs.History.{History, ◌▸◌, followed_by, from}
-use Rattle.gate_history.specs.Legal.{IsLegal, MayFollow}
 use Rattle.crawl_audit.specs.declared.version.Version.{Version}
 use Rattle.crawl_audit.specs.declared.version.Version.TheVariants.{One, Two}
-use Rattle.crawl_audit.specs.Audit.{ContinuesNot, IsBadAt, line_limit}
+use Rattle.crawl_audit.specs.Chains.{line_limit}
 use Rattle.line_text.specs.Escapes.{body_octet, escaped_body}
 use Rattle.crawl_audit.specs.Entries.{IsBody, IsCause, IsEntry, IsLife, IsNumber, IsReason, IsSaid}
-use Rattle.crawl_audit.specs.Exports.{IsExport}
-use Rattle.crawl_audit.specs.Spell.{answer_fields, body_word, entry_line, entry_text, version_line, entry_lines, spaced_fields, spell}
+use Rattle.crawl_audit.specs.Spell.{answer_fields, body_word, entry_line, spaced_fields}
 use Rattle.gate_history.specs.Wording.{cause_words, reason_words}
-use Rattle.crawl_audit.proofs.Auditing.{feedless, head_feedless, not_head}
-use Rattle.crawl_audit.proofs.Exporting.{legal_before}
-use Rattle.crawl_audit.proofs.Spelling.{cut_lines, no_feed, not_empty, one_entry, text_then}
 
 -- ---- how long a line is
 
-digits : (n : ℕ) → IsNumber n → length (decimal n) ≤ 20
+pub digits : (n : ℕ) → IsNumber n → length (decimal n) ≤ 20
 digits n small = length-decimal-le 20 n (omega arith) (omega arith) small
 
-token_length : (token : List ℕ) → token_of token ≡ Some token → length token ≤ 64
+pub token_length : (token : List ℕ) → token_of token ≡ Some token → length token ≤ 64
 token_length token own = by (is_token token) refl
   where
     by : (t : Bool) → is_token token ≡ t → length token ≤ 64
@@ -75,7 +66,7 @@ body_length text is = empty (length text == 0)
     empty false = single (bytes_eq text (codes "-"))
 
 -- a field behind a space, and those behind it
-more : (field : List ℕ) (fields : List (List ℕ)) → length (spaced_fields (field ∷ fields)) ≡ 1 + length field + length (spaced_fields fields)
+pub more : (field : List ℕ) (fields : List (List ℕ)) → length (spaced_fields (field ∷ fields)) ≡ 1 + length field + length (spaced_fields fields)
 more field fields = omega (arith, length-append (32 ∷ field) (spaced_fields fields))
 
 reason_length : (reason : Reason) → IsReason reason → length (spaced_fields (reason_words reason)) ≤ 40
@@ -91,7 +82,7 @@ cause_length causes.Expired is = omega arith
 cause_length causes.Closed is = omega arith
 cause_length (causes.Line line) is = omega (arith, digits line is, more (codes "line") (decimal line ∷ []), more (decimal line) [])
 
-answer_length : (version : Version) (said : Said) (life : ℕ) → IsSaid said → IsLife version said life → length (spaced_fields (answer_fields version said life)) ≤ 1536040
+pub answer_length : (version : Version) (said : Said) (life : ℕ) → IsSaid said → IsLife version said life → length (spaced_fields (answer_fields version said life)) ≤ 1536040
 answer_length One (says.Rules text) life body is = omega (arith, body_length text body, more (codes "R") (body_word text ∷ []), more (body_word text) [])
 answer_length Two (says.Rules text) life body is =
     let small : life < 2 ^ 64 = omega (arith, is) in
@@ -105,7 +96,7 @@ answer_length version (says.Closed closures.Scheme) life body is = omega arith
 answer_length version (says.Closed closures.Coding) life body is = omega arith
 answer_length version (says.Closed closures.Other) life body is = omega arith
 
-line_length : (version : Version) (e : Entry) → IsEntry version e → length (entry_line version e) ≤ line_limit
+pub line_length : (version : Version) (e : Entry) → IsEntry version e → length (entry_line version e) ≤ line_limit
 line_length version (Begun moment authority turn) is =
     omega (arith, digits moment is.fields.0, is.fields.1.limit, digits turn is.fields.2, more (decimal moment) (authority ∷ decimal turn ∷ []), more authority (decimal turn ∷ []), more (decimal turn) [])
 line_length version (Arrived moment authority turn said life) is =
@@ -150,55 +141,3 @@ line_length version (StartDenied moment number cause) is =
 line_length version (Returned number) is = omega (arith, digits number is.fields, more (decimal number) [])
 line_length version (Finished number) is = omega (arith, digits number is.fields, more (decimal number) [])
 line_length version (Swept moment count) is = omega (arith, digits moment is.fields.0, digits count is.fields.1, more (decimal moment) (decimal count ∷ []), more (decimal count) [])
-
--- ---- what goes on behind a front of the lines
-
--- an entry that goes on from these
-record GoesOn (version : Version) (h : History) (behind : List ℕ) : Type 0 where
-  next : Entry
-  is : IsEntry version next
-  fit : MayFollow h next
-  after : List ℕ
-  text : behind ≡ entry_text version next ++ after
-
-goes_on : (version : Version) (h : History) (ds es : List Entry) (behind : List ℕ) → All (IsEntry version) ds → All (IsEntry version) es → entry_lines version es ≡ entry_lines version ds ++ behind → 0 < length behind →
-    IsLegal (followed_by h es) → GoesOn version (followed_by h ds) behind × (length ds < length es)
-goes_on version h [] [] behind all all' same some legal = absurd (omega (arith, ap length same))
-goes_on version h [] (e ∷ es) behind all all' same some legal =
-    (record { next = e; is = All-head (IsEntry version) e es all'; fit = (legal_before (h ▸ e) es legal).1; after = entry_lines version es; text = sym same }, omega arith)
-goes_on version h (d ∷ ds) [] behind all all' same some legal =
-    absurd (not_empty (entry_line version d) (entry_lines version ds ++ behind) (same ∙ append_assoc (entry_text version d) (entry_lines version ds) behind ∙ text_then version d (entry_lines version ds ++ behind)))
-goes_on version h (d ∷ ds) (e ∷ es) behind all all' same some legal =
-    let is = All-head (IsEntry version) d ds all in
-    let is' = All-head (IsEntry version) e es all' in
-    let cut = cut_lines (entry_line version e) (entry_line version d) (entry_lines version es) (entry_lines version ds ++ behind) (no_feed version e is') (no_feed version d is)
-    (sym (text_then version e (entry_lines version es)) ∙ same ∙ append_assoc (entry_text version d) (entry_lines version ds) behind ∙ text_then version d (entry_lines version ds ++ behind)) in
-    let first = one_entry version e d is' is cut.0 in
-    let rest = goes_on version (h ▸ d) ds es behind (All-tail (IsEntry version) d ds all) (All-tail (IsEntry version) e es all') cut.1 some (subst (λ (x : Entry). IsLegal (followed_by (h ▸ x) es)) first legal) in
-    (rest.0, let less = rest.1 in omega arith)
-
--- an export goes on behind each front of its lines
-never_bad : (version : Version) (ds es : List Entry) (behind : List ℕ) → IsExport version ds → IsExport version es → entry_lines version es ≡ entry_lines version ds ++ behind → 0 < length behind →
-    ContinuesNot version ds (λ e. (after : List ℕ) × (behind ≡ entry_text version e ++ after)) → ⊥
-never_bad version ds es behind front all same some bad =
-    let on = goes_on version (from empty_base) ds es behind front.spelled all.spelled same some all.legal in
-    let within = all.within in
-    let less = on.1 in
-    bad on.0.next on.0.is on.0.fit (omega arith) (line_length version on.0.next on.0.is) (on.0.after, on.0.text)
-
--- a text of version 1 does not begin with the head of version 2
-no_head : (es : List Entry) (after : List ℕ) → All (IsEntry One) es → entry_lines One es ≡ codes "V 2" ++ 10 ∷ after → ⊥
-no_head [] after all is = not_empty (codes "V 2") after is
-no_head (e ∷ es) after all is =
-    not_head One e (cut_lines (entry_line One e) (codes "V 2") (entry_lines One es) after (no_feed One e (All-head (IsEntry One) e es all)) (feedless (codes "V 2") head_feedless) (sym (text_then One e (entry_lines One es)) ∙ is)).0
-
-right : (version version' : Version) (ds es : List Entry) (behind : List ℕ) → IsExport version es → IsExport version' ds → spell version es ≡ spell version' ds ++ behind → 0 < length behind →
-    ContinuesNot version' ds (λ e. (after : List ℕ) × (behind ≡ entry_text version' e ++ after)) → (version' ≡ One → (after : List ℕ) → spell version es ≢ version_line Two ++ after) → ⊥
-right One One ds es behind all front same some bad headless = never_bad One ds es behind front all same some bad
-right Two Two ds es behind all front same some bad headless =
-    never_bad Two ds es behind front all (append_cancel_left (version_line Two) (entry_lines Two es) (entry_lines Two ds ++ behind) (same ∙ append_assoc (version_line Two) (entry_lines Two ds) behind)) some bad
-right Two One ds es behind all front same some bad headless = headless refl (entry_lines Two es) refl
-right One Two ds es behind all front same some bad headless = no_head es (entry_lines Two ds ++ behind) all.spelled same
-
-pub export_is_right : (version : Version) (entries : List Entry) (line : ℕ) → IsExport version entries → IsBadAt (spell version entries) line → ⊥
-export_is_right version entries line all bad = right version bad.version bad.entries entries bad.behind all bad.legal bad.text_is bad.some bad.bad bad.headless

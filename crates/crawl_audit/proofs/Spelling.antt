@@ -46,13 +46,13 @@ shown_word (octet ∷ word) is =
     let parts = and_parts (is_shown octet) (list_all is_shown word) is in
     All-cons IsShownOctet octet word (grind (arith, nat_tests), grind (arith, nat_tests)) (shown_word word parts.1)
 
-one : (a : List ℕ) → IsShown a → All IsShown (a ∷ [])
+pub one : (a : List ℕ) → IsShown a → All IsShown (a ∷ [])
 one a is = All-cons IsShown a [] is (All-nil IsShown)
 
-two : (a b : List ℕ) → IsShown a → IsShown b → All IsShown (a ∷ b ∷ [])
+pub two : (a b : List ℕ) → IsShown a → IsShown b → All IsShown (a ∷ b ∷ [])
 two a b is is' = All-cons IsShown a (b ∷ []) is (one b is')
 
-three : (a b c : List ℕ) → IsShown a → IsShown b → IsShown c → All IsShown (a ∷ b ∷ c ∷ [])
+pub three : (a b c : List ℕ) → IsShown a → IsShown b → IsShown c → All IsShown (a ∷ b ∷ c ∷ [])
 three a b c is is' is'' = All-cons IsShown a (b ∷ c ∷ []) is (two b c is' is'')
 
 shown_reason : (reason : Reason) → IsReason reason → All IsShown (reason_words reason)
@@ -70,7 +70,7 @@ shown_cause causes.Expired is = one (codes "expired") (shown_word (codes "expire
 shown_cause causes.Closed is = one (codes "closed") (shown_word (codes "closed") refl)
 shown_cause (causes.Line line) is = two (codes "line") (decimal line) (shown_word (codes "line") refl) (shown_decimal line is)
 
-shown_answer : (version : Version) (said : Said) (life : ℕ) → IsSaid said → IsLife version said life → All IsShown (answer_fields version said life)
+pub shown_answer : (version : Version) (said : Said) (life : ℕ) → IsSaid said → IsLife version said life → All IsShown (answer_fields version said life)
 unfolding is_shown
 shown_answer One (says.Rules text) life body lasting = two (codes "R") (body_word text) (shown_word (codes "R") refl) (shown_body text)
 shown_answer Two (says.Rules text) life body lasting =
@@ -147,7 +147,7 @@ closed_back version closures.Scheme life is = ap (λ n. Some (lasting (says.Clos
 closed_back version closures.Coding life is = ap (λ n. Some (lasting (says.Closed closures.Coding) n)) is
 closed_back version closures.Other life is = ap (λ n. Some (lasting (says.Closed closures.Other) n)) is
 
-answer_back : (version : Version) (said : Said) (life : ℕ) → IsSaid said → IsLife version said life → answer_named version (answer_fields version said life) ≡ Some (lasting said life)
+pub answer_back : (version : Version) (said : Said) (life : ℕ) → IsSaid said → IsLife version said life → answer_named version (answer_fields version said life) ≡ Some (lasting said life)
 answer_back One (says.Rules text) life body is = (λ i. Some (lasting (says.Rules (body_back text body i)) (sym is i)))
 answer_back Two (says.Rules text) life body is = rw (number_back life (omega arith), body_back text body) refl
 answer_back One (says.Open openings.Unavailable) life body is = ap (λ n. Some (lasting (says.Open openings.Unavailable) n)) (sym is)
@@ -194,7 +194,7 @@ IsLineOctet octet = (31 < octet) × (octet < 128)
 line_field : (field : List ℕ) → IsShown field → All IsLineOctet field
 line_field field shown = weaker IsShownOctet IsLineOctet (λ octet is. (omega (arith, is), is.1)) field shown
 
-line_fields : (fields : List (List ℕ)) → All IsShown fields → All IsLineOctet (spaced_fields fields)
+pub line_fields : (fields : List (List ℕ)) → All IsShown fields → All IsLineOctet (spaced_fields fields)
 line_fields [] all = All-nil IsLineOctet
 line_fields (field ∷ fields) all =
     All-cons IsLineOctet 32 (field ++ spaced_fields fields) (omega arith, omega arith)

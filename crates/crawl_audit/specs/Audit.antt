@@ -1,98 +1,159 @@
--- What an audit says of a text: that it spells a legal history, or which line does not continue one.
--- docs/FORMATS.md has the causes; legality is that of `gate_history`.
-use Rattle.std.specs.Prelude.{◌≡◌, ◌≢◌, ℕ, ◌+◌, ◌<◌, ◌≤◌, All, Bool, true, false, List, [], ◌∷◌, ◌++◌, Option, Some, Result, Ok, Err, codes, length}
+-- What an audit says of texts: that they spell a chain, or which line continues none; and where an auditor stands
+-- behind the lines that it read. docs/FORMATS.md has the causes; legality is that of `gate_history`.
+use Rattle.std.specs.Prelude.{◌≡◌, ℕ, ◌+◌, ◌<◌, ◌≤◌, ◌==◌, Bool, true, false, List, [], ◌∷◌, ◌++◌, Option, Some, None, Result, Ok, Err, codes, filter, if◌then◌else◌, length}
+use Rattle.std.specs.List.{list_any}
 use Rattle.std.specs.Io.KnownBytes.{Consumes, IsAtEnd}
 use Rattle.counted_io.specs.Device.{one_more}
-use Rattle.gate_history.specs.declared.entry.Entry.{Entry}
-use Rattle.gate_history.specs.History.{started_count}
-use Rattle.gate_history.specs.Legal.{IsLegal, MayFollow}
-use Rattle.gate_core.specs.Limits.{most_entries}
-use Rattle.line_text.specs.Limits.{max_long_line}
+use Rattle.gate_history.specs.Base.{empty_base}
+use Rattle.gate_history.specs.History.{History, from}
+use Rattle.gate_history.specs.Legal.{IsLegal}
 use Rattle.crawl_audit.specs.declared.version.Version.{Version}
 use Rattle.crawl_audit.specs.declared.version.Version.TheVariants.{One, Two}
 use Rattle.crawl_audit.specs.declared.fault.AuditFault.{AuditFault}
 use Rattle.crawl_audit.specs.declared.fault.AuditFault.TheVariants.{BadLine, Read, NoMemory}
 use Rattle.crawl_audit.specs.declared.auditor.Auditor.{Auditor}
-use Rattle.crawl_audit.specs.declared.fault.Audited.{Audited}
-use Rattle.crawl_audit.specs.Entries.{IsEntry}
-use Rattle.crawl_audit.specs.Exports.{history_of, IsExport}
-use Rattle.crawl_audit.specs.Spell.{entry_line, entry_text, version_line, spell}
-use Rattle.crawl_audit.specs.Tables.{Tells}
-
--- the most octets of a line, its end not counted
-abbrev pub line_limit : ℕ
-line_limit = max_long_line
-
--- how many lines stand before those of entries
-abbrev pub head_lines : Version → ℕ
-head_lines One = 0
-head_lines Two = 1
-
--- the text is that of a legal history, with these counts
-pub record IsAudited (text : List ℕ) (audited : Audited) : Type 0 where
-  pub version : Version
-  pub entries : List Entry
-  pub legal : IsExport version entries
-  pub text_is : text ≡ spell version entries
-  pub events_are : audited.events ≡ length entries
-  pub starts_are : audited.starts ≡ started_count (history_of entries)
-
--- no line of an entry that is legal after these, of which there are not too many, is this line
-abbrev pub ContinuesNot : Version → List Entry → (Entry → Type 0) → Type 0
-ContinuesNot version entries is_next =
-    (e : Entry) → IsEntry version e → MayFollow (history_of entries) e → length entries < most_entries
-    → length (entry_line version e) ≤ line_limit → is_next e → ⊥
-
--- the lines before this one spell a legal history, and what stands behind them is something, but does
--- not begin with the line of an entry that is legal after it. A text of version 1 has no head.
-pub record IsBadAt (text : List ℕ) (line : ℕ) : Type 0 where
-  pub version : Version
-  pub entries : List Entry
-  pub legal : IsExport version entries
-  pub behind : List ℕ
-  pub text_is : text ≡ spell version entries ++ behind
-  pub some : 0 < length behind
-  pub line_is : line ≡ head_lines version + length entries + 1
-  pub bad : ContinuesNot version entries (λ e. (after : List ℕ) × (behind ≡ entry_text version e ++ after))
-  pub headless : version ≡ One → (after : List ℕ) → text ≢ version_line Two ++ after
+use Rattle.crawl_audit.specs.declared.auditor.Stage.TheVariants as stages
+use Rattle.crawl_audit.specs.declared.first_base.FirstBase.{FirstBase}
+use Rattle.crawl_audit.specs.declared.next_base.NextBase.{NextBase}
+use Rattle.crawl_audit.specs.declared.unread_line.UnreadLine.{UnreadLine}
+use Rattle.crawl_audit.specs.declared.unread_line.UnreadLine.TheVariants as unread
+use Rattle.crawl_audit.specs.ChainAudit.{IsChainBadAt}
+use Rattle.crawl_audit.specs.Chains.{most_lines}
+use Rattle.crawl_audit.specs.FirstBase.{Reads}
+use Rattle.crawl_audit.specs.NextBase.{Expects}
+use Rattle.crawl_audit.specs.SpellBase.{lines_text}
+use Rattle.crawl_audit.specs.Steps.{among, inside, MayEnd, Place, Runs, start, Steps, TakesEntry}
+use Rattle.crawl_audit.specs.Tables.{TellsAll}
 
 -- what a fault says of a text
 abbrev pub IsFault : List ℕ → AuditFault → Type 0
-IsFault text (BadLine line) = IsBadAt text line
+IsFault text (BadLine line) = IsChainBadAt text line
 IsFault text Read = Unit {0}
 IsFault text NoMemory = Unit {0}
 
--- the lines so far were those of these entries
-pub record Holds (a : Auditor) (entries : List Entry) : Type 0 where
-  pub spelled : All (IsEntry a.version) entries
-  pub legal : IsLegal (history_of entries)
-  pub within : length entries ≤ most_entries
-  pub tells : Tells a.ledger (history_of entries)
-  pub events_are : a.events ≡ length entries
-  pub starts_are : a.starts ≡ started_count (history_of entries)
-  pub few_starts : a.starts ≤ a.events
-  pub lines_are : a.lines ≡ head_lines a.version + length entries
+-- ---- the lines that are counted
 
--- a line was taken, or does not continue the lines so far
-abbrev pub TakesEntryLine : Auditor → List Entry → List ℕ → Result (Unit {0}) AuditFault → Auditor → Type 0
-TakesEntryLine old entries line (Ok _) new =
-    (entries' : List Entry) × (Holds new entries' × (spell new.version entries' ≡ spell old.version entries ++ (line ++ 10 ∷ []))
-    × (new.lines ≡ old.lines + 1))
-TakesEntryLine old entries line (Err (BadLine number)) new =
-    (number ≡ old.lines + 1) × ContinuesNot old.version entries (λ e. line ≡ entry_line old.version e)
-    × (old.lines ≡ 0 → line ≢ codes "V 2")
-TakesEntryLine old entries line (Err _) new = Unit {0}
+-- the line begins as those of entries do
+abbrev pub is_entry_line : List ℕ → Bool
+is_entry_line [] = false
+is_entry_line (letter ∷ rest) = list_any (λ kind. kind == letter) (codes "BAGNSDKFW")
+
+-- the line begins as those of started fetches do
+abbrev pub is_start_line : List ℕ → Bool
+is_start_line [] = false
+is_start_line (letter ∷ rest) = letter == 83
+
+-- the counts of entries and of starts have the line, where they are not too great
+pub record CountsLine (old : Auditor) (line : List ℕ) (new : Auditor) : Type 0 where
+  pub events : old.events < most_lines → new.events ≡ (if is_entry_line line then old.events + 1 else old.events)
+  pub starts : old.starts < most_lines → new.starts ≡ (if is_start_line line then old.starts + 1 else old.starts)
+
+-- ---- where the auditor stands
+
+-- the ledger says what the history does, behind so many entries of a text
+pub record AreEntries (a : Auditor) (version : Version) (rising : Bool) (h : History) (count : ℕ) : Type 0 where
+  pub version_is : a.version ≡ version
+  pub rising_is : a.ledger.numbers.rising ≡ rising
+  pub count_is : a.count ≡ count
+  pub tells : TellsAll a.ledger h
+  pub legal : IsLegal h
+
+-- a base of a first text is being read, of which these are the first lines
+pub record IsInFirst (a : Auditor) (lines : List (List ℕ)) : Type 0 where
+  pub first : FirstBase
+  pub stage : a.stage ≡ stages.First first
+  pub reads : Reads first a.ledger lines
+
+-- the base of a text that goes on from the history is
+pub record IsInFurther (a : Auditor) (h : History) (lines : List (List ℕ)) : Type 0 where
+  pub next : NextBase
+  pub stage : a.stage ≡ stages.Further next
+  pub expects : Expects next h lines
+  pub tells : TellsAll a.ledger h
+  pub legal : IsLegal h
+
+-- the auditor stands there
+abbrev pub StandsAt : Auditor → Place → Type 0
+StandsAt a start = (a.stage ≡ stages.Start) × AreEntries a One false (from empty_base) 0
+StandsAt a (among version rising h count) = (a.stage ≡ stages.Entries) × AreEntries a version rising h count
+StandsAt a (inside None lines) = IsInFirst a lines
+StandsAt a (inside (Some h) lines) = IsInFurther a h lines
+
+-- ---- what a line does
+
+-- entries may come behind a base, and none have
+pub record BeginsEntries (old new : Auditor) : Type 0 where
+  pub version : new.version ≡ Two
+  pub stage : new.stage ≡ stages.Entries
+  pub count : new.count ≡ 0
+  pub ledger : new.ledger ≡ old.ledger
+  pub reader : new.reader ≡ old.reader
+  pub lines : new.lines ≡ old.lines
+  pub events : new.events ≡ old.events
+  pub starts : new.starts ≡ old.starts
+
+-- the line led to a place, where the auditor stands now
+pub record GoesTo (place : Place) (line : List ℕ) (old new : Auditor) : Type 0 where
+  pub next : Place
+  pub steps : Steps place line next
+  pub stands : StandsAt new next
+  pub counts : CountsLine old line new
+
+-- the line led somewhere, or it leads nowhere, or memory was refused
+abbrev pub Moves : Place → List ℕ → Auditor → Result (Unit {0}) UnreadLine → Auditor → Type 0
+Moves place line old (Ok _) new = GoesTo place line old new
+Moves place line old (Err unread.NotOne) new = (next : Place) → Steps place line next → ⊥
+Moves place line old (Err unread.NoMemory) new = Unit {0}
+
+-- the line was that of an entry
+pub record EntersOne (version : Version) (rising : Bool) (h : History) (count : ℕ) (line : List ℕ) (old new : Auditor) : Type 0 where
+  pub next : Place
+  pub takes : TakesEntry version rising h count line next
+  pub stands : StandsAt new next
+  pub counts : CountsLine old line new
+
+-- the line was that of an entry that may come, or it is not one, or memory was refused
+abbrev pub EntersLine : Version → Bool → History → ℕ → List ℕ → Auditor → Result (Unit {0}) UnreadLine → Auditor → Type 0
+EntersLine version rising h count line old (Ok _) new = EntersOne version rising h count line old new
+EntersLine version rising h count line old (Err unread.NotOne) new = (next : Place) → TakesEntry version rising h count line next → ⊥
+EntersLine version rising h count line old (Err unread.NoMemory) new = Unit {0}
+
+-- these lines were read, and led to the place
+pub record Holds (a : Auditor) (lines : List (List ℕ)) (place : Place) : Type 0 where
+  pub runs : Runs start lines place
+  pub stands : StandsAt a place
+  pub lines_are : a.lines ≡ length lines
+  pub few : length lines ≤ most_lines
+  pub events_are : a.events ≡ length (filter is_entry_line lines)
+  pub starts_are : a.starts ≡ length (filter is_start_line lines)
+
+-- no line of a right text is this one, behind these
+abbrev pub LeadsNowhere : List (List ℕ) → Place → List ℕ → Type 0
+LeadsNowhere lines place line = length lines < most_lines → (next : Place) → Steps place line next → ⊥
+
+-- one more line was read, or it does not continue those so far
+abbrev pub AddsLine : List (List ℕ) → Place → List ℕ → Result (Unit {0}) AuditFault → Auditor → Type 0
+AddsLine lines place line (Ok _) new = (next : Place) × Holds new (lines ++ line ∷ []) next
+AddsLine lines place line (Err (BadLine number)) new = (number ≡ length lines + 1) × LeadsNowhere lines place line
+AddsLine lines place line (Err _) new = Unit {0}
 
 -- the lines so far were the front of the input
 pub record Heard (a : Auditor) (input behind : Option (List ℕ)) : Type 0 where
-  pub entries : List Entry
-  pub holds : Holds a entries
-  pub taken : Consumes input behind (spell a.version entries)
+  pub lines : List (List ℕ)
+  pub place : Place
+  pub holds : Holds a lines place
+  pub taken : Consumes input behind (lines_text lines)
+
+-- they were all of it, and a text may end there
+pub record HeardAll (a : Auditor) (input behind : Option (List ℕ)) : Type 0 where
+  pub heard : Heard a input behind
+  pub ends : MayEnd heard.place
+  pub at_end : IsAtEnd behind
 
 -- a step of an audit took a line, or found the end, or a fault
 abbrev pub TakesStep : Option (List ℕ) → Auditor → Result Bool AuditFault → Auditor → Option (List ℕ) → Type 0
 TakesStep input old (Ok true) new behind = Heard new input behind × (new.lines ≡ old.lines + 1)
-TakesStep input old (Ok false) new behind = Heard new input behind × IsAtEnd behind
+TakesStep input old (Ok false) new behind = HeardAll new input behind
 TakesStep input old (Err fault) new behind = (text : List ℕ) → input ≡ Some text → IsFault text fault
 
 -- the source's count of failures after an audit: it rises exactly where a read failed

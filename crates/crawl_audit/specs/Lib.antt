@@ -2,12 +2,21 @@
 -- docs/FORMATS.md has the text.
 pub mod Audit
 pub mod BaseFields
-pub mod Parts
-pub mod Spell
-pub mod SpellBase
+pub mod ChainAudit
+pub mod Chains
 pub mod Entries
 pub mod Exports
+pub mod FirstBase
 pub mod Laws
+pub mod Loading
+pub mod NextBase
+pub mod Numbered
+pub mod OpenRows
+pub mod Parts
 pub mod Reading
+pub mod ReadingRows
 pub mod Records
+pub mod Spell
+pub mod SpellBase
+pub mod Steps
 pub mod Tables

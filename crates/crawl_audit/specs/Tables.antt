@@ -1,17 +1,21 @@
 -- The tables by which a text is audited, and that they say what a history does.
 -- RFC 9309, sections 2.3.1 and 2.4.
-use Rattle.std.specs.Prelude.{◌≡◌, ℕ, ◌==◌, Bool, true, false, List, [], ◌∷◌, Option, Some, None, Result, Ok, Err, is_some, filter, if◌then◌else◌}
+use Rattle.std.specs.Prelude.{◌≡◌, ℕ, ◌≤◌, ◌==◌, ◌||◌, Bool, true, false, max, nat_lt, not, List, [], ◌∷◌, Option, Some, None, Result, Ok, Err, is_some, filter, if◌then◌else◌}
 use Rattle.std.specs.Borrow.{Bor}
 use Rattle.std.specs.HashMap.{get}
 use Rattle.permit_book.specs.declared.out.Fetch.{Fetch}
 use Rattle.permit_book.specs.declared.granted_permit.GrantedPermit.{GrantedPermit}
+use Rattle.permit_book.specs.Numbers.{generation_of, slot_of}
 use Rattle.permit_book.specs.Outstanding.{is_numbered, permit_for}
 use Rattle.authority_cache.specs.Lists.{TellsCache}
+use Rattle.gate_history.specs.declared.base.SlotGrant.{SlotGrant}
 use Rattle.gate_history.specs.declared.entry.Entry.{Entry}
-use Rattle.gate_history.specs.History.{History, ◌▸◌, begins, now}
-use Rattle.gate_history.specs.Legal.{MayFollow}
-use Rattle.gate_history.specs.Outstanding.{is_running, unspent, was_granted}
+use Rattle.gate_history.specs.Grants.{is_in}
+use Rattle.gate_history.specs.History.{History, ◌▸◌, begins, entry_count, now, started_count}
+use Rattle.gate_history.specs.Legal.{MayFollow, Rises}
+use Rattle.gate_history.specs.Outstanding.{grants, running, unspent, was_granted}
 use Rattle.gate_history.specs.Standing.{in_flight, standing}
+use Rattle.gate_history.specs.Grants.{IsSlotGrant}
 use Rattle.crawl_audit.specs.declared.numbers.Numbers.{Numbers}
 use Rattle.crawl_audit.specs.declared.numbers.Phase.{Phase}
 use Rattle.crawl_audit.specs.declared.numbers.Phase.TheVariants.{Unspent, Running}
@@ -19,13 +23,13 @@ use Rattle.crawl_audit.specs.declared.ledger.Ledger.{Ledger}
 use Rattle.crawl_audit.specs.declared.ledger.Unfit.{Unfit}
 use Rattle.crawl_audit.specs.declared.ledger.Unfit.TheVariants.{Illegal, NoMemory}
 
--- what became of each number, none of one that was never granted
+-- how each number is out, none of one that is not
 abbrev pub Phases : Type 0
 Phases = ℕ → Option Phase
 
 -- what the table has under each number
 abbrev pub phases_of : Numbers → Phases
-phases_of numbers number = get (λ one other. one == other) numbers.by_number number
+phases_of numbers number = get (λ one other. one == other) numbers.out number
 
 -- this is under the number now, and the others are as they were
 abbrev pub KeepsPhase : Phases → ℕ → Option Phase → Phases → Type 0
@@ -35,6 +39,11 @@ KeepsPhase old number phase new = (other : ℕ) → new other ≡ (if number == 
 abbrev pub unspent_under : ℕ → Option Phase → List GrantedPermit
 unspent_under number (Some (Unspent fetch)) = permit_for number fetch ∷ []
 unspent_under number _ = []
+
+-- the permit of the number, where its fetch runs
+abbrev pub running_under : ℕ → Option Phase → List GrantedPermit
+running_under number (Some (Running fetch)) = permit_for number fetch ∷ []
+running_under number _ = []
 
 -- no start has spent it
 abbrev pub is_unspent_in : Option Phase → Bool
@@ -48,25 +57,138 @@ GivesUnspent phase (Some fetch) = phase ≡ Some (Unspent fetch.now)
 
 -- a fetch is running
 abbrev pub is_running_in : Option Phase → Bool
-is_running_in (Some Running) = true
+is_running_in (Some (Running fetch)) = true
 is_running_in _ = false
 
--- the table says what the history does of each number
-pub record TellsNumbers (phases : Phases) (h : History) : Type 0 where
-  pub unspent_are : (number : ℕ) → filter (is_numbered number) (unspent h) ≡ unspent_under number (phases number)
-  pub running_are : (number : ℕ) → is_running h number ≡ is_running_in (phases number)
-  pub granted_are : (number : ℕ) → was_granted h number ≡ is_some (phases number)
+-- the greatest generation of each slot, none of one in which nothing was granted
+abbrev pub Lasts : Type 0
+Lasts = ℕ → Option ℕ
+
+-- what the table has under each slot
+abbrev pub lasts_of : Numbers → Lasts
+lasts_of numbers slot = get (λ one other. one == other) numbers.by_slot slot
+
+-- the greatest generation is this one now, and those of other slots are as they were
+abbrev pub KeepsLast : Lasts → ℕ → ℕ → Lasts → Type 0
+KeepsLast old slot generation new = (other : ℕ) → new other ≡ (if slot == other then Some generation else old other)
+
+-- the greater of a generation and the greatest before it
+abbrev pub greatest_with : ℕ → Option ℕ → ℕ
+greatest_with generation (Some last) = max generation last
+greatest_with generation None = generation
+
+-- the generation is above the greatest before it
+abbrev pub is_above : ℕ → Option ℕ → Bool
+is_above generation (Some last) = nat_lt last generation
+is_above generation None = true
+
+-- the grants of the slot: that of its greatest generation
+abbrev pub grants_under : ℕ → Option ℕ → List SlotGrant
+grants_under slot (Some generation) = record { slot = slot; generation = generation } ∷ []
+grants_under slot None = []
+
+-- the number is among those that were granted
+abbrev pub is_noted : Numbers → ℕ → Bool
+is_noted numbers number = is_some (get (λ one other. one == other) numbers.granted number)
+
+-- the number may be granted: it is above the greatest generation of its slot, or it was never granted
+abbrev pub is_new : Numbers → ℕ → Bool
+is_new numbers number =
+    if numbers.rising then is_above (generation_of number) (lasts_of numbers (slot_of number))
+    else not (is_noted numbers number)
+
+-- this is out under the number now, and nothing else changed
+pub record Puts (old : Numbers) (number : ℕ) (phase : Option Phase) (new : Numbers) : Type 0 where
+  pub phases : KeepsPhase (phases_of old) number phase (phases_of new)
+  pub slots : new.by_slot ≡ old.by_slot
+  pub granted : new.granted ≡ old.granted
+  pub rising : new.rising ≡ old.rising
+
+-- an unspent permit runs now
+abbrev pub StartsRun : Numbers → ℕ → Numbers → Type 0
+StartsRun old number new = (fetch : Fetch) → phases_of old number ≡ Some (Unspent fetch) → Puts old number (Some (Running fetch)) new
+
+-- the number's slot has had the number's generation
+pub record Raises (old : Numbers) (number : ℕ) (new : Numbers) : Type 0 where
+  pub fits : IsSlotGrant (record { slot = slot_of number; generation = generation_of number })
+  pub lasts : KeepsLast (lasts_of old) (slot_of number) (greatest_with (generation_of number) (lasts_of old (slot_of number))) (lasts_of new)
+  pub out : new.out ≡ old.out
+  pub granted : new.granted ≡ old.granted
+  pub rising : new.rising ≡ old.rising
+
+-- one number more was granted
+abbrev pub AddsNumber : Numbers → ℕ → Numbers → Type 0
+AddsNumber old number new = old.rising ≡ false → (other : ℕ) → is_noted new other ≡ (number == other || is_noted old other)
+
+-- that is noted
+pub record Notes (old : Numbers) (number : ℕ) (new : Numbers) : Type 0 where
+  pub granted : AddsNumber old number new
+  pub out : new.out ≡ old.out
+  pub slots : new.by_slot ≡ old.by_slot
+  pub rising : new.rising ≡ old.rising
+
+-- the number was granted for the fetch
+pub record Grants (old : Numbers) (number : ℕ) (fetch : Fetch) (new : Numbers) : Type 0 where
+  pub phases : KeepsPhase (phases_of old) number (Some (Unspent fetch)) (phases_of new)
+  pub lasts : KeepsLast (lasts_of old) (slot_of number) (greatest_with (generation_of number) (lasts_of old (slot_of number))) (lasts_of new)
+  pub granted : AddsNumber old number new
+  pub rising : new.rising ≡ old.rising
+  pub fits : IsSlotGrant (record { slot = slot_of number; generation = generation_of number })
+
+-- the tables say what the history does of each number and of each slot; what is out was granted
+pub record TellsNumbers (numbers : Numbers) (h : History) : Type 0 where
+  pub unspent_are : (number : ℕ) → filter (is_numbered number) (unspent h) ≡ unspent_under number (phases_of numbers number)
+  pub running_are : (number : ℕ) → filter (is_numbered number) (running h) ≡ running_under number (phases_of numbers number)
+  pub grants_are : (slot : ℕ) → filter (is_in slot) (grants h) ≡ grants_under slot (lasts_of numbers slot)
+  pub granted_are : numbers.rising ≡ false → (number : ℕ) → was_granted h number ≡ is_noted numbers number
+  pub out_noted : numbers.rising ≡ false → (number : ℕ) → is_noted numbers number ≡ false → phases_of numbers number ≡ None
+  pub out_covered : (number : ℕ) → is_above (generation_of number) (lasts_of numbers (slot_of number)) ≡ true → phases_of numbers number ≡ None
+  pub slots_fit : (slot generation : ℕ) → lasts_of numbers slot ≡ Some generation → IsSlotGrant (record { slot = slot; generation = generation })
 
 -- the tables say what the history does
 pub record Tells (l : Ledger) (h : History) : Type 0 where
   pub clock_is : l.clock ≡ now h
   pub begins_are : l.begins ≡ begins h
   pub cache_tells : TellsCache l.cache (standing h) (in_flight h)
-  pub numbers_tell : TellsNumbers (phases_of l.numbers) h
+  pub numbers_tell : TellsNumbers l.numbers h
 
--- the entry is legal after the history, and the tables say what the longer history does; or it is not
--- legal; or memory was refused
-abbrev pub FollowsLegally : History → Entry → Result (Unit {0}) Unfit → Ledger → Type 0
-FollowsLegally h e (Ok _) new = MayFollow h e × Tells new (h ▸ e)
-FollowsLegally h e (Err Illegal) new = MayFollow h e → ⊥
-FollowsLegally h e (Err NoMemory) new = Unit {0}
+-- so they do, and how many entries it has, and how many of them are started fetches
+pub record TellsAll (l : Ledger) (h : History) : Type 0 where
+  pub tells : Tells l h
+  pub entries_are : l.entries ≡ entry_count h
+  pub started_are : l.started ≡ started_count h
+  pub few : l.started ≤ l.entries
+
+-- the counts are as they were
+pub record KeepsCounts (old new : Ledger) : Type 0 where
+  pub entries : new.entries ≡ old.entries
+  pub started : new.started ≡ old.started
+
+-- the entry may come next: it is legal, and where grants rise, a grant is of a generation above all earlier
+-- ones of its slot
+pub record MayCome (rising : Bool) (h : History) (e : Entry) : Type 0 where
+  pub fit : MayFollow h e
+  pub rises : rising ≡ true → Rises h e
+
+-- the tables say what the longer history does, and grants must rise where they had to
+pub record Enters (rising : Bool) (h : History) (new : Ledger) : Type 0 where
+  pub tells : Tells new h
+  pub still : new.numbers.rising ≡ rising
+
+-- the tables say all of the longer history, and grants must rise where they had to
+pub record EntersAll (rising : Bool) (h : History) (new : Ledger) : Type 0 where
+  pub tells : TellsAll new h
+  pub still : new.numbers.rising ≡ rising
+
+-- the entry may come next after the history, and the tables say what the longer history does; or it may
+-- not; or memory was refused
+abbrev pub FollowsLegally : Ledger → History → Entry → Result (Unit {0}) Unfit → Ledger → Type 0
+FollowsLegally old h e (Ok _) new = MayCome old.numbers.rising h e × Enters old.numbers.rising (h ▸ e) new
+FollowsLegally old h e (Err Illegal) new = MayCome old.numbers.rising h e → ⊥
+FollowsLegally old h e (Err NoMemory) new = Unit {0}
+
+-- the same of all that the tables say
+abbrev pub EntersLegally : Ledger → History → Entry → Result (Unit {0}) Unfit → Ledger → Type 0
+EntersLegally old h e (Ok _) new = MayCome old.numbers.rising h e × EntersAll old.numbers.rising (h ▸ e) new
+EntersLegally old h e (Err Illegal) new = MayCome old.numbers.rising h e → ⊥
+EntersLegally old h e (Err NoMemory) new = Unit {0}

@@ -1,17 +1,18 @@
-//! The auditor: what was read of a text so far, and the next of its lines.
+//! The auditor: what was read of texts so far, and the next of their lines.
 //! docs/FORMATS.md has the lines and the causes of a bad one.
-ghost use Rattle.std.specs.Prelude.{◌≡◌, ◌≢◌, ℕ, Err, IfOk, List, Option, codes};
+ghost use Rattle.std.specs.Prelude.{◌≡◌, ◌≢◌, ◌<◌, ◌+◌, ◌↔◌, ℕ, Bool, Err, IfOk, IsTrue, List, OnOk, Option};
 ghost use Rattle.std.specs.Io.KnownBytes.{prepend_known};
-ghost use Rattle.gate_history.specs.declared.entry.Entry.{Entry};
-ghost use Rattle.crawl_audit.specs.Audit.{Heard, Holds, TakesStep, TakesEntryLine};
-ghost use Rattle.crawl_audit.specs.Audit.{failures_after_audit};
-ghost use Rattle.gate_history.specs.History.{is_start};
-ghost use Rattle.crawl_audit.specs.Records.{entry_of};
+ghost use Rattle.gate_history.specs.History.{History};
+ghost use Rattle.crawl_audit.specs.Audit.{AddsLine, AreEntries, BeginsEntries, EntersLine, Heard, Holds};
+ghost use Rattle.crawl_audit.specs.Audit.{Moves, StandsAt, TakesStep, failures_after_audit};
+ghost use Rattle.crawl_audit.specs.Chains.{most_lines};
+ghost use Rattle.crawl_audit.specs.Steps.{MayEnd, Place, among, start};
 
 use crate::fault::{AuditFault, Audited};
-use crate::ledger::{Ledger, Unfit};
+use crate::first_base::FirstBase;
+use crate::ledger::{Ledger, Unfit, is_start};
+use crate::next_base::{BaseLine, NextBase};
 use crate::read::read_line;
-use crate::record::Record;
 use crate::unread_line::UnreadLine;
 use crate::version::Version;
 use counted_io::{LineEnd, LineReader, NextLine, ReadLineFault, Source};
@@ -23,6 +24,22 @@ use std::hash::RandomState;
 /// The most octets of a line, its end not counted.
 pub const MAX_LINE: usize = MAX_LONG_LINE;
 
+/// The most lines of texts that are audited together.
+pub const MAX_LINES: u64 = 100_000_000;
+
+/// Where an auditor stands.
+#[derive(Drop)]
+pub(crate) enum Stage {
+    /// Before the first line.
+    Start,
+    /// Where the line of an entry may come.
+    Entries,
+    /// Within the base of a first text.
+    First(FirstBase),
+    /// Within the base of a further text.
+    Further(NextBase),
+}
+
 /// What was read so far.
 #[derive(Drop)]
 pub(crate) struct Auditor {
@@ -30,7 +47,13 @@ pub(crate) struct Auditor {
     pub(crate) line: Vec<u8>,
     pub(crate) ledger: Ledger,
     pub(crate) version: Version,
+    pub(crate) stage: Stage,
+    /// The keys of the hashers of tables.
+    pub(crate) keys: RandomState,
     pub(crate) lines: u64,
+    /// The entries of the text that is read.
+    pub(crate) count: u64,
+    /// Those of all texts, and the started fetches among them.
     pub(crate) events: u64,
     pub(crate) starts: u64,
 }
@@ -47,7 +70,10 @@ impl Auditor {
             line: Vec::new(alloc),
             ledger: Ledger::new(alloc, keys),
             version: Version::One,
+            stage: Stage::Start,
+            keys,
             lines: 0,
+            count: 0,
             events: 0,
             starts: 0,
         })
@@ -77,52 +103,137 @@ impl Auditor {
             },
             Ok(NextLine::Last) => Err(AuditFault::BadLine(number)),
             Ok(NextLine::TooLong) => Err(AuditFault::BadLine(number)),
-            Ok(NextLine::End) => Ok(false),
+            Ok(NextLine::End) => {
+                if self.may_end() {
+                    Ok(false)
+                } else {
+                    Err(AuditFault::BadLine(number))
+                }
+            }
             Err(ReadLineFault::Read) => Err(AuditFault::Read),
             Err(ReadLineFault::NoMemory) => Err(AuditFault::NoMemory),
         }
     }
 
-    // Takes the line: the head of version 2, or an entry that is legal after those so far.
+    // Whether a text may end here: not within a base.
+    fn may_end(&self) -> bool
+        ensures { (place : Place) → StandsAt self.now place → IsTrue result ↔ MayEnd place }
+    {
+        matches!(self.stage, Stage::Start | Stage::Entries)
+    }
+
+    // Takes the line, where it may come.
     fn take_line(&mut self, alloc: Global) -> Result<(), AuditFault>
-        ensures line { (entries : List Entry) → Holds self.old entries
-            → TakesEntryLine self.old entries self.old.line.items result self.new }
+        ensures line { (lines : List (List ℕ)) (place : Place) → Holds self.old lines place
+            → AddsLine lines place self.old.line.items result self.new }
         ensures reader { self.new.reader ≡ self.old.reader }
         ensures faults { result ≢ Err AuditFault.Read }
     {
-        if self.lines == 0 && self.line.as_slice() == "V 2".as_bytes() {
+        let number = self.lines.saturating_add(1);
+        if self.lines >= MAX_LINES {
+            return Err(AuditFault::BadLine(number));
+        }
+        match self.step(alloc) {
+            Ok(()) => {}
+            Err(UnreadLine::NotOne) => return Err(AuditFault::BadLine(number)),
+            Err(UnreadLine::NoMemory) => return Err(AuditFault::NoMemory),
+        }
+        self.lines = number;
+        Ok(())
+    }
+
+    // Goes where the line leads.
+    fn step(&mut self, alloc: Global) -> Result<(), UnreadLine>
+        ensures moves { (place : Place) → StandsAt self.old place
+            → Moves place self.old.line.items self.old result self.new }
+        ensures reader { self.new.reader ≡ self.old.reader }
+    {
+        match &mut self.stage {
+            Stage::Start => self.step_from_start(alloc),
+            Stage::Entries => self.step_among_entries(alloc),
+            Stage::First(first) => {
+                match first.take(alloc, &mut self.ledger, self.line.as_slice()) {
+                    Ok(false) => Ok(()),
+                    Ok(true) => {
+                        self.begin_entries();
+                        Ok(())
+                    }
+                    Err(unread) => Err(unread),
+                }
+            }
+            Stage::Further(next) => match next.take(self.line.as_slice()) {
+                BaseLine::Taken => Ok(()),
+                BaseLine::Last => {
+                    self.ledger.numbers.rise();
+                    self.begin_entries();
+                    Ok(())
+                }
+                BaseLine::Other => Err(UnreadLine::NotOne),
+            },
+        }
+    }
+
+    // Entries may come behind a base: none yet.
+    fn begin_entries(&mut self)
+        ensures { BeginsEntries self.old self.new }
+    {
+        self.version = Version::Two;
+        self.stage = Stage::Entries;
+        self.count = 0;
+    }
+
+    // The first line: the head of version 2 or 3, or an entry of version 1.
+    fn step_from_start(&mut self, alloc: Global) -> Result<(), UnreadLine>
+        ensures moves { StandsAt self.old start
+            → Moves start self.old.line.items self.old result self.new }
+        ensures reader { self.new.reader ≡ self.old.reader }
+    {
+        if self.line.as_slice() == "V 2".as_bytes() {
             self.version = Version::Two;
-            self.lines = 1;
+            self.stage = Stage::Entries;
+            return Ok(());
+        }
+        if self.line.as_slice() == "V 3".as_bytes() {
+            self.stage = Stage::First(FirstBase::new(alloc, self.keys));
+            return Ok(());
+        }
+        self.take_entry(alloc)
+    }
+
+    // A line where entries may come: an entry, or the head of a further text.
+    fn step_among_entries(&mut self, alloc: Global) -> Result<(), UnreadLine>
+        ensures moves { (version : Version) (rising : Bool) (h : History) (count : ℕ)
+            → AreEntries self.old version rising h count
+            → Moves (among version rising h count) self.old.line.items self.old result self.new }
+        ensures reader { self.new.reader ≡ self.old.reader }
+    {
+        if self.line.as_slice() == "V 3".as_bytes() {
+            self.stage = Stage::Further(self.ledger.next_base(alloc)?);
             return Ok(());
         }
         self.take_entry(alloc)
     }
 
     // Takes the line of an entry.
-    fn take_entry(&mut self, alloc: Global) -> Result<(), AuditFault>
-        requires { self.old.lines ≡ 0 → self.old.line.items ≢ codes "V 2" }
-        ensures line { (entries : List Entry) → Holds self.old entries
-            → TakesEntryLine self.old entries self.old.line.items result self.new }
+    fn take_entry(&mut self, alloc: Global) -> Result<(), UnreadLine>
+        ensures line { (version : Version) (rising : Bool) (h : History) (count : ℕ)
+            → AreEntries self.old version rising h count
+            → EntersLine version rising h count self.old.line.items self.old result self.new }
         ensures reader { self.new.reader ≡ self.old.reader }
-        ensures faults { result ≢ Err AuditFault.Read }
     {
-        let number = self.lines.saturating_add(1);
-        if self.events >= MAX_LOG {
-            return Err(AuditFault::BadLine(number));
+        if self.count >= MAX_LOG || self.ledger.entries == u64::MAX {
+            return Err(UnreadLine::NotOne);
         }
-        let found = match read_line(alloc, self.version, self.line.as_slice()) {
-            Ok(found) => found,
-            Err(UnreadLine::NotOne) => return Err(AuditFault::BadLine(number)),
-            Err(UnreadLine::NoMemory) => return Err(AuditFault::NoMemory),
-        };
+        let found = read_line(alloc, self.version, self.line.as_slice())?;
         let start = is_start(&found);
         match self.ledger.enter(found) {
             Ok(()) => {}
-            Err(Unfit::Illegal) => return Err(AuditFault::BadLine(number)),
-            Err(Unfit::NoMemory) => return Err(AuditFault::NoMemory),
+            Err(Unfit::Illegal) => return Err(UnreadLine::NotOne),
+            Err(Unfit::NoMemory) => return Err(UnreadLine::NoMemory),
         }
-        self.lines = number;
-        self.events += 1;
+        self.stage = Stage::Entries;
+        self.count += 1;
+        self.events = self.events.saturating_add(1);
         if start {
             self.starts = self.starts.saturating_add(1);
         }
@@ -138,11 +249,4 @@ impl Auditor {
             starts: self.starts,
         }
     }
-}
-
-// Whether the entry is a fetch that was started.
-fn is_start(found: &Record) -> bool
-    ensures { result ≡ is_start (entry_of found.now) }
-{
-    matches!(found, Record::Started { .. })
 }

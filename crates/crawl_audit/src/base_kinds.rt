@@ -1,18 +1,24 @@
-//! The line of each kind of thing that a base left open, by its fields.
+//! The line of each kind of thing that a base left open, by its fields; and that of its numbers.
 //! docs/FORMATS.md has the kinds as a table.
-ghost use Rattle.std.specs.Prelude.{◌≡◌, ◌++◌, [], ◌∷◌, codes, decimal};
+ghost use Rattle.std.specs.Prelude.{◌≡◌, ◌++◌, [], ◌∷◌, Some, codes, decimal};
 ghost use Rattle.line_text.specs.Pieces.{pieces_text};
 ghost use Rattle.path_normal.specs.Authority.{IsAuthority};
+ghost use Rattle.path_normal.specs.PageUrl.{IsPage};
+ghost use Rattle.robots_text.specs.Token.{token_of};
 ghost use Rattle.crawl_audit.specs.declared.version.Version.TheVariants.{Two};
 ghost use Rattle.crawl_audit.specs.Entries.{IsNumber};
 ghost use Rattle.crawl_audit.specs.Records.{told_said};
 ghost use Rattle.crawl_audit.specs.Spell.{answer_fields, spaced_fields};
 
+use crate::entry_pieces::{token_octets, url_octets};
 use crate::kinds::{Told, answer_pieces};
 use crate::version::Version;
 use authority_cache::TurnNo;
+use gate_history::Numbers;
 use line_text::{Piece, Pieces};
-use path_normal::Authority;
+use path_normal::{Authority, PageUrl};
+use permit_book::PermitNo;
+use robots_text::Token;
 
 const SPACE: Piece<'static> = Piece::Text(" ");
 
@@ -76,5 +82,50 @@ pub(crate) fn greatest(slot: u64, generation: u64) -> Pieces<'static>
         Piece::Number(slot),
         SPACE,
         Piece::Number(generation),
+    ])
+}
+
+/// A permit that is out, behind the letter that says how.
+pub(crate) fn permit<'a>(
+    letter: &'static str,
+    number: PermitNo,
+    token: &'a Token,
+    url: &'a PageUrl,
+) -> Pieces<'a>
+    ensures text { pieces_text result ≡ letter.now
+        ++ spaced_fields (decimal number ∷ token.now ∷ url.now ∷ []) }
+    ensures number { IsNumber number }
+    ensures token { token_of token.now ≡ Some token.now }
+    ensures url { IsPage url.now }
+{
+    Pieces::of(&[
+        Piece::Text(letter),
+        SPACE,
+        Piece::Number(number.number()),
+        SPACE,
+        Piece::Octets(token_octets(token)),
+        SPACE,
+        Piece::Octets(url_octets(url)),
+    ])
+}
+
+/// The numbers of a base.
+pub(crate) fn counts(numbers: Numbers) -> Pieces<'static>
+    ensures text { pieces_text result ≡ codes "T" ++ spaced_fields (decimal numbers.entries
+        ∷ decimal numbers.started ∷ decimal numbers.begins ∷ decimal numbers.moment ∷ []) }
+    ensures entries { IsNumber numbers.entries }
+    ensures started { IsNumber numbers.started }
+    ensures begins { IsNumber numbers.begins }
+    ensures moment { IsNumber numbers.moment }
+{
+    Pieces::of(&[
+        Piece::Text("T "),
+        Piece::Number(numbers.entries),
+        SPACE,
+        Piece::Number(numbers.started),
+        SPACE,
+        Piece::Number(numbers.begins),
+        SPACE,
+        Piece::Number(numbers.moment),
     ])
 }

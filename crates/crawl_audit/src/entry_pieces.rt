@@ -135,7 +135,7 @@ pub(crate) fn url_octets(url: &PageUrl) -> &[u8]
 }
 
 /// What an answer says.
-fn told_by(answer: &Answer) -> Told<'_>
+pub(crate) fn told_by(answer: &Answer) -> Told<'_>
     ensures said { told_said result ≡ said answer.now }
     ensures body { IsSaid (said answer.now) }
 {

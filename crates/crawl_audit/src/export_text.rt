@@ -5,6 +5,8 @@ ghost use Rattle.std.specs.Io.KnownBytes.{Appends};
 ghost use Rattle.counted_io.specs.Device.{AppendsPrefix, failures_after};
 ghost use Rattle.counted_io.specs.Output.{Pushes};
 ghost use Rattle.gate_history.specs.Base.{empty_base};
+ghost use Rattle.gate_history.specs.Grants.{IsSlotGrant};
+ghost use Rattle.gate_history.specs.Order.{IsInOrder};
 ghost use Rattle.crawl_audit.specs.declared.version.Version.TheVariants.{Two};
 ghost use Rattle.crawl_audit.specs.BaseFields.{HasBaseFields};
 ghost use Rattle.crawl_audit.specs.Entries.{HasFields};
@@ -78,7 +80,10 @@ fn push_segment<W: Sink>(
         (spell_segment (record { base = base.now; entries = entries.now })) result }
     ensures base { OnOk result (0 < base.now.entries → HasBaseFields base.now) }
     ensures fields { OnOk result (All HasFields entries.now) }
+    ensures grants { All IsSlotGrant base.now.grants }
+    ensures order { IsInOrder base.now }
 {
+    let _ = base.grants();
     if base.entries() == 0 {
         return push_history(entries, output, sink);
     }

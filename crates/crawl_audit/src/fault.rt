@@ -3,19 +3,20 @@
 use counted_io::ReadLineFault;
 use std::alloc::AllocError;
 
-/// The counts of a text that was found right.
+/// The counts of texts that were found right.
 #[derive(Clone, Copy, Debug, PartialEq, Eq)]
 pub struct Audited {
-    /// How many entries it has.
+    /// How many entries they have.
     pub events: u64,
     /// How many of them are fetches that were started.
     pub starts: u64,
 }
 
-/// Why a text was not found right.
+/// Why texts were not found right.
 #[derive(Clone, Copy, Debug, PartialEq, Eq)]
 pub enum AuditFault {
-    /// The line of this number, from 1, is the first that does not continue a legal history.
+    /// The line of this number, from 1 and over all texts, is the first with which no right text
+    /// goes on.
     BadLine(u64),
     /// A read failed.
     Read,

@@ -1,5 +1,5 @@
 //! The words of a line, read one by one as numbers, tokens, URLs, authorities and bodies.
-//! Used by `read`.
+//! Used by `read` and `read_base`.
 ghost use Rattle.std.specs.Prelude.{◌≡◌, IfErr, IfOk};
 ghost use Rattle.line_text.specs.Number.{number_of};
 ghost use Rattle.line_text.specs.Words.{words_left};

@@ -1,17 +1,18 @@
 //! The ledger: what the entries that were read so far say, in tables, by which the next one is judged.
 //! RFC 9309, sections 2.2.2, 2.3.1 and 2.4.
-ghost use Rattle.std.specs.Prelude.{◌≡◌, ◌≤◌, ◌+◌, ◌↔◌, IsTrue};
+ghost use Rattle.std.specs.Prelude.{◌≡◌, ◌≤◌, ◌+◌, ◌<◌, ◌↔◌, IsTrue, false};
 ghost use Rattle.robots_verdict.specs.Answer.{said};
 ghost use Rattle.authority_cache.specs.Lives.{life_of};
 ghost use Rattle.gate_history.specs.declared.entry.Entry.TheVariants.{AskDenied, Arrived, Begun, Finished, Granted, Returned, StartDenied, Started, Swept};
 ghost use Rattle.gate_history.specs.Base.{empty_base};
-ghost use Rattle.gate_history.specs.History.{History, from};
+ghost use Rattle.gate_history.specs.History.{History, from, is_start};
 ghost use Rattle.gate_history.specs.Legal.{IsLegal, SpendsAs};
 ghost use Rattle.crawl_audit.specs.Entries.{HasLife};
 ghost use Rattle.crawl_audit.specs.Records.{entry_of};
-ghost use Rattle.crawl_audit.specs.Tables.{FollowsLegally, Tells};
+ghost use Rattle.crawl_audit.specs.Tables.{EntersLegally, FollowsLegally, KeepsCounts, Tells, TellsAll};
+ghost use Rattle.gate_core.specs.Limits.{greatest_number};
 
-use crate::numbers::{Numbers, Phase};
+use crate::numbers::Numbers;
 use crate::record::Record;
 use crate::version::Version;
 use authority_cache::{Cache, TimedAnswer, TurnNo};
@@ -47,6 +48,9 @@ impl From<AllocError> for Unfit {
 pub(crate) struct Ledger {
     pub(crate) clock: u64,
     pub(crate) begins: u64,
+    /// How many entries there were ever, and how many of them are started fetches.
+    pub(crate) entries: u64,
+    pub(crate) started: u64,
     pub(crate) cache: Cache,
     pub(crate) numbers: Numbers,
 }
@@ -54,11 +58,14 @@ pub(crate) struct Ledger {
 impl Ledger {
     /// The ledger of no entry, with the keys of its tables' hashers.
     pub(crate) fn new(alloc: Global, keys: RandomState) -> Ledger
-        ensures { Tells result (from empty_base) }
+        ensures tells { TellsAll result (from empty_base) }
+        ensures any { result.numbers.rising ≡ false }
     {
         Ledger {
             clock: 0,
             begins: 0,
+            entries: 0,
+            started: 0,
             // The authorities of a text are not limited.
             cache: Cache::new(alloc, u64::MAX, keys),
             numbers: Numbers::new(alloc, keys),
@@ -67,9 +74,29 @@ impl Ledger {
 
     /// Enters an entry, where it is legal after those so far.
     pub(crate) fn enter(&mut self, found: Record) -> Result<(), Unfit>
+        requires life { HasLife Version.Two (entry_of found) }
+        requires room { self.old.entries < greatest_number }
+        ensures { (h : History) → IsLegal h → TellsAll self.old h
+            → EntersLegally self.old h (entry_of found) result self.new }
+    {
+        let start = is_start(&found);
+        match self.enter_open(found) {
+            Ok(()) => {}
+            Err(unfit) => return Err(unfit),
+        }
+        self.entries += 1;
+        if start {
+            self.started = self.started.saturating_add(1);
+        }
+        Ok(())
+    }
+
+    // Enters what an entry opens or ends.
+    fn enter_open(&mut self, found: Record) -> Result<(), Unfit>
         requires { HasLife Version.Two (entry_of found) }
-        ensures { (h : History) → IsLegal h → Tells self.old h
-            → FollowsLegally h (entry_of found) result self.new }
+        ensures tells { (h : History) → IsLegal h → Tells self.old h
+            → FollowsLegally self.old h (entry_of found) result self.new }
+        ensures counts { KeepsCounts self.old self.new }
     {
         match found {
             Record::Begun {
@@ -111,8 +138,9 @@ impl Ledger {
     }
 
     fn enter_begun(&mut self, moment: u64, authority: &Authority, turn: TurnNo) -> Result<(), Unfit>
-        ensures { (h : History) → Tells self.old h
-            → FollowsLegally h (Begun moment authority.now turn) result self.new }
+        ensures tells { (h : History) → Tells self.old h
+            → FollowsLegally self.old h (Begun moment authority.now turn) result self.new }
+        ensures counts { KeepsCounts self.old self.new }
     {
         if moment < self.clock || self.cache.in_flight(authority.text()) || !self.is_next(turn) {
             return Err(Unfit::Illegal);
@@ -141,8 +169,10 @@ impl Ledger {
         life: u64,
     ) -> Result<(), Unfit>
         requires { life_of (said answer) life ≡ life }
-        ensures { (h : History) → IsLegal h → Tells self.old h
-            → FollowsLegally h (Arrived moment authority.now turn (said answer) life) result self.new }
+        ensures tells { (h : History) → IsLegal h → Tells self.old h
+            → FollowsLegally self.old h (Arrived moment authority.now turn (said answer) life)
+            result self.new }
+        ensures counts { KeepsCounts self.old self.new }
     {
         if moment < self.clock {
             return Err(Unfit::Illegal);
@@ -156,24 +186,26 @@ impl Ledger {
     }
 
     fn enter_granted(&mut self, moment: u64, number: PermitNo, fetch: Fetch) -> Result<(), Unfit>
-        ensures { (h : History) → Tells self.old h
-            → FollowsLegally h (Granted moment number fetch) result self.new }
+        ensures tells { (h : History) → Tells self.old h
+            → FollowsLegally self.old h (Granted moment number fetch) result self.new }
+        ensures counts { KeepsCounts self.old self.new }
     {
-        if moment < self.clock || self.numbers.was_granted(number) {
+        if moment < self.clock || !self.numbers.is_new(number) {
             return Err(Unfit::Illegal);
         }
         self.cache.make_index(fetch.url.authority());
         if decide(&self.cache, &fetch.token, &fetch.url, None, moment).is_err() {
             return Err(Unfit::Illegal);
         }
-        self.numbers.put(number, Phase::Unspent(fetch))?;
+        self.numbers.grant(number, fetch)?;
         self.clock = moment;
         Ok(())
     }
 
     fn enter_ask_denied(&mut self, moment: u64, fetch: &Fetch, cause: Cause) -> Result<(), Unfit>
-        ensures { (h : History) → Tells self.old h
-            → FollowsLegally h (AskDenied moment fetch.now cause) result self.new }
+        ensures tells { (h : History) → Tells self.old h
+            → FollowsLegally self.old h (AskDenied moment fetch.now cause) result self.new }
+        ensures counts { KeepsCounts self.old self.new }
     {
         self.cache.make_index(fetch.url.authority());
         let decided = decide(&self.cache, &fetch.token, &fetch.url, None, moment);
@@ -185,13 +217,14 @@ impl Ledger {
     }
 
     fn enter_started(&mut self, moment: u64, number: PermitNo, reason: Reason) -> Result<(), Unfit>
-        ensures { (h : History) → Tells self.old h
-            → FollowsLegally h (Started moment number reason) result self.new }
+        ensures tells { (h : History) → Tells self.old h
+            → FollowsLegally self.old h (Started moment number reason) result self.new }
+        ensures counts { KeepsCounts self.old self.new }
     {
         if moment < self.clock || !self.decides(number, moment, Ok(reason)) {
             return Err(Unfit::Illegal);
         }
-        self.numbers.put(number, Phase::Running)?;
+        self.numbers.start(number)?;
         self.clock = moment;
         Ok(())
     }
@@ -202,13 +235,14 @@ impl Ledger {
         number: PermitNo,
         cause: Cause,
     ) -> Result<(), Unfit>
-        ensures { (h : History) → Tells self.old h
-            → FollowsLegally h (StartDenied moment number cause) result self.new }
+        ensures tells { (h : History) → Tells self.old h
+            → FollowsLegally self.old h (StartDenied moment number cause) result self.new }
+        ensures counts { KeepsCounts self.old self.new }
     {
         if moment < self.clock || !self.decides(number, moment, Err(cause)) {
             return Err(Unfit::Illegal);
         }
-        self.numbers.put(number, Phase::Ended)?;
+        self.numbers.end(number);
         self.clock = moment;
         Ok(())
     }
@@ -228,27 +262,33 @@ impl Ledger {
     }
 
     fn enter_returned(&mut self, number: PermitNo) -> Result<(), Unfit>
-        ensures { (h : History) → Tells self.old h → FollowsLegally h (Returned number) result self.new }
+        ensures tells { (h : History) → Tells self.old h
+            → FollowsLegally self.old h (Returned number) result self.new }
+        ensures counts { KeepsCounts self.old self.new }
     {
         if self.numbers.unspent(number).is_none() {
             return Err(Unfit::Illegal);
         }
-        self.numbers.put(number, Phase::Ended)?;
+        self.numbers.end(number);
         Ok(())
     }
 
     fn enter_finished(&mut self, number: PermitNo) -> Result<(), Unfit>
-        ensures { (h : History) → Tells self.old h → FollowsLegally h (Finished number) result self.new }
+        ensures tells { (h : History) → Tells self.old h
+            → FollowsLegally self.old h (Finished number) result self.new }
+        ensures counts { KeepsCounts self.old self.new }
     {
         if !self.numbers.is_running(number) {
             return Err(Unfit::Illegal);
         }
-        self.numbers.put(number, Phase::Ended)?;
+        self.numbers.end(number);
         Ok(())
     }
 
     fn enter_swept(&mut self, moment: u64, count: u64) -> Result<(), Unfit>
-        ensures { (h : History) → Tells self.old h → FollowsLegally h (Swept moment count) result self.new }
+        ensures tells { (h : History) → Tells self.old h
+            → FollowsLegally self.old h (Swept moment count) result self.new }
+        ensures counts { KeepsCounts self.old self.new }
     {
         if moment < self.clock || self.cache.sweep(moment) != count {
             return Err(Unfit::Illegal);
@@ -256,6 +296,13 @@ impl Ledger {
         self.clock = moment;
         Ok(())
     }
+}
+
+// Whether the entry is a fetch that was started.
+pub(crate) fn is_start(found: &Record) -> bool
+    ensures { result ≡ is_start (entry_of found.now) }
+{
+    matches!(found, Record::Started { .. })
 }
 
 // Whether both decide the same.

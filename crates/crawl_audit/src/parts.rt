@@ -8,14 +8,13 @@ ghost use Rattle.crawl_audit.specs.Parts.{HasPartFields, part_text};
 ghost use Rattle.crawl_audit.specs.Spell.{line_end};
 ghost use Rattle.crawl_audit.specs.SpellBase.{base_text, ended, numbers_line};
 
+use crate::base_kinds::counts;
 use crate::row::Row;
 use authority_cache::{StandingAnswer, Turn};
 use counted_io::{DeviceFault, Output, Sink};
-use gate_history::{Base, SlotGrant};
-use line_text::{Piece, Pieces};
+use gate_history::{Base, Numbers, SlotGrant};
+use line_text::Pieces;
 use permit_book::GrantedPermit;
-
-const SPACE: Piece<'static> = Piece::Text(" ");
 
 /// A part of a base's text.
 #[derive(Clone, Copy)]
@@ -78,16 +77,12 @@ fn numbers_pieces(base: &Base) -> Pieces<'static>
     ensures text { pieces_text result ≡ numbers_line base.now }
     ensures numbers { HasNumbers base.now }
 {
-    Pieces::of(&[
-        Piece::Text("T "),
-        Piece::Number(base.entries()),
-        SPACE,
-        Piece::Number(base.started()),
-        SPACE,
-        Piece::Number(base.begins()),
-        SPACE,
-        Piece::Number(base.moment()),
-    ])
+    counts(Numbers {
+        begins: base.begins(),
+        moment: base.moment(),
+        entries: base.entries(),
+        started: base.started(),
+    })
 }
 
 fn push_parts<W: Sink>(

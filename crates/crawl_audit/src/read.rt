@@ -201,8 +201,8 @@ fn read_swept(words: Words<'_>) -> Result<Record, UnreadLine>
     Ok(Record::Swept { moment, count })
 }
 
-// An answer, and its life in seconds.
-fn read_answer(
+/// An answer, and its life in seconds.
+pub(crate) fn read_answer(
     alloc: Global,
     version: Version,
     words: Words<'_>,

@@ -8,15 +8,13 @@ ghost use Rattle.crawl_audit.specs.Entries.{HasFields};
 ghost use Rattle.crawl_audit.specs.Spell.{entry_line};
 ghost use Rattle.crawl_audit.specs.SpellBase.{answer_line, grant_line, permit_line, turn_line};
 
-use crate::base_kinds::{greatest, in_flight, standing};
-use crate::entry_pieces::{entry_pieces, token_octets, told_in, url_octets};
+use crate::base_kinds::{greatest, in_flight, permit, standing};
+use crate::entry_pieces::{entry_pieces, told_in};
 use crate::version::Version;
 use authority_cache::{StandingAnswer, Turn};
 use gate_history::{Entry, SlotGrant};
-use line_text::{Piece, Pieces};
+use line_text::Pieces;
 use permit_book::GrantedPermit;
-
-const SPACE: Piece<'static> = Piece::Text(" ");
 
 /// What is one line of a text.
 pub(crate) trait Row {
@@ -79,14 +77,6 @@ impl Row for GrantedPermit {
     ghost has_fields = { IsPermitRow };
 
     fn pieces(&self, letter: &'static str) -> Pieces<'_> {
-        Pieces::of(&[
-            Piece::Text(letter),
-            SPACE,
-            Piece::Number(self.number.number()),
-            SPACE,
-            Piece::Octets(token_octets(&self.token)),
-            SPACE,
-            Piece::Octets(url_octets(&self.url)),
-        ])
+        permit(letter, self.number, &self.token, &self.url)
     }
 }

@@ -1,11 +1,11 @@
-//! Why a line was not read as an entry.
-//! Used by `auditor`, `fields` and `read`.
+//! Why a line was not read as an entry, or as one of a base.
+//! Used by all that reads lines.
 use std::alloc::AllocError;
 
-/// Why a line was not read as an entry.
+/// Why a line was not read.
 #[derive(Clone, Copy, PartialEq, Eq)]
 pub(crate) enum UnreadLine {
-    /// It is the spelling of no entry.
+    /// It is the spelling of nothing that may come there.
     NotOne,
     /// There is no memory for what it spells.
     NoMemory,

@@ -32,9 +32,9 @@ use Rattle.gate_history.specs.declared.entry.Entry.TheVariants.{Begun, Arrived, 
 use Rattle.gate_history.specs.declared.outcome.Cause.{Cause}
 use Rattle.gate_history.specs.declared.outcome.Reason.{Reason}
 use Rattle.gate_history.specs.History.{History, ◌▸◌, at_moment, begins, entry_count, followed_by, from, now, started_count}
-use Rattle.gate_history.specs.Legal.{IsLegal, MayFollow, SpendsAs}
+use Rattle.gate_history.specs.Legal.{AllRise, IsLegal, MayFollow, Rises, SpendsAs}
 use Rattle.gate_history.specs.declared.base.SlotGrant.{SlotGrant}
-use Rattle.gate_history.specs.Grants.{generation_in, greatest_of, is_in, with_grant}
+use Rattle.gate_history.specs.Grants.{generation_in, greatest_of, is_covered, is_in, with_grant}
 use Rattle.gate_history.specs.Outstanding.{grants, greatest_in, running, unspent, was_granted}
 use Rattle.gate_history.specs.Laws.{StandsOnce}
 use Rattle.gate_history.specs.Standing.{has_turn as standing_turn, in_flight, is_fetching, past_count, standing}
@@ -55,6 +55,11 @@ pub followed_push : (h : History) (es : List Entry) (e : Entry) → followed_by 
 followed_push h [] e = refl
 followed_push h (first ∷ es) e = followed_push (h ▸ first) es e
 
+-- a history whose grants rise, with one more that does
+rise_push : (h : History) (es : List Entry) (e : Entry) → AllRise h es → Rises (followed_by h es) e → AllRise h (es ++ e ∷ [])
+rise_push h [] e rises rise = (rise, tt)
+rise_push h (first ∷ es) e rises rise = (rises.0, rise_push (h ▸ first) es e rises.1 rise)
+
 followed_count : (h : History) (es : List Entry) → entry_count (followed_by h es) ≡ entry_count h + length es
 followed_count h [] = omega arith
 followed_count h (first ∷ es) = omega (arith, followed_count (h ▸ first) es)
@@ -64,14 +69,14 @@ abbrev pub told : Inside → History
 told b = history (gate_of b)
 
 -- a book with one entry more is kept where its parts say what the longer history says
-pub kept_after : (b b' : Inside) (e : Entry) → IsKept b → MayFollow (told b) e → b'.limits ≡ b.limits → b'.base ≡ b.base → b'.entries.items ≡ b.entries.items ++ e ∷ [] →
+pub kept_after : (b b' : Inside) (e : Entry) → IsKept b → MayFollow (told b) e → Rises (told b) e → b'.limits ≡ b.limits → b'.base ≡ b.base → b'.entries.items ≡ b.entries.items ++ e ∷ [] →
     b'.clock ≡ now (told b ▸ e) → b'.begins ≡ begins (told b ▸ e) → b'.begins ≤ b.base.entries + length b.entries.items + 1 → b'.starts ≡ started_count (told b ▸ e) →
     TellsCache b'.cache (standing (told b ▸ e)) (in_flight (told b ▸ e)) → b'.cache.limit ≡ b.cache.limit →
     TellsPermits b'.permits (unspent (told b ▸ e)) (running (told b ▸ e)) (greatest_in (told b ▸ e)) →
     length b'.permits.slots ≡ length b.permits.slots → b'.permits.first_generation ≡ b.permits.first_generation →
     list_all (is_grant_of b.limits) (grants (told b ▸ e)) ≡ true → HasNames (names_by b'.names) (in_flight (told b ▸ e)) → ((authority : List ℕ) → held_by b'.places authority ≡ held_count b'.permits authority) →
     length b.entries.items + 1 + promised (told b ▸ e) ≤ most_room b.limits b.base → length b.entries.items + 1 + promised (told b ▸ e) ≤ vec_capacity b'.entries → IsKept b'
-kept_after b b' e kept fit same_limits same_base more clock count few starts cache limit permits slots first grant names places logged room =
+kept_after b b' e kept fit rise same_limits same_base more clock count few starts cache limit permits slots first grant names places logged room =
     let is : told b' ≡ told b ▸ e = (λ i. followed_by (from (same_base i)) (more i)) ∙ followed_push (from b.base) b.entries.items e in
     let many : length b'.entries.items ≡ length b.entries.items + 1 = ap length more ∙ pushed b.entries.items e in
     let same_promise = ap promised is in
@@ -79,6 +84,8 @@ kept_after b b' e kept fit same_limits same_base more clock count few starts cac
     record {
       limits = subst AreLimits (sym same_limits) kept.limits;
       legal = subst IsLegal (sym is) (kept.legal, fit);
+      rises = subst (λ (base : Base). AllRise (from base) b'.entries.items) (sym same_base)
+          (subst (AllRise (from b.base)) (sym more) (rise_push (from b.base) b.entries.items e kept.rises rise));
       clock = clock ∙ ap now (sym is);
       begins = count ∙ ap begins (sym is);
       few_begins = omega (arith, few, many, ap (λ (base : Base). base.entries) same_base);
@@ -190,7 +197,7 @@ module _ (b : Inside) (kept : IsKept b) (entries : Vec Entry Global) where
       let counts = each_entry_counts (told b) e kept.legal fit in
       let logged = kept.logged in
       let entry_room = kept.entry_room in
-      kept_after b (after b entries moment (b.starts + 1) permits b.places) e kept fit refl refl more (late_is moment (now (told b)) fit.0) kept.begins (let few = kept.few_begins in omega arith) (ap (λ n. n + 1) kept.starts)
+      kept_after b (after b entries moment (b.starts + 1) permits b.places) e kept fit tt refl refl more (late_is moment (now (told b)) fit.0) kept.begins (let few = kept.few_begins in omega arith) (ap (λ n. n + 1) kept.starts)
       kept.cache refl
       (subst (λ (t : Table). TellsPermits t (unspent (told b ▸ e)) (running (told b ▸ e)) (greatest_in (told b ▸ e))) (sym is)
       (permit_laws.started b.permits (unspent (told b)) (running (told b)) (greatest_in (told b)) number kept.permits out))
@@ -225,7 +232,7 @@ module _ (b : Inside) (kept : IsKept b) (entries : Vec Entry Global) where
       let counts = each_entry_counts (told b) e kept.legal fit in
       let logged = kept.logged in
       let entry_room = kept.entry_room in
-      kept_after b (after b entries moment b.starts permits places) e kept fit refl refl more (late_is moment (now (told b)) fit.0) kept.begins (let few = kept.few_begins in omega arith) kept.starts
+      kept_after b (after b entries moment b.starts permits places) e kept fit tt refl refl more (late_is moment (now (told b)) fit.0) kept.begins (let few = kept.few_begins in omega arith) kept.starts
       kept.cache refl
       (subst (λ (t : Table). TellsPermits t (unspent (told b ▸ e)) (running (told b ▸ e)) (greatest_in (told b ▸ e))) (sym is)
       (permit_laws.returned b.permits (unspent (told b)) (running (told b)) (greatest_in (told b)) number kept.permits out))
@@ -244,7 +251,7 @@ module _ (b : Inside) (kept : IsKept b) (entries : Vec Entry Global) where
       let counts = each_entry_counts (told b) e kept.legal fit in
       let logged = kept.logged in
       let entry_room = kept.entry_room in
-      kept_after b (after b entries b.clock b.starts permits places) e kept fit refl refl more (kept.clock ∙ early_is (now (told b))) kept.begins (let few = kept.few_begins in omega arith) kept.starts
+      kept_after b (after b entries b.clock b.starts permits places) e kept fit tt refl refl more (kept.clock ∙ early_is (now (told b))) kept.begins (let few = kept.few_begins in omega arith) kept.starts
       kept.cache refl
       (subst (λ (t : Table). TellsPermits t (unspent (told b ▸ e)) (running (told b ▸ e)) (greatest_in (told b ▸ e))) (sym is)
       (permit_laws.returned b.permits (unspent (told b)) (running (told b)) (greatest_in (told b)) number kept.permits out))
@@ -263,7 +270,7 @@ module _ (b : Inside) (kept : IsKept b) (entries : Vec Entry Global) where
       let counts = each_entry_counts (told b) e kept.legal fit in
       let logged = kept.logged in
       let entry_room = kept.entry_room in
-      kept_after b (after b entries b.clock b.starts permits places) e kept fit refl refl more (kept.clock ∙ early_is (now (told b))) kept.begins (let few = kept.few_begins in omega arith) kept.starts
+      kept_after b (after b entries b.clock b.starts permits places) e kept fit tt refl refl more (kept.clock ∙ early_is (now (told b))) kept.begins (let few = kept.few_begins in omega arith) kept.starts
       kept.cache refl
       (subst (λ (t : Table). TellsPermits t (unspent (told b ▸ e)) (running (told b ▸ e)) (greatest_in (told b ▸ e))) (sym is)
       (permit_laws.finished b.permits (unspent (told b)) (running (told b)) (greatest_in (told b)) number kept.permits out))
@@ -277,7 +284,7 @@ module _ (b : Inside) (kept : IsKept b) (entries : Vec Entry Global) where
       length b.entries.items + promised (told b) + 3 ≤ most_room b.limits b.base → IsKept (after b entries moment b.starts b.permits b.places)
   ask_denied_kept moment fetch cause fit more room free =
       let e : Entry = AskDenied moment fetch cause in
-      kept_after b (after b entries moment b.starts b.permits b.places) e kept fit refl refl more (late_is moment (now (told b)) fit.0) kept.begins (let few = kept.few_begins in omega arith) kept.starts
+      kept_after b (after b entries moment b.starts b.permits b.places) e kept fit tt refl refl more (late_is moment (now (told b)) fit.0) kept.begins (let few = kept.few_begins in omega arith) kept.starts
       kept.cache refl kept.permits refl refl kept.grants kept.names kept.places (omega (arith, free)) room
 
   -- the next number of the table is that of the history
@@ -295,6 +302,16 @@ module _ (b : Inside) (kept : IsKept b) (entries : Vec Entry Global) where
       let bounds = generation_bounds b.limits.first_generation (greatest_in (told b) (slot_of number)) kept.limits.first kept.limits.last (ltb-true (greatest_in (told b) (slot_of number)) last_generation free.1) in
       with_grant_of b.limits number (grants (told b)) kept.grants next.in_range (omega (arith, next.generation, bounds.0)) (omega (arith, next.generation, bounds.1))
 
+  -- a next number is above all earlier ones of its slot, and was never granted
+  next_free : (number : ℕ) → IsNext b.permits number → (is_covered (grants (told b)) number ≡ false) × (was_granted (told b) number ≡ false)
+  next_free number is = history_laws.next_new (told b) b.limits.slots b.limits.first_generation number (let some = kept.limits.first in omega arith) (next_is number is)
+
+  next_rises : (number : ℕ) → IsNext b.permits number → is_covered (grants (told b)) number ≡ false
+  next_rises number is = (next_free number is).0
+
+  pub next_new : (number : ℕ) → IsNext b.permits number → was_granted (told b) number ≡ false
+  next_new number is = (next_free number is).1
+
   -- a grant of the next number
   pub granted_kept : (moment number : ℕ) (fetch : Fetch) (permits : Table) (places : Places) → MayFollow (told b) (Granted moment number fetch) → IsNext b.permits number →
       entries.items ≡ b.entries.items ++ Granted moment number fetch ∷ [] → length b.entries.items + 3 + promised (told b) ≤ vec_capacity entries →
@@ -303,7 +320,7 @@ module _ (b : Inside) (kept : IsKept b) (entries : Vec Entry Global) where
   granted_kept moment number fetch permits places fit is_next more room free is adds =
       let e : Entry = Granted moment number fetch in
       let counts = each_entry_counts (told b) e kept.legal fit in
-      kept_after b (after b entries moment b.starts permits places) e kept fit refl refl more (late_is moment (now (told b)) fit.0) kept.begins (let few = kept.few_begins in omega arith) kept.starts
+      kept_after b (after b entries moment b.starts permits places) e kept fit (next_rises number is_next) refl refl more (late_is moment (now (told b)) fit.0) kept.begins (let few = kept.few_begins in omega arith) kept.starts
       kept.cache refl
       (subst (λ (t : Table). TellsPermits t (unspent (told b ▸ e)) (running (told b ▸ e)) (greatest_in (told b ▸ e))) (sym is)
       (permit_laws.granted b.permits (unspent (told b)) (running (told b)) (greatest_in (told b)) number fetch kept.permits is_next))
@@ -316,10 +333,6 @@ module _ (b : Inside) (kept : IsKept b) (entries : Vec Entry Global) where
   none_free_is none =
       subst (λ (slots : ℕ). NoneFreeBy slots (unspent (told b)) (running (told b)) (greatest_in (told b))) kept.slots
       ((permit_laws.none_free_alike b.permits (unspent (told b)) (running (told b)) (greatest_in (told b)) kept.permits).0 none)
-
-  -- a next number was never granted
-  pub next_new : (number : ℕ) → IsNext b.permits number → was_granted (told b) number ≡ false
-  next_new number is = (history_laws.next_new (told b) b.limits.slots b.limits.first_generation number (let some = kept.limits.first in omega arith) (next_is number is)).1
 
 -- what a call that made an entry has added
 pub adds_of : (b : Inside) (g : Gate) (e : Entry) (entries : List Entry) → gate_of b ≡ g → entries ≡ b.entries.items ++ e ∷ [] → MayFollow (told b) e →
@@ -370,6 +383,7 @@ kept_new limits base entries cache permits names places are base_is is_base none
     record {
       limits = are;
       legal = subst IsLegal (sym h) (subst IsBase base_is is_base);
+      rises = subst (AllRise (from base)) (sym none) tt;
       clock = sym (ap now h);
       begins = sym (ap begins h);
       few_begins = omega arith;
@@ -476,7 +490,7 @@ module _ (b : Inside) (kept : IsKept b) (entries : Vec Entry Global) (cache : Kn
       let flight : Flight = record { turn = b.begins + 1; begun = moment } in
       let fit : MayFollow (told b) e = (late, idle, ap (λ n. n + 1) kept.begins) in
       let counts = each_entry_counts (told b) e kept.legal fit in
-      kept_after b (after_turn b entries moment (b.begins + 1) cache names) e kept fit refl refl more (late_is moment (now (told b)) late) (ap (λ n. n + 1) kept.begins)
+      kept_after b (after_turn b entries moment (b.begins + 1) cache names) e kept fit tt refl refl more (late_is moment (now (told b)) late) (ap (λ n. n + 1) kept.begins)
       (let few = kept.few_begins in omega arith) kept.starts
       (cache_laws.begun b.cache cache (standing (told b)) (in_flight (told b)) authority flight kept.cache flying changes) changes.limit
       kept.permits refl refl kept.grants
@@ -500,7 +514,7 @@ module _ (b : Inside) (kept : IsKept b) (entries : Vec Entry Global) (cache : Kn
       let counts = each_entry_counts (told b) e kept.legal fit in
       let logged = kept.logged in
       let entry_room = kept.entry_room in
-      kept_after b (after_turn b entries moment b.begins cache names) e kept fit refl refl more (late_is moment (now (told b)) late) kept.begins (let few = kept.few_begins in omega arith) kept.starts
+      kept_after b (after_turn b entries moment b.begins cache names) e kept fit tt refl refl more (late_is moment (now (told b)) late) kept.begins (let few = kept.few_begins in omega arith) kept.starts
       (cache_laws.arrives b.cache cache (standing (told b)) (in_flight (told b)) authority turn answer.life answer.says kept.cache flying (once.own_turn authority turn stands) changes) changes.limit
       kept.permits refl refl kept.grants
       (kept_others (names_by b.names) (names_by names) turn None (filter (λ t. not (has_number turn t)) (in_flight (told b))) keeps (others_left turn (in_flight (told b)))
@@ -514,7 +528,7 @@ module _ (b : Inside) (kept : IsKept b) (entries : Vec Entry Global) (cache : Kn
       length b.entries.items + promised (told b) + 1 ≤ most_room b.limits b.base → IsKept (after_turn b entries moment b.begins cache b.names)
   swept_kept moment count late is sweeps more room free =
       let e : Entry = Swept moment count in
-      kept_after b (after_turn b entries moment b.begins cache b.names) e kept (late, is) refl refl more (late_is moment (now (told b)) late) kept.begins (let few = kept.few_begins in omega arith) kept.starts
+      kept_after b (after_turn b entries moment b.begins cache b.names) e kept (late, is) tt refl refl more (late_is moment (now (told b)) late) kept.begins (let few = kept.few_begins in omega arith) kept.starts
       (cache_laws.swept_away b.cache cache (standing (told b)) (in_flight (told b)) moment count kept.cache sweeps) sweeps.limit
       kept.permits refl refl kept.grants kept.names kept.places (omega (arith, free)) room
 
@@ -538,6 +552,7 @@ kept_unchanged b kept entries cache names same room still named =
     record {
       limits = kept.limits;
       legal = subst IsLegal (sym h) kept.legal;
+      rises = subst (AllRise (from b.base)) (sym same) kept.rises;
       clock = kept.clock ∙ ap now (sym h);
       begins = kept.begins ∙ ap begins (sym h);
       few_begins = omega (arith, few, many);
@@ -563,6 +578,7 @@ kept_refused b kept entries permits places same room still counted =
     subst (λ (t : Table). IsKept (after b entries b.clock b.starts t places)) (sym still) (record {
       limits = u.limits;
       legal = u.legal;
+      rises = u.rises;
       clock = u.clock;
       begins = u.begins;
       few_begins = u.few_begins;

@@ -1,23 +1,24 @@
 -- A base that is made of what a book's tables list says what its history does.
 -- Cited by `Book::next_base` and `Book::seal`.
-use Rattle.std.proofs.Common.{◌≡◌, ℕ, ◌<◌, ◌≤◌, Bool, true, false, cond, List, [], ◌∷◌, length, filter, inl, inr, refl, sym, ap, ◌∙◌, arith, eqb-true}
+use Rattle.std.proofs.Common.{◌≡◌, ℕ, ◌<◌, ◌≤◌, All, Bool, true, false, true≢false, cond, List, [], ◌∷◌, length, filter, inl, inr, refl, sym, ap, ◌∙◌, arith, eqb-true}
 use Rattle.std.specs.Prelude.{◌&&◌, nat_le, nat_lt}
 use Rattle.std.specs.List.{list_all}
 use Rattle.std.proofs.lemmas.Bool.{and_parts, ltb-true}
 use Rattle.std.proofs.lemmas.Bool.Decides.{eqb_tells, leb_tells}
 use Rattle.std.proofs.lemmas.List.{get_or_past}
+use Rattle.std.proofs.lemmas.List.Elements.{All-cons, All-nil}
 use Rattle.authority_cache.specs.Lists.{ListsAnswers, ListsTurns}
 use Rattle.permit_book.specs.Numbers.{last_generation}
 use Rattle.permit_book.specs.Outstanding.{ListsRunning, ListsUnspent}
 use Rattle.permit_book.specs.Table.{last_in, unused}
 use Rattle.gate_history.specs.declared.base.SlotGrant.{SlotGrant}
 use Rattle.gate_history.specs.Base.{Base}
-use Rattle.gate_history.specs.Grants.{generation_in, greatest_of, is_in}
+use Rattle.gate_history.specs.Grants.{generation_in, greatest_of, is_in, IsSlotGrant}
 use Rattle.gate_history.specs.History.{History, entry_count, from}
 use Rattle.gate_history.specs.Outstanding.{grants, running, unspent}
 use Rattle.gate_history.specs.Seal.{SaySame, SaysAs}
 use Rattle.gate_history.specs.Standing.{in_flight, standing}
-use Rattle.gate_history.proofs.CallerLemmas.{covered_alike, granted_covered, greatest_alike, greatest_is, keys_say, stands_once}
+use Rattle.gate_history.proofs.CallerLemmas.{covered_alike, granted_covered, greatest_alike, greatest_is, keys_say, says-all, stands_once}
 use Rattle.gate_core.specs.declared.book.Book.TheInside.{Inside}
 use Rattle.gate_core.specs.declared.config.Limits.{Limits}
 use Rattle.gate_core.specs.Kept.{IsKept, is_grant_of}
@@ -124,3 +125,20 @@ module _ (b : Inside) (kept : IsKept b) where
     where
       same : SaySame is_in given.grants (grants (told b))
       same = keys_say.grants given.grants (grants (told b)) (λ slot. slots slot ∙ sym (grants_told slot))
+
+-- the greatest generations of a base that says what a book's history does are of slots that there may be
+pub grants_fit : (b : Inside) → IsKept b → (base : Base) → SaysAs (from base) (told b) → All IsSlotGrant base.grants
+grants_fit b kept base says = fit base.grants (says-all is_in base.grants (grants (told b)) says.slots (is_grant_of b.limits) kept.grants)
+  where
+    one : (g : SlotGrant) → is_grant_of b.limits g ≡ true → IsSlotGrant g
+    one g is =
+        let parts = and_parts (nat_lt g.slot b.limits.slots) (nat_lt 0 g.generation && nat_le g.generation last_generation) is in
+        let later = and_parts (nat_lt 0 g.generation) (nat_le g.generation last_generation) parts.1 in
+        let few = kept.limits.slots in
+        (let low = ltb-true g.slot b.limits.slots parts.0 in omega arith, elim (leb_tells g.generation last_generation) [ inl e ↦ e.1 | inr d ↦ absurd (true≢false (sym later.1 ∙ d.0)) ])
+
+    fit : (gs : List SlotGrant) → list_all (is_grant_of b.limits) gs ≡ true → All IsSlotGrant gs
+    fit [] all = All-nil IsSlotGrant
+    fit (g ∷ gs) all =
+        let parts = and_parts (is_grant_of b.limits g) (list_all (is_grant_of b.limits) gs) all in
+        All-cons IsSlotGrant g gs (one g parts.0) (fit gs parts.1)

@@ -12,7 +12,7 @@ use Rattle.gate_history.specs.declared.entry.Entry.{Entry}
 use Rattle.gate_history.specs.Base.{Base, IsBase}
 use Rattle.gate_history.specs.Grants.{is_in}
 use Rattle.gate_history.specs.History.{History, begins, followed_by, from, now, started_count}
-use Rattle.gate_history.specs.Legal.{IsLegal}
+use Rattle.gate_history.specs.Legal.{AllRise, IsLegal}
 use Rattle.gate_history.specs.Outstanding.{grants, greatest_in, running, unspent}
 use Rattle.gate_history.specs.Seal.{SaysAs}
 use Rattle.gate_history.specs.Segment.{Sealed}
@@ -73,6 +73,7 @@ module _ (b : Inside) (kept : IsKept b) (next : Base) (room : Vec Entry Global) 
   sealed_kept fits = record {
     limits = kept.limits;
     legal = subst IsLegal (sym is) base;
+    rises = subst (AllRise (from next)) (sym empty) tt;
     clock = kept.clock ∙ (sym says.moment ∙ sym (ap now is));
     begins = kept.begins ∙ (sym says.begun ∙ sym (ap begins is));
     few_begins = let counts = (leads_to_base (told b) kept.legal).counts in let begun = kept.begins in let entries = says.entries in omega (arith, counts, begun, entries, none);

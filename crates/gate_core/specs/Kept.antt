@@ -6,8 +6,8 @@ use Rattle.authority_cache.specs.Lists.{TellsCache}
 use Rattle.permit_book.specs.Numbers.{last_generation}
 use Rattle.permit_book.specs.Outstanding.{TellsPermits}
 use Rattle.permit_book.specs.Table.{held_count}
-use Rattle.gate_history.specs.History.{begins, now, started_count}
-use Rattle.gate_history.specs.Legal.{IsLegal}
+use Rattle.gate_history.specs.History.{begins, from, now, started_count}
+use Rattle.gate_history.specs.Legal.{AllRise, IsLegal}
 use Rattle.gate_history.specs.declared.base.SlotGrant.{SlotGrant}
 use Rattle.gate_history.specs.Outstanding.{grants, greatest_in, running, unspent}
 use Rattle.gate_history.specs.Standing.{in_flight, standing}
@@ -30,6 +30,7 @@ is_grant_of limits grant = nat_lt grant.slot limits.slots && (nat_lt 0 grant.gen
 pub record IsKept (b : Inside) : Type 0 where
   pub limits : AreLimits b.limits
   pub legal : IsLegal (history (gate_of b))
+  pub rises : AllRise (from b.base) b.entries.items
   pub clock : b.clock ≡ now (history (gate_of b))
   pub begins : b.begins ≡ begins (history (gate_of b))
   pub few_begins : b.begins ≤ b.base.entries + length b.entries.items

@@ -2,7 +2,8 @@
 //! RFC 9309, sections 2.3.1 and 2.4.
 ghost use Rattle.std.specs.Prelude.{◌≡◌, ◌+◌, ◌≤◌, [], ◌↔◌, IfOk, IsTrue};
 ghost use Rattle.gate_history.specs.Base.{empty_base};
-ghost use Rattle.gate_history.specs.History.{at_moment};
+ghost use Rattle.gate_history.specs.History.{at_moment, from};
+ghost use Rattle.gate_history.specs.Legal.{AllRise};
 ghost use Rattle.gate_core.specs.Gate.{HasLegalHistory, HasRoom, history, promised, room};
 ghost use Rattle.gate_core.specs.Limits.{AreLimits, most_entries};
 
@@ -74,6 +75,7 @@ impl Book {
     pub fn history(&self) -> &[Entry]
         ensures entries { result.now ≡ self.now.entries }
         ensures legal { HasLegalHistory self.now }
+        ensures rises { AllRise (from self.now.base) self.now.entries }
         ensures bound { room self.now ≤ self.now.limits.log_limit }
     {
         self.entries.as_slice()

@@ -1,9 +1,13 @@
 -- The greatest generation that was granted in each slot, as a list of the slots in which something was.
 -- RFC 9309 has no permits: they make each fetch look at the answer in force (2.4).
-use Rattle.std.specs.Prelude.{ℕ, ◌==◌, Bool, not, ◌&&◌, nat_le, max, List, [], ◌∷◌, ◌++◌, if◌then◌else◌, filter}
+use Rattle.std.specs.Prelude.{ℕ, ◌<◌, ◌≤◌, ◌==◌, Bool, not, ◌&&◌, nat_le, max, List, [], ◌∷◌, ◌++◌, if◌then◌else◌, filter}
 use Rattle.std.specs.List.{list_any}
-use Rattle.permit_book.specs.Numbers.{slot_of, generation_of}
+use Rattle.permit_book.specs.Numbers.{generation_of, last_generation, most_slots, slot_of}
 use Rattle.gate_history.specs.declared.base.SlotGrant.{SlotGrant}
+
+-- a slot that there may be, with a generation that it may have
+abbrev pub IsSlotGrant : SlotGrant → Type 0
+IsSlotGrant g = (g.slot < most_slots) × (g.generation ≤ last_generation)
 
 -- the grant was in this slot
 abbrev pub is_in : ℕ → SlotGrant → Bool

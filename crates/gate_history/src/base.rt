@@ -1,7 +1,9 @@
 //! The base of a history: what the entries before it left open, and their numbers.
 //! RFC 9309, sections 2.3.1 and 2.4.
-ghost use Rattle.std.specs.Prelude.{◌≡◌};
+ghost use Rattle.std.specs.Prelude.{◌≡◌, All};
+ghost use Rattle.gate_history.specs.declared.base.Numbers.{Numbers};
 ghost use Rattle.gate_history.specs.Base.{IsBase, empty_base};
+ghost use Rattle.gate_history.specs.Grants.{IsSlotGrant};
 ghost use Rattle.gate_history.specs.Kept.{base_with};
 ghost use Rattle.gate_history.specs.Order.{IsInOrder, Reorders};
 
@@ -34,6 +36,28 @@ pub struct LeftOpen {
     pub grants: Vec<SlotGrant>,
 }
 
+impl LeftOpen {
+    /// Puts each list in its order: answers by the octets of their authorities, turns and permits by their
+    /// numbers, grants by their slots. It takes no memory.
+    pub fn put_in_order(&mut self)
+        ensures same { (numbers : Numbers)
+            → Reorders (base_with self.old numbers) (base_with self.new numbers) }
+        ensures order { (numbers : Numbers) → IsInOrder (base_with self.new numbers) }
+    {
+        self.standing.sort_unstable_by(|one, other| one
+            .authority
+            .text()
+            .cmp(other.authority.text()));
+        self.in_flight
+            .sort_unstable_by_key(|turn| turn.turn.number());
+        self.unspent
+            .sort_unstable_by_key(|permit| permit.number.number());
+        self.running
+            .sort_unstable_by_key(|permit| permit.number.number());
+        self.grants.sort_unstable_by_key(|grant| grant.slot);
+    }
+}
+
 /// The numbers of a history.
 #[derive(Clone, Copy, Debug, PartialEq, Eq)]
 pub struct Numbers {
@@ -56,7 +80,9 @@ pub struct Base {
 }
 
 impl Model for Base {
+    ghost use Rattle.std.specs.Prelude.{All};
     ghost use Rattle.gate_history.specs.Base.{Base, IsBase};
+    ghost use Rattle.gate_history.specs.Grants.{IsSlotGrant};
     ghost use Rattle.gate_history.specs.Kept.{base_with};
     ghost use Rattle.gate_history.specs.Order.{IsInOrder};
 
@@ -65,7 +91,7 @@ impl Model for Base {
     ghost view = { λ base. base_with base.left base.numbers };
 
     ghost invariant = { λ base. IsBase (base_with base.left base.numbers)
-        × IsInOrder (base_with base.left base.numbers) };
+        × (IsInOrder (base_with base.left base.numbers) × All IsSlotGrant base.left.grants.items) };
 }
 
 impl Base {
@@ -93,21 +119,12 @@ impl Base {
     /// The base of what was left open, which it puts in order, with these numbers. It takes no memory.
     pub fn of(left: LeftOpen, numbers: Numbers) -> Base
         requires base { IsBase (base_with left numbers) }
+        requires grants { All IsSlotGrant left.grants.items }
         ensures same { Reorders (base_with left numbers) result }
         ensures order { IsInOrder result }
     {
         let mut left = left;
-        left.standing.sort_unstable_by(|one, other| one
-            .authority
-            .text()
-            .cmp(other.authority.text()));
-        left.in_flight
-            .sort_unstable_by_key(|turn| turn.turn.number());
-        left.unspent
-            .sort_unstable_by_key(|permit| permit.number.number());
-        left.running
-            .sort_unstable_by_key(|permit| permit.number.number());
-        left.grants.sort_unstable_by_key(|grant| grant.slot);
+        left.put_in_order();
         Base { left, numbers }
     }
 
@@ -141,7 +158,9 @@ impl Base {
 
     /// Of each slot in which something was granted, the greatest generation.
     pub fn grants(&self) -> &[SlotGrant]
-        ensures { result.now ≡ self.now.grants }
+        ensures value { result.now ≡ self.now.grants }
+        ensures fits { All IsSlotGrant self.now.grants }
+        ensures order { IsInOrder self.now }
     {
         self.left.grants.as_slice()
     }

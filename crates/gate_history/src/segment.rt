@@ -2,7 +2,7 @@
 //! RFC 9309, sections 2.3.1 and 2.4.
 ghost use Rattle.std.specs.Prelude.{◌≡◌};
 ghost use Rattle.gate_history.specs.History.{followed_by, from};
-ghost use Rattle.gate_history.specs.Legal.{IsLegal};
+ghost use Rattle.gate_history.specs.Legal.{AllRise, IsLegal};
 ghost use Rattle.gate_history.specs.Segment.{history_in, nothing_sealed};
 
 use crate::base::Base;
@@ -10,7 +10,8 @@ use crate::entry::Entry;
 use std::alloc::Global;
 use std::marker::Model;
 
-/// Entries that were sealed, and the base that they follow: a legal history that can be read alone.
+/// Entries that were sealed, and the base that they follow: a legal history that can be read alone. Each grant
+/// in it is of a generation above all earlier ones of its slot.
 #[derive(Drop)]
 pub struct Segment {
     base: Base,
@@ -18,7 +19,7 @@ pub struct Segment {
 }
 
 impl Model for Segment {
-    ghost use Rattle.gate_history.specs.Legal.{IsLegal};
+    ghost use Rattle.gate_history.specs.Legal.{AllRise, IsLegal};
     ghost use Rattle.gate_history.specs.History.{followed_by, from};
     ghost use Rattle.gate_history.specs.Segment.{Sealed};
 
@@ -29,7 +30,8 @@ impl Model for Segment {
       entries = segment.entries.items;
     } };
 
-    ghost invariant = { λ segment. IsLegal (followed_by (from segment.base) segment.entries.items) };
+    ghost invariant = { λ segment. IsLegal (followed_by (from segment.base) segment.entries.items)
+        × AllRise (from segment.base) segment.entries.items };
 }
 
 impl Segment {
@@ -45,7 +47,8 @@ impl Segment {
 
     /// The segment of these entries, oldest first, behind the base. It takes them over, and no memory.
     pub fn of(base: Base, entries: Vec<Entry>) -> Segment
-        requires { IsLegal (followed_by (from base) entries.items) }
+        requires legal { IsLegal (followed_by (from base) entries.items) }
+        requires rises { AllRise (from base) entries.items }
         ensures { result ≡ record { base = base; entries = entries.items } }
     {
         Segment { base, entries }
@@ -62,6 +65,7 @@ impl Segment {
     pub fn entries(&self) -> &[Entry]
         ensures value { result.now ≡ self.now.entries }
         ensures legal { IsLegal (history_in self.now) }
+        ensures rises { AllRise (from self.now.base) self.now.entries }
     {
         self.entries.as_slice()
     }

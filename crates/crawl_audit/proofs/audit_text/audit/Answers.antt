@@ -1,4 +1,4 @@
--- Each way out of the loop is the end or a fault, behind the lines of a legal history.
+-- Each way out of the loop is the end or a fault, behind the lines of a chain.
 use Rattle.std.proofs.Common.{◌+◌, Bool, Ok, ap, ◌∙◌, subst}
 use Rattle.std.specs.Io.KnownBytes.{prepend_known}
 use Rattle.crawl_audit.specs.Audit.{TakesStep}
@@ -9,8 +9,8 @@ pub returns-then-not-more-clause-ok : goal.returns-then-not-more-clause-ok
 returns-then-not-more-clause-ok g c =
     let input = g.R.Source.left c.args.reader.now in
     let behind = prepend_known c.take.new.self.reader (g.R.Source.left c.take.new.reader) in
-    let steps = subst (λ (b : Bool). TakesStep input c.loop-taken.auditor (Ok b) c.take.new.self behind) c.if-not-more.true (c.in-Ok.ensures.steps input c.loop-taken.invariant.heard) in
-    λ text is. all_audited c.take.new.self input behind steps.0 _ (ap (λ a. a.events) c.audited.ensures) (ap (λ a. a.starts) c.audited.ensures) steps.1 text is
+    let all = subst (λ (b : Bool). TakesStep input c.loop-taken.auditor (Ok b) c.take.new.self behind) c.if-not-more.true (c.in-Ok.ensures.steps input c.loop-taken.invariant.heard) in
+    λ text is. all_audited c.take.new.self input behind all _ (ap (λ a. a.events) c.audited.ensures) (ap (λ a. a.starts) c.audited.ensures) text is
 
 pub returns-in-Err-clause-fault : goal.returns-in-Err-clause-fault
 returns-in-Err-clause-fault g c = c.in-Err.ensures.steps (g.R.Source.left c.args.reader.now) c.loop-taken.invariant.heard

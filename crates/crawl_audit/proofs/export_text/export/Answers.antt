@@ -4,6 +4,8 @@ use Rattle.std.specs.Prelude.{OnErr}
 use Rattle.counted_io.specs.Device.{AppendsPrefix}
 use Rattle.gate_history.specs.declared.entry.Entry.{Entry}
 use Rattle.gate_history.specs.Base.{Base}
+use Rattle.gate_history.specs.Grants.{IsSlotGrant}
+use Rattle.gate_history.specs.Order.{IsInOrder}
 use Rattle.gate_history.specs.Segment.{Sealed}
 use Rattle.crawl_audit.specs.BaseFields.{HasBaseFields}
 use Rattle.crawl_audit.specs.Entries.{HasFields}
@@ -20,7 +22,9 @@ returns-clause-err g c =
 
 pub returns-clause-segment : goal.returns-clause-segment
 returns-clause-segment g c =
-    on_ok c.flush.result (segment_text (present_segment c.args.book.now) c.history.ensures.legal
+    on_ok c.flush.result (segment_text (present_segment c.args.book.now) c.history.ensures.legal c.history.ensures.rises
+    (subst (λ (b : Base). All IsSlotGrant b.grants) c.base.ensures c.in_ok-push_segment.ensures.grants)
+    (subst (λ (b : Base). IsInOrder b) c.base.ensures c.in_ok-push_segment.ensures.order)
     (subst (λ (b : Base). 0 < b.entries → HasBaseFields b) c.base.ensures c.in_ok-push_segment.ensures.base)
     (subst (λ (entries : List Entry). All HasFields entries) c.history.ensures.entries c.in_ok-push_segment.ensures.fields))
 

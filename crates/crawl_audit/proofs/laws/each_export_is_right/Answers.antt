@@ -1,6 +1,6 @@
--- Behind each front of its lines an export goes on.
-use Rattle.crawl_audit.proofs.Returning.{export_is_right}
+-- A text alone is a chain of one.
+use Rattle.crawl_audit.proofs.OneText.{export_is_chain, segment_is_chain, segments_go_on}
 use Rattle.crawl_audit.proofs.laws.each_export_is_right.Goals as goal
 
 pub returns : goal.returns
-returns c = export_is_right
+returns c = record { export = export_is_chain; segment = segment_is_chain; goes_on = segments_go_on }

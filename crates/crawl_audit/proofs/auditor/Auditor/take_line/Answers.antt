@@ -1,13 +1,13 @@
--- The first line may be the head of version 2.
-use Rattle.std.proofs.Common.{[], sym, ◌∙◌, refl, arith}
-use Rattle.std.proofs.lemmas.Slice.Eq.{bytes_eq-Decides}
-use Rattle.crawl_audit.proofs.Auditing.{head_taken}
+-- A line that leads somewhere was taken.
+use Rattle.std.proofs.Common.{◌≡◌, ◌+◌, ◌<◌, length, refl, arith}
+use Rattle.crawl_audit.specs.Chains.{most_lines}
+use Rattle.crawl_audit.proofs.Auditing.{holds_more}
 use Rattle.crawl_audit.proofs.auditor.Auditor.take_line.Goals as goal
 
-pub returns-then-eq-clause-line : goal.returns-then-eq-clause-line
-returns-then-eq-clause-line c = λ entries holds.
+pub returns-clause-line : goal.returns-clause-line
+returns-clause-line c = λ lines place holds.
     let a = c.args.self.now in
-    let same = (bytes_eq-Decides c.as_slice.result.now c.as_bytes.result.now).0 (sym c.eq.ensures ∙ c.if-eq.true) in
-    let is = sym c.as_slice.ensures.value ∙ same ∙ c.as_bytes.ensures.value in
-    let head = head_taken a _ entries a.line.items holds c.if-self-eq0.true is refl refl refl refl refl in
-    ([], (head.0, head.1, omega (arith, c.if-self-eq0.true)))
+    let goes = c.in-Ok.ensures.moves place holds.stands in
+    let room : length lines < most_lines = omega (arith, c.if-self-ge-MAX_LINES.false, holds.lines_are) in
+    let more : c.saturating_add-number.result ≡ a.lines + 1 = omega (arith, c.saturating_add-number.ensures, c.if-self-ge-MAX_LINES.false) in
+    (goes.next, holds_more a c.step.new.self _ lines place a.line.items holds goes room refl refl refl refl refl refl more)

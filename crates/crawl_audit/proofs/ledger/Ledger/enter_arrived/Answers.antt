@@ -9,13 +9,13 @@ use Rattle.robots_verdict.specs.Answer.{said}
 use Rattle.crawl_audit.proofs.Following.{arrived_follows, arrives_fine, arrives_stale, flying_turn}
 use Rattle.crawl_audit.proofs.ledger.Ledger.enter_arrived.Goals as goal
 
-pub returns-then-is_err : goal.returns-then-is_err
-returns-then-is_err c = λ h legal t may.
+pub returns-then-is_err-clause-tells : goal.returns-then-is_err-clause-tells
+returns-then-is_err-clause-tells c = λ h legal t may.
     let stale = arrives_stale c.args.self.now.cache c.arrive.new.self c.args.authority.now c.args.turn c.new-brought.result c.arrive.result (sym c.is_err.ensures.value ∙ c.if-is_err.true) c.arrive.ensures in
-    true≢false (sym may.1 ∙ flying_turn c.args.self.now h t c.args.authority.now c.args.turn ∙ stale)
+    true≢false (sym may.fit.1 ∙ flying_turn c.args.self.now h t c.args.authority.now c.args.turn ∙ stale)
 
-pub returns : goal.returns
-returns c = λ h legal t.
+pub returns-clause-tells : goal.returns-clause-tells
+returns-clause-tells c = λ h legal t.
     let cache = c.args.self.now.cache in
     let authority = c.args.authority.now in
     let says = said c.args.answer in

@@ -5,12 +5,12 @@ use Rattle.crawl_audit.specs.Tables.{phases_of}
 use Rattle.crawl_audit.proofs.Following.{none_given, returned_follows, some_given, unspent_of}
 use Rattle.crawl_audit.proofs.ledger.Ledger.enter_returned.Goals as goal
 
-pub returns-then-is_none : goal.returns-then-is_none
-returns-then-is_none c = λ h t may.
+pub returns-then-is_none-clause-tells : goal.returns-then-is_none-clause-tells
+returns-then-is_none-clause-tells c = λ h t may.
     let none = none_given (phases_of c.args.self.now.numbers c.args.number) c.unspent.result c.unspent.ensures (c.is_none.ensures ∙ ap not c.if-is_none.true) in
-    true≢false (sym may ∙ unspent_of c.args.self.now h t c.args.number ∙ none)
+    true≢false (sym may.fit ∙ unspent_of c.args.self.now h t c.args.number ∙ none)
 
-pub returns : goal.returns
-returns c = λ h t.
+pub returns-clause-tells : goal.returns-clause-tells
+returns-clause-tells c = λ h t.
     let given = some_given (phases_of c.args.self.now.numbers c.args.number) c.unspent.result c.unspent.ensures (c.is_none.ensures ∙ ap not c.if-is_none.false) in
-    returned_follows c.args.self.now h t c.args.number given.0 c.put.new.self given.1 c.in_ok-put.ensures
+    returned_follows c.args.self.now h t c.args.number given.0 c.end.new.self given.1 c.end.ensures

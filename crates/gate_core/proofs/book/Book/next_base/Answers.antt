@@ -7,7 +7,7 @@ use Rattle.gate_history.specs.Seal.{SaysAs}
 use Rattle.gate_history.proofs.CallerLemmas.{reordering_says, says_base}
 use Rattle.gate_core.specs.Gate.{Gate, history}
 use Rattle.gate_core.proofs.Keeping.{told}
-use Rattle.gate_core.proofs.NextBase.{given_says, says_on}
+use Rattle.gate_core.proofs.NextBase.{given_says, grants_fit, says_on}
 use Rattle.gate_core.proofs.book.Book.next_base.Goals as goal
 
 abbrev given : goal.After-entry_count → Base
@@ -33,7 +33,7 @@ is_base : (c : goal.After-entry_count) → IsBase (given c)
 is_base c = says_base (given c) (told c.self.inside) c.self.invariant.legal (says c)
 
 pub of-requires : goal.of-requires
-of-requires c = record { base = is_base c }
+of-requires c = record { base = is_base c; grants = grants_fit c.self.inside c.self.invariant (given c) (says c) }
 
 pub returns : goal.returns
 returns c =

@@ -1,58 +1,26 @@
--- Each list stands in the order of its keys, and says what it said.
+-- What was put in order says what it said, so it is a base.
 -- The law of order says so.
-use Rattle.std.proofs.Common.{rules, of_calls, refl}
-use Rattle.std.specs.Ordering.{is_lt, nat_cmp}
-use Rattle.std.specs.Cmp.Lexicographic.{slice_cmp}
-use Rattle.std.proofs.lemmas.Cmp.{nat_list_cmp_total}
-use Rattle.std.proofs.lemmas.Fn.{always_returns_same}
-use Rattle.std.proofs.lemmas.List.Sorted.{ranks_by}
-use Rattle.permit_book.specs.declared.granted_permit.GrantedPermit.{GrantedPermit}
-use Rattle.authority_cache.specs.declared.standing_answer.StandingAnswer.{StandingAnswer}
-use Rattle.authority_cache.specs.declared.turn.Turn.{Turn}
-use Rattle.gate_history.specs.declared.base.SlotGrant.{SlotGrant}
-use Rattle.gate_history.specs.Base.{Base}
+use Rattle.std.proofs.lemmas.List.Sorted.{All-permutation}
+use Rattle.gate_history.specs.Grants.{IsSlotGrant}
 use Rattle.gate_history.specs.History.{from}
 use Rattle.gate_history.specs.Kept.{base_with}
-use Rattle.gate_history.specs.Order.{IsInOrder}
 use Rattle.gate_history.proofs.LegalLaws.{says_base}
 use Rattle.gate_history.proofs.Reordering.{reordering_says}
 use Rattle.gate_history.proofs.base.Base.of.Goals as goal
 
-abbrev made : goal.After-sort_unstable_by_key-4 → Base
-made c = base_with (record {
-  standing = c.sort_unstable_by.new.self;
-  in_flight = c.sort_unstable_by_key.new.self;
-  unspent = c.sort_unstable_by_key-2.new.self;
-  running = c.sort_unstable_by_key-3.new.self;
-  grants = c.sort_unstable_by_key-4.new.self;
-}) c.args.numbers
-
-in_order : (c : goal.After-sort_unstable_by_key-4) → IsInOrder (made c)
-in_order c = record {
-  answers = c.sort_unstable_by.ensures.sorted (λ one other. is_lt (slice_cmp nat_cmp one.authority other.authority))
-      (ranks_by nat_list_cmp_total (λ (s : StandingAnswer). s.authority)) (always_returns_same _ _ _ (λ a r f k. search (rules, of_calls)));
-  turns = c.sort_unstable_by_key.ensures.sorted (λ (t : Turn). t.turn) (always_returns_same _ _ _ (λ a r f k. search (rules, of_calls)));
-  permits = c.sort_unstable_by_key-2.ensures.sorted (λ (p : GrantedPermit). p.number) (always_returns_same _ _ _ (λ a r f k. search (rules, of_calls)));
-  runs = c.sort_unstable_by_key-3.ensures.sorted (λ (p : GrantedPermit). p.number) (always_returns_same _ _ _ (λ a r f k. search (rules, of_calls)));
-  grants = c.sort_unstable_by_key-4.ensures.sorted (λ (g : SlotGrant). g.slot) (always_returns_same _ _ _ (λ a r f k. search (rules, of_calls)));
-}
-
 pub invariant_of-result : goal.invariant_of-result
 invariant_of-result c =
-    let given = base_with c.args.left c.args.numbers in (
-      says_base (made c) (from given) c.requires.base (reordering_says given (made c) c.requires.base (record {
-        answers = c.sort_unstable_by.ensures.permutation;
-        turns = c.sort_unstable_by_key.ensures.permutation;
-        permits = c.sort_unstable_by_key-2.ensures.permutation;
-        runs = c.sort_unstable_by_key-3.ensures.permutation;
-        grants = c.sort_unstable_by_key-4.ensures.permutation;
-        begun = refl;
-        moment = refl;
-        entries = refl;
-        started = refl;
-      })),
-      in_order c,
+    let given = base_with c.args.left c.args.numbers in
+    let made = base_with c.put_in_order.new.self c.args.numbers in (
+      says_base made (from given) c.requires.base (reordering_says given made c.requires.base (c.put_in_order.ensures.same c.args.numbers)),
+      (
+        c.put_in_order.ensures.order c.args.numbers,
+        All-permutation IsSlotGrant c.args.left.grants.items c.put_in_order.new.self.grants.items (c.put_in_order.ensures.same c.args.numbers).grants c.requires.grants,
+      ),
     )
 
+pub returns-clause-same : goal.returns-clause-same
+returns-clause-same c = c.put_in_order.ensures.same c.args.numbers
+
 pub returns-clause-order : goal.returns-clause-order
-returns-clause-order c = in_order c
+returns-clause-order c = c.put_in_order.ensures.order c.args.numbers

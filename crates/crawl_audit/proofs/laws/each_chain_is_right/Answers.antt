@@ -1,0 +1,6 @@
+-- Behind each front of its lines a chain goes on.
+use Rattle.crawl_audit.proofs.ChainLines.{right_chain}
+use Rattle.crawl_audit.proofs.laws.each_chain_is_right.Goals as goal
+
+pub returns : goal.returns
+returns c = right_chain

@@ -1,0 +1,6 @@
+-- Lists in one order that say the same are the same.
+use Rattle.crawl_audit.proofs.OneOrder.{one_next_base}
+use Rattle.crawl_audit.proofs.laws.each_history_leads_to_one_base.Goals as goal
+
+pub returns : goal.returns
+returns c = one_next_base

@@ -1,0 +1,137 @@
+-- The base of a first text while it is read line by line: how far it came, what its reader and the ledger say of
+-- what was read, and which line may come next. docs/FORMATS.md has the lines as a table.
+use Rattle.std.specs.Prelude.{◌≡◌, ℕ, ◌==◌, ◌⊎◌, Bool, true, false, ◌&&◌, nat_le, nat_lt, not, All, List, [], ◌∷◌, ◌++◌, Some, None, OnOk, Result, Ok, Err, codes, is_some, map}
+use Rattle.std.specs.declared.alloc.AllocError.{AllocError}
+use Rattle.std.specs.Cmp.Lexicographic.{slice_cmp}
+use Rattle.std.specs.HashMap.{get}
+use Rattle.std.specs.Ordering.{is_lt, nat_cmp}
+use Rattle.authority_cache.specs.Lives.{Timed}
+use Rattle.authority_cache.specs.Sites.{is_flying, site_of}
+use Rattle.gate_history.specs.Base.{Base, empty_base, times_turned}
+use Rattle.gate_history.specs.History.{from}
+use Rattle.permit_book.specs.Numbers.{generation_of, slot_of}
+use Rattle.crawl_audit.specs.declared.first_base.FirstBase.{FirstBase}
+use Rattle.crawl_audit.specs.declared.first_base.LastLine.{LastLine}
+use Rattle.crawl_audit.specs.declared.first_base.LastLine.TheVariants as lasts
+use Rattle.crawl_audit.specs.declared.ledger.Ledger.{Ledger}
+use Rattle.crawl_audit.specs.declared.numbers.Numbers.{Numbers}
+use Rattle.crawl_audit.specs.declared.unread_line.UnreadLine.{UnreadLine}
+use Rattle.crawl_audit.specs.declared.unread_line.UnreadLine.TheVariants.{NotOne, NoMemory}
+use Rattle.crawl_audit.specs.Chains.{IsTextBase}
+use Rattle.crawl_audit.specs.OpenRows.{OpenRow, Answered, InFlight, Greatest, Unspent, Running, IsOpenRow, MayStand, row_line, rows_of, with_row}
+use Rattle.crawl_audit.specs.SpellBase.{base_lines, numbers_line}
+use Rattle.crawl_audit.specs.Steps.{Place, Steps, TakesLine, inside}
+use Rattle.crawl_audit.specs.Tables.{TellsAll, is_above, lasts_of, phases_of}
+
+-- ---- the order of rows
+
+-- a row by its kind and key
+abbrev pub key_of : OpenRow → LastLine
+key_of (Answered s) = lasts.Answered s.authority
+key_of (InFlight t) = lasts.InFlight t.turn
+key_of (Greatest g) = lasts.Greatest g.slot
+key_of (Unspent p) = lasts.Unspent p.number
+key_of (Running p) = lasts.Running p.number
+
+-- the last line behind this one and the lines of these rows
+abbrev pub last_from : LastLine → List OpenRow → LastLine
+last_from last [] = last
+last_from last (row ∷ rows) = last_from (key_of row) rows
+
+-- that of a base with these rows
+abbrev pub last_of : List OpenRow → LastLine
+last_of = last_from lasts.Numbers
+
+-- the place of a line's kind among the kinds
+abbrev pub kind_place : LastLine → ℕ
+kind_place lasts.Numbers = 0
+kind_place (lasts.Answered _) = 1
+kind_place (lasts.InFlight _) = 2
+kind_place (lasts.Greatest _) = 3
+kind_place (lasts.Unspent _) = 4
+kind_place (lasts.Running _) = 5
+
+-- the row comes behind a line: it is of a later kind, or of the same with a greater key
+abbrev pub is_behind : LastLine → OpenRow → Bool
+is_behind (lasts.Answered authority) (Answered s) = is_lt (slice_cmp nat_cmp authority s.authority)
+is_behind (lasts.InFlight turn) (InFlight t) = nat_lt turn t.turn
+is_behind (lasts.Greatest slot) (Greatest g) = nat_lt slot g.slot
+is_behind (lasts.Unspent number) (Unspent p) = nat_lt number p.number
+is_behind (lasts.Running number) (Running p) = nat_lt number p.number
+is_behind last row = nat_lt (kind_place last) (kind_place (key_of row))
+
+-- ---- what is known of what was read
+
+-- a turn of this number was read
+abbrev pub is_used : FirstBase → ℕ → Bool
+is_used first turn = is_some (get (λ one other. one == other) first.turns turn)
+
+-- the number's slot had a grant of its generation or of a later one
+abbrev pub is_granted : Numbers → ℕ → Bool
+is_granted numbers number = not (is_above (generation_of number) (lasts_of numbers (slot_of number)))
+
+-- the turn was not read yet, and there may be one of this number that began at this moment
+abbrev pub may_have_begun : FirstBase → Ledger → ℕ → ℕ → Bool
+may_have_begun first ledger turn begun = not (is_used first turn) && (nat_le turn ledger.begins && nat_le begun ledger.clock)
+
+-- the row fits to what was read, wherever it comes
+abbrev pub fits : FirstBase → Ledger → OpenRow → Bool
+fits first ledger (Answered s) = may_have_begun first ledger s.turn s.begun
+fits first ledger (InFlight t) = not (is_flying (site_of ledger.cache t.authority)) && may_have_begun first ledger t.turn t.begun
+fits first ledger (Greatest g) = true
+fits first ledger (Unspent p) = is_granted ledger.numbers p.number
+fits first ledger (Running p) = is_granted ledger.numbers p.number && not (is_some (phases_of ledger.numbers p.number))
+
+-- the reader and the ledger say what the base does
+pub record SaysBase (first : FirstBase) (ledger : Ledger) (b : Base) : Type 0 where
+  pub is_base : IsTextBase b
+  pub rows : All IsOpenRow (rows_of b)
+  pub tells : TellsAll ledger (from b)
+  pub rising : ledger.numbers.rising ≡ true
+  pub last_is : first.last ≡ Some (last_of (rows_of b))
+  pub turns_are : (turn : ℕ) → is_used first turn ≡ nat_lt 0 (times_turned b.standing b.in_flight turn)
+
+-- a row with an answer, and one with a turn
+abbrev pub answered_row : List ℕ → ℕ → ℕ → Timed → OpenRow
+answered_row authority turn begun answer =
+    Answered (record { authority = authority; turn = turn; begun = begun; life = answer.life; says = answer.says })
+
+abbrev pub turn_row : List ℕ → ℕ → ℕ → OpenRow
+turn_row authority turn begun = InFlight (record { authority = authority; turn = turn; begun = begun })
+
+-- a row that may stand was loaded, so they say what the base with it does
+abbrev pub Loads : Base → OpenRow → Result (Unit {0}) AllocError → FirstBase → Ledger → Type 0
+Loads b row result first ledger = IsOpenRow row → MayStand b row → OnOk result (SaysBase first ledger (with_row b row))
+
+-- the first line was read, and nothing was before
+pub record ReadsHead (first : FirstBase) (ledger : Ledger) (lines : List (List ℕ)) : Type 0 where
+  pub lines_are : lines ≡ codes "V 3" ∷ []
+  pub tells : TellsAll ledger (from empty_base)
+  pub none : first.last ≡ None
+  pub unused : (turn : ℕ) → is_used first turn ≡ false
+
+-- the numbers of a base were read, and what it left open as far as these lines have it
+pub record ReadsRows (first : FirstBase) (ledger : Ledger) (lines : List (List ℕ)) : Type 0 where
+  pub base : Base
+  pub says : SaysBase first ledger base
+  pub lines_are : lines ≡ codes "V 3" ∷ numbers_line base ∷ map row_line (rows_of base)
+
+-- these lines of a base were read
+abbrev pub Reads : FirstBase → Ledger → List (List ℕ) → Type 0
+Reads first ledger lines = ReadsHead first ledger lines ⊎ ReadsRows first ledger lines
+
+-- the lines are all of a base, and the ledger goes on from it
+pub record HasRead (lines : List (List ℕ)) (ledger : Ledger) : Type 0 where
+  pub base : Base
+  pub is_base : IsTextBase base
+  pub lines_are : base_lines base ≡ lines
+  pub tells : TellsAll ledger (from base)
+  pub rising : ledger.numbers.rising ≡ true
+
+-- the line is the next one of a base; it is the last one; it is not one; or memory was refused
+abbrev pub TakesBaseLine : List (List ℕ) → List ℕ → Result Bool UnreadLine → FirstBase → Ledger → Type 0
+TakesBaseLine lines line (Ok false) first ledger =
+    Reads first ledger (lines ++ line ∷ []) × TakesLine None lines line (inside None (lines ++ line ∷ []))
+TakesBaseLine lines line (Ok true) first ledger = HasRead (lines ++ line ∷ []) ledger
+TakesBaseLine lines line (Err NotOne) first ledger = (next : Place) → Steps (inside None lines) line next → ⊥
+TakesBaseLine lines line (Err NoMemory) first ledger = Unit {0}

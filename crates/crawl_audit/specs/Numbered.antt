@@ -1,0 +1,18 @@
+-- The base of numbers alone, which left nothing open. RFC 9309 has no histories.
+use Rattle.std.specs.Prelude.{[]}
+use Rattle.gate_history.specs.declared.base.Numbers.{Numbers}
+use Rattle.gate_history.specs.Base.{Base}
+
+-- a base with these numbers, of which nothing is open
+abbrev pub numbered : Numbers → Base
+numbered numbers = record {
+  standing = [];
+  in_flight = [];
+  unspent = [];
+  running = [];
+  grants = [];
+  begins = numbers.begins;
+  moment = numbers.moment;
+  entries = numbers.entries;
+  started = numbers.started;
+}

@@ -1,0 +1,107 @@
+-- What the words of a base's line are read as: a thing that a base left open, or the numbers of one. It takes
+-- more than the one spelling of each: what was read is spelled and compared with the line.
+-- Cited by the contracts of `read_base`.
+use Rattle.std.specs.Prelude.{◌≡◌, ℕ, true, List, Option, Some, None, Result, Ok, Err, codes, if◌then◌else◌}
+use Rattle.std.specs.Option.{option_map}
+use Rattle.std.specs.Str.{bytes_eq}
+use Rattle.robots_text.specs.Token.{token_of}
+use Rattle.permit_book.specs.declared.granted_permit.GrantedPermit.{GrantedPermit}
+use Rattle.permit_book.specs.declared.out.Fetch.{Fetch}
+use Rattle.permit_book.specs.Outstanding.{permit_for}
+use Rattle.gate_history.specs.declared.base.Numbers.{Numbers}
+use Rattle.gate_history.specs.Base.{has_its_life}
+use Rattle.line_text.specs.Number.{number_of}
+use Rattle.line_text.specs.Words.{words_of}
+use Rattle.crawl_audit.specs.declared.version.Version.TheVariants.{Two}
+use Rattle.crawl_audit.specs.declared.base_row.BaseRow.{BaseRow}
+use Rattle.crawl_audit.specs.declared.unread_line.UnreadLine.{UnreadLine}
+use Rattle.crawl_audit.specs.declared.unread_line.UnreadLine.TheVariants.{NotOne, NoMemory}
+use Rattle.crawl_audit.specs.BaseFields.{IsAnswerRow, IsGrantRow, IsPermitRow, IsTurnRow}
+use Rattle.gate_history.specs.Grants.{IsSlotGrant}
+use Rattle.crawl_audit.specs.OpenRows.{OpenRow, Answered, InFlight, Greatest, Unspent, Running, row_of}
+use Rattle.crawl_audit.specs.Reading.{and_then, answer_named, authority_named, head_word, page_named, tail_words}
+
+-- the things that words behind each letter write
+abbrev pub answered_named : List (List ℕ) → Option OpenRow
+answered_named words =
+    and_then (authority_named (head_word words)) (λ authority.
+    and_then (number_of (head_word (tail_words words))) (λ turn.
+    and_then (number_of (head_word (tail_words (tail_words words)))) (λ begun.
+    and_then (answer_named Two (tail_words (tail_words (tail_words words)))) (λ lasting.
+    Some (Answered (record { authority = authority; turn = turn; begun = begun; life = lasting.life; says = lasting.says }))))))
+
+abbrev pub in_flight_named : List (List ℕ) → Option OpenRow
+in_flight_named words =
+    and_then (authority_named (head_word words)) (λ authority.
+    and_then (number_of (head_word (tail_words words))) (λ turn.
+    and_then (number_of (head_word (tail_words (tail_words words)))) (λ begun.
+    Some (InFlight (record { authority = authority; turn = turn; begun = begun })))))
+
+abbrev pub greatest_named : List (List ℕ) → Option OpenRow
+greatest_named words =
+    and_then (number_of (head_word words)) (λ slot.
+    and_then (number_of (head_word (tail_words words))) (λ generation.
+    Some (Greatest (record { slot = slot; generation = generation }))))
+
+-- the permit that words write
+abbrev pub permit_named : List (List ℕ) → Option GrantedPermit
+permit_named words =
+    and_then (number_of (head_word words)) (λ number.
+    and_then (token_of (head_word (tail_words words))) (λ token.
+    and_then (page_named (head_word (tail_words (tail_words words)))) (λ url.
+    Some (record { number = number; token = token; url = url }))))
+
+-- the thing that the words behind this letter write
+abbrev pub row_behind : List ℕ → List (List ℕ) → Option OpenRow
+row_behind letter words =
+    if bytes_eq letter (codes "H") then answered_named words
+    else (if bytes_eq letter (codes "I") then in_flight_named words
+    else (if bytes_eq letter (codes "L") then greatest_named words
+    else (if bytes_eq letter (codes "U") then option_map Unspent (permit_named words)
+    else (if bytes_eq letter (codes "Y") then option_map Running (permit_named words)
+    else None))))
+
+-- the thing that a line writes
+abbrev pub row_named : List ℕ → Option OpenRow
+row_named line = row_behind (head_word (words_of line)) (tail_words (words_of line))
+
+-- the result is the thing that was to be read, or says that none was, or that memory was refused
+abbrev pub ReadsRow : Result BaseRow UnreadLine → Option OpenRow → Type 0
+ReadsRow (Ok found) expected = expected ≡ Some (row_of found)
+ReadsRow (Err NotOne) expected = expected ≡ None
+ReadsRow (Err NoMemory) expected = Unit {0}
+
+-- the same of a permit's number and fetch
+abbrev pub ReadsPermit : Result (ℕ × Fetch) UnreadLine → Option GrantedPermit → Type 0
+ReadsPermit (Ok pair) expected = expected ≡ Some (permit_for pair.0 pair.1)
+ReadsPermit (Err NotOne) expected = expected ≡ None
+ReadsPermit (Err NoMemory) expected = Unit {0}
+
+-- the fields of a thing, but for what they must be besides
+abbrev pub HasRowFields : OpenRow → Type 0
+HasRowFields (Answered s) = IsAnswerRow s
+HasRowFields (InFlight t) = IsTurnRow t
+HasRowFields (Greatest g) = IsGrantRow g
+HasRowFields (Unspent p) = IsPermitRow p
+HasRowFields (Running p) = IsPermitRow p
+
+-- an answer has a life of its kind; and there may be the slot and the generation
+abbrev pub IsInRange : OpenRow → Type 0
+IsInRange (Answered s) = has_its_life s ≡ true
+IsInRange (InFlight t) = Unit {0}
+IsInRange (Greatest g) = IsSlotGrant g
+IsInRange (Unspent p) = Unit {0}
+IsInRange (Running p) = Unit {0}
+
+-- the numbers that the words of a line write
+abbrev pub numbers_behind : List (List ℕ) → Option Numbers
+numbers_behind words =
+    and_then (number_of (head_word words)) (λ entries.
+    and_then (number_of (head_word (tail_words words))) (λ started.
+    and_then (number_of (head_word (tail_words (tail_words words)))) (λ begins.
+    and_then (number_of (head_word (tail_words (tail_words (tail_words words))))) (λ moment.
+    Some (record { begins = begins; moment = moment; entries = entries; started = started })))))
+
+abbrev pub numbers_named : List ℕ → Option Numbers
+numbers_named line =
+    if bytes_eq (head_word (words_of line)) (codes "T") then numbers_behind (tail_words (words_of line)) else None

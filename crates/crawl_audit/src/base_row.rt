@@ -1,0 +1,39 @@
+//! A thing that a base left open, as a line brings it, with its token, its URL and its answer at hand.
+//! Used by `read_base` and `first_base`.
+
+use authority_cache::TurnNo;
+use gate_history::SlotGrant;
+use path_normal::Authority;
+use permit_book::{Fetch, PermitNo};
+use robots_verdict::Answer;
+
+/// A thing that a base left open.
+#[derive(Drop)]
+pub(crate) enum BaseRow {
+    /// An answer that stands.
+    Answered {
+        authority: Authority,
+        turn: TurnNo,
+        begun: u64,
+        answer: Answer,
+        life: u64,
+    },
+    /// A turn in flight.
+    InFlight {
+        authority: Authority,
+        turn: TurnNo,
+        begun: u64,
+    },
+    /// The greatest generation of a slot.
+    Greatest(SlotGrant),
+    /// A permit that no start has spent.
+    Unspent {
+        number: PermitNo,
+        fetch: Fetch,
+    },
+    /// A permit whose fetch was started and has not ended.
+    Running {
+        number: PermitNo,
+        fetch: Fetch,
+    },
+}

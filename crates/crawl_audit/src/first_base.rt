@@ -1,0 +1,330 @@
+//! The base of a first text, which is taken as written: read line by line into the ledger, each line
+//! checked against those before it. docs/FORMATS.md has the lines; RFC 9309, sections 2.3.1 and 2.4.
+ghost use Rattle.std.specs.Prelude.{◌≡◌, ◌≢◌, ℕ, ◌+◌, ◌<◌, ◌≤◌, ◌==◌, ◌||◌, ◌↔◌};
+ghost use Rattle.std.specs.Prelude.{◌∷◌, [], IsTrue, List, OnOk, codes};
+ghost use Rattle.permit_book.specs.Outstanding.{permit_for};
+ghost use Rattle.gate_history.specs.Base.{Base, empty_base};
+ghost use Rattle.gate_history.specs.History.{from};
+ghost use Rattle.crawl_audit.specs.FirstBase.{Reads, ReadsHead, ReadsRows, SaysBase, TakesBaseLine};
+ghost use Rattle.crawl_audit.specs.FirstBase.{Loads, answered_row, fits, is_behind, is_used};
+ghost use Rattle.crawl_audit.specs.FirstBase.{key_of, kind_place, may_have_begun, turn_row};
+ghost use Rattle.crawl_audit.specs.OpenRows.{Greatest, IsOpenRow, MayStand, Running, Unspent};
+ghost use Rattle.crawl_audit.specs.OpenRows.{row_of};
+ghost use Rattle.crawl_audit.specs.Tables.{TellsAll};
+
+use crate::base_row::BaseRow;
+use crate::ledger::Ledger;
+use crate::numbers::Phase;
+use crate::read_base::{read_numbers, read_row};
+use crate::unread_line::UnreadLine;
+use authority_cache::{TimedAnswer, TurnNo};
+use gate_history::{Numbers, SlotGrant};
+use indexmap::IndexMap;
+use path_normal::Authority;
+use permit_book::{Fetch, PermitNo};
+use std::alloc::{AllocError, Global};
+use std::hash::RandomState;
+
+/// The last line of a base that was read, by its kind and key.
+#[derive(Drop)]
+pub(crate) enum LastLine {
+    /// The line of numbers: no row was read.
+    Numbers,
+    /// An answer that stands, by its authority.
+    Answered(Authority),
+    /// A turn in flight.
+    InFlight(TurnNo),
+    /// The greatest generation of a slot.
+    Greatest(u64),
+    /// A permit that no start has spent.
+    Unspent(PermitNo),
+    /// A permit whose fetch was started and has not ended.
+    Running(PermitNo),
+}
+
+/// The base of a first text, as far as it was read. The ledger holds what it left open.
+#[derive(Drop)]
+pub(crate) struct FirstBase {
+    // None where only the first line was read.
+    last: Option<LastLine>,
+    // The turns that were read, in flight or with their answers.
+    turns: IndexMap<u64, (), RandomState>,
+}
+
+impl FirstBase {
+    /// The base of which the first line was read, with the keys of its table's hasher.
+    pub(crate) fn new(alloc: Global, keys: RandomState) -> FirstBase
+        ensures { (ledger : Ledger) → TellsAll ledger (from empty_base)
+            → Reads result ledger (codes "V 3" ∷ []) }
+    {
+        FirstBase {
+            last: None,
+            turns: IndexMap::with_hasher(alloc, keys),
+        }
+    }
+
+    /// Takes the next line of the base, and says whether it was the last one.
+    pub(crate) fn take(
+        &mut self,
+        alloc: Global,
+        ledger: &mut Ledger,
+        line: &[u8],
+    ) -> Result<bool, UnreadLine>
+        ensures { (lines : List (List ℕ)) → Reads self.old ledger.old lines
+            → TakesBaseLine lines line.now result self.new ledger.new }
+    {
+        if self.last.is_none() {
+            return self.take_numbers(ledger, line);
+        }
+        if line == b"E".as_slice() {
+            return Ok(true);
+        }
+        self.take_row(alloc, ledger, line)
+    }
+
+    // Takes the line of numbers.
+    fn take_numbers(&mut self, ledger: &mut Ledger, line: &[u8]) -> Result<bool, UnreadLine>
+        ensures { (lines : List (List ℕ)) → ReadsHead self.old ledger.old lines
+            → TakesBaseLine lines line.now result self.new ledger.new }
+    {
+        let numbers = read_numbers(line)?;
+        if !may_be_of_base(numbers) {
+            return Err(UnreadLine::NotOne);
+        }
+        ledger.load_numbers(numbers);
+        self.last = Some(LastLine::Numbers);
+        Ok(false)
+    }
+
+    // Takes the line of a row.
+    fn take_row(
+        &mut self,
+        alloc: Global,
+        ledger: &mut Ledger,
+        line: &[u8],
+    ) -> Result<bool, UnreadLine>
+        ensures { (lines : List (List ℕ)) → ReadsRows self.old ledger.old lines
+            → line.now ≢ codes "E" → TakesBaseLine lines line.now result self.new ledger.new }
+    {
+        let row = read_row(alloc, line)?;
+        if !self.may_stand(ledger, &row) {
+            return Err(UnreadLine::NotOne);
+        }
+        self.load(ledger, row)?;
+        Ok(false)
+    }
+
+    // Whether the row may stand behind those that were read.
+    fn may_stand(&self, ledger: &Ledger, row: &BaseRow) -> bool
+        ensures { (b : Base) → SaysBase self.now ledger.now b → IsOpenRow (row_of row.now)
+            → IsTrue result ↔ MayStand b (row_of row.now) }
+    {
+        match &self.last {
+            Some(last) => last.is_before(row) && self.fits(ledger, row),
+            None => false,
+        }
+    }
+
+    // Whether the row fits to those that were read, wherever it comes.
+    fn fits(&self, ledger: &Ledger, row: &BaseRow) -> bool
+        ensures { result ≡ fits self.now ledger.now (row_of row.now) }
+    {
+        match row {
+            BaseRow::Answered { turn, begun, .. } => self.may_have_begun(ledger, *turn, *begun),
+            BaseRow::InFlight {
+                authority,
+                turn,
+                begun,
+            } => {
+                !ledger.cache.in_flight(authority.text())
+                    && self.may_have_begun(ledger, *turn, *begun)
+            }
+            BaseRow::Greatest(_) => true,
+            BaseRow::Unspent { number, .. } => ledger.numbers.is_granted(*number),
+            BaseRow::Running { number, .. } => {
+                ledger.numbers.is_granted(*number) && !ledger.numbers.is_out(*number)
+            }
+        }
+    }
+
+    // Whether the turn was not read yet, and there may be one that began at this moment.
+    fn may_have_begun(&self, ledger: &Ledger, turn: TurnNo, begun: u64) -> bool
+        ensures { result ≡ may_have_begun self.now ledger.now turn begun }
+    {
+        self.turns.get(&turn.number()).is_none()
+            && turn.number() <= ledger.begins
+            && begun <= ledger.clock
+    }
+
+    // Loads a row that may stand into the ledger.
+    fn load(&mut self, ledger: &mut Ledger, row: BaseRow) -> Result<(), AllocError>
+        ensures { (b : Base) → SaysBase self.old ledger.old b
+            → Loads b (row_of row) result self.new ledger.new }
+    {
+        match row {
+            BaseRow::Answered {
+                authority,
+                turn,
+                begun,
+                answer,
+                life,
+            } => self.load_answer(
+                ledger,
+                authority,
+                turn,
+                begun,
+                TimedAnswer::new(answer, life),
+            ),
+            BaseRow::InFlight {
+                authority,
+                turn,
+                begun,
+            } => self.load_turn(ledger, authority, turn, begun),
+            BaseRow::Greatest(grant) => self.load_grant(ledger, grant),
+            BaseRow::Unspent { number, fetch } => self.load_unspent(ledger, number, fetch),
+            BaseRow::Running { number, fetch } => self.load_running(ledger, number, fetch),
+        }
+    }
+
+    fn load_answer(
+        &mut self,
+        ledger: &mut Ledger,
+        authority: Authority,
+        turn: TurnNo,
+        begun: u64,
+        answer: TimedAnswer,
+    ) -> Result<(), AllocError>
+        ensures { (b : Base) → SaysBase self.old ledger.old b
+            → Loads b (answered_row authority turn begun answer) result self.new ledger.new }
+    {
+        ledger.load_answer(&authority, turn, begun, answer)?;
+        self.use_turn(turn)?;
+        self.last = Some(LastLine::Answered(authority));
+        Ok(())
+    }
+
+    fn load_turn(
+        &mut self,
+        ledger: &mut Ledger,
+        authority: Authority,
+        turn: TurnNo,
+        begun: u64,
+    ) -> Result<(), AllocError>
+        ensures { (b : Base) → SaysBase self.old ledger.old b
+            → Loads b (turn_row authority turn begun) result self.new ledger.new }
+    {
+        ledger.load_turn(&authority, turn, begun)?;
+        self.use_turn(turn)?;
+        self.last = Some(LastLine::InFlight(turn));
+        Ok(())
+    }
+
+    fn load_grant(&mut self, ledger: &mut Ledger, grant: SlotGrant) -> Result<(), AllocError>
+        ensures { (b : Base) → SaysBase self.old ledger.old b
+            → Loads b (Greatest grant) result self.new ledger.new }
+    {
+        ledger.numbers.load_grant(grant)?;
+        self.last = Some(LastLine::Greatest(grant.slot));
+        Ok(())
+    }
+
+    fn load_unspent(
+        &mut self,
+        ledger: &mut Ledger,
+        number: PermitNo,
+        fetch: Fetch,
+    ) -> Result<(), AllocError>
+        ensures { (b : Base) → SaysBase self.old ledger.old b
+            → Loads b (Unspent (permit_for number fetch)) result self.new ledger.new }
+    {
+        ledger.numbers.put(number, Phase::Unspent(fetch))?;
+        self.last = Some(LastLine::Unspent(number));
+        Ok(())
+    }
+
+    fn load_running(
+        &mut self,
+        ledger: &mut Ledger,
+        number: PermitNo,
+        fetch: Fetch,
+    ) -> Result<(), AllocError>
+        ensures { (b : Base) → SaysBase self.old ledger.old b
+            → Loads b (Running (permit_for number fetch)) result self.new ledger.new }
+    {
+        ledger.numbers.put(number, Phase::Running(fetch))?;
+        self.last = Some(LastLine::Running(number));
+        Ok(())
+    }
+
+    // A turn of this number was read.
+    fn use_turn(&mut self, turn: TurnNo) -> Result<(), AllocError>
+        ensures used { OnOk result ((other : ℕ)
+            → is_used self.new other ≡ (turn == other || is_used self.old other)) }
+        ensures last { self.new.last ≡ self.old.last }
+    {
+        match self.turns.insert(turn.number(), ()) {
+            Ok(_) => Ok(()),
+            Err(_) => Err(AllocError),
+        }
+    }
+}
+
+impl LastLine {
+    // Whether the row comes behind this line: it is of a later kind, or of the same and with a
+    // greater key.
+    fn is_before(&self, row: &BaseRow) -> bool
+        ensures { result ≡ is_behind self.now (row_of row.now) }
+    {
+        match (self, row) {
+            (LastLine::Answered(last), BaseRow::Answered { authority, .. }) => {
+                last.text() < authority.text()
+            }
+            (LastLine::InFlight(last), BaseRow::InFlight { turn, .. }) => {
+                last.number() < turn.number()
+            }
+            (LastLine::Greatest(last), BaseRow::Greatest(grant)) => *last < grant.slot,
+            (LastLine::Unspent(last), BaseRow::Unspent { number, .. })
+            | (LastLine::Running(last), BaseRow::Running { number, .. }) => {
+                last.number() < number.number()
+            }
+            _ => self.kind_place() < kind_place(row),
+        }
+    }
+
+    // The place of the line's kind among the kinds.
+    fn kind_place(&self) -> u8
+        ensures { result ≡ kind_place self.now }
+    {
+        match self {
+            LastLine::Numbers => 0,
+            LastLine::Answered(_) => 1,
+            LastLine::InFlight(_) => 2,
+            LastLine::Greatest(_) => 3,
+            LastLine::Unspent(_) => 4,
+            LastLine::Running(_) => 5,
+        }
+    }
+}
+
+// The place of the row's kind among the kinds of lines.
+fn kind_place(row: &BaseRow) -> u8
+    ensures { result ≡ kind_place (key_of (row_of row.now)) }
+{
+    match row {
+        BaseRow::Answered { .. } => 1,
+        BaseRow::InFlight { .. } => 2,
+        BaseRow::Greatest(_) => 3,
+        BaseRow::Unspent { .. } => 4,
+        BaseRow::Running { .. } => 5,
+    }
+}
+
+// Whether there may be a base of these numbers: no entry is both a begin and a start.
+fn may_be_of_base(numbers: Numbers) -> bool
+    ensures { IsTrue result ↔ ((0 < numbers.entries)
+        × (numbers.begins + numbers.started ≤ numbers.entries)) }
+{
+    0 < numbers.entries
+        && numbers.begins <= numbers.entries
+        && numbers.started <= numbers.entries - numbers.begins
+}

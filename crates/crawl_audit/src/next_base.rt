@@ -1,0 +1,176 @@
+//! The base of a further text: what was read before leads to it, and its lines must be that base's.
+//! docs/FORMATS.md has the lines.
+ghost use Rattle.std.specs.Prelude.{◌≡◌, ◌<◌, ◌+◌, ◌↔◌, ℕ, All, List, [], ◌∷◌, Some, codes};
+ghost use Rattle.std.specs.Prelude.{IfOk, IfSome, IsTrue, length, map, slice_get};
+ghost use Rattle.gate_history.specs.History.{History};
+ghost use Rattle.gate_history.specs.Legal.{IsLegal};
+ghost use Rattle.gate_history.specs.Kept.{base_with};
+ghost use Rattle.crawl_audit.specs.BaseFields.{HasBaseFields};
+ghost use Rattle.crawl_audit.specs.NextBase.{Expects, IsNextOf, TakesNextLine};
+ghost use Rattle.crawl_audit.specs.NextBase.{base_in, lines_behind, row_count};
+ghost use Rattle.crawl_audit.specs.Tables.{TellsAll};
+
+use crate::base_kinds::counts;
+use crate::ledger::Ledger;
+use crate::row::Row;
+use gate_history::{LeftOpen, Numbers};
+use line_text::Pieces;
+use std::alloc::{AllocError, Global};
+
+/// The base that a further text must have, and how many of its lines were read.
+#[derive(Drop)]
+pub(crate) struct NextBase {
+    left: LeftOpen,
+    numbers: Numbers,
+    // How many lines stand behind `V 3`, and how many of them were read.
+    count: usize,
+    taken: usize,
+}
+
+/// What a line is, where the next one of a base must come.
+#[derive(Clone, Copy, Debug, PartialEq, Eq)]
+pub(crate) enum BaseLine {
+    /// That one, and more follow.
+    Taken,
+    /// That one, and it is the last.
+    Last,
+    /// Another one.
+    Other,
+}
+
+impl Ledger {
+    /// The base to which what was entered leads.
+    pub(crate) fn next_base(&self, alloc: Global) -> Result<NextBase, AllocError>
+        ensures { IfOk result (λ next. (h : History) → IsLegal h → TellsAll self.now h
+            → Expects next h (codes "V 3" ∷ [])) }
+    {
+        let numbers = Numbers {
+            begins: self.begins,
+            moment: self.clock,
+            entries: self.entries,
+            started: self.started,
+        };
+        NextBase::of(self.left_open(alloc)?, numbers)
+    }
+}
+
+impl NextBase {
+    // The base of what was left open, which it puts in order, with these numbers.
+    // Where its lines are too many to be counted, there is no memory for them.
+    fn of(left: LeftOpen, numbers: Numbers) -> Result<NextBase, AllocError>
+        ensures { IfOk result (λ next. IsNextOf left numbers next) }
+    {
+        let mut left = left;
+        left.put_in_order();
+        match line_count(&left) {
+            Some(count) => {
+                know_fields(&left, &numbers);
+                Ok(NextBase {
+                    left,
+                    numbers,
+                    count,
+                    taken: 0,
+                })
+            }
+            None => Err(AllocError),
+        }
+    }
+
+    /// Takes the next line of the base, where it is the one that must come.
+    pub(crate) fn take(&mut self, line: &[u8]) -> BaseLine
+        ensures { (h : History) (lines : List (List ℕ)) → Expects self.old h lines
+            → TakesNextLine h lines line.now result self.new }
+    {
+        // No text has a base of no entries.
+        if self.numbers.entries == 0
+            || self.taken >= self.count
+            || !self.is_line_at(self.taken, line)
+        {
+            return BaseLine::Other;
+        }
+        self.taken += 1;
+        if self.taken == self.count {
+            BaseLine::Last
+        } else {
+            BaseLine::Taken
+        }
+    }
+
+    // Whether this is the line at the place behind `V 3`.
+    fn is_line_at(&self, place: usize, line: &[u8]) -> bool
+        ensures { IsTrue result
+            ↔ (slice_get (lines_behind (base_in self.now)) place ≡ Some line.now) }
+    {
+        if place == 0 {
+            return counts(self.numbers).is(line);
+        }
+        let left = &self.left;
+        let place = place - 1;
+        let answers = left.standing.len();
+        if place < answers {
+            return is_row_at(left.standing.as_slice(), "", place, line);
+        }
+        let place = place - answers;
+        let turns = left.in_flight.len();
+        if place < turns {
+            return is_row_at(left.in_flight.as_slice(), "", place, line);
+        }
+        let place = place - turns;
+        let grants = left.grants.len();
+        if place < grants {
+            return is_row_at(left.grants.as_slice(), "", place, line);
+        }
+        let place = place - grants;
+        let permits = left.unspent.len();
+        if place < permits {
+            return is_row_at(left.unspent.as_slice(), "U", place, line);
+        }
+        let place = place - permits;
+        let runs = left.running.len();
+        if place < runs {
+            return is_row_at(left.running.as_slice(), "Y", place, line);
+        }
+        place == runs && Pieces::whole("E").is(line)
+    }
+}
+
+// Whether this is the line of the row at the place.
+fn is_row_at<T: Row>(rows: &[T], letter: &'static str, place: usize, line: &[u8]) -> bool
+    requires { place < length rows.now }
+    ensures { IsTrue result
+        ↔ (slice_get (map (T.line letter.now) rows.now) place ≡ Some line.now) }
+{
+    rows[place].pieces(letter).is(line)
+}
+
+// How many lines a base has behind `V 3`, where it can be told.
+fn line_count(left: &LeftOpen) -> Option<usize>
+    ensures { IfSome result (λ count. count ≡ row_count left.now + 2) }
+{
+    let answers = left.standing.len();
+    let turns = answers.checked_add(left.in_flight.len())?;
+    let grants = turns.checked_add(left.grants.len())?;
+    let unspent = grants.checked_add(left.unspent.len())?;
+    let running = unspent.checked_add(left.running.len())?;
+    running.checked_add(2)
+}
+
+// Goes over what a base has, of which a clause then knows that its fields are those of lines.
+fn know_fields(left: &LeftOpen, numbers: &Numbers)
+    ensures { HasBaseFields (base_with left.now numbers.now) }
+{
+    know_rows(left.standing.as_slice());
+    know_rows(left.in_flight.as_slice());
+    know_rows(left.grants.as_slice());
+    know_rows(left.unspent.as_slice());
+    know_rows(left.running.as_slice());
+    let _ = counts(*numbers);
+}
+
+fn know_rows<T: Row>(rows: &[T])
+    ensures { All T.has_fields rows.now }
+{
+    for row in rows {
+        let _ = row.pieces("");
+    }
+}
