@@ -29,7 +29,7 @@ use Rattle.line_text.specs.Number.{is_number, is_numeral, is_small, number_of}
 use Rattle.crawl_audit.specs.Spell.{body_word}
 use Rattle.line_text.specs.Escapes.{escaped_body}
 use Rattle.crawl_audit.specs.Entries.{IsBody, IsNumber}
-use Rattle.crawl_audit.specs.Reading.{authority_named, body_named, page_named}
+use Rattle.crawl_audit.proofs.NamedEntries.{authority_named, body_named, page_named}
 
 own : IsNumeralModel (λ ds. list_all is_ascii_digit ds ≡ true) (digits_value 10)
 own = numerals_by_value _ (search rules)

@@ -5,6 +5,7 @@ pub mod Back
 pub mod BaseFront
 pub mod ChainLines
 pub mod CountedLines
+pub mod EntriesRead
 pub mod Exporting
 pub mod FirstLines
 pub mod Following
@@ -12,6 +13,8 @@ pub mod Growing
 pub mod ListedNumbers
 pub mod LoadedPermits
 pub mod LoadedRows
+pub mod NamedEntries
+pub mod NamedRows
 pub mod NextLines
 pub mod NextSaying
 pub mod NextTaking
@@ -26,6 +29,7 @@ pub mod RowKinds
 pub mod RowOrder
 pub mod RowReading
 pub mod RowSpelling
+pub mod RowsRead
 pub mod Shown
 pub mod Spelling
 pub mod StandingRows

@@ -1,10 +1,9 @@
 -- What the line of a thing that a base left open is read as is the thing; and so of a base's numbers.
 -- Used by `OneRow` and by the reader of such lines.
-use Rattle.std.proofs.Common.{◌≡◌, ◌≢◌, ℕ, All, true, List, [], ◌∷◌, ◌++◌, Some, decimal, sym, ap, ◌∙◌, subst, refl, arith, codes}
-use Rattle.std.specs.Prelude.{None, ◌==◌, unwrap_or}
+use Rattle.std.proofs.Common.{◌≡◌, ℕ, All, true, List, [], ◌∷◌, ◌++◌, Some, decimal, sym, ap, ◌∙◌, subst, refl, arith, codes}
+use Rattle.std.specs.Prelude.{◌==◌}
 use Rattle.std.specs.Str.{IsUtf8}
 use Rattle.std.proofs.lemmas.Bool.Decides.{nat_tests}
-use Rattle.std.proofs.lemmas.Option.{none-some}
 use Rattle.authority_cache.specs.declared.standing_answer.StandingAnswer.{StandingAnswer}
 use Rattle.authority_cache.specs.Lives.{life_of}
 use Rattle.gate_history.specs.declared.base.Numbers.{Numbers}
@@ -12,11 +11,11 @@ use Rattle.gate_history.specs.Base.{Base}
 use Rattle.line_text.specs.Words.{words_of}
 use Rattle.crawl_audit.specs.declared.version.Version.TheVariants.{Two}
 use Rattle.crawl_audit.specs.BaseFields.{HasNumbers}
-use Rattle.crawl_audit.specs.OpenRows.{OpenRow, Answered, InFlight, Greatest, Unspent, Running, IsOpenRow, row_line}
+use Rattle.crawl_audit.specs.OpenRows.{OpenRow, Answered, InFlight, Greatest, Unspent, Running, IsInRange, IsOpenRow, row_line}
 use Rattle.crawl_audit.specs.Reading.{head_word, tail_words}
-use Rattle.crawl_audit.specs.ReadingRows.{IsInRange, numbers_named, row_behind, row_named}
 use Rattle.crawl_audit.specs.Spell.{answer_fields, spaced_fields}
 use Rattle.crawl_audit.specs.SpellBase.{numbers_line}
+use Rattle.crawl_audit.proofs.NamedRows.{numbers_named, row_behind, row_named}
 use Rattle.crawl_audit.proofs.Back.{authority_back, number_back, page_back}
 use Rattle.crawl_audit.proofs.RowSpelling.{IsLivedRow, row_utf8, shown_flight, shown_grant, shown_letter, shown_numbers, shown_permit, shown_standing}
 use Rattle.crawl_audit.proofs.Shown.{IsShown, IsShownOctet, words_of_fields}
@@ -31,7 +30,7 @@ row_letter (Greatest _) = 76
 row_letter (Unspent _) = 85
 row_letter (Running _) = 89
 
-abbrev row_fields : OpenRow → List (List ℕ)
+abbrev pub row_fields : OpenRow → List (List ℕ)
 row_fields (Answered s) = s.authority ∷ decimal s.turn ∷ decimal s.begun ∷ answer_fields Two s.says s.life
 row_fields (InFlight t) = t.authority ∷ decimal t.turn ∷ decimal t.begun ∷ []
 row_fields (Greatest g) = decimal g.slot ∷ decimal g.generation ∷ []
@@ -52,7 +51,7 @@ letter_shown (Greatest g) = (omega arith, omega arith)
 letter_shown (Unspent p) = (omega arith, omega arith)
 letter_shown (Running p) = (omega arith, omega arith)
 
-lived_row : (s : StandingAnswer) → IsOpenRow (Answered s) → IsLivedRow s
+pub lived_row : (s : StandingAnswer) → IsOpenRow (Answered s) → IsLivedRow s
 lived_row s is = record { row = is.0; life = own is.1 }
   where
     own : (life_of s.says s.life == s.life) ≡ true → life_of s.says s.life ≡ s.life
@@ -67,7 +66,7 @@ fields_shown (Running p) is = shown_permit p is
 
 -- ---- the thing is read back
 
-behind_back : (r : OpenRow) → IsOpenRow r → row_behind (row_letter r ∷ []) (row_fields r) ≡ Some r
+pub behind_back : (r : OpenRow) → IsOpenRow r → row_behind (row_letter r ∷ []) (row_fields r) ≡ Some r
 behind_back (Answered s) is =
     let row = is.0 in
     let lived = lived_row s is in
@@ -83,47 +82,37 @@ behind_back (Running p) is =
     let fetch = is.fetch in
     rw (number_back p.number is.number, fetch.token, page_back p.url fetch.url) refl
 
+-- the words of its line
+pub row_words : (r : OpenRow) → IsOpenRow r → words_of (row_line r) ≡ (row_letter r ∷ []) ∷ row_fields r
+row_words r is =
+    ap words_of (line_of_fields r) ∙ words_of_fields (row_letter r ∷ []) (row_fields r) (shown_letter (row_letter r) (letter_shown r)) (fields_shown r is)
+
 pub row_back : (r : OpenRow) → IsOpenRow r → row_named (row_line r) ≡ Some r
-row_back r is =
-    ap row_named (line_of_fields r)
-    ∙ ap (λ words. row_behind (head_word words) (tail_words words)) (words_of_fields (row_letter r ∷ []) (row_fields r) (shown_letter (row_letter r) (letter_shown r)) (fields_shown r is))
-    ∙ behind_back r is
+row_back r is = ap (λ words. row_behind (head_word words) (tail_words words)) (row_words r is) ∙ behind_back r is
 
 -- its line is a text
 pub utf8_row : (r : OpenRow) → IsOpenRow r → IsUtf8 (row_line r)
 utf8_row r is = subst IsUtf8 (sym (line_of_fields r)) (row_utf8 (row_letter r) (row_fields r) (letter_shown r) (fields_shown r is))
 
 -- what it must be besides its fields
-in_range : (r : OpenRow) → IsOpenRow r → IsInRange r
+pub in_range : (r : OpenRow) → IsOpenRow r → IsInRange r
 in_range (Answered s) is = is.1
 in_range (InFlight t) is = _
 in_range (Greatest g) is = is.1
 in_range (Unspent p) is = _
 in_range (Running p) is = _
 
--- ---- a line that is refused is that of no thing
-
--- nothing was read of it
-pub none_row : (line text : List ℕ) (r : OpenRow) → text ≡ line → row_named text ≡ None → IsOpenRow r → line ≡ row_line r → ⊥
-none_row line text r whole none is same = none-some r (sym none ∙ ap row_named (whole ∙ same) ∙ row_back r is)
-
--- what was read of it has another spelling, or is out of range
-pub other_row : (line text : List ℕ) (d r : OpenRow) → text ≡ line → row_named text ≡ Some d → (IsInRange d × (line ≡ row_line d) → ⊥) → IsOpenRow r → line ≡ row_line r → ⊥
-other_row line text d r whole found other is same =
-    let which : d ≡ r = ap (λ o. unwrap_or o d) (sym found ∙ ap row_named (whole ∙ same) ∙ row_back r is) in
-    other (subst (λ (x : OpenRow). IsInRange x × (line ≡ row_line x)) (sym which) (in_range r is, same))
-
 -- ---- the numbers of a base
 
-abbrev numbers_of : Base → Numbers
+abbrev pub numbers_of : Base → Numbers
 numbers_of b = record { begins = b.begins; moment = b.moment; entries = b.entries; started = b.started }
 
 -- the line of numbers
-abbrev line_of_numbers : Numbers → List ℕ
+abbrev pub line_of_numbers : Numbers → List ℕ
 line_of_numbers n = codes "T" ++ spaced_fields (decimal n.entries ∷ decimal n.started ∷ decimal n.begins ∷ decimal n.moment ∷ [])
 
 -- the words of its line
-number_words : (b : Base) → HasNumbers b → words_of (numbers_line b) ≡ codes "T" ∷ decimal b.entries ∷ decimal b.started ∷ decimal b.begins ∷ decimal b.moment ∷ []
+pub number_words : (b : Base) → HasNumbers b → words_of (numbers_line b) ≡ codes "T" ∷ decimal b.entries ∷ decimal b.started ∷ decimal b.begins ∷ decimal b.moment ∷ []
 number_words b is =
     words_of_fields (codes "T") (decimal b.entries ∷ decimal b.started ∷ decimal b.begins ∷ decimal b.moment ∷ []) (shown_letter 84 (omega arith, omega arith)) (shown_numbers b is)
 
@@ -133,13 +122,3 @@ numbers_back b is =
 
 pub utf8_numbers : (b : Base) → HasNumbers b → IsUtf8 (numbers_line b)
 utf8_numbers b is = row_utf8 84 (decimal b.entries ∷ decimal b.started ∷ decimal b.begins ∷ decimal b.moment ∷ []) (omega arith, omega arith) (shown_numbers b is)
-
--- nothing was read of the line
-pub none_numbers : (line text : List ℕ) (b : Base) → text ≡ line → numbers_named text ≡ None → HasNumbers b → line ≡ numbers_line b → ⊥
-none_numbers line text b whole none is same = none-some (numbers_of b) (sym none ∙ ap numbers_named (whole ∙ same) ∙ numbers_back b is)
-
--- what was read of it has another spelling
-pub other_numbers : (line text : List ℕ) (n : Numbers) (b : Base) → text ≡ line → numbers_named text ≡ Some n → line ≢ line_of_numbers n → HasNumbers b → line ≡ numbers_line b → ⊥
-other_numbers line text n b whole found other is same =
-    let which : n ≡ numbers_of b = ap (λ o. unwrap_or o n) (sym found ∙ ap numbers_named (whole ∙ same) ∙ numbers_back b is) in
-    other (same ∙ ap line_of_numbers (sym which))

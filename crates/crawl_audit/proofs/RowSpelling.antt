@@ -20,9 +20,10 @@ use Rattle.line_text.specs.Words.{words_of}
 use Rattle.crawl_audit.specs.declared.version.Version.TheVariants.{Two}
 use Rattle.crawl_audit.specs.BaseFields.{HasBaseFields, HasNumbers, IsAnswerRow, IsGrantRow, IsPermitRow, IsTurnRow}
 use Rattle.crawl_audit.specs.Entries.{IsNumber}
-use Rattle.crawl_audit.specs.Reading.{answer_named, head_word, Lasting, tail_words}
+use Rattle.crawl_audit.specs.Reading.{head_word, tail_words}
 use Rattle.crawl_audit.specs.Spell.{answer_fields, spaced_fields}
 use Rattle.crawl_audit.specs.SpellBase.{answer_line, base_lines, grant_line, numbers_line, open_lines, permit_line, running_line, turn_line, unspent_line}
+use Rattle.crawl_audit.proofs.NamedEntries.{answer_named, Lasting}
 use Rattle.crawl_audit.proofs.Back.{number_back}
 use Rattle.crawl_audit.proofs.Shown.{IsShown, IsShownOctet, shown_authority, shown_decimal, shown_page, shown_token, weaker, words_of_fields}
 use Rattle.crawl_audit.proofs.Spelling.{answer_back, HasNoFeed, IsLineOctet, line_fields, shown_answer, three, two}

@@ -1,7 +1,7 @@
 -- A line is the spelling of one entry at most, and a text that of one history.
 -- Used by `laws` and by the reader of lines.
-use Rattle.std.proofs.Common.{◌≡◌, ◌<◌, ℕ, All, Bool, true, false, List, [], ◌∷◌, ◌++◌, Some, decimal, sym, ap, ◌∙◌, subst, refl, arith, codes, append_assoc}
-use Rattle.std.specs.Prelude.{None, ◌&&◌, ◌==◌, nat_lt, unwrap_or}
+use Rattle.std.proofs.Common.{◌≡◌, ◌<◌, ℕ, All, Bool, true, false, List, [], ◌∷◌, ◌++◌, Some, decimal, sym, ap, ◌∙◌, refl, arith, codes, append_assoc}
+use Rattle.std.specs.Prelude.{◌&&◌, ◌==◌, nat_lt, unwrap_or}
 use Rattle.std.specs.List.{list_all, slice_split}
 use Rattle.std.specs.Str.{IsUtf8}
 use Rattle.std.proofs.lemmas.Bool.{and_parts}
@@ -9,7 +9,6 @@ use Rattle.std.proofs.lemmas.Bool.Decides.{nat_tests}
 use Rattle.std.proofs.lemmas.List.{append_cancel_left}
 use Rattle.std.proofs.lemmas.List.Elements.{All-nil, All-cons, All-head, All-tail, All-append}
 use Rattle.std.proofs.lemmas.List.Splits.{slice_split_at}
-use Rattle.std.proofs.lemmas.Option.{none-some}
 use Rattle.std.proofs.lemmas.Str.{IsUtf8-from_ascii}
 use Rattle.std.proofs.lemmas.Str.Ascii.{IsAscii-from_all}
 use Rattle.robots_verdict.specs.declared.answer.Closure.{Closure}
@@ -24,12 +23,14 @@ use Rattle.gate_history.specs.declared.outcome.Cause.{Cause}
 use Rattle.gate_history.specs.declared.outcome.Cause.TheVariants as causes
 use Rattle.gate_history.specs.declared.outcome.Reason.{Reason}
 use Rattle.gate_history.specs.declared.outcome.Reason.TheVariants as reasons
+use Rattle.line_text.specs.Words.{words_of}
 use Rattle.crawl_audit.specs.declared.version.Version.{Version}
 use Rattle.crawl_audit.specs.declared.version.Version.TheVariants.{One, Two}
-use Rattle.crawl_audit.specs.Entries.{HasLife, IsCause, IsEntry, IsLife, IsReason, IsSaid}
-use Rattle.crawl_audit.specs.Reading.{answer_named, next_cause, entry_behind, entry_named, head_word, Lasting, next_reason, tail_words}
+use Rattle.crawl_audit.specs.Entries.{IsCause, IsEntry, IsLife, IsReason, IsSaid}
+use Rattle.crawl_audit.specs.Reading.{head_word, tail_words}
 use Rattle.crawl_audit.specs.Spell.{answer_fields, body_word, entry_line, entry_text, entry_fields, version_line, letter_of, line_end, entry_lines, spaced_fields, spell}
 use Rattle.gate_history.specs.Wording.{cause_words, reason_words}
+use Rattle.crawl_audit.proofs.NamedEntries.{answer_named, entry_behind, entry_named, Lasting, next_cause, next_reason}
 use Rattle.crawl_audit.proofs.Back.{authority_back, body_back, number_back, page_back}
 use Rattle.crawl_audit.proofs.Shown.{IsShown, IsShownOctet, shown_authority, shown_body, shown_decimal, shown_page, shown_token, weaker, words_of_fields}
 
@@ -158,7 +159,7 @@ answer_back One (says.Closed closure) life body is = closed_back One closure lif
 answer_back Two (says.Closed closure) life body is = closed_back Two closure life is
 
 -- the entry behind its letter
-behind_back : (version : Version) (e : Entry) → IsEntry version e → entry_behind version (letter_of e) (entry_fields version e) ≡ Some e
+pub behind_back : (version : Version) (e : Entry) → IsEntry version e → entry_behind version (letter_of e) (entry_fields version e) ≡ Some e
 behind_back version (Begun moment authority turn) is =
     rw (number_back moment is.fields.0, authority_back authority is.fields.1, number_back turn is.fields.2) refl
 behind_back version (Arrived moment authority turn said life) is =
@@ -175,9 +176,13 @@ behind_back version (Returned number) is = rw (number_back number is.fields) ref
 behind_back version (Finished number) is = rw (number_back number is.fields) refl
 behind_back version (Swept moment count) is = rw (number_back moment is.fields.0, number_back count is.fields.1) refl
 
+-- the words of its line
+pub entry_words : (version : Version) (e : Entry) → IsEntry version e → words_of (entry_line version e) ≡ letter_of e ∷ entry_fields version e
+entry_words version e is = words_of_fields (letter_of e) (entry_fields version e) (shown_letter e) (shown_fields version e is)
+
 pub entry_back : (version : Version) (e : Entry) → IsEntry version e → entry_named version (entry_line version e) ≡ Some e
 entry_back version e is =
-    ap (λ words. entry_behind version (head_word words) (tail_words words)) (words_of_fields (letter_of e) (entry_fields version e) (shown_letter e) (shown_fields version e is))
+    ap (λ words. entry_behind version (head_word words) (tail_words words)) (entry_words version e is)
     ∙ behind_back version e is
 
 -- a line is that of one entry
@@ -248,15 +253,3 @@ lines_once version (d ∷ ds) (e ∷ es) all all' same =
 pub one_history : (version : Version) (ds es : List Entry) → All (IsEntry version) ds → All (IsEntry version) es → spell version ds ≡ spell version es → ds ≡ es
 one_history version ds es all all' same =
     lines_once version ds es all all' (append_cancel_left (version_line version) (entry_lines version ds) (entry_lines version es) same)
-
--- ---- a line that is refused is that of no entry
-
--- nothing was read of it
-pub none_named : (version : Version) (line text : List ℕ) (e : Entry) → text ≡ line → entry_named version text ≡ None → IsEntry version e → line ≡ entry_line version e → ⊥
-none_named version line text e whole none is same = none-some e (sym none ∙ ap (entry_named version) (whole ∙ same) ∙ entry_back version e is)
-
--- what was read of it has another spelling
-pub other_named : (version : Version) (line text : List ℕ) (d e : Entry) → text ≡ line → entry_named version text ≡ Some d → (HasLife version d × (line ≡ entry_line version d) → ⊥) → IsEntry version e → line ≡ entry_line version e → ⊥
-other_named version line text d e whole found other is same =
-    let which : d ≡ e = ap (λ o. unwrap_or o d) (sym found ∙ ap (entry_named version) (whole ∙ same) ∙ entry_back version e is) in
-    other (subst (λ (x : Entry). HasLife version x × (line ≡ entry_line version x)) (sym which) (is.life, same))

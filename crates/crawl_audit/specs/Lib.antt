@@ -14,7 +14,6 @@ pub mod Numbered
 pub mod OpenRows
 pub mod Parts
 pub mod Reading
-pub mod ReadingRows
 pub mod Records
 pub mod Spell
 pub mod SpellBase

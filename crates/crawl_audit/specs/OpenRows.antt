@@ -80,3 +80,19 @@ row_of (rows.InFlight authority turn begun) = InFlight (record { authority = aut
 row_of (rows.Greatest grant) = Greatest grant
 row_of (rows.Unspent number fetch) = Unspent (permit_for number fetch)
 row_of (rows.Running number fetch) = Running (permit_for number fetch)
+
+-- the fields of a thing, but for what they must be besides
+abbrev pub HasRowFields : OpenRow → Type 0
+HasRowFields (Answered s) = IsAnswerRow s
+HasRowFields (InFlight t) = IsTurnRow t
+HasRowFields (Greatest g) = IsGrantRow g
+HasRowFields (Unspent p) = IsPermitRow p
+HasRowFields (Running p) = IsPermitRow p
+
+-- an answer has a life of its kind; and there may be the slot and the generation
+abbrev pub IsInRange : OpenRow → Type 0
+IsInRange (Answered s) = has_its_life s ≡ true
+IsInRange (InFlight t) = Unit {0}
+IsInRange (Greatest g) = IsSlotGrant g
+IsInRange (Unspent p) = Unit {0}
+IsInRange (Running p) = Unit {0}

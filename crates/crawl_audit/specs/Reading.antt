@@ -1,38 +1,20 @@
--- What the words of a line are read as. It takes more than the one spelling of each entry: what was
--- read is spelled and compared with the line.
--- Cited by the contracts of `words` and `read`.
-use Rattle.std.specs.Prelude.{◌≡◌, ℕ, List, [], ◌∷◌, ◌++◌, Option, Some, None, Result, Ok, Err, codes, if◌then◌else◌}
-use Rattle.std.specs.Option.{option_map}
-use Rattle.std.specs.Result.{result_ok}
-use Rattle.std.specs.Str.{bytes_eq}
-use Rattle.percent_encoding.specs.Percent.{percent_decode}
-use Rattle.robots_text.specs.Lines.{kept}
-use Rattle.robots_text.specs.Token.{token_of}
-use Rattle.path_normal.specs.Capacity.{Enough}
-use Rattle.path_normal.specs.PageText.{authority_of}
-use Rattle.path_normal.specs.PageUrl.{page_url_from}
+-- What comes of the words of a line: what they spell is read back, unless memory was refused. Of other words little is
+-- said, since what was read is spelled and compared with its line. Cited by the contracts of the readers of lines.
+use Rattle.std.specs.Prelude.{◌≡◌, ℕ, List, [], ◌∷◌, Option, Some, None, Result, Ok, Err}
 use Rattle.robots_verdict.specs.declared.answer.Answer.{Answer}
-use Rattle.robots_verdict.specs.declared.answer.Closure.{Closure}
-use Rattle.robots_verdict.specs.declared.answer.Closure.TheVariants as closures
-use Rattle.robots_verdict.specs.declared.answer.Opening.{Opening}
-use Rattle.robots_verdict.specs.declared.answer.Opening.TheVariants as openings
 use Rattle.robots_verdict.specs.declared.said.Said.{Said}
-use Rattle.robots_verdict.specs.declared.said.Said.TheVariants as says
 use Rattle.robots_verdict.specs.Answer.{said}
-use Rattle.authority_cache.specs.Lives.{greatest_life}
 use Rattle.gate_history.specs.declared.entry.Entry.{Entry}
-use Rattle.gate_history.specs.declared.entry.Entry.TheVariants.{Begun, Arrived, Granted, AskDenied, Started, StartDenied, Returned, Finished, Swept}
-use Rattle.gate_history.specs.declared.outcome.Cause.{Cause}
-use Rattle.gate_history.specs.declared.outcome.Reason.{Reason}
-use Rattle.gate_history.specs.Wording.{cause_named, reason_named}
-use Rattle.line_text.specs.Number.{number_of}
 use Rattle.line_text.specs.Words.{words_of}
 use Rattle.crawl_audit.specs.declared.version.Version.{Version}
-use Rattle.crawl_audit.specs.declared.version.Version.TheVariants.{One, Two}
+use Rattle.crawl_audit.specs.declared.base_row.BaseRow.{BaseRow}
 use Rattle.crawl_audit.specs.declared.unread_line.UnreadLine.{UnreadLine}
 use Rattle.crawl_audit.specs.declared.unread_line.UnreadLine.TheVariants.{NotOne, NoMemory}
 use Rattle.crawl_audit.specs.declared.record.Record.{Record}
+use Rattle.crawl_audit.specs.Entries.{IsEntry, IsLife, IsSaid}
+use Rattle.crawl_audit.specs.OpenRows.{IsOpenRow, OpenRow, row_line, row_of}
 use Rattle.crawl_audit.specs.Records.{entry_of}
+use Rattle.crawl_audit.specs.Spell.{answer_fields, entry_line}
 
 -- the first word, or the empty one where there is none
 abbrev pub head_word : List (List ℕ) → List ℕ
@@ -44,164 +26,31 @@ abbrev pub tail_words : List (List ℕ) → List (List ℕ)
 tail_words [] = []
 tail_words (word ∷ words) = words
 
--- what was read is read on
-abbrev pub and_then : {A B : Type 0} → Option A → (A → Option B) → Option B
-and_then None next = None
-and_then (Some value) next = next value
-
--- the result is what was to be read, or says that nothing was, or that memory was refused
+-- the result is what a word names, or says that it names nothing, or that memory was refused
 abbrev pub Reads : {A : Type 0} → Result A UnreadLine → Option A → Type 0
-Reads (Ok value) expected = expected ≡ Some value
-Reads (Err NotOne) expected = expected ≡ None
-Reads (Err NoMemory) expected = Unit {0}
+Reads (Ok value) named = named ≡ Some value
+Reads (Err NotOne) named = named ≡ None
+Reads (Err NoMemory) named = Unit {0}
 
--- the URL of the page that a word names
-abbrev pub page_named : List ℕ → Option (List ℕ)
-page_named word = result_ok (page_url_from None word Enough)
+-- something was read that is as it should be, unless memory was refused
+abbrev pub IsRead : {A : Type 0} → Result A UnreadLine → (A → Type 0) → Type 0
+IsRead (Ok value) is_right = is_right value
+IsRead (Err NotOne) is_right = ⊥
+IsRead (Err NoMemory) is_right = Unit {0}
 
--- the authority that a word names
-abbrev pub authority_named : List ℕ → Option (List ℕ)
-authority_named word = option_map authority_of (page_named (codes "http://" ++ word ++ codes "/"))
+-- where these are the words of an entry's line, that entry is read
+abbrev pub ReadsEntry : Version → List (List ℕ) → Result Record UnreadLine → Type 0
+ReadsEntry version words result =
+    (e : Entry) → IsEntry version e → words ≡ words_of (entry_line version e)
+    → IsRead result (λ found. entry_of found ≡ e)
 
--- what is kept of the body that a word writes
-abbrev pub body_named : List ℕ → List ℕ
-body_named word = kept (if bytes_eq word (codes "-") then [] else percent_decode word)
+-- where these are the words of what an answer says, with its life, that answer is read
+abbrev pub ReadsAnswer : Version → List (List ℕ) → Result (Answer × ℕ) UnreadLine → Type 0
+ReadsAnswer version words result =
+    (says : Said) (life : ℕ) → IsSaid says → IsLife version says life → words ≡ answer_fields version says life
+    → IsRead result (λ pair. (said pair.0 ≡ says) × (pair.1 ≡ life))
 
--- the reason that the next words name
-abbrev pub next_reason : List (List ℕ) → Option Reason
-next_reason words = reason_named (head_word words) (number_of (head_word (tail_words words)))
-
--- the cause that the next words name
-abbrev pub next_cause : List (List ℕ) → Option Cause
-next_cause words = cause_named (head_word words) (number_of (head_word (tail_words words)))
-
--- the reason for an open answer that a word writes
-abbrev pub opening_named : List ℕ → Option Opening
-opening_named word =
-    if bytes_eq word (codes "unavailable") then Some openings.Unavailable
-    else (if bytes_eq word (codes "redirects") then Some openings.TooManyRedirects
-    else None)
-
--- the reason for a closed answer that a word writes
-abbrev pub closure_named : List ℕ → Option Closure
-closure_named word =
-    if bytes_eq word (codes "server") then Some closures.Server
-    else (if bytes_eq word (codes "network") then Some closures.Network
-    else (if bytes_eq word (codes "redirect") then Some closures.BadRedirect
-    else (if bytes_eq word (codes "scheme") then Some closures.Scheme
-    else (if bytes_eq word (codes "coding") then Some closures.Coding
-    else (if bytes_eq word (codes "other") then Some closures.Other
-    else None)))))
-
--- an answer and its life
-pub record Lasting : Type 0 where
-  pub says : Said
-  pub life : ℕ
-
--- an answer with the greatest life
-abbrev pub lasting_a_day : Said → Lasting
-lasting_a_day says = record { says = says; life = greatest_life }
-
--- the rules that words write, with their life
-abbrev pub rules_named : Version → List (List ℕ) → Option Lasting
-rules_named One words = Some (lasting_a_day (says.Rules (body_named (head_word words))))
-rules_named Two words =
-    and_then (number_of (head_word words)) (λ life.
-    Some (record { says = says.Rules (body_named (head_word (tail_words words))); life = life }))
-
--- the answer that words write, with its life
-abbrev pub answer_named : Version → List (List ℕ) → Option Lasting
-answer_named version words =
-    let word = head_word words in
-    if bytes_eq word (codes "R") then rules_named version (tail_words words)
-    else (if bytes_eq word (codes "O") then option_map (λ opening. lasting_a_day (says.Open opening)) (opening_named (head_word (tail_words words)))
-    else (if bytes_eq word (codes "C") then option_map (λ closure. lasting_a_day (says.Closed closure)) (closure_named (head_word (tail_words words)))
-    else None))
-
--- the entries that words behind each letter write
-abbrev pub begun_named : List (List ℕ) → Option Entry
-begun_named words =
-    and_then (number_of (head_word words)) (λ moment.
-    and_then (authority_named (head_word (tail_words words))) (λ authority.
-    and_then (number_of (head_word (tail_words (tail_words words)))) (λ turn.
-    Some (Begun moment authority turn))))
-
-abbrev pub arrived_named : Version → List (List ℕ) → Option Entry
-arrived_named version words =
-    and_then (number_of (head_word words)) (λ moment.
-    and_then (authority_named (head_word (tail_words words))) (λ authority.
-    and_then (number_of (head_word (tail_words (tail_words words)))) (λ turn.
-    and_then (answer_named version (tail_words (tail_words (tail_words words)))) (λ lasting.
-    Some (Arrived moment authority turn lasting.says lasting.life)))))
-
-abbrev pub granted_named : List (List ℕ) → Option Entry
-granted_named words =
-    and_then (number_of (head_word words)) (λ moment.
-    and_then (number_of (head_word (tail_words words))) (λ number.
-    and_then (token_of (head_word (tail_words (tail_words words)))) (λ token.
-    and_then (page_named (head_word (tail_words (tail_words (tail_words words))))) (λ url.
-    Some (Granted moment number (record { token = token; url = url }))))))
-
-abbrev pub ask_denied_named : List (List ℕ) → Option Entry
-ask_denied_named words =
-    and_then (number_of (head_word words)) (λ moment.
-    and_then (token_of (head_word (tail_words words))) (λ token.
-    and_then (page_named (head_word (tail_words (tail_words words)))) (λ url.
-    and_then (next_cause (tail_words (tail_words (tail_words words)))) (λ cause.
-    Some (AskDenied moment (record { token = token; url = url }) cause)))))
-
-abbrev pub started_named : List (List ℕ) → Option Entry
-started_named words =
-    and_then (number_of (head_word words)) (λ moment.
-    and_then (number_of (head_word (tail_words words))) (λ number.
-    and_then (next_reason (tail_words (tail_words words))) (λ reason.
-    Some (Started moment number reason))))
-
-abbrev pub start_denied_named : List (List ℕ) → Option Entry
-start_denied_named words =
-    and_then (number_of (head_word words)) (λ moment.
-    and_then (number_of (head_word (tail_words words))) (λ number.
-    and_then (next_cause (tail_words (tail_words words))) (λ cause.
-    Some (StartDenied moment number cause))))
-
-abbrev pub returned_named : List (List ℕ) → Option Entry
-returned_named words = and_then (number_of (head_word words)) (λ number. Some (Returned number))
-
-abbrev pub finished_named : List (List ℕ) → Option Entry
-finished_named words = and_then (number_of (head_word words)) (λ number. Some (Finished number))
-
-abbrev pub swept_named : List (List ℕ) → Option Entry
-swept_named words =
-    and_then (number_of (head_word words)) (λ moment.
-    and_then (number_of (head_word (tail_words words))) (λ count.
-    Some (Swept moment count)))
-
--- the entry that the words behind this letter write
-abbrev pub entry_behind : Version → List ℕ → List (List ℕ) → Option Entry
-entry_behind version letter words =
-    if bytes_eq letter (codes "B") then begun_named words
-    else (if bytes_eq letter (codes "A") then arrived_named version words
-    else (if bytes_eq letter (codes "G") then granted_named words
-    else (if bytes_eq letter (codes "N") then ask_denied_named words
-    else (if bytes_eq letter (codes "S") then started_named words
-    else (if bytes_eq letter (codes "D") then start_denied_named words
-    else (if bytes_eq letter (codes "K") then returned_named words
-    else (if bytes_eq letter (codes "F") then finished_named words
-    else (if bytes_eq letter (codes "W") then swept_named words
-    else None))))))))
-
--- the entry that a line writes
-abbrev pub entry_named : Version → List ℕ → Option Entry
-entry_named version line = entry_behind version (head_word (words_of line)) (tail_words (words_of line))
-
--- the result is the entry that was to be read, or says that none was, or that memory was refused
-abbrev pub ReadsEntry : Result Record UnreadLine → Option Entry → Type 0
-ReadsEntry (Ok record_read) expected = expected ≡ Some (entry_of record_read)
-ReadsEntry (Err NotOne) expected = expected ≡ None
-ReadsEntry (Err NoMemory) expected = Unit {0}
-
--- the same of an answer and its life
-abbrev pub ReadsAnswer : Result (Answer × ℕ) UnreadLine → Option Lasting → Type 0
-ReadsAnswer (Ok pair) expected = expected ≡ Some (record { says = said pair.0; life = pair.1 })
-ReadsAnswer (Err NotOne) expected = expected ≡ None
-ReadsAnswer (Err NoMemory) expected = Unit {0}
+-- where these are the words of a row's line, that row is read
+abbrev pub ReadsRow : List (List ℕ) → Result BaseRow UnreadLine → Type 0
+ReadsRow words result =
+    (r : OpenRow) → IsOpenRow r → words ≡ words_of (row_line r) → IsRead result (λ found. row_of found ≡ r)

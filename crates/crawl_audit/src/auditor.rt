@@ -1,11 +1,10 @@
 //! The auditor: what was read of texts so far, and the next of their lines.
 //! docs/FORMATS.md has the lines and the causes of a bad one.
-ghost use Rattle.std.specs.Prelude.{◌≡◌, ◌≢◌, ◌<◌, ◌+◌, ◌↔◌, ℕ, Bool, Err, IfOk, IsTrue, List, OnOk, Option};
+ghost use Rattle.std.specs.Prelude.{◌≡◌, ◌≢◌, ◌<◌, ◌+◌, ◌↔◌, ℕ, Bool, Err, IfOk, IsTrue, List, Option};
 ghost use Rattle.std.specs.Io.KnownBytes.{prepend_known};
 ghost use Rattle.gate_history.specs.History.{History};
 ghost use Rattle.crawl_audit.specs.Audit.{AddsLine, AreEntries, BeginsEntries, EntersLine, Heard, Holds};
 ghost use Rattle.crawl_audit.specs.Audit.{Moves, StandsAt, TakesStep, failures_after_audit};
-ghost use Rattle.crawl_audit.specs.Chains.{most_lines};
 ghost use Rattle.crawl_audit.specs.Steps.{MayEnd, Place, among, start};
 
 use crate::fault::{AuditFault, Audited};

@@ -4,7 +4,8 @@ ghost use Rattle.std.specs.Prelude.{◌≡◌, ◌<◌, All, Some};
 ghost use Rattle.path_normal.specs.PageUrl.{IsPage};
 ghost use Rattle.robots_text.specs.Token.{token_of};
 ghost use Rattle.robots_verdict.specs.Answer.{said};
-ghost use Rattle.crawl_audit.specs.Entries.{HasFields, IsSaid};
+ghost use Rattle.gate_history.specs.declared.entry.Entry.TheVariants.{AskDenied, Granted};
+ghost use Rattle.crawl_audit.specs.Entries.{HasFields, IsCause, IsFetch, IsNumber, IsSaid};
 ghost use Rattle.line_text.specs.Pieces.{pieces_text};
 ghost use Rattle.crawl_audit.specs.Records.{entry_of, told_said};
 ghost use Rattle.crawl_audit.specs.Spell.{entry_line};
@@ -14,9 +15,10 @@ use crate::kinds::{
 };
 use crate::record::Record;
 use crate::version::Version;
-use gate_history::Entry;
+use gate_history::{Cause, Entry};
 use line_text::Pieces;
 use path_normal::PageUrl;
+use permit_book::{Fetch, PermitNo};
 use robots_text::Token;
 use robots_verdict::{Answer, Said};
 
@@ -86,22 +88,12 @@ pub(crate) fn record_pieces(version: Version, found: &Record) -> Pieces<'_>
             moment,
             number,
             fetch,
-        } => granted(
-            *moment,
-            *number,
-            token_octets(&fetch.token),
-            url_octets(&fetch.url),
-        ),
+        } => grant_pieces(*moment, *number, fetch),
         Record::AskDenied {
             moment,
             fetch,
             cause,
-        } => ask_denied(
-            *moment,
-            token_octets(&fetch.token),
-            url_octets(&fetch.url),
-            *cause,
-        ),
+        } => denied_ask_pieces(*moment, fetch, *cause),
         Record::Started {
             moment,
             number,
@@ -116,6 +108,34 @@ pub(crate) fn record_pieces(version: Version, found: &Record) -> Pieces<'_>
         Record::Finished { number } => finished(*number),
         Record::Swept { moment, count } => swept(*moment, *count),
     }
+}
+
+// The line of a grant that was read.
+fn grant_pieces(moment: u64, number: PermitNo, fetch: &Fetch) -> Pieces<'_>
+    ensures text { pieces_text result ≡ entry_line Version.Two (Granted moment number fetch.now) }
+    ensures number { IsNumber number }
+    ensures fetch { IsFetch fetch.now }
+{
+    granted(
+        moment,
+        number,
+        token_octets(&fetch.token),
+        url_octets(&fetch.url),
+    )
+}
+
+// The line of a denied ask that was read.
+fn denied_ask_pieces(moment: u64, fetch: &Fetch, cause: Cause) -> Pieces<'_>
+    ensures text { pieces_text result ≡ entry_line Version.Two (AskDenied moment fetch.now cause) }
+    ensures fetch { IsFetch fetch.now }
+    ensures cause { IsCause cause }
+{
+    ask_denied(
+        moment,
+        token_octets(&fetch.token),
+        url_octets(&fetch.url),
+        cause,
+    )
 }
 
 /// The octets of a token.
@@ -146,7 +166,7 @@ pub(crate) fn told_by(answer: &Answer) -> Told<'_>
     }
 }
 
-//// What the history says of an answer.
+/// What the history says of an answer.
 pub(crate) fn told_in(says: &Said) -> Told<'_>
     ensures said { told_said result ≡ says.now }
     ensures body { IsSaid says.now }

@@ -1,10 +1,18 @@
 //! The words of a line, read one by one as numbers, tokens, URLs, authorities and bodies.
 //! Used by `read` and `read_base`.
-ghost use Rattle.std.specs.Prelude.{◌≡◌, IfErr, IfOk};
+ghost use Rattle.std.specs.Prelude.{◌≡◌, ℕ, List, None, IfOk};
+ghost use Rattle.std.specs.Option.{option_map};
+ghost use Rattle.std.specs.Result.{result_ok};
 ghost use Rattle.line_text.specs.Number.{number_of};
 ghost use Rattle.line_text.specs.Words.{words_left};
+ghost use Rattle.path_normal.specs.Authority.{root_of};
+ghost use Rattle.path_normal.specs.Capacity.{Enough};
+ghost use Rattle.path_normal.specs.PageText.{authority_of};
+ghost use Rattle.path_normal.specs.PageUrl.{page_url_from};
 ghost use Rattle.robots_text.specs.Token.{token_of};
-ghost use Rattle.crawl_audit.specs.Reading.{Reads, authority_named, body_named, head_word, page_named, tail_words};
+ghost use Rattle.crawl_audit.specs.Entries.{IsBody};
+ghost use Rattle.crawl_audit.specs.Reading.{Reads, head_word, tail_words};
+ghost use Rattle.crawl_audit.specs.Spell.{body_word};
 
 use crate::unread_line::UnreadLine;
 use line_text::{Words, number_of};
@@ -48,7 +56,7 @@ pub(crate) fn read_token(alloc: Global, word: &str) -> Result<Token, UnreadLine>
 
 /// A word as the URL of a page.
 pub(crate) fn read_page(alloc: Global, word: &str) -> Result<PageUrl, UnreadLine>
-    ensures { Reads result (page_named word.now) }
+    ensures { Reads result (result_ok (page_url_from None word.now Enough)) }
 {
     match PageUrl::read(alloc, word) {
         Ok(url) => Ok(url),
@@ -59,7 +67,8 @@ pub(crate) fn read_page(alloc: Global, word: &str) -> Result<PageUrl, UnreadLine
 
 /// A word as an authority: that of the page at its root.
 pub(crate) fn read_authority(alloc: Global, word: &str) -> Result<Authority, UnreadLine>
-    ensures { Reads result (authority_named word.now) }
+    ensures { Reads result
+        (option_map authority_of (result_ok (page_url_from None (root_of word.now) Enough))) }
 {
     let root = root_text(alloc, word)?;
     let url = read_page(alloc, root.as_str())?;
@@ -68,7 +77,8 @@ pub(crate) fn read_authority(alloc: Global, word: &str) -> Result<Authority, Unr
 
 /// A word as a body, of which no more than the limit is kept.
 pub(crate) fn read_body(alloc: Global, word: &str) -> Result<RobotsText, AllocError>
-    ensures { IfOk result (λ text. text ≡ body_named word.now) }
+    ensures { (body : List ℕ) → IsBody body → word.now ≡ body_word body
+        → IfOk result (λ text. text ≡ body) }
 {
     if word == "-" {
         return RobotsText::read(alloc, &[]);

@@ -1,6 +1,6 @@
 //! The ledger: what the entries that were read so far say, in tables, by which the next one is judged.
 //! RFC 9309, sections 2.2.2, 2.3.1 and 2.4.
-ghost use Rattle.std.specs.Prelude.{◌≡◌, ◌≤◌, ◌+◌, ◌<◌, ◌↔◌, IsTrue, false};
+ghost use Rattle.std.specs.Prelude.{◌≡◌, ◌+◌, ◌<◌, ◌↔◌, IsTrue, false};
 ghost use Rattle.robots_verdict.specs.Answer.{said};
 ghost use Rattle.authority_cache.specs.Lives.{life_of};
 ghost use Rattle.gate_history.specs.declared.entry.Entry.TheVariants.{AskDenied, Arrived, Begun, Finished, Granted, Returned, StartDenied, Started, Swept};

@@ -1,19 +1,18 @@
 //! A line read as an entry. More is read than the one spelling of each entry, so what was read is
 //! spelled and compared with the line.
 //! docs/FORMATS.md has the lines.
-ghost use Rattle.std.specs.Prelude.{◌≡◌, ◌≢◌, ◌↔◌, Err, IfOk, IsTrue};
+ghost use Rattle.std.specs.Prelude.{◌≡◌, ◌≢◌, ◌↔◌, ◌∷◌, codes, Err, IfOk, IfSome, IsTrue, Some};
+ghost use Rattle.line_text.specs.Number.{number_of};
 ghost use Rattle.line_text.specs.Words.{words_left, words_of};
-ghost use Rattle.robots_verdict.specs.Answer.{said};
+ghost use Rattle.robots_verdict.specs.declared.answer.Closure.{Closure};
+ghost use Rattle.robots_verdict.specs.declared.answer.Opening.{Opening};
+ghost use Rattle.gate_history.specs.Wording.{cause_named, reason_named};
 ghost use Rattle.gate_history.specs.declared.entry.Entry.{Entry};
-ghost use Rattle.crawl_audit.specs.Entries.{HasFields, HasLife, IsEntry, IsSaid};
-ghost use Rattle.crawl_audit.specs.Reading.{Reads, ReadsAnswer, ReadsEntry, answer_named};
-ghost use Rattle.crawl_audit.specs.Reading.{arrived_named, ask_denied_named, begun_named};
-ghost use Rattle.crawl_audit.specs.Reading.{closure_named, entry_named, finished_named};
-ghost use Rattle.crawl_audit.specs.Reading.{granted_named, next_cause, next_reason, opening_named};
-ghost use Rattle.crawl_audit.specs.Reading.{returned_named, rules_named, start_denied_named};
-ghost use Rattle.crawl_audit.specs.Reading.{started_named, swept_named};
+ghost use Rattle.crawl_audit.specs.Entries.{HasFields, HasLife, IsEntry};
+ghost use Rattle.crawl_audit.specs.Reading.{Reads, ReadsAnswer, ReadsEntry, head_word, tail_words};
 ghost use Rattle.crawl_audit.specs.Records.{entry_of};
-ghost use Rattle.crawl_audit.specs.Spell.{entry_line};
+ghost use Rattle.crawl_audit.specs.Spell.{closure_word, entry_line, opening_word};
+ghost use Rattle.crawl_audit.specs.declared.version.Version.{Version};
 
 use crate::entry_pieces::record_pieces;
 use crate::fields::{next_number, next_word, read_authority, read_body, read_page, read_token};
@@ -69,7 +68,7 @@ fn has_life(version: Version, found: &Record) -> bool
 }
 
 fn read_words(alloc: Global, version: Version, text: &str) -> Result<Record, UnreadLine>
-    ensures { ReadsEntry result (entry_named version text.now) }
+    ensures { ReadsEntry version (words_of text.now) result }
 {
     let mut words = Words::of(text);
     let letter = next_word(&mut words);
@@ -88,7 +87,7 @@ fn read_words(alloc: Global, version: Version, text: &str) -> Result<Record, Unr
 }
 
 fn read_begun(alloc: Global, words: Words<'_>) -> Result<Record, UnreadLine>
-    ensures { ReadsEntry result (begun_named (words_left words.entry)) }
+    ensures { (version : Version) → ReadsEntry version (codes "B" ∷ words_left words.entry) result }
 {
     let mut words = words;
     let moment = next_number(&mut words)?;
@@ -102,7 +101,7 @@ fn read_begun(alloc: Global, words: Words<'_>) -> Result<Record, UnreadLine>
 }
 
 fn read_arrived(alloc: Global, version: Version, words: Words<'_>) -> Result<Record, UnreadLine>
-    ensures { ReadsEntry result (arrived_named version (words_left words.entry)) }
+    ensures { ReadsEntry version (codes "A" ∷ words_left words.entry) result }
 {
     let mut words = words;
     let moment = next_number(&mut words)?;
@@ -119,7 +118,7 @@ fn read_arrived(alloc: Global, version: Version, words: Words<'_>) -> Result<Rec
 }
 
 fn read_granted(alloc: Global, words: Words<'_>) -> Result<Record, UnreadLine>
-    ensures { ReadsEntry result (granted_named (words_left words.entry)) }
+    ensures { (version : Version) → ReadsEntry version (codes "G" ∷ words_left words.entry) result }
 {
     let mut words = words;
     let moment = next_number(&mut words)?;
@@ -134,7 +133,7 @@ fn read_granted(alloc: Global, words: Words<'_>) -> Result<Record, UnreadLine>
 }
 
 fn read_ask_denied(alloc: Global, words: Words<'_>) -> Result<Record, UnreadLine>
-    ensures { ReadsEntry result (ask_denied_named (words_left words.entry)) }
+    ensures { (version : Version) → ReadsEntry version (codes "N" ∷ words_left words.entry) result }
 {
     let mut words = words;
     let moment = next_number(&mut words)?;
@@ -149,7 +148,7 @@ fn read_ask_denied(alloc: Global, words: Words<'_>) -> Result<Record, UnreadLine
 }
 
 fn read_started(words: Words<'_>) -> Result<Record, UnreadLine>
-    ensures { ReadsEntry result (started_named (words_left words.entry)) }
+    ensures { (version : Version) → ReadsEntry version (codes "S" ∷ words_left words.entry) result }
 {
     let mut words = words;
     let moment = next_number(&mut words)?;
@@ -163,7 +162,7 @@ fn read_started(words: Words<'_>) -> Result<Record, UnreadLine>
 }
 
 fn read_start_denied(words: Words<'_>) -> Result<Record, UnreadLine>
-    ensures { ReadsEntry result (start_denied_named (words_left words.entry)) }
+    ensures { (version : Version) → ReadsEntry version (codes "D" ∷ words_left words.entry) result }
 {
     let mut words = words;
     let moment = next_number(&mut words)?;
@@ -177,7 +176,7 @@ fn read_start_denied(words: Words<'_>) -> Result<Record, UnreadLine>
 }
 
 fn read_returned(words: Words<'_>) -> Result<Record, UnreadLine>
-    ensures { ReadsEntry result (returned_named (words_left words.entry)) }
+    ensures { (version : Version) → ReadsEntry version (codes "K" ∷ words_left words.entry) result }
 {
     let mut words = words;
     let number = PermitNo::new(next_number(&mut words)?);
@@ -185,7 +184,7 @@ fn read_returned(words: Words<'_>) -> Result<Record, UnreadLine>
 }
 
 fn read_finished(words: Words<'_>) -> Result<Record, UnreadLine>
-    ensures { ReadsEntry result (finished_named (words_left words.entry)) }
+    ensures { (version : Version) → ReadsEntry version (codes "F" ∷ words_left words.entry) result }
 {
     let mut words = words;
     let number = PermitNo::new(next_number(&mut words)?);
@@ -193,7 +192,7 @@ fn read_finished(words: Words<'_>) -> Result<Record, UnreadLine>
 }
 
 fn read_swept(words: Words<'_>) -> Result<Record, UnreadLine>
-    ensures { ReadsEntry result (swept_named (words_left words.entry)) }
+    ensures { (version : Version) → ReadsEntry version (codes "W" ∷ words_left words.entry) result }
 {
     let mut words = words;
     let moment = next_number(&mut words)?;
@@ -207,7 +206,7 @@ pub(crate) fn read_answer(
     version: Version,
     words: Words<'_>,
 ) -> Result<(Answer, u64), UnreadLine>
-    ensures { ReadsAnswer result (answer_named version (words_left words.entry)) }
+    ensures { ReadsAnswer version (words_left words.entry) result }
 {
     let mut words = words;
     match next_word(&mut words) {
@@ -229,7 +228,7 @@ fn read_rules(
     version: Version,
     words: Words<'_>,
 ) -> Result<(Answer, u64), UnreadLine>
-    ensures { ReadsAnswer result (rules_named version (words_left words.entry)) }
+    ensures { ReadsAnswer version (codes "R" ∷ words_left words.entry) result }
 {
     let mut words = words;
     let life = match version {
@@ -241,7 +240,8 @@ fn read_rules(
 }
 
 fn opening_named(word: &str) -> Option<Opening>
-    ensures { result ≡ opening_named word.now }
+    ensures word { IfSome result (λ opening. word.now ≡ opening_word opening) }
+    ensures each { (opening : Opening) → word.now ≡ opening_word opening → result ≡ Some opening }
 {
     match word {
         "unavailable" => Some(Opening::Unavailable),
@@ -251,7 +251,8 @@ fn opening_named(word: &str) -> Option<Opening>
 }
 
 fn closure_named(word: &str) -> Option<Closure>
-    ensures { result ≡ closure_named word.now }
+    ensures word { IfSome result (λ closure. word.now ≡ closure_word closure) }
+    ensures each { (closure : Closure) → word.now ≡ closure_word closure → result ≡ Some closure }
 {
     match word {
         "server" => Some(Closure::Server),
@@ -265,7 +266,8 @@ fn closure_named(word: &str) -> Option<Closure>
 }
 
 fn next_reason(words: &mut Words<'_>) -> Result<Reason, UnreadLine>
-    ensures { Reads result (next_reason (words_left words.old)) }
+    ensures { let left = words_left words.old in Reads result
+        (reason_named (head_word left) (number_of (head_word (tail_words left)))) }
 {
     let word = next_word(words);
     match Reason::named(word, number_of(next_word(words))) {
@@ -275,7 +277,8 @@ fn next_reason(words: &mut Words<'_>) -> Result<Reason, UnreadLine>
 }
 
 fn next_cause(words: &mut Words<'_>) -> Result<Cause, UnreadLine>
-    ensures { Reads result (next_cause (words_left words.old)) }
+    ensures { let left = words_left words.old in Reads result
+        (cause_named (head_word left) (number_of (head_word (tail_words left)))) }
 {
     let word = next_word(words);
     match Cause::named(word, number_of(next_word(words))) {

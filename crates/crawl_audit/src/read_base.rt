@@ -1,18 +1,20 @@
 //! A line of a base, read as a thing that it left open or as its numbers. More is read than the one
 //! spelling of each, so what was read is spelled and compared with the line.
 //! docs/FORMATS.md has the lines.
-ghost use Rattle.std.specs.Prelude.{◌≡◌, ◌≢◌, ◌↔◌, Err, IfOk, IsTrue, Some};
-ghost use Rattle.std.specs.Option.{option_map};
+ghost use Rattle.std.specs.Prelude.{◌≡◌, ◌≢◌, ◌↔◌, [], ◌∷◌};
+ghost use Rattle.std.specs.Prelude.{codes, decimal, Err, IfOk, IsTrue, Some};
 ghost use Rattle.line_text.specs.Pieces.{pieces_text};
-ghost use Rattle.line_text.specs.Words.{words_left};
+ghost use Rattle.line_text.specs.Words.{words_left, words_of};
+ghost use Rattle.permit_book.specs.Outstanding.{permit_for};
+ghost use Rattle.permit_book.specs.declared.granted_permit.GrantedPermit.{GrantedPermit};
 ghost use Rattle.gate_history.specs.Base.{Base};
+ghost use Rattle.gate_history.specs.declared.base.Numbers.{Numbers};
 ghost use Rattle.gate_history.specs.Grants.{IsSlotGrant};
-ghost use Rattle.crawl_audit.specs.BaseFields.{HasNumbers};
+ghost use Rattle.crawl_audit.specs.BaseFields.{HasNumbers, IsPermitRow};
 ghost use Rattle.crawl_audit.specs.Numbered.{numbered};
-ghost use Rattle.crawl_audit.specs.OpenRows.{IsOpenRow, OpenRow, Running, Unspent, row_line, row_of};
-ghost use Rattle.crawl_audit.specs.ReadingRows.{HasRowFields, IsInRange, ReadsPermit, ReadsRow};
-ghost use Rattle.crawl_audit.specs.ReadingRows.{answered_named, greatest_named, in_flight_named};
-ghost use Rattle.crawl_audit.specs.ReadingRows.{numbers_behind, numbers_named, permit_named, row_named};
+ghost use Rattle.crawl_audit.specs.OpenRows.{HasRowFields, IsInRange, IsOpenRow};
+ghost use Rattle.crawl_audit.specs.OpenRows.{OpenRow, row_line, row_of};
+ghost use Rattle.crawl_audit.specs.Reading.{IsRead, ReadsRow};
 ghost use Rattle.crawl_audit.specs.SpellBase.{numbers_line};
 
 use crate::base_kinds::{counts, greatest, in_flight, permit, standing};
@@ -98,7 +100,7 @@ fn is_slot_grant(grant: SlotGrant) -> bool
 }
 
 fn read_words(alloc: Global, text: &str) -> Result<BaseRow, UnreadLine>
-    ensures { ReadsRow result (row_named text.now) }
+    ensures { ReadsRow (words_of text.now) result }
 {
     let mut words = Words::of(text);
     let letter = next_word(&mut words);
@@ -113,7 +115,7 @@ fn read_words(alloc: Global, text: &str) -> Result<BaseRow, UnreadLine>
 }
 
 fn read_answered(alloc: Global, words: Words<'_>) -> Result<BaseRow, UnreadLine>
-    ensures { ReadsRow result (answered_named (words_left words.entry)) }
+    ensures { ReadsRow (codes "H" ∷ words_left words.entry) result }
 {
     let mut words = words;
     let authority = read_authority(alloc, next_word(&mut words))?;
@@ -130,7 +132,7 @@ fn read_answered(alloc: Global, words: Words<'_>) -> Result<BaseRow, UnreadLine>
 }
 
 fn read_in_flight(alloc: Global, words: Words<'_>) -> Result<BaseRow, UnreadLine>
-    ensures { ReadsRow result (in_flight_named (words_left words.entry)) }
+    ensures { ReadsRow (codes "I" ∷ words_left words.entry) result }
 {
     let mut words = words;
     let authority = read_authority(alloc, next_word(&mut words))?;
@@ -144,7 +146,7 @@ fn read_in_flight(alloc: Global, words: Words<'_>) -> Result<BaseRow, UnreadLine
 }
 
 fn read_greatest(words: Words<'_>) -> Result<BaseRow, UnreadLine>
-    ensures { ReadsRow result (greatest_named (words_left words.entry)) }
+    ensures { ReadsRow (codes "L" ∷ words_left words.entry) result }
 {
     let mut words = words;
     let slot = next_number(&mut words)?;
@@ -153,14 +155,14 @@ fn read_greatest(words: Words<'_>) -> Result<BaseRow, UnreadLine>
 }
 
 fn read_unspent(alloc: Global, words: Words<'_>) -> Result<BaseRow, UnreadLine>
-    ensures { ReadsRow result (option_map Unspent (permit_named (words_left words.entry))) }
+    ensures { ReadsRow (codes "U" ∷ words_left words.entry) result }
 {
     let (number, fetch) = read_permit(alloc, words)?;
     Ok(BaseRow::Unspent { number, fetch })
 }
 
 fn read_running(alloc: Global, words: Words<'_>) -> Result<BaseRow, UnreadLine>
-    ensures { ReadsRow result (option_map Running (permit_named (words_left words.entry))) }
+    ensures { ReadsRow (codes "Y" ∷ words_left words.entry) result }
 {
     let (number, fetch) = read_permit(alloc, words)?;
     Ok(BaseRow::Running { number, fetch })
@@ -168,7 +170,9 @@ fn read_running(alloc: Global, words: Words<'_>) -> Result<BaseRow, UnreadLine>
 
 // A permit's number, and the fetch that it is for.
 fn read_permit(alloc: Global, words: Words<'_>) -> Result<(PermitNo, Fetch), UnreadLine>
-    ensures { ReadsPermit result (permit_named (words_left words.entry)) }
+    ensures { (p : GrantedPermit) → IsPermitRow p
+        → words_left words.entry ≡ decimal p.number ∷ p.token ∷ p.url ∷ []
+        → IsRead result (λ pair. permit_for pair.0 pair.1 ≡ p) }
 {
     let mut words = words;
     let number = PermitNo::new(next_number(&mut words)?);
@@ -199,7 +203,8 @@ pub(crate) fn read_numbers(line: &[u8]) -> Result<Numbers, UnreadLine>
 }
 
 fn numbers_named(text: &str) -> Option<Numbers>
-    ensures { result ≡ numbers_named text.now }
+    ensures { (numbers : Numbers) → HasNumbers (numbered numbers)
+        → text.now ≡ numbers_line (numbered numbers) → result ≡ Some numbers }
 {
     let mut words = Words::of(text);
     match next_word(&mut words) {
@@ -209,7 +214,9 @@ fn numbers_named(text: &str) -> Option<Numbers>
 }
 
 fn numbers_behind(words: Words<'_>) -> Option<Numbers>
-    ensures { result ≡ numbers_behind (words_left words.entry) }
+    ensures { (numbers : Numbers) → HasNumbers (numbered numbers)
+        → codes "T" ∷ words_left words.entry ≡ words_of (numbers_line (numbered numbers))
+        → result ≡ Some numbers }
 {
     let mut words = words;
     let entries = number_of(next_word(&mut words))?;

@@ -1,7 +1,7 @@
--- What the words of a base's line are read as: a thing that a base left open, or the numbers of one. It takes
--- more than the one spelling of each: what was read is spelled and compared with the line.
--- Cited by the contracts of `read_base`.
-use Rattle.std.specs.Prelude.{◌≡◌, ℕ, true, List, Option, Some, None, Result, Ok, Err, codes, if◌then◌else◌}
+-- What the words of a base's line name, one after the other. More is named than the one spelling of each row.
+-- Used to show that the readers of `read_base` read each row, and the numbers of a base, back from its line.
+use Rattle.std.proofs.Common.{◌≡◌, ℕ, List, Some, Ok, Err, codes}
+use Rattle.std.specs.Prelude.{Option, None, Result, if◌then◌else◌}
 use Rattle.std.specs.Option.{option_map}
 use Rattle.std.specs.Str.{bytes_eq}
 use Rattle.robots_text.specs.Token.{token_of}
@@ -9,17 +9,15 @@ use Rattle.permit_book.specs.declared.granted_permit.GrantedPermit.{GrantedPermi
 use Rattle.permit_book.specs.declared.out.Fetch.{Fetch}
 use Rattle.permit_book.specs.Outstanding.{permit_for}
 use Rattle.gate_history.specs.declared.base.Numbers.{Numbers}
-use Rattle.gate_history.specs.Base.{has_its_life}
 use Rattle.line_text.specs.Number.{number_of}
 use Rattle.line_text.specs.Words.{words_of}
 use Rattle.crawl_audit.specs.declared.version.Version.TheVariants.{Two}
 use Rattle.crawl_audit.specs.declared.base_row.BaseRow.{BaseRow}
 use Rattle.crawl_audit.specs.declared.unread_line.UnreadLine.{UnreadLine}
 use Rattle.crawl_audit.specs.declared.unread_line.UnreadLine.TheVariants.{NotOne, NoMemory}
-use Rattle.crawl_audit.specs.BaseFields.{IsAnswerRow, IsGrantRow, IsPermitRow, IsTurnRow}
-use Rattle.gate_history.specs.Grants.{IsSlotGrant}
 use Rattle.crawl_audit.specs.OpenRows.{OpenRow, Answered, InFlight, Greatest, Unspent, Running, row_of}
-use Rattle.crawl_audit.specs.Reading.{and_then, answer_named, authority_named, head_word, page_named, tail_words}
+use Rattle.crawl_audit.specs.Reading.{head_word, tail_words}
+use Rattle.crawl_audit.proofs.NamedEntries.{and_then, answer_named, authority_named, page_named}
 
 -- the things that words behind each letter write
 abbrev pub answered_named : List (List ℕ) → Option OpenRow
@@ -66,32 +64,16 @@ abbrev pub row_named : List ℕ → Option OpenRow
 row_named line = row_behind (head_word (words_of line)) (tail_words (words_of line))
 
 -- the result is the thing that was to be read, or says that none was, or that memory was refused
-abbrev pub ReadsRow : Result BaseRow UnreadLine → Option OpenRow → Type 0
-ReadsRow (Ok found) expected = expected ≡ Some (row_of found)
-ReadsRow (Err NotOne) expected = expected ≡ None
-ReadsRow (Err NoMemory) expected = Unit {0}
+abbrev pub NamesRow : Result BaseRow UnreadLine → Option OpenRow → Type 0
+NamesRow (Ok found) expected = expected ≡ Some (row_of found)
+NamesRow (Err NotOne) expected = expected ≡ None
+NamesRow (Err NoMemory) expected = Unit {0}
 
 -- the same of a permit's number and fetch
-abbrev pub ReadsPermit : Result (ℕ × Fetch) UnreadLine → Option GrantedPermit → Type 0
-ReadsPermit (Ok pair) expected = expected ≡ Some (permit_for pair.0 pair.1)
-ReadsPermit (Err NotOne) expected = expected ≡ None
-ReadsPermit (Err NoMemory) expected = Unit {0}
-
--- the fields of a thing, but for what they must be besides
-abbrev pub HasRowFields : OpenRow → Type 0
-HasRowFields (Answered s) = IsAnswerRow s
-HasRowFields (InFlight t) = IsTurnRow t
-HasRowFields (Greatest g) = IsGrantRow g
-HasRowFields (Unspent p) = IsPermitRow p
-HasRowFields (Running p) = IsPermitRow p
-
--- an answer has a life of its kind; and there may be the slot and the generation
-abbrev pub IsInRange : OpenRow → Type 0
-IsInRange (Answered s) = has_its_life s ≡ true
-IsInRange (InFlight t) = Unit {0}
-IsInRange (Greatest g) = IsSlotGrant g
-IsInRange (Unspent p) = Unit {0}
-IsInRange (Running p) = Unit {0}
+abbrev pub NamesPermit : Result (ℕ × Fetch) UnreadLine → Option GrantedPermit → Type 0
+NamesPermit (Ok pair) expected = expected ≡ Some (permit_for pair.0 pair.1)
+NamesPermit (Err NotOne) expected = expected ≡ None
+NamesPermit (Err NoMemory) expected = Unit {0}
 
 -- the numbers that the words of a line write
 abbrev pub numbers_behind : List (List ℕ) → Option Numbers

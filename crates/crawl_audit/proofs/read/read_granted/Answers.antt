@@ -1,0 +1,21 @@
+-- What the words of a line with this letter name was read, so the entry of such a line is read back.
+use Rattle.std.proofs.Common.{codes, rules}
+use Rattle.line_text.specs.Words.{words_left}
+use Rattle.gate_history.specs.declared.entry.Entry.TheVariants.{Granted}
+use Rattle.crawl_audit.proofs.EntriesRead.{entry_is, entry_read}
+use Rattle.crawl_audit.proofs.read.read_granted.Goals as goal
+
+pub returns-in_err-moment : goal.returns-in_err-moment
+returns-in_err-moment c = λ version. entry_read version (codes "G") (words_left c.args.words) _ (search rules)
+
+pub returns-in_err-next_number : goal.returns-in_err-next_number
+returns-in_err-next_number c = λ version. entry_read version (codes "G") (words_left c.args.words) _ (search rules)
+
+pub returns-in_err-token : goal.returns-in_err-token
+returns-in_err-token c = λ version. entry_read version (codes "G") (words_left c.args.words) _ (search rules)
+
+pub returns-in_err-url : goal.returns-in_err-url
+returns-in_err-url c = λ version. entry_read version (codes "G") (words_left c.args.words) _ (search rules)
+
+pub returns : goal.returns
+returns c = λ version. entry_is version (codes "G") (words_left c.args.words) (Granted c.in_ok-moment.moment c.new-number.result (record { token = c.in_ok-token.token; url = c.in_ok-url.url })) (search rules)
