@@ -1,10 +1,9 @@
 -- The lists of what stands in a cache have of each authority what its state has.
 -- Cited by `Cache::standing_answers` and `Cache::turns`.
-use Rattle.std.proofs.Common.{◌≡◌, ℕ, ◌+◌, ◌<◌, zero, suc, All, Bool, true, false, cond, List, [], ◌∷◌, ◌++◌, length, filter, take, get_or, Option, Some, None, is_some, string_bytes, unwrap_or, refl, sym, ap, subst, ◌∙◌, append_assoc, true≢false, arith}
+use Rattle.std.proofs.Common.{◌≡◌, ℕ, ◌+◌, zero, suc, All, Bool, true, false, cond, List, [], ◌∷◌, ◌++◌, filter, take, get_or, Option, Some, None, is_some, string_bytes, unwrap_or, refl, sym, ap, subst, ◌∙◌, append_assoc, true≢false}
 use Rattle.std.specs.Prelude.{slice_get}
 use Rattle.std.specs.declared.string.String.{String}
 use Rattle.std.specs.Map.{lookup}
-use Rattle.std.specs.Option.{option_map}
 use Rattle.std.specs.Str.{bytes_eq}
 use Rattle.std.proofs.lemmas.List.{append-nil, take_more}
 use Rattle.std.proofs.lemmas.List.Elements.{All-head, All-tail, filter-append}
@@ -12,9 +11,7 @@ use Rattle.std.proofs.lemmas.Slice.Eq.{bytes_eq-Decides}
 use Rattle.path_normal.specs.Authority.{IsAuthority}
 use Rattle.authority_cache.specs.declared.site.Flight.{Flight}
 use Rattle.authority_cache.specs.declared.site.Site.{Site}
-use Rattle.authority_cache.specs.declared.standing_answer.StandingAnswer.{StandingAnswer}
-use Rattle.authority_cache.specs.declared.turn.Turn.{Turn}
-use Rattle.authority_cache.specs.Lists.{answer_for, answers_in, is_answer_for, is_turn_of, turn_for, turns_in}
+use Rattle.authority_cache.specs.Lists.{answers_in, is_answer_for, is_turn_of, turns_in}
 use Rattle.authority_cache.specs.Sites.{Answered, AreApart, State, nothing_known}
 use Rattle.authority_cache.specs.Kept.{names_in}
 use Rattle.authority_cache.proofs.EntryLaws.{at-within}

@@ -79,8 +79,7 @@ fn may_begin(sites: &Sites, limit: u64, found: Found) -> Result<(), FlightRefusa
 // nothing any more, they are kept anew first, so that they stay at most about twice the sites.
 fn make_room(sites: &Sites, ends: &mut Ends, flights: u64) -> Result<(), AllocError>
     requires covered { Covers ends.old sites.now.entries }
-    requires room { HasRoomForEnds ends.old flights }
-    requires flights { flights ≤ length sites.now.entries }
+    requires room { HasRoomForEnds ends.old flights × (flights ≤ length sites.now.entries) }
     ensures covered { Covers ends.new sites.now.entries }
     ensures room { HasRoomForEnds ends.new flights }
     ensures ok { OnOk result (HasRoomForEnds ends.new (flights + 1)) }

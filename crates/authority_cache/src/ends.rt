@@ -1,6 +1,6 @@
 //! When answers end: a heap, from which a sweep takes what is past, the first end first.
 //! RFC 9309, section 2.4.
-ghost use Rattle.std.specs.Prelude.{◌≡◌, ◌+◌, ◌<◌, ◌≤◌, [], IfNone, IfSome, OnErr, OnOk, length};
+ghost use Rattle.std.specs.Prelude.{◌≡◌, ◌+◌, ◌<◌, ◌≤◌, [], IfNone, IfSome, OnOk, length};
 ghost use Rattle.authority_cache.specs.Ends.{Adds, KeepsEnd, NoneBefore, Takes};
 
 use crate::cache::Sites;

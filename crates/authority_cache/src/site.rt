@@ -1,7 +1,6 @@
 //! What is known of one authority.
 //! RFC 9309, sections 2.3.1 and 2.4.
 ghost use Rattle.std.specs.Prelude.{◌≡◌, ◌↔◌, true, IsOk, OnErr, OnOk};
-ghost use Rattle.robots_verdict.specs.Answer.{said};
 ghost use Rattle.authority_cache.specs.Ends.{last_moment};
 ghost use Rattle.authority_cache.specs.Sites.{arrived, has_past, has_turn, is_known, is_past, said_site, said_cached, with_flight};
 

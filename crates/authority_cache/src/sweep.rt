@@ -5,7 +5,7 @@ ghost use Rattle.std.specs.HashMap.{IsUnique};
 ghost use Rattle.std.specs.String.{string_eq};
 ghost use Rattle.authority_cache.specs.Sites.{IsApart, flight_count};
 ghost use Rattle.authority_cache.specs.Calls.{Sweeps, one_if};
-ghost use Rattle.authority_cache.specs.Ends.{AddsOneAtMost, Covers, CoversBut, CoversPast, DropsAnswer, HasRoomForEnds, KeepsEnd, Removes, SaysPastAt, SweepsPart};
+ghost use Rattle.authority_cache.specs.Ends.{AddsOneAtMost, Covers, CoversBut, CoversPast, DropsAnswer, HasRoomForEnds, Removes, SaysPastAt, SweepsPart};
 ghost use Rattle.authority_cache.specs.Kept.{AllKnown, IsTended, known_in};
 
 use crate::cache::{Cache, Sites};

@@ -1,6 +1,6 @@
 //! How long a client is waited for.
 //! The one place of this limit.
-ghost use Rattle.std.specs.Prelude.{◌≡◌, ◌-◌, ◌≤◌, MatchResult};
+ghost use Rattle.std.specs.Prelude.{◌≡◌, ◌-◌, MatchResult};
 ghost use Rattle.std.specs.Duration.{as_nanos};
 ghost use Rattle.client_wire.specs.Waiting.{AddsUp, IsNew, IsOver, IsTryTime, nanoseconds};
 

@@ -1,7 +1,7 @@
 //! The words of the replies that an ARRIVE line has: two a reply (docs/FORMATS.md).
 //! Read before any of the replies is walked over.
 ghost use Rattle.std.specs.Prelude.{◌≡◌, ◌↔◌, [], IfOk, IsTrue};
-ghost use Rattle.command_server.specs.Arrival.{has_rules, has_text, HasWords, head_written, is_none_word};
+ghost use Rattle.command_server.specs.Arrival.{HasWords, head_written};
 ghost use Rattle.command_server.specs.Arrival.{lasting_of, may_have, plain_of, replies_fault, reply_words_of, response_written};
 ghost use Rattle.command_server.specs.Arrival.{status_written, TakesReply};
 ghost use Rattle.line_text.specs.Words.{words_left};

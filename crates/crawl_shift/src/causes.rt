@@ -1,6 +1,6 @@
 //! The causes of a table of hops in words. This is the one place of what faults and closed sites are called
 //! there (docs/FORMATS.md, the table of a shift).
-ghost use Rattle.std.specs.Prelude.{◌≡◌, ◌++◌, [], codes, decimal};
+ghost use Rattle.std.specs.Prelude.{◌≡◌, ◌++◌, decimal};
 ghost use Rattle.gate_history.specs.Wording.{words_in};
 ghost use Rattle.crawl_shift.specs.Causes.{closing_text, denial_phrase, failure_text, wire_fault_phrase, past_text};
 ghost use Rattle.crawl_shift.specs.Causes.{refusal_phrase, spaced_words, stop_phrase, words_text};

@@ -5,16 +5,16 @@ use Rattle.std.specs.Prelude.{All, IfOk, None, Some, Ok, Option, Result, map, sl
 use Rattle.std.specs.Option.{IsSome, IsSomeAnd}
 use Rattle.std.proofs.lemmas.List.{length-map, map-append, take_all, take-append-le}
 use Rattle.std.proofs.lemmas.List.Elements.{All-cons, All-head, All-nil, All-tail}
-use Rattle.gate_lock.specs.declared.mark.Mark.{Mark}
+use Rattle.gate_lock.specs.Marks.{Receipt}
 use Rattle.crawl_workers.specs.declared.crew.Done.{Done}
 use Rattle.crawl_job.specs.declared.job.Job.{Job}
 use Rattle.crawl_workers.specs.declared.report.ShiftFault.{ShiftFault}
 use Rattle.crawl_workers.specs.Crews.{AreAllDone, EachHasDone, HasEnded, HandoverView, HandsOver, HasDone, TakesIn, MemberView, newcomer}
 use Rattle.crawl_workers.specs.World.{World}
 
--- the end of a worker with these marks
-abbrev end_of : List Mark → Option (Result (List Mark) ShiftFault)
-end_of marks = Some (Ok marks)
+-- the end of a worker with these receipts
+abbrev end_of : Receipt → Option (Result Receipt ShiftFault)
+end_of r = Some (Ok r)
 
 -- one worker more
 pub hands_more : (workers : List MemberView) (h : HandoverView) (worker : MemberView) (after : HandoverView)
@@ -22,7 +22,7 @@ pub hands_more : (workers : List MemberView) (h : HandoverView) (worker : Member
 hands_more workers h worker after so_far this = record {
   drawn_are = this.drawn_are ∙ ap (λ drawn. drawn ++ worker.drawn ∷ []) so_far.drawn_are ∙ sym (map-append (λ (w : MemberView). w.drawn) workers (worker ∷ []));
   done_are = this.done_are ∙ ap (λ done. done ++ worker.done ∷ []) so_far.done_are ∙ sym (map-append (λ (w : MemberView). w.done) workers (worker ∷ []));
-  receipts_are = ap (map end_of) this.receipts_are ∙ map-append end_of h.receipts (this.marks ∷ [])
+  receipts_are = ap (map end_of) this.receipts_are ∙ map-append end_of h.receipts (this.receipt ∷ [])
       ∙ (λ i. so_far.receipts_are i ++ sym this.end_is i ∷ []) ∙ sym (map-append (λ (w : MemberView). w.end) workers (worker ∷ []));
 }
 
@@ -33,7 +33,7 @@ ends_each world jobs [] each = All-nil (HasEnded world jobs)
 ends_each world jobs (w ∷ ws) each =
     All-cons (HasEnded world jobs) w ws (each 0 w (omega arith)) (ends_each world jobs ws (λ i d within. each (suc i) d (omega (arith, within))))
 
-some_end : (P : Result (List Mark) ShiftFault → Type 0) (end : Option (Result (List Mark) ShiftFault)) → IsSomeAnd end P → IsSome end
+some_end : (P : Result Receipt ShiftFault → Type 0) (end : Option (Result Receipt ShiftFault)) → IsSomeAnd end P → IsSome end
 some_end P None ends = absurd ends
 some_end P (Some end) ends = refl
 
@@ -45,17 +45,17 @@ all_ended world jobs (w ∷ ws) ends =
     (all_ended world jobs ws (All-tail (HasEnded world jobs) w ws ends))
 
 -- workers that have receipts did what they drew
-each_did : (world : World) (jobs : List Job) (workers : List MemberView) (receipts : List (List Mark))
+each_did : (world : World) (jobs : List Job) (workers : List MemberView) (receipts : List Receipt)
     → All (HasEnded world jobs) workers → map end_of receipts ≡ map (λ (worker : MemberView). worker.end) workers
     → EachHasDone world jobs (map (λ (worker : MemberView). worker.drawn) workers) (map (λ (worker : MemberView). worker.done) workers) receipts
 each_did world jobs [] [] ends same = tt
-each_did world jobs [] (ms ∷ mss) ends same = absurd (omega (arith, ap length same))
+each_did world jobs [] (r ∷ rs) ends same = absurd (omega (arith, ap length same))
 each_did world jobs (w ∷ ws) [] ends same = absurd (omega (arith, ap length same))
-each_did world jobs (w ∷ ws) (ms ∷ mss) ends same =
-    let this : w.end ≡ end_of ms = cc in
-    let later : map end_of mss ≡ map (λ (worker : MemberView). worker.end) ws = cc in
-    let did : HasDone world jobs w.drawn w.done ms = subst (λ (end : Option (Result (List Mark) ShiftFault)). IsSomeAnd end (λ end. IfOk end (HasDone world jobs w.drawn w.done))) this (All-head (HasEnded world jobs) w ws ends) in
-    (did, each_did world jobs ws mss (All-tail (HasEnded world jobs) w ws ends) later)
+each_did world jobs (w ∷ ws) (r ∷ rs) ends same =
+    let this : w.end ≡ end_of r = cc in
+    let later : map end_of rs ≡ map (λ (worker : MemberView). worker.end) ws = cc in
+    let did : HasDone world jobs w.drawn w.done r = subst (λ (end : Option (Result Receipt ShiftFault)). IsSomeAnd end (λ end. IfOk end (HasDone world jobs w.drawn w.done))) this (All-head (HasEnded world jobs) w ws ends) in
+    (did, each_did world jobs ws rs (All-tail (HasEnded world jobs) w ws ends) later)
 
 -- and hand it over
 pub all_did : (world : World) (jobs : List Job) (members : ℕ) (workers : List MemberView) (h : HandoverView)

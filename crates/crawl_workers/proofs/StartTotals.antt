@@ -4,8 +4,7 @@ use Rattle.std.proofs.Common.{◌≡◌, ℕ, zero, suc, ◌+◌, List, [], ◌�
 use Rattle.std.specs.Prelude.{Option, Some, None}
 use Rattle.std.specs.List.{AllZip, slice_get}
 use Rattle.gate_history.specs.declared.entry.Entry.{Entry}
-use Rattle.gate_lock.specs.declared.mark.Mark.{Mark}
-use Rattle.gate_lock.specs.Marks.{starts_in_all}
+use Rattle.gate_lock.specs.Marks.{Receipt, SealedView, starts_of_all}
 use Rattle.job_line.specs.Sums.{weigh, weigh_all, weigh_below}
 use Rattle.crawl_job.specs.declared.job.Job.{Job}
 use Rattle.crawl_workers.specs.declared.crew.Done.{Done}
@@ -38,15 +37,16 @@ done_starts world jobs outcomes (done ∷ list) own are placed =
     ∙ length-append (numbers_started are.first) (numbers_started are.later) in
     omega (arith, all, here, fetches_counted first.outcome.hops.items, hops, ap fetches_of placed.0, rest)
 
-worked_starts : (world : World) (jobs : List Job) (outcomes : List Crawled) (drawn : List (List ℕ)) (receipts : List (List Mark)) →
-    AllZip (Worked world jobs outcomes) drawn receipts → starts_in_all receipts ≡ weigh_all (fetches_at outcomes) drawn
+worked_starts : (world : World) (jobs : List Job) (outcomes : List Crawled) (drawn : List (List ℕ)) (receipts : List Receipt) →
+    AllZip (Worked world jobs outcomes) drawn receipts → starts_of_all receipts ≡ weigh_all (fetches_at outcomes) drawn
 worked_starts world jobs outcomes [] [] worked = refl
-worked_starts world jobs outcomes [] (ms ∷ mss) worked = absurd worked
+worked_starts world jobs outcomes [] (r ∷ rs) worked = absurd worked
 worked_starts world jobs outcomes (ns ∷ nss) [] worked = absurd worked
-worked_starts world jobs outcomes (ns ∷ nss) (ms ∷ mss) worked =
+worked_starts world jobs outcomes (ns ∷ nss) (r ∷ rs) worked =
     let one = worked.0 in
-    let here = starts_counted ms ∙ done_starts world jobs outcomes one.done (entries_of ms) one.are_done one.are_placed ∙ ap (weigh (fetches_at outcomes)) one.numbers_are in
-    omega (arith, here, worked_starts world jobs outcomes nss mss worked.1)
+    let here = starts_counted r.marks ∙ done_starts world jobs outcomes one.done (entries_of r.marks) one.are_done one.are_placed ∙ ap (weigh (fetches_at outcomes)) one.numbers_are in
+    let none = ap (λ (s : SealedView). s.starts) one.are_all in
+    omega (arith, here, none, worked_starts world jobs outcomes nss rs worked.1)
 
 -- all outcomes, by their places
 first_below : (weight : ℕ → ℕ) (n : ℕ) → weigh_below weight (suc n) ≡ weight 0 + weigh_below (λ k. weight (suc k)) n
@@ -57,8 +57,8 @@ all_below : (outcomes : List Crawled) → weigh_below (fetches_at outcomes) (len
 all_below [] = refl
 all_below (crawled ∷ outcomes) = omega (arith, first_below (fetches_at (crawled ∷ outcomes)) (length outcomes), all_below outcomes)
 
-pub starts_are_fetches : (world : World) (jobs : List Job) (outcomes : List Crawled) (drawn : List (List ℕ)) (receipts : List (List Mark)) →
+pub starts_are_fetches : (world : World) (jobs : List Job) (outcomes : List Crawled) (drawn : List (List ℕ)) (receipts : List Receipt) →
     AllZip (Worked world jobs outcomes) drawn receipts → ((weight : ℕ → ℕ) → weigh_all weight drawn ≡ weigh_below weight (length jobs)) →
-    length outcomes ≡ length jobs → starts_in_all receipts ≡ all_fetches outcomes
+    length outcomes ≡ length jobs → starts_of_all receipts ≡ all_fetches outcomes
 starts_are_fetches world jobs outcomes drawn receipts worked each same =
     worked_starts world jobs outcomes drawn receipts worked ∙ each (fetches_at outcomes) ∙ ap (weigh_below (fetches_at outcomes)) (sym same) ∙ all_below outcomes

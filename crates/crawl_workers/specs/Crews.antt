@@ -5,7 +5,7 @@ use Rattle.std.specs.Option.{IsSomeAnd}
 use Rattle.gate_lock.specs.Desks.{DeskView}
 use Rattle.authority_cache.specs.Calls.{one_if}
 use Rattle.gate_history.specs.declared.entry.Entry.{Entry}
-use Rattle.gate_lock.specs.declared.mark.Mark.{Mark}
+use Rattle.gate_lock.specs.Marks.{Receipt, nothing_sealed}
 use Rattle.crawl_workers.specs.declared.crew.Done.{Done}
 use Rattle.crawl_job.specs.declared.job.Job.{Job}
 use Rattle.crawl_workers.specs.declared.report.Crawled.{Crawled}
@@ -19,16 +19,17 @@ abbrev pub DoesJob : World → List Job → Done → DeskView → DeskView → T
 DoesJob world jobs done old new =
     (own : List Entry) × ((entries_of new.marks ≡ entries_of old.marks ++ own) × IsDone world jobs done own)
 
--- a worker drew the jobs of these numbers, and a desk with these marks did them
-pub record HasDone (world : World) (jobs : List Job) (drawn : List ℕ) (done : List Done) (marks : List Mark) : Type 0 where
+-- a worker drew the jobs of these numbers, and a desk with these receipts did them, and nothing else
+pub record HasDone (world : World) (jobs : List Job) (drawn : List ℕ) (done : List Done) (r : Receipt) : Type 0 where
   pub numbers : numbers_of done ≡ drawn
-  pub are_done : AreDone world jobs done (entries_of marks)
+  pub are_done : AreDone world jobs done (entries_of r.marks)
+  pub are_all : r.sealed ≡ nothing_sealed
 
 -- a worker: the numbers that it drew, the jobs that it did, and its end, if it has ended
 pub record MemberView : Type 0 where
   pub drawn : List ℕ
   pub done : List Done
-  pub end : Option (Result (List Mark) ShiftFault)
+  pub end : Option (Result Receipt ShiftFault)
 
 -- a worker that has drawn nothing
 abbrev pub newcomer : MemberView
@@ -38,11 +39,11 @@ newcomer = record { drawn = []; done = []; end = None }
 abbrev pub HasEnded : World → List Job → MemberView → Type 0
 HasEnded world jobs worker = IsSomeAnd worker.end (λ end. IfOk end (HasDone world jobs worker.drawn worker.done))
 
--- what workers hand over: what they drew, the jobs that they did, and the marks of their desks
+-- what workers hand over: what they drew, the jobs that they did, and the receipts of their desks
 pub record HandoverView : Type 0 where
   pub drawn : List (List ℕ)
   pub done : List (List Done)
-  pub receipts : List (List Mark)
+  pub receipts : List Receipt
 
 -- nothing yet
 abbrev pub nothing_handed : HandoverView
@@ -50,23 +51,23 @@ nothing_handed = record { drawn = []; done = []; receipts = [] }
 
 -- one worker more, which has receipts, hands them over
 pub record TakesIn (old : HandoverView) (worker : MemberView) (new : HandoverView) : Type 0 where
-  pub marks : List Mark
-  pub end_is : worker.end ≡ Some (Ok marks)
+  pub receipt : Receipt
+  pub end_is : worker.end ≡ Some (Ok receipt)
   pub drawn_are : new.drawn ≡ old.drawn ++ worker.drawn ∷ []
   pub done_are : new.done ≡ old.done ++ worker.done ∷ []
-  pub receipts_are : new.receipts ≡ old.receipts ++ marks ∷ []
+  pub receipts_are : new.receipts ≡ old.receipts ++ receipt ∷ []
 
 -- these workers, who all have receipts, hand them over
 pub record HandsOver (workers : List MemberView) (h : HandoverView) : Type 0 where
   pub drawn_are : h.drawn ≡ map (λ worker. worker.drawn) workers
   pub done_are : h.done ≡ map (λ worker. worker.done) workers
-  pub receipts_are : map (λ marks. Some (Ok marks)) h.receipts ≡ map (λ worker. worker.end) workers
+  pub receipts_are : map (λ r. Some (Ok r)) h.receipts ≡ map (λ worker. worker.end) workers
 
 -- each worker did the jobs that it drew
-abbrev pub EachHasDone : World → List Job → List (List ℕ) → List (List Done) → List (List Mark) → Type 0
+abbrev pub EachHasDone : World → List Job → List (List ℕ) → List (List Done) → List Receipt → Type 0
 EachHasDone world jobs [] [] [] = Unit {0}
-EachHasDone world jobs (numbers ∷ drawn) (done ∷ more) (marks ∷ receipts) =
-    HasDone world jobs numbers done marks × EachHasDone world jobs drawn more receipts
+EachHasDone world jobs (numbers ∷ drawn) (done ∷ more) (r ∷ receipts) =
+    HasDone world jobs numbers done r × EachHasDone world jobs drawn more receipts
 EachHasDone world jobs _ _ _ = ⊥
 
 -- so many workers did all that they drew, and hand it over

@@ -5,7 +5,7 @@ use Rattle.std.specs.Prelude.{◌≡◌, ℕ, ◌+◌, ◌++◌, List, [], ◌�
 use Rattle.std.specs.List.{AllZip, slice_get}
 use Rattle.gate_lock.specs.Settling.{SettlesSome}
 use Rattle.gate_history.specs.declared.entry.Entry.{Entry}
-use Rattle.gate_lock.specs.declared.mark.Mark.{Mark}
+use Rattle.gate_lock.specs.Marks.{Receipt, nothing_sealed}
 use Rattle.gate_lock.specs.declared.settlement.Settled.{Settled}
 use Rattle.job_line.specs.Sums.{weigh_all, weigh_below}
 use Rattle.crawl_workers.specs.declared.crew.Done.{Done}
@@ -47,22 +47,23 @@ ArePlaced outcomes [] = Unit {0}
 ArePlaced outcomes (done ∷ later) = (slice_get outcomes done.number ≡ Some done.crawled) × ArePlaced outcomes later
 
 -- a worker drew the jobs of these numbers, and what its desk did is told by their outcomes
-pub record Worked (world : World) (jobs : List Job) (outcomes : List Crawled) (numbers : List ℕ) (marks : List Mark) : Type 0 where
+pub record Worked (world : World) (jobs : List Job) (outcomes : List Crawled) (numbers : List ℕ) (r : Receipt) : Type 0 where
   pub done : List Done
   pub numbers_are : numbers_of done ≡ numbers
   pub are_placed : ArePlaced outcomes done
-  pub are_done : AreDone world jobs done (entries_of marks)
+  pub are_done : AreDone world jobs done (entries_of r.marks)
+  pub are_all : r.sealed ≡ nothing_sealed
 
 -- how many of the hops of all outcomes are fetches of a page
 abbrev pub all_fetches : List Crawled → ℕ
 all_fetches [] = 0
 all_fetches (crawled ∷ later) = fetches_in crawled.hops.items + all_fetches later
 
--- a report: the outcomes, the numbers that each worker drew, the marks of its desk, and the settled gate
+-- a report: the outcomes, the numbers that each worker drew, the receipts of its desk, and the settled gate
 pub record ReportView : Type 0 where
   pub outcomes : List Crawled
   pub drawn : List (List ℕ)
-  pub receipts : List (List Mark)
+  pub receipts : List Receipt
   pub settled : Settled
 
 -- the report of a shift: as many workers drew the numbers of all jobs, each number once; each job has an

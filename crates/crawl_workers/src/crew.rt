@@ -2,7 +2,8 @@
 //! RFC 9309 has none of it.
 ghost use Rattle.std.specs.Prelude.{◌≡◌, [], IfOk, OnOk, Some};
 ghost use Rattle.std.specs.List.{slice_get};
-ghost use Rattle.gate_lock.specs.Desks.{KeepsOut};
+ghost use Rattle.gate_lock.specs.Desks.{KeepsOut, receipt_of};
+ghost use Rattle.gate_lock.specs.Marks.{nothing_sealed};
 ghost use Rattle.crawl_workers.specs.Crews.{DoesJob, HasEnded, HasDone, newcomer};
 ghost use Rattle.crawl_workers.specs.World.{world_of};
 
@@ -104,9 +105,9 @@ impl<F: Fetcher, C: Clock, W: Watcher> Crew<'_, F, C, W> {
         done: &mut Vec<Done>,
     ) -> Result<Receipts<G>, ShiftFault>
         requires new { (drawn.old.items ≡ []) × (done.old.items ≡ []) }
-        ensures ok { IfOk result (λ marks. HasDone
+        ensures ok { IfOk result (λ r. HasDone
             (world_of (F.gives self.now.fetcher.now) (C.reads self.now.clock.now))
-            self.now.jobs.now drawn.new.items done.new.items marks) }
+            self.now.jobs.now drawn.new.items done.new.items r) }
     {
         let mut desk = gate.desk(rt, alloc)?;
         let ended = self.draw_all(rt, alloc, &mut desk, drawn, done);
@@ -125,11 +126,12 @@ impl<F: Fetcher, C: Clock, W: Watcher> Crew<'_, F, C, W> {
         drawn: &mut Vec<u64>,
         done: &mut Vec<Done>,
     ) -> Result<(), AllocError>
-        requires new { (drawn.old.items ≡ []) × (done.old.items ≡ []) × (desk.old.marks ≡ []) }
+        requires new { (drawn.old.items ≡ []) × (done.old.items ≡ [])
+            × (receipt_of desk.old ≡ record { sealed = nothing_sealed; marks = [] }) }
         ensures out { KeepsOut desk.old desk.new }
         ensures ok { OnOk result (HasDone
             (world_of (F.gives self.now.fetcher.now) (C.reads self.now.clock.now))
-            self.now.jobs.now drawn.new.items done.new.items desk.new.marks) }
+            self.now.jobs.now drawn.new.items done.new.items (receipt_of desk.new)) }
     {
         'draws: for _ in rt.forever() {
             let Some(next) = self.frontier.draw(rt) else {
@@ -154,11 +156,11 @@ impl<F: Fetcher, C: Clock, W: Watcher> Crew<'_, F, C, W> {
     ) -> Result<(), AllocError>
         requires so_far { HasDone
             (world_of (F.gives self.now.fetcher.now) (C.reads self.now.clock.now))
-            self.now.jobs.now drawn.old.items done.old.items desk.old.marks }
+            self.now.jobs.now drawn.old.items done.old.items (receipt_of desk.old) }
         ensures out { KeepsOut desk.old desk.new }
         ensures ok { OnOk result (HasDone
             (world_of (F.gives self.now.fetcher.now) (C.reads self.now.clock.now))
-            self.now.jobs.now drawn.new.items done.new.items desk.new.marks) }
+            self.now.jobs.now drawn.new.items done.new.items (receipt_of desk.new)) }
     {
         let Some(job) = self.jobs.get(number as usize) else {
             return Ok(());

@@ -1,6 +1,6 @@
 //! Whether each job of a list was drawn once.
 //! RFC 9309 has none of it.
-ghost use Rattle.std.specs.Prelude.{◌≡◌, ◌+◌, ℕ, Bool, IsTrue, false, length, map, replicate};
+ghost use Rattle.std.specs.Prelude.{◌≡◌, ◌+◌, ℕ, IsTrue, false, length, map, replicate};
 ghost use Rattle.job_line.specs.Sums.{weigh, weigh_all, weigh_below};
 ghost use Rattle.crawl_workers.specs.Crews.{weigh_taken};
 

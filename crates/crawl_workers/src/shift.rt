@@ -1,6 +1,6 @@
 //! A shift: several workers do the jobs of a list over one gate, each on a thread of its own.
 //! RFC 9309, sections 2.2 to 2.4, in the profile of docs/POLICY.md.
-ghost use Rattle.std.specs.Prelude.{◌≡◌, ◌≤◌, ◌<◌, ◌↔◌, ℕ, [], All, IfOk, IsTrue, OnOk, length, replicate, slice_index_or, vec_len};
+ghost use Rattle.std.specs.Prelude.{◌≡◌, ◌≤◌, ◌<◌, ℕ, All, IfOk, OnOk, length, replicate, slice_index_or, vec_len};
 ghost use Rattle.job_line.specs.Limits.{max_jobs, max_workers};
 ghost use Rattle.crawl_workers.specs.Crews.{AreAllDone, HasEnded, MemberView, newcomer, nothing_handed};
 ghost use Rattle.crawl_workers.specs.Shifts.{IsShift};

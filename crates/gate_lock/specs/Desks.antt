@@ -1,6 +1,6 @@
 -- What contracts see of a desk and of the values that must be spent at it, and what an entry does to a desk.
 -- RFC 9309 has none of it: permits make each fetch look at the answer in force (2.4).
-use Rattle.std.specs.Prelude.{◌≡◌, ℕ, ◌+◌, ◌*◌, ◌≤◌, List, [], ◌∷◌, ◌++◌, length}
+use Rattle.std.specs.Prelude.{◌≡◌, ℕ, ◌+◌, ◌*◌, ◌≤◌, List, [], ◌∷◌, ◌++◌, length, map}
 use Rattle.gate_history.specs.declared.entry.Entry.{Entry}
 use Rattle.gate_history.specs.declared.entry.Entry.TheVariants.{Begun, Arrived, Granted, AskDenied, Started, StartDenied, Returned, Finished, Swept}
 use Rattle.gate_history.specs.declared.outcome.Reason.{Reason}
@@ -8,7 +8,7 @@ use Rattle.gate_history.specs.History.{entry_count}
 use Rattle.gate_core.specs.declared.config.Limits.{Limits}
 use Rattle.gate_core.specs.Gate.{Gate, HasLegalHistory, history}
 use Rattle.gate_lock.specs.declared.mark.Mark.{Mark}
-use Rattle.gate_lock.specs.Marks.{mark_at, starts_in}
+use Rattle.gate_lock.specs.Marks.{AreSealed, Receipt, SealedView, mark_at, nothing_sealed, sealed_with, starts_in}
 
 -- a permit, or a started fetch that was made: its number, its token and URL, and the desk that must spend it
 pub record Pass : Type 0 where
@@ -35,7 +35,7 @@ pub record Shares : Type 0 where
   pub starts : ℕ
 
 -- a desk: the limits of its gate; its number; how many entries the history had when it last looked; how many permits, running
--- fetches and turns it must still spend; and the marks of the entries that it made
+-- fetches and turns it must still spend; what it keeps of marks of sealed entries, and the marks behind those
 pub record DeskView : Type 0 where
   pub limits : Limits
   pub no : ℕ
@@ -43,6 +43,7 @@ pub record DeskView : Type 0 where
   pub permits : ℕ
   pub runs : ℕ
   pub turns : ℕ
+  pub sealed : SealedView
   pub marks : List Mark
 
 -- a gate that a lock of these limits kept: its history is legal, and has at least the entries that were seen
@@ -51,11 +52,12 @@ pub record IsGateOf (limits : Limits) (seen : ℕ) (g : Gate) : Type 0 where
   pub legal : HasLegalHistory g
   pub seen_are : seen ≤ entry_count (history g)
 
--- what a desk must still spend: permits, runs and turns more and less
+-- what a desk must still spend: permits, runs and turns more and less. What it keeps of sealed entries stays
 pub record HasOut (d d2 : DeskView) (permits permits_less runs runs_less turns turns_less : ℕ) : Type 0 where
   pub permits_are : d2.permits + permits_less ≡ d.permits + permits
   pub runs_are : d2.runs + runs_less ≡ d.runs + runs
   pub turns_are : d2.turns + turns_less ≡ d.turns + turns
+  pub sealed_are : d2.sealed ≡ d.sealed
 
 -- it must still spend what it had to
 abbrev pub KeepsOut : DeskView → DeskView → Type 0
@@ -89,6 +91,10 @@ pub record Looks (d : DeskView) (g : Gate) (d2 : DeskView) : Type 0 where
   pub out_is : KeepsOut d d2
   pub marks_are : d2.marks ≡ d.marks
 
+-- the receipts of a desk, once it is closed
+abbrev pub receipt_of : DeskView → Receipt
+receipt_of d = record { sealed = d.sealed; marks = d.marks }
+
 -- how many values a desk must still spend
 abbrev pub out_of : DeskView → ℕ
 out_of d = d.permits + d.runs + d.turns
@@ -96,9 +102,9 @@ out_of d = d.permits + d.runs + d.turns
 -- what is true of every desk: its shares count its marks; it made no more entries than it has seen; and there
 -- is room for the marks of what it must still spend, two for each permit and one for each run and turn
 pub record IsDesk (view : DeskView) (shares : Shares) (room : ℕ) : Type 0 where
-  pub entries_are : shares.entries ≡ length view.marks
-  pub starts_are : shares.starts ≡ starts_in view.marks
-  pub few : length view.marks ≤ view.seen
+  pub entries_are : shares.entries ≡ length view.sealed.places + length view.marks
+  pub starts_are : shares.starts ≡ view.sealed.starts + starts_in view.marks
+  pub few : length view.sealed.places + length view.marks ≤ view.seen
   pub fits : length view.marks + (2 * view.permits + view.runs + view.turns) ≤ room
 
 -- a new desk of a lock of these limits, which has looked at the history of some gate that the lock kept
@@ -112,5 +118,20 @@ IsNew limits d =
       permits = 0;
       runs = 0;
       turns = 0;
+      sealed = nothing_sealed;
       marks = [];
     }))
+
+-- the desk keeps of the first of its marks, whose entries were sealed, their places and how many are started
+-- fetches; it has seen the history of a gate
+pub record Condenses (d : DeskView) (g : Gate) (d2 : DeskView) : Type 0 where
+  pub first : List Mark
+  pub limits_are : d2.limits ≡ d.limits
+  pub no_is : d2.no ≡ d.no
+  pub seen_is : d2.seen ≡ entry_count (history g)
+  pub permits_are : d2.permits ≡ d.permits
+  pub runs_are : d2.runs ≡ d.runs
+  pub turns_are : d2.turns ≡ d.turns
+  pub were_sealed : AreSealed g.base.entries (map (λ m. m.place) first)
+  pub marks_are : d.marks ≡ first ++ d2.marks
+  pub sealed_are : d2.sealed ≡ sealed_with d.sealed first

@@ -1,6 +1,6 @@
--- The marks of a desk: the entries that it made, each with its place.
+-- The marks of a desk: the entries that it made, each with its place, and of entries that were sealed the place alone.
 -- A place is how many entries were before it, counted from the first one ever.
-use Rattle.std.specs.Prelude.{ℕ, ◌+◌, List, [], ◌∷◌, if◌then◌else◌}
+use Rattle.std.specs.Prelude.{ℕ, ◌+◌, ◌<◌, List, [], ◌∷◌, ◌++◌, map, if◌then◌else◌}
 use Rattle.gate_history.specs.declared.entry.Entry.{Entry}
 use Rattle.gate_history.specs.History.{is_start}
 use Rattle.gate_lock.specs.declared.mark.Mark.{Mark}
@@ -14,7 +14,38 @@ abbrev pub starts_in : List Mark → ℕ
 starts_in [] = 0
 starts_in (m ∷ ms) = (if is_start m.entry then 1 else 0) + starts_in ms
 
--- how many of the marks of all lists are
-abbrev pub starts_in_all : List (List Mark) → ℕ
-starts_in_all [] = 0
-starts_in_all (ms ∷ mss) = starts_in ms + starts_in_all mss
+-- what is kept of marks of sealed entries: their places, and how many are started fetches
+pub record SealedView : Type 0 where
+  pub places : List ℕ
+  pub starts : ℕ
+
+-- nothing
+abbrev pub nothing_sealed : SealedView
+nothing_sealed = record { places = []; starts = 0 }
+
+-- what is kept with these marks besides
+abbrev pub sealed_with : SealedView → List Mark → SealedView
+sealed_with s ms = record { places = s.places ++ map (λ m. m.place) ms; starts = s.starts + starts_in ms }
+
+-- the receipts of a desk: what is kept of marks of sealed entries, and the marks behind those
+pub record Receipt : Type 0 where
+  pub sealed : SealedView
+  pub marks : List Mark
+
+-- the places of the marks of a desk, in its order
+abbrev pub places_of : Receipt → List ℕ
+places_of r = r.sealed.places ++ map (λ m. m.place) r.marks
+
+-- how many started fetches the desk made
+abbrev pub starts_of : Receipt → ℕ
+starts_of r = r.sealed.starts + starts_in r.marks
+
+-- how many all desks made
+abbrev pub starts_of_all : List Receipt → ℕ
+starts_of_all [] = 0
+starts_of_all (r ∷ rs) = starts_of r + starts_of_all rs
+
+-- each of the places is one of so many
+abbrev pub AreSealed : ℕ → List ℕ → Type 0
+AreSealed count [] = Unit {0}
+AreSealed count (place ∷ places) = (place < count) × AreSealed count places

@@ -3,12 +3,12 @@
 ghost use Rattle.std.specs.Prelude.{◌≡◌, ◌+◌, ◌*◌, ◌^◌, ◌<◌, ◌≤◌, IfOk, length, OnOk, vec_capacity};
 ghost use Rattle.gate_core.specs.Gate.{history};
 ghost use Rattle.gate_lock.specs.Awaiting.{IsMet};
-ghost use Rattle.gate_lock.specs.Desks.{IsGateOf, IsNew, out_of};
+ghost use Rattle.gate_lock.specs.Desks.{IsGateOf, IsNew, out_of, receipt_of};
 
 use crate::awaited::Awaited;
 use crate::ledgers::Gate;
 use crate::lock::{GateLock, Held};
-use crate::mark::Mark;
+use crate::mark::{Mark, SealedMarks};
 use crate::receipts::Receipts;
 use crate::shares::Mine;
 use crate::tally::DesksFull;
@@ -25,7 +25,9 @@ pub struct Desk<'a, G: Gate> {
     pub(crate) permits: u64,
     pub(crate) runs: u64,
     pub(crate) turns: u64,
-    // The marks, with room for those of what must still be spent.
+    // What is kept of marks of sealed entries.
+    pub(crate) sealed: SealedMarks,
+    // The marks behind those, with room for those of what must still be spent.
     pub(crate) marks: Vec<Mark>,
     pub(crate) mine: Mine<G>,
 }
@@ -43,6 +45,7 @@ impl<'a, G: Gate> Model for Desk<'a, G> {
       permits = desk.permits;
       runs = desk.runs;
       turns = desk.turns;
+      sealed = desk.sealed;
       marks = desk.marks.items;
     } };
 
@@ -53,6 +56,7 @@ impl<'a, G: Gate> Model for Desk<'a, G> {
       permits = desk.permits;
       runs = desk.runs;
       turns = desk.turns;
+      sealed = desk.sealed;
       marks = desk.marks.items;
     }) desk.mine (vec_capacity desk.marks) };
 }
@@ -71,6 +75,7 @@ impl<G: Gate> GateLock<G> {
             permits: 0,
             runs: 0,
             turns: 0,
+            sealed: SealedMarks::new(alloc),
             marks: Vec::new(alloc),
             mine,
         })
@@ -87,10 +92,10 @@ impl<'a, G: Gate> Desk<'a, G> {
 
     /// How many entries it made.
     pub fn share(&self) -> u64
-        ensures marks { result ≡ length self.now.marks }
+        ensures marks { result ≡ length self.now.sealed.places + length self.now.marks }
         ensures seen { result ≤ self.now.seen }
     {
-        self.marks.len() as u64
+        (self.sealed.places().len() + self.marks.len()) as u64
     }
 
     /// How many entries the history had when it last looked, from the first one ever.
@@ -133,7 +138,7 @@ impl<'a, G: Gate> Desk<'a, G> {
     /// Closes a desk that has nothing out.
     pub fn close(self) -> Receipts<G>
         requires { out_of self ≡ 0 }
-        ensures { result ≡ self.entry.marks }
+        ensures { result ≡ receipt_of self.entry }
     {
         let Desk {
             gate: _,
@@ -141,10 +146,15 @@ impl<'a, G: Gate> Desk<'a, G> {
             permits: _,
             runs: _,
             turns: _,
+            sealed,
             marks,
             mine,
         } = self;
-        Receipts { marks, mine }
+        Receipts {
+            sealed,
+            marks,
+            mine,
+        }
     }
 }
 

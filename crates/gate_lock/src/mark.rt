@@ -1,6 +1,11 @@
-//! What a desk keeps of each entry that it made.
+//! What a desk keeps of each entry that it made: a mark, and of an entry that was sealed its place alone.
+ghost use Rattle.std.specs.Prelude.{◌≡◌, ◌+◌, ◌^◌, ◌<◌, ◌≤◌, ◌++◌, drop, length, map, OnErr, OnOk, take, vec_capacity};
+ghost use Rattle.gate_history.specs.History.{is_start};
+ghost use Rattle.gate_lock.specs.Marks.{AreSealed, nothing_sealed, sealed_with, starts_in};
 
 use gate_history::Entry;
+use std::alloc::{AllocError, Global};
+use std::marker::Model;
 
 /// An entry that a desk made, and its place: how many entries were before it, from the first one ever.
 #[derive(Drop)]
@@ -9,4 +14,116 @@ pub struct Mark {
     pub place: u64,
     /// The entry, of which the history keeps another.
     pub entry: Entry,
+}
+
+/// What is kept of marks whose entries were sealed: eight octets each, and no policy.
+#[derive(Drop)]
+pub struct SealedMarks {
+    places: Vec<u64>,
+    starts: u64,
+}
+
+impl Model for SealedMarks {
+    ghost use Rattle.std.specs.Prelude.{◌≤◌, length};
+    ghost use Rattle.gate_lock.specs.Marks.{SealedView};
+
+    ghost Value = { SealedView };
+
+    ghost view = { λ sealed. record {
+      places = sealed.places.items;
+      starts = sealed.starts;
+    } };
+
+    ghost invariant = { λ sealed. sealed.starts ≤ length sealed.places.items };
+}
+
+impl SealedMarks {
+    // Nothing yet.
+    pub(crate) fn new(alloc: Global) -> SealedMarks
+        ensures { result ≡ nothing_sealed }
+    {
+        SealedMarks {
+            places: Vec::new(alloc),
+            starts: 0,
+        }
+    }
+
+    /// The places of the entries, the oldest first.
+    pub fn places(&self) -> &[u64]
+        ensures { result.now ≡ self.now.places }
+    {
+        self.places.as_slice()
+    }
+
+    /// How many of them are started fetches.
+    pub fn starts(&self) -> u64
+        ensures value { result ≡ self.now.starts }
+        ensures bound { result < 2 ^ 63 }
+    {
+        let _few = self.places.len();
+        self.starts
+    }
+
+    // Takes in the first of the marks, which end with it. Where memory is refused nothing changes.
+    pub(crate) fn take_in(&mut self, marks: &mut Vec<Mark>, count: usize) -> Result<(), AllocError>
+        requires { count ≤ length marks.old.items }
+        ensures capacity { vec_capacity marks.new ≡ vec_capacity marks.old }
+        ensures ok { OnOk result ((marks.new.items ≡ drop count marks.old.items)
+            × (self.new ≡ sealed_with self.old (take count marks.old.items))) }
+        ensures err { OnErr result ((marks.new.items ≡ marks.old.items) × (self.new ≡ self.old)) }
+    {
+        self.places.reserve(count)?;
+        let first = &marks[..count];
+        self.starts += starts_among(first);
+        push_places(&mut self.places, first);
+        drop(marks.drain(..count));
+        Ok(())
+    }
+}
+
+// Pushes the places of the marks, for which there is room.
+fn push_places(places: &mut Vec<u64>, marks: &[Mark])
+    requires { length places.old.items + length marks.now ≤ vec_capacity places.old }
+    ensures { places.new.items ≡ places.old.items ++ map (λ mark. mark.place) marks.now }
+{
+    let mut rest = marks;
+    while let [mark, after @ ..] = rest {
+        places.push_reserved(mark.place);
+        rest = after;
+    }
+}
+
+// How many of the first marks, one behind another, have places below a number.
+pub(crate) fn count_below(marks: &[Mark], places: u64) -> usize
+    ensures few { result ≤ length marks.now }
+    ensures below { AreSealed places (map (λ mark. mark.place) (take result marks.now)) }
+{
+    let mut count = 0;
+    while count < marks.len() && marks[count].place < places {
+        count += 1;
+    }
+    count
+}
+
+// How many of the marks are started fetches.
+pub(crate) fn starts_among(marks: &[Mark]) -> u64
+    ensures value { result ≡ starts_in marks.now }
+    ensures few { result ≤ length marks.now }
+{
+    let mut count = 0;
+    let mut rest = marks;
+    while let [mark, after @ ..] = rest {
+        if is_start(&mark.entry) {
+            count += 1;
+        }
+        rest = after;
+    }
+    count
+}
+
+// Whether the entry is a started fetch.
+fn is_start(entry: &Entry) -> bool
+    ensures { result ≡ is_start entry.now }
+{
+    matches!(entry, Entry::Started { .. })
 }

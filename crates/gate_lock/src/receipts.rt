@@ -1,37 +1,48 @@
 //! The receipts of a desk that was closed.
 //! By those of all desks a gate is settled.
-ghost use Rattle.std.specs.Prelude.{◌≡◌, ◌↔◌, IsTrue};
+ghost use Rattle.std.specs.Prelude.{◌≡◌, ◌-◌, ◌<◌, ◌≤◌, ◌↔◌, IfSome, IsTrue};
+ghost use Rattle.std.specs.List.{slice_get};
+ghost use Rattle.std.specs.Option.{option_map};
+ghost use Rattle.gate_lock.specs.Marks.{starts_of};
 ghost use Rattle.gate_lock.specs.Settling.{Agrees, AgreesFrom};
 
 use crate::ledgers::Gate;
-use crate::mark::Mark;
+use crate::mark::{Mark, SealedMarks, starts_among};
 use crate::shares::Mine;
 use gate_history::{Entry, Segment};
 use std::marker::Model;
 
-/// The marks of a desk that was closed, the oldest first. Whoever drops them lets the marks go: the gate can't be
-/// settled any more.
+/// The marks of a desk that was closed, the oldest first, and of those before them what the desk kept. Whoever drops
+/// them lets the marks go: the gate can't be settled any more.
 pub struct Receipts<G: Gate> {
+    pub(crate) sealed: SealedMarks,
     pub(crate) marks: Vec<Mark>,
     pub(crate) mine: Mine<G>,
 }
 
 impl<G: Gate> Model for Receipts<G> {
-    ghost use Rattle.std.specs.Prelude.{List, length, ◌≡◌};
-    ghost use Rattle.gate_lock.specs.declared.mark.Mark.{Mark};
-    ghost use Rattle.gate_lock.specs.Marks.{starts_in};
+    ghost use Rattle.std.specs.Prelude.{length, ◌+◌, ◌≡◌};
+    ghost use Rattle.gate_lock.specs.Marks.{Receipt, starts_in};
 
-    ghost Value = { List Mark };
+    ghost Value = { Receipt };
 
-    ghost view = { λ receipts. receipts.marks.items };
+    ghost view = { λ receipts. record {
+      sealed = receipts.sealed;
+      marks = receipts.marks.items;
+    } };
 
-    ghost invariant = { λ receipts. (receipts.mine.entries ≡ length receipts.marks.items)
-        × (receipts.mine.starts ≡ starts_in receipts.marks.items) };
+    ghost invariant = { λ receipts.
+        (receipts.mine.entries ≡ length receipts.sealed.places + length receipts.marks.items)
+        × (receipts.mine.starts ≡ receipts.sealed.starts + starts_in receipts.marks.items) };
 }
 
 impl<G: Gate> Drop for Receipts<G> {
     fn drop(self) {
-        let Receipts { marks: _, mine } = self;
+        let Receipts {
+            sealed: _,
+            marks: _,
+            mine,
+        } = self;
         let Mine {
             no: _,
             entries: _,
@@ -41,16 +52,31 @@ impl<G: Gate> Drop for Receipts<G> {
 }
 
 impl<G: Gate> Receipts<G> {
-    /// The marks.
+    /// What the desk kept of marks of sealed entries, which were before the others.
+    pub fn sealed(&self) -> &SealedMarks
+        ensures { result.now ≡ self.now.sealed }
+    {
+        &self.sealed
+    }
+
+    /// The marks behind those.
     pub fn marks(&self) -> &[Mark]
-        ensures { result.now ≡ self.now }
+        ensures { result.now ≡ self.now.marks }
     {
         self.marks.as_slice()
     }
 
-    /// Whether each mark whose place lies in the segment is its entry there. It takes no memory.
+    /// How many started fetches the desk made.
+    pub fn starts(&self) -> u64
+        ensures { result ≡ starts_of self.now }
+    {
+        self.sealed.starts() + starts_among(self.marks.as_slice())
+    }
+
+    /// Whether each mark whose place lies in the segment is its entry there; of `sealed` no entry is left that could
+    /// differ. It takes no memory.
     pub fn agrees(&self, segment: &Segment) -> bool
-        ensures { IsTrue result ↔ Agrees segment.now self.now }
+        ensures { IsTrue result ↔ Agrees segment.now self.now.marks }
     {
         let sealed = segment.base().entries();
         let entries = segment.entries();
@@ -69,11 +95,18 @@ impl<G: Gate> Receipts<G> {
 fn agrees_at(sealed: u64, entries: &[Entry], mark: &Mark) -> bool
     ensures { IsTrue result ↔ AgreesFrom sealed entries.now mark.now }
 {
-    if mark.place < sealed {
-        return true;
-    }
-    match entries.get((mark.place - sealed) as usize) {
+    match entry_at(sealed, entries, mark.place) {
         Some(entry) => mark.entry.is(entry),
         None => true,
     }
+}
+
+// The entry at a place, where that is among these, before which so many were sealed.
+pub(crate) fn entry_at(sealed: u64, entries: &[Entry], place: u64) -> Option<&Entry>
+    ensures below { place < sealed → IfSome result (λ _. ⊥) }
+    ensures there { sealed ≤ place → option_map (λ entry. entry.now) result
+        ≡ slice_get entries.now (place - sealed) }
+{
+    let index = place.checked_sub(sealed)?;
+    entries.get(index as usize)
 }

@@ -1,12 +1,12 @@
 //! What lies under the lock: the book, and the ledgers that count what is out.
 //! Each change is one call of the book with the shares that it moves; RFC 9309, sections 2.3.1 and 2.4.
-ghost use Rattle.std.specs.Prelude.{◌≡◌, ◌+◌, ◌<◌, ◌≤◌, ◌↔◌, [], Err, IfOk, IfSome, IsTrue, length, List, Ok, true, false, ℕ};
+ghost use Rattle.std.specs.Prelude.{◌≡◌, ◌+◌, ◌<◌, [], Err, IfOk, IfSome, length, List, Ok, true, false, ℕ};
 ghost use Rattle.gate_history.specs.Base.{empty_base};
 ghost use Rattle.gate_history.specs.History.{entry_count, moment_of};
 ghost use Rattle.gate_history.specs.declared.entry.Entry.TheVariants.{AskDenied, Granted};
 ghost use Rattle.gate_history.specs.Outstanding.{is_running, is_unspent, stands, unspent};
 ghost use Rattle.gate_history.specs.Standing.{has_turn};
-ghost use Rattle.gate_core.specs.Gate.{HasRoom, history};
+ghost use Rattle.gate_core.specs.Gate.{history};
 ghost use Rattle.gate_history.specs.Ruling.{IsRuling};
 ghost use Rattle.gate_core.specs.Sealing.{Seals};
 ghost use Rattle.gate_core.specs.Replies.{Arrives, Asks, Begins, Finishes, Returns, Starts, Sweeps};

@@ -1,7 +1,7 @@
 //! `settle`: the end of a gate, when all its desks are closed.
 //! Nothing is out, and the receipts are the whole history; RFC 9309 has none of it.
 ghost use Rattle.std.specs.Prelude.{◌≡◌, IfOk};
-ghost use Rattle.gate_lock.specs.Marks.{starts_in_all};
+ghost use Rattle.gate_lock.specs.Marks.{starts_of_all};
 ghost use Rattle.gate_lock.specs.Settling.{Settles, SettlesSome};
 
 use crate::fit::marks_fit;
@@ -43,8 +43,8 @@ impl From<AllocError> for SettleFault {
     }
 }
 
-/// Settles a gate by the receipts of its desks. It holds the lock meanwhile, and takes an octet for each
-/// entry.
+/// Settles a gate by the receipts of its desks. It holds the lock meanwhile, and takes a few words for
+/// each of the desks.
 pub fn settle<G: Gate, R: Wait>(
     rt: &R,
     alloc: Global,
@@ -52,7 +52,7 @@ pub fn settle<G: Gate, R: Wait>(
     all: &[Receipts<G>],
 ) -> Result<Settled, SettleFault>
     ensures settles { SettlesSome all.now result }
-    ensures starts { IfOk result (λ settled. settled.starts ≡ starts_in_all all.now) }
+    ensures starts { IfOk result (λ settled. settled.starts ≡ starts_of_all all.now) }
 {
     let held = gate.lend(rt);
     settle_in(alloc, &held, all)
@@ -65,7 +65,7 @@ pub fn settle_in<G: Gate>(
     all: &[Receipts<G>],
 ) -> Result<Settled, SettleFault>
     ensures settles { Settles held.now all.now result }
-    ensures starts { IfOk result (λ settled. settled.starts ≡ starts_in_all all.now) }
+    ensures starts { IfOk result (λ settled. settled.starts ≡ starts_of_all all.now) }
 {
     let book = held.book();
     if book.unspent_count() > 0 || book.running_count() > 0 || book.flight_count() > 0 {

@@ -100,9 +100,8 @@ impl BodyDecoder {
         ensures body { KeepsBody self.old self.new }
         ensures sees { IfOk result
             (SeesBody (framing_in self.old) self.old.limit (drop self.old.start buffer.old) last) }
-        ensures stands { result ≡ Ok BodySeen.More → BodyStands self.new buffer.old }
-        ensures short { result ≡ Ok BodySeen.More
-            → IsShort (framing_in self.old) self.old.limit (drop self.old.start buffer.old) }
+        ensures more { result ≡ Ok BodySeen.More → BodyStands self.new buffer.old
+            × IsShort (framing_in self.old) self.old.limit (drop self.old.start buffer.old) }
         ensures left { IfOk result (LeavesBuffer buffer.old buffer.new) }
         ensures err { IfErr result
             (Refuses (framing_in self.old) self.old.limit (drop self.old.start buffer.old)) }

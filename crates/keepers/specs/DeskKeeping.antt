@@ -8,15 +8,23 @@ use Rattle.gate_core.specs.declared.refusal.BeginRefusal.{BeginRefusal}
 use Rattle.gate_core.specs.declared.refusal.NoMemory.{NoMemory}
 use Rattle.gate_core.specs.declared.state.Standing.{Standing}
 use Rattle.gate_core.specs.declared.state.State.{State}
-use Rattle.gate_lock.specs.declared.mark.Mark.{Mark}
 use Rattle.gate_lock.specs.Bags.{BagView, Clears, GainsPermit, HoldsSame, IsCleared}
-use Rattle.gate_lock.specs.Desks.{DeskView, Pass}
+use Rattle.gate_lock.specs.Desks.{Condenses, DeskView, Pass, receipt_of}
+use Rattle.gate_lock.specs.Marks.{Receipt}
 use Rattle.gate_lock.specs.Steps.{DeskAsks, DeskReads, DeskSeals, Somewhere}
 use Rattle.crawl_job.specs.declared.job.Job.{Job}
 use Rattle.crawl_job.specs.declared.job.Outcome.{Outcome}
 use Rattle.crawl_workers.specs.Outcomes.{Works}
 use Rattle.crawl_workers.specs.Refreshes.{Refreshes}
 use Rattle.crawl_workers.specs.World.{World}
+
+-- the desk condensed the marks of sealed entries, or has not
+abbrev pub MayCondense : DeskView → DeskView → Type 0
+MayCondense d d2 = (d2 ≡ d) ⊎ Somewhere d (λ old new. (new ≡ old) × Condenses d old d2)
+
+-- a step of the desk, which may have condensed its marks before
+abbrev pub Behind : DeskView → (DeskView → Type 0) → Type 0
+Behind d Step = (d1 : DeskView) × (MayCondense d d1 × Step d1)
 
 -- ask: a step of the desk, and the permit that it grants is in the bag. Where there is no memory for it in the
 -- bag, nothing was asked
@@ -53,6 +61,6 @@ KeeperFetches world d b job None d2 b2 = ⊥
 abbrev pub KeeperEnds : DeskView → BagView → DeskView → BagView → Type 0
 KeeperEnds d b d2 b2 = Clears b d d2 × IsCleared b b2
 
--- close: the marks of the desk behind the end of its session are the receipts
-abbrev pub IsClosed : DeskView → BagView → List Mark → Type 0
-IsClosed d b marks = (d2 : DeskView) × (Clears b d d2 × (marks ≡ d2.marks))
+-- close: the receipts are those of the desk behind the end of its session
+abbrev pub IsClosed : DeskView → BagView → Receipt → Type 0
+IsClosed d b r = (d2 : DeskView) × (Clears b d d2 × (r ≡ receipt_of d2))

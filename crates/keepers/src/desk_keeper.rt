@@ -3,7 +3,7 @@
 ghost use Rattle.std.specs.Prelude.{◌≡◌, [], IfOk};
 ghost use Rattle.gate_lock.specs.Bags.{held_in};
 ghost use Rattle.gate_lock.specs.Desks.{IsNew, out_of};
-ghost use Rattle.keepers.specs.DeskKeeping.{IsClosed};
+ghost use Rattle.keepers.specs.DeskKeeping.{IsClosed, MayCondense};
 
 use crate::keeper::Keeper;
 use crawl_job::{Job, Outcome};
@@ -77,6 +77,17 @@ impl<'a, 'g, G: Gate, F: Fetcher, R: Wait> DeskKeeper<'a, 'g, G, F, R> {
         }
     }
 
+    // Condenses the marks of the desk, where there is no room for those that come next.
+    fn make_way(&mut self)
+        ensures fetcher { self.new.fetcher ≡ self.old.fetcher }
+        ensures bag { self.new.bag ≡ self.old.bag }
+        ensures desk { MayCondense self.old.desk self.new.desk }
+    {
+        if self.desk.is_full() {
+            self.desk.condense(self.rt);
+        }
+    }
+
     /// Ends the last session, and closes the desk.
     pub fn close(self) -> Receipts<G>
         ensures { IsClosed self.entry.desk self.entry.bag result }
@@ -96,17 +107,17 @@ impl<'a, 'g, G: Gate, F: Fetcher, R: Wait> Keeper for DeskKeeper<'a, 'g, G, F, R
     ghost use Rattle.std.specs.Prelude.{◌≡◌, true};
     ghost use Rattle.gate_lock.specs.Bags.{BagFinishes, BagReturns, BagStarts};
     ghost use Rattle.crawl_workers.specs.World.{world_of};
-    ghost use Rattle.keepers.specs.DeskKeeping.{KeeperAsks, KeeperEnds, KeeperFetches, KeeperReads, KeeperRefreshes, KeeperSeals};
+    ghost use Rattle.keepers.specs.DeskKeeping.{Behind, KeeperAsks, KeeperEnds, KeeperFetches, KeeperReads, KeeperRefreshes, KeeperSeals};
 
     ghost deals = { record {
       can_fetch = λ _. true;
-      asks = λ k token url m result k2. (k2.fetcher ≡ k.fetcher) × KeeperAsks k.desk k.bag token url m result k2.desk k2.bag;
+      asks = λ k token url m result k2. (k2.fetcher ≡ k.fetcher) × Behind k.desk (λ d. KeeperAsks d k.bag token url m result k2.desk k2.bag);
       starts = λ k number token url m result k2. (k2.fetcher ≡ k.fetcher) × BagStarts k.bag k.desk number token url m result k2.bag k2.desk;
       returns = λ k number result k2. (k2.fetcher ≡ k.fetcher) × BagReturns k.bag k.desk number result k2.bag k2.desk;
       finishes = λ k number result k2. (k2.fetcher ≡ k.fetcher) × BagFinishes k.bag k.desk number result k2.bag k2.desk;
       reads = λ k authority m state k2. (k2.fetcher ≡ k.fetcher) × KeeperReads k.desk k.bag authority m state k2.desk k2.bag;
-      refreshes = λ reads k authority told k2. (k2.fetcher ≡ k.fetcher) × KeeperRefreshes (world_of (F.gives k.fetcher.now) reads) k.desk k.bag authority told k2.desk k2.bag;
-      fetches = λ reads k job told k2. (k2.fetcher ≡ k.fetcher) × KeeperFetches (world_of (F.gives k.fetcher.now) reads) k.desk k.bag job told k2.desk k2.bag;
+      refreshes = λ reads k authority told k2. (k2.fetcher ≡ k.fetcher) × Behind k.desk (λ d. KeeperRefreshes (world_of (F.gives k.fetcher.now) reads) d k.bag authority told k2.desk k2.bag);
+      fetches = λ reads k job told k2. (k2.fetcher ≡ k.fetcher) × Behind k.desk (λ d. KeeperFetches (world_of (F.gives k.fetcher.now) reads) d k.bag job told k2.desk k2.bag);
       seals = λ k result k2. (k2.fetcher ≡ k.fetcher) × KeeperSeals k.desk k.bag result k2.desk k2.bag;
       ends = λ k k2. (k2.fetcher ≡ k.fetcher) × KeeperEnds k.desk k.bag k2.desk k2.bag;
     } };
@@ -116,6 +127,7 @@ impl<'a, 'g, G: Gate, F: Fetcher, R: Wait> Keeper for DeskKeeper<'a, 'g, G, F, R
     }
 
     fn ask(&mut self, token: Token, url: PageUrl, moment: u64) -> Result<PermitNo, AskRefusal> {
+        self.make_way();
         if self.bag.make_room().is_err() {
             return Err(AskRefusal::NoMemory);
         }
@@ -159,6 +171,7 @@ impl<'a, 'g, G: Gate, F: Fetcher, R: Wait> Keeper for DeskKeeper<'a, 'g, G, F, R
         authority: &Authority,
         clock: &C,
     ) -> Option<Result<Standing, BeginRefusal>> {
+        self.make_way();
         let (desk, fetcher) = (&mut self.desk, self.fetcher);
         Some(refresh(self.rt, alloc, authority, desk, fetcher, clock))
     }
@@ -169,6 +182,7 @@ impl<'a, 'g, G: Gate, F: Fetcher, R: Wait> Keeper for DeskKeeper<'a, 'g, G, F, R
         job: Job,
         clock: &C,
     ) -> Option<Result<Outcome, NoMemory>> {
+        self.make_way();
         let (desk, fetcher) = (&mut self.desk, self.fetcher);
         match work(self.rt, alloc, job, desk, fetcher, clock) {
             Ok(outcome) => Some(Ok(outcome)),

@@ -1,7 +1,7 @@
 //! What sees to a gate while workers serve: answers that are past are swept, and a full history is told of.
 //! RFC 9309, section 2.4.
-ghost use Rattle.std.specs.Prelude.{◌≡◌, IfOk};
-ghost use Rattle.gate_lock.specs.Desks.{KeepsOut, out_of};
+ghost use Rattle.std.specs.Prelude.{◌≡◌};
+ghost use Rattle.gate_lock.specs.Desks.{KeepsOut};
 ghost use Rattle.line_server.specs.Sweeping.{is_due};
 
 use crate::fault::ServeFault;

@@ -1,6 +1,6 @@
 //! The authority of a page's URL: its host, and its port where that is not 80.
 //! RFC 3986, section 3.2.
-ghost use Rattle.std.specs.Prelude.{◌≡◌, None, Some, Err, IfOk, IfErr, IsTrue, bytes_eq, string_bytes};
+ghost use Rattle.std.specs.Prelude.{◌≡◌, Some, Err, IfOk, bytes_eq, string_bytes};
 ghost use Rattle.std.specs.Cmp.{partial_equiv_from_equiv};
 ghost use Rattle.std.specs.Cmp.Lexicographic.{nat_list_eq_equiv};
 ghost use Rattle.std.specs.List.{list_any};

@@ -1,7 +1,7 @@
 //! Normal forms of paths and patterns: equal octets are written in one way.
 //! RFC 9309, section 2.2.2; RFC 3986, section 2.
 ghost use Rattle.std.specs.Prelude.{◌≡◌, ◌++◌, ◌∷◌, ◌<◌, ◌≤◌, vec_len, [], drop, take, true, length, IfOk, IfSome, IsTrue, MatchOption};
-ghost use Rattle.std.specs.List.{position, position_or_len};
+ghost use Rattle.std.specs.List.{position};
 ghost use Rattle.std.specs.Char.{digit_value, is_digit};
 ghost use Rattle.path_normal.specs.Normal.{is_anchored, is_changed, is_gen_delim, is_kept, is_reserved, is_sign, is_sub_delim, is_unreserved, normal, normal_path, normal_pattern, spelled, unanchored, units};
 

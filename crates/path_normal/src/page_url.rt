@@ -1,6 +1,6 @@
 //! The URL of a page: an `http` URL with no user and no fragment.
 //! URL Standard, sections 4.4 and 4.5.
-ghost use Rattle.std.specs.Prelude.{◌≡◌, ◌<◌, ◌≤◌, None, Some, Ok, Err, IfOk, IsAscii, MatchOption, bytes_eq, length, nat_lt, string_bytes};
+ghost use Rattle.std.specs.Prelude.{◌≡◌, ◌<◌, None, Some, Ok, Err, IfOk, IsAscii, MatchOption, bytes_eq, length, nat_lt, string_bytes};
 ghost use Rattle.std.specs.Cmp.{partial_equiv_from_equiv};
 ghost use Rattle.std.specs.Cmp.Lexicographic.{nat_list_eq_equiv};
 ghost use Rattle.url.specs.Parser.{parse_url};

@@ -1,6 +1,6 @@
 //! The body of a robots text, read from a source in large pieces.
 //! `lines` reads its input with it.
-ghost use Rattle.std.specs.Prelude.{◌≡◌, ◌≤◌, ◌<◌, IfOk, IfErr, OnOk, OnErr, length};
+ghost use Rattle.std.specs.Prelude.{◌≡◌, ◌<◌, IfOk, IfErr, OnOk, OnErr, length};
 ghost use Rattle.robots_lines.specs.Prints.{IsReadFault, ReadsBody, ReadsLost, ReadsMore, ReadsPart};
 ghost use Rattle.command_server.specs.Session.{failures_after_reads};
 

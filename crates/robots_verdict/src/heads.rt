@@ -1,6 +1,6 @@
 //! The names of groups, and which groups a token has.
 //! RFC 9309, section 2.2.1.
-ghost use Rattle.std.specs.Prelude.{◌≡◌, ◌∷◌, ◌++◌, [], ◌↔◌, ℕ, List, Contains, IfOk, map};
+ghost use Rattle.std.specs.Prelude.{◌≡◌, ◌++◌, [], ◌↔◌, ℕ, Contains, IfOk, map};
 ghost use Rattle.std.specs.List.Sorted.{IsNonDecreasing, IsPermutation};
 ghost use Rattle.std.specs.Ordering.{is_gt, is_lt, nat_cmp};
 ghost use Rattle.std.specs.Cmp.Lexicographic.{slice_cmp};

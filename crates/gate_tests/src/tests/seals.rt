@@ -17,13 +17,21 @@ use std::test::Fail;
 use std::thread;
 use std::thread::Threads;
 
-// What came of a gate: its settlement, how many entries were handed out, and whether all receipts agree with all
-// of them.
+// What came of a gate: its settlement, how many entries were handed out, whether all receipts agree with all of
+// them, and whether any of the receipts keep no more than the places of entries.
 #[derive(Clone, Copy, Debug, PartialEq)]
 struct Outcome {
     settled: Result<Settled, SettleFault>,
     handed_out: usize,
     agree: bool,
+    condensed: bool,
+}
+
+// What the desk that seals does with its marks behind each seal.
+#[derive(Clone, Copy)]
+enum Marks {
+    Whole,
+    Condensed,
 }
 
 // What a desk was closed with, and what it was handed out.
@@ -37,6 +45,7 @@ fn sealed_by_one<G: Gate + Send + Sync, R: Threads + Wait + Sync>(
     alloc: Global,
     book: Book,
     blanks: Blanks,
+    marks: Marks,
 ) -> Result<Outcome, Fail>
     requires book { (book.base ≡ empty_base) × (book.entries ≡ []) }
     requires blanks { blanks ≡ G.ledgers }
@@ -44,7 +53,7 @@ fn sealed_by_one<G: Gate + Send + Sync, R: Threads + Wait + Sync>(
     let gate: GateLock<G> = GateLock::new(book, blanks);
     let mut all = Vec::new(alloc);
     bring(rt, alloc, &gate, Form::Plain, &mut all)?;
-    at_a_gate(rt, alloc, &gate, &mut all)
+    at_a_gate(rt, alloc, &gate, &mut all, marks)
 }
 
 // Two threads make a hundred rounds each, and one of them seals. A third desk seals what is left.
@@ -53,13 +62,14 @@ fn at_a_gate<G: Gate + Send + Sync, R: Threads + Wait + Sync>(
     alloc: Global,
     gate: &GateLock<G>,
     all: &mut Vec<Receipts<G>>,
+    marks: Marks,
 ) -> Result<Outcome, Fail> {
     let (one, other) = thread::join(
         rt,
-        move || seal_meanwhile(rt, alloc, gate, 10),
+        move || seal_meanwhile(rt, alloc, gate, marks, 10),
         move || worked(rt, alloc, gate),
     );
-    let last = seal_meanwhile(rt, alloc, gate, 0);
+    let last = seal_meanwhile(rt, alloc, gate, marks, 0);
     let mut segments = Vec::new(alloc);
     let kept = [
         keep_sealed(all, &mut segments, one),
@@ -73,6 +83,7 @@ fn at_a_gate<G: Gate + Send + Sync, R: Threads + Wait + Sync>(
         settled: settle(rt, alloc, gate, all.as_slice()),
         handed_out: entries_of(segments.as_slice()),
         agree: all_agree(all.as_slice(), segments.as_slice()),
+        condensed: any_condensed(all.as_slice()),
     })
 }
 
@@ -81,6 +92,7 @@ fn seal_meanwhile<G: Gate, R: Wait>(
     rt: &R,
     alloc: Global,
     gate: &GateLock<G>,
+    marks: Marks,
     times: u64,
 ) -> Result<ClosedDesk<G>, DesksFull> {
     let mut segments = Vec::new(alloc);
@@ -88,12 +100,22 @@ fn seal_meanwhile<G: Gate, R: Wait>(
     for _ in 0..times {
         ten_rounds(rt, alloc, &mut desk);
         keep_segment(&mut segments, desk.seal(rt));
+        treat(rt, &mut desk, marks);
     }
     keep_segment(&mut segments, desk.seal(rt));
     Ok(ClosedDesk {
         receipts: desk.close(),
         segments,
     })
+}
+
+fn treat<G: Gate, R: Wait>(rt: &R, desk: &mut Desk<'_, G>, marks: Marks)
+    ensures { out_of desk.new ≡ out_of desk.old }
+{
+    match marks {
+        Marks::Whole => {}
+        Marks::Condensed => desk.condense(rt),
+    }
 }
 
 fn ten_rounds<G: Gate, R: Wait>(rt: &R, alloc: Global, desk: &mut Desk<'_, G>)
@@ -149,6 +171,15 @@ fn entries_of(segments: &[Segment]) -> usize {
     count
 }
 
+fn any_condensed<G: Gate>(all: &[Receipts<G>]) -> bool {
+    for receipts in all {
+        if !receipts.sealed().places().is_empty() {
+            return true;
+        }
+    }
+    false
+}
+
 fn all_agree<G: Gate>(all: &[Receipts<G>], segments: &[Segment]) -> bool {
     for segment in segments {
         if !agree(all, segment) {
@@ -170,18 +201,25 @@ fn agree<G: Gate>(all: &[Receipts<G>], segment: &Segment) -> bool {
 #[test]
 fn a_gate_is_sealed_meanwhile(rt: HostRuntime) -> Result<(), Fail> {
     let keys = RandomState::new(&rt)?;
-    let want = Outcome {
-        settled: Ok(Settled {
-            events: 602,
-            starts: 200,
-        }),
-        handed_out: 602,
-        agree: true,
-    };
-    for _ in 0..10 {
-        let book = book(rt.alloc(), keys, 2, 65_536)?;
-        let got = sealed_by_one::<Brand, HostRuntime>(&rt, rt.alloc(), book, Blanks::new())?;
-        assert_eq!(rt; got, want, "a hundred rounds of each");
+    for (name, marks, condensed) in [
+        ("its marks stay whole", Marks::Whole, false),
+        ("of sealed entries it keeps places", Marks::Condensed, true),
+    ] {
+        let want = Outcome {
+            settled: Ok(Settled {
+                events: 602,
+                starts: 200,
+            }),
+            handed_out: 602,
+            agree: true,
+            condensed,
+        };
+        for _ in 0..5 {
+            let book = book(rt.alloc(), keys, 2, 65_536)?;
+            let blanks = Blanks::new();
+            let got = sealed_by_one::<Brand, HostRuntime>(&rt, rt.alloc(), book, blanks, marks)?;
+            assert_eq!(rt; got, want, "{name}");
+        }
     }
     Ok(())
 }

@@ -1,17 +1,17 @@
 -- No more turns are in flight than there are entries, and one more is where one was begun.
 use Rattle.std.proofs.Common.{Ok, sym, ap, refl, subst, arith}
 use Rattle.authority_cache.specs.declared.site.Flight.{Flight}
-use Rattle.authority_cache.specs.Calls.{Begins, Changes, IsFound, one_if}
-use Rattle.authority_cache.specs.Kept.{known_in, known_of}
-use Rattle.authority_cache.specs.Sites.{Known, is_flying, site_of, with_flight}
+use Rattle.authority_cache.specs.Calls.{Begins, IsFound, one_if}
+use Rattle.authority_cache.specs.Kept.{known_in}
+use Rattle.authority_cache.specs.Sites.{Known, is_flying}
 use Rattle.authority_cache.proofs.SiteLaws.{flights_bound}
 use Rattle.authority_cache.proofs.cache.Cache.begin_at.Goals as goal
 
 pub overflow_add-self : goal.overflow_add-self
 overflow_add-self c = omega (arith, flights_bound c.self.inside.limit c.self.inside.sites.entries, c.in_ok-may_begin.ensures.few, c.self.invariant.flights)
 
-pub make_room-requires-clause-flights : goal.make_room-requires-clause-flights
-make_room-requires-clause-flights c = omega (arith, flights_bound c.self.inside.limit c.self.inside.sites.entries, c.self.invariant.flights)
+pub make_room-requires-clause-room : goal.make_room-requires-clause-room
+make_room-requires-clause-room c = (c.self.invariant.room, omega (arith, flights_bound c.self.inside.limit c.self.inside.sites.entries, c.self.invariant.flights))
 
 pub invariant_of-self-2 : goal.invariant_of-self-2
 invariant_of-self-2 c =

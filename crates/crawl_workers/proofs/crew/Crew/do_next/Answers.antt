@@ -24,4 +24,5 @@ returns-clause-ok g c =
       numbers = ap (map (λ (d : Done). d.number)) items ∙ map-append (λ (d : Done). d.number) c.args.done.now.items (did ∷ [])
           ∙ (λ i. so_far.numbers i ++ number i) ∙ sym numbers;
       are_done = did_another world c.args.self.now.jobs.now c.args.done.now.items c.push_reserved-2.new.self.items did (entries_of c.args.desk.now.marks) this.0 (entries_of c.do_job.new.desk.marks) items this.1.0 so_far.are_done this.1.1;
+      are_all = c.in_ok-did.ensures.out.sealed_are ∙ so_far.are_all;
     }

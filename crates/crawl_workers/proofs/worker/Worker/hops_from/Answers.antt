@@ -1,5 +1,5 @@
 -- Each redirect that is followed adds a hop, and the last hops end the list.
-use Rattle.std.proofs.Common.{◌≡◌, length, arith, rules}
+use Rattle.std.proofs.Common.{◌≡◌, ◌∙◌, length, arith, rules}
 use Rattle.crawl_workers.proofs.Chains.{come_on, come_to_stop}
 use Rattle.crawl_workers.specs.World.{world_of}
 use Rattle.crawl_workers.proofs.worker.Worker.hops_from.Goals as goal
@@ -12,7 +12,7 @@ loop-hop-preserved g c =
           c.loop-hop.hops.items c.push_reserved-in-Leads.new.self.items c.in-Leads.hop c.len.result c.args.desk.now
           c.loop-hop.desk c.hop_at.new.desk count c.push_reserved-in-Leads.ensures.items c.loop-hop.invariant.come c.in-Leads.ensures.tells;
       same = search rules;
-      out = record { permits_are = omega arith; runs_are = omega arith; turns_are = omega arith };
+      out = record { permits_are = omega arith; runs_are = omega arith; turns_are = omega arith; sealed_are = c.hop_at.ensures.out.sealed_are ∙ c.loop-hop.invariant.out.sealed_are };
       room = omega arith;
     }
 

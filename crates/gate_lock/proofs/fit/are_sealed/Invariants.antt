@@ -1,0 +1,10 @@
+-- What is left of the places is sealed exactly where all of them are.
+use Rattle.std.proofs.Common.{◌↔◌, length}
+use Rattle.gate_lock.specs.Marks.{AreSealed}
+use Rattle.gate_lock.proofs.fit.are_sealed.Given as goal
+
+abbrev pub invariant-loop-rest : goal.invariant-loop-rest
+invariant-loop-rest l = AreSealed l.sealed l.rest ↔ AreSealed l.sealed l.places
+
+abbrev pub decreases-loop-rest : goal.decreases-loop-rest
+decreases-loop-rest l = length l.rest

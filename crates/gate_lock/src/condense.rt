@@ -1,0 +1,37 @@
+//! `Desk::condense`: of entries that were sealed a desk keeps their places, and no policy.
+ghost use Rattle.std.specs.Prelude.{◌≡◌};
+ghost use Rattle.gate_lock.specs.Desks.{Condenses, out_of};
+ghost use Rattle.gate_lock.specs.Steps.{Somewhere};
+
+use crate::desk::Desk;
+use crate::ledgers::Gate;
+use crate::mark::count_below;
+use std::sync::Wait;
+
+#[tactic(auto)]
+impl<'a, G: Gate> Desk<'a, G> {
+    /// Whether the next call may take memory for marks: the time to condense those that there are.
+    pub fn is_full(&self) -> bool {
+        self.marks.capacity() - self.marks.len() < self.promised() as usize + 3
+    }
+
+    /// Keeps of the first marks, where their entries were sealed meanwhile, eight octets each: their places, and how
+    /// many of them are started fetches. The others stay whole, and all do where the sealed ones are less than half,
+    /// so that the work for each is bounded, or where memory is refused. No desk makes an entry.
+    pub fn condense<R: Wait>(&mut self, rt: &R)
+        ensures step { Somewhere self.old
+            (λ old new. (new ≡ old) × Condenses self.old old self.new) }
+        ensures no { self.new.no ≡ self.old.no }
+        ensures out { out_of self.new ≡ out_of self.old }
+    {
+        let sealed = {
+            let held = self.lend(rt);
+            self.seen = held.guard.entry_count();
+            held.book().base().entries()
+        };
+        let count = count_below(self.marks.as_slice(), sealed);
+        if count >= self.marks.len().div_ceil(2) {
+            let _ = self.sealed.take_in(&mut self.marks, count);
+        }
+    }
+}

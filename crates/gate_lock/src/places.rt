@@ -1,0 +1,180 @@
+//! The places of all receipts, merged: whether each is found once.
+//! In each list they ascend, so that the next one is the first of some list.
+ghost use Rattle.std.specs.Prelude.{◌≡◌, ◌∷◌, ◌↔◌, [], IfOk, IfNone, IfSome, IsTrue, false, map, true};
+ghost use Rattle.gate_lock.specs.Marks.{places_of};
+ghost use Rattle.gate_lock.specs.Places.{AllAscend, AllEmpty, Ascend, EachOnce, IsBefore, IsNext, IsNextOfNone, Passes};
+
+use crate::ledgers::Gate;
+use crate::mark::Mark;
+use crate::receipts::Receipts;
+use std::alloc::{AllocError, Global};
+use std::marker::Model;
+
+// The places of receipts that were not come by yet.
+#[derive(Drop)]
+pub(crate) struct Places<'a> {
+    sealed: &'a [u64],
+    marks: &'a [Mark],
+}
+
+impl<'a> Model for Places<'a> {
+    ghost use Rattle.std.specs.Prelude.{List, ℕ, ◌++◌, map};
+
+    ghost Value = { List ℕ };
+
+    ghost view = { λ places. places.sealed.now ++ map (λ mark. mark.place) places.marks.now };
+}
+
+impl<'a> Places<'a> {
+    // Those of receipts.
+    fn of<G: Gate>(receipts: &'a Receipts<G>) -> Places<'a>
+        ensures { result ≡ places_of receipts.now }
+    {
+        Places {
+            sealed: receipts.sealed().places(),
+            marks: receipts.marks(),
+        }
+    }
+
+    // The next one, and those behind it.
+    fn split(self) -> Option<(u64, Places<'a>)>
+        ensures some { IfSome result (λ pair. self.entry ≡ pair.0 ∷ pair.1) }
+        ensures none { IfNone result (self.entry ≡ []) }
+    {
+        let Places { sealed, marks } = self;
+        if let [place, sealed @ ..] = sealed {
+            return Some((*place, Places { sealed, marks }));
+        }
+        let [mark, marks @ ..] = marks else {
+            return None;
+        };
+        Some((mark.place, Places { sealed, marks }))
+    }
+
+    // The next one.
+    fn next(&self) -> Option<u64>
+        ensures some { IfSome result (λ place. IsNext place self.now) }
+        ensures none { IfNone result (self.now ≡ []) }
+    {
+        if let [place, ..] = self.sealed {
+            return Some(*place);
+        }
+        let [mark, ..] = self.marks else {
+            return None;
+        };
+        Some(mark.place)
+    }
+
+    // Whether the place is before the next one.
+    fn are_behind(&self, place: u64) -> bool
+        ensures { IsTrue result ↔ IsBefore place self.now }
+    {
+        match self.next() {
+            Some(next) => place < next,
+            None => true,
+        }
+    }
+
+    // Comes by the place, where it is the next one.
+    fn pass(&mut self, place: u64) -> bool
+        ensures yes { result ≡ true → (self.old ≡ place ∷ self.new) }
+        ensures no { result ≡ false → (self.new ≡ self.old) × (IsNext place self.old → ⊥) }
+    {
+        if self.next() != Some(place) {
+            return false;
+        }
+        if let [_, sealed @ ..] = self.sealed {
+            self.sealed = sealed;
+        } else if let [_, marks @ ..] = self.marks {
+            self.marks = marks;
+        }
+        true
+    }
+}
+
+// Whether the places of receipts ascend.
+pub(crate) fn ascend<G: Gate>(receipts: &Receipts<G>) -> bool
+    ensures { IsTrue result ↔ Ascend (places_of receipts.now) }
+{
+    let mut rest = Places::of(receipts);
+    while let Some((place, after)) = rest.split() {
+        if !after.are_behind(place) {
+            return false;
+        }
+        rest = after;
+    }
+    true
+}
+
+// Whether the places of all receipts, which ascend in each, are all those below a number, each once.
+pub(crate) fn each_once<G: Gate>(
+    alloc: Global,
+    count: u64,
+    all: &[Receipts<G>],
+) -> Result<bool, AllocError>
+    requires { AllAscend (map places_of all.now) }
+    ensures { IfOk result (λ once. IsTrue once ↔ EachOnce count (map places_of all.now)) }
+{
+    let mut left = places_of_all(alloc, all)?;
+    Ok(merge(&mut left, count))
+}
+
+// The places of all receipts.
+fn places_of_all<'a, G: Gate>(
+    alloc: Global,
+    all: &'a [Receipts<G>],
+) -> Result<Vec<Places<'a>>, AllocError>
+    ensures { IfOk result (λ left. left.items ≡ map places_of all.now) }
+{
+    let mut left = Vec::with_capacity(alloc, all.len())?;
+    let mut rest = all;
+    while let [receipts, after @ ..] = rest {
+        left.push_reserved(Places::of(receipts));
+        rest = after;
+    }
+    Ok(left)
+}
+
+// Comes by each place below a number in turn, and tells whether nothing is left then.
+fn merge(left: &mut [Places<'_>], count: u64) -> bool
+    requires { AllAscend left.old }
+    ensures { IsTrue result ↔ EachOnce count left.old }
+{
+    let mut place = 0;
+    while place < count {
+        if !pass_one(left, place) {
+            return false;
+        }
+        place += 1;
+    }
+    are_empty(left)
+}
+
+// Comes by a place in a list whose next one it is.
+fn pass_one(left: &mut [Places<'_>], place: u64) -> bool
+    ensures yes { result ≡ true → Passes place left.old left.new }
+    ensures no { result ≡ false → IsNextOfNone place left.old }
+{
+    let mut index = 0;
+    while index < left.len() {
+        if left[index].pass(place) {
+            return true;
+        }
+        index += 1;
+    }
+    false
+}
+
+// Whether nothing is left.
+fn are_empty(left: &[Places<'_>]) -> bool
+    ensures { IsTrue result ↔ AllEmpty left.now }
+{
+    let mut rest = left;
+    while let [places, after @ ..] = rest {
+        if places.next().is_some() {
+            return false;
+        }
+        rest = after;
+    }
+    true
+}

@@ -1,0 +1,19 @@
+-- An ask that is refused, of a desk and then of its keeper.
+-- Used by the `ask` of `DeskKeeper`.
+use Rattle.std.proofs.Common.{◌≡◌, ℕ, List, inl, inr, subst, sym}
+use Rattle.std.specs.Prelude.{Err, Result}
+use Rattle.gate_core.specs.declared.refusal.AskRefusal.{AskRefusal}
+use Rattle.gate_core.specs.declared.refusal.AskRefusal.TheVariants as ask
+use Rattle.gate_lock.specs.Bags.{BagView, HoldsSame}
+use Rattle.gate_lock.specs.Desks.{DeskView}
+use Rattle.gate_lock.specs.Steps.{DeskAsks, Somewhere}
+use Rattle.keepers.specs.DeskKeeping.{KeeperAsks}
+
+-- the keeper's refusal is its desk's
+pub refused : (d : DeskView) (b : BagView) (token url : List ℕ) (m : ℕ) (refusal : AskRefusal) (d2 : DeskView) (b2 : BagView) →
+    Somewhere d (λ old new. DeskAsks d old token url m (Err refusal) new d2) → HoldsSame b b2 → KeeperAsks d b token url m (Err refusal) d2 b2
+refused d b token url m (ask.Denied denial) d2 b2 asks holds = (asks, holds)
+refused d b token url m ask.LogFull d2 b2 asks holds = (asks, holds)
+refused d b token url m ask.Busy d2 b2 asks holds = (asks, holds)
+refused d b token url m ask.PermitsFull d2 b2 asks holds = (asks, holds)
+refused d b token url m ask.NoMemory d2 b2 asks holds = (inr asks, holds)
