@@ -3,6 +3,10 @@
 use Rattle.std.specs.Prelude.{ℕ, List, Option, Some, None, codes, Result, Ok, Err}
 use Rattle.command_server.specs.declared.session_fault.SessionFault.{SessionFault}
 use Rattle.command_server.specs.declared.session_fault.SessionFault.TheVariants as faults
+use Rattle.robots_check.specs.declared.fault.CheckFault.{CheckFault}
+use Rattle.robots_check.specs.declared.fault.CheckFault.TheVariants as check_faults
+use Rattle.robots_check.specs.declared.outcome.Outcome.{Outcome}
+use Rattle.robots_check.specs.declared.outcome.Outcome.TheVariants as outcomes
 use Rattle.program_streams.specs.declared.ending.Ending.{Ending}
 use Rattle.program_streams.specs.declared.ending.Ending.TheVariants as endings
 
@@ -12,6 +16,8 @@ exit_status endings.Done = 0
 exit_status endings.LongLine = 1
 exit_status endings.ManyLines = 1
 exit_status endings.BadLine = 1
+exit_status endings.DeniedUrl = 1
+exit_status endings.BadUrl = 2
 exit_status endings.BadWords = 2
 exit_status endings.NoMemory = 3
 exit_status endings.Device = 3
@@ -22,6 +28,8 @@ message_of endings.Done = None
 message_of endings.LongLine = Some (codes "line too long")
 message_of endings.ManyLines = Some (codes "too many lines")
 message_of endings.BadLine = None
+message_of endings.DeniedUrl = None
+message_of endings.BadUrl = None
 message_of endings.BadWords = None
 message_of endings.NoMemory = Some (codes "no memory")
 message_of endings.Device = Some (codes "device")
@@ -34,3 +42,12 @@ ending_of (Err faults.Lines) = endings.ManyLines
 ending_of (Err faults.Read) = endings.Device
 ending_of (Err faults.Write) = endings.Device
 ending_of (Err faults.NoMemory) = endings.NoMemory
+
+-- how the program ends where a check came to this
+abbrev pub ending_of_check : Result Outcome CheckFault → Ending
+ending_of_check (Ok outcomes.Allowed) = endings.Done
+ending_of_check (Ok outcomes.Denied) = endings.DeniedUrl
+ending_of_check (Ok outcomes.Unread) = endings.BadUrl
+ending_of_check (Err check_faults.Read) = endings.Device
+ending_of_check (Err check_faults.Write) = endings.Device
+ending_of_check (Err check_faults.NoMemory) = endings.NoMemory

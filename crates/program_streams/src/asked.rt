@@ -5,6 +5,7 @@ ghost use Rattle.program_words.specs.Options.{IsInRange};
 ghost use Rattle.program_streams.specs.Ready.{IsReady};
 
 use crate::audits::audit_streams;
+use crate::checks::check_streams;
 use crate::ending::Ending;
 use crate::next::Next;
 use crate::replays::{export_streams, lines_streams, replay_streams};
@@ -87,6 +88,7 @@ fn run_subcommand(rt: &HostRuntime, subcommand: Subcommand) -> Next
         Subcommand::Replay(limits) => Next::Ends(replay_streams(rt, limits)),
         Subcommand::Export(limits) => Next::Ends(export_streams(rt, limits)),
         Subcommand::Lines => Next::Ends(lines_streams(rt)),
+        Subcommand::Check(options) => Next::Ends(check_streams(rt, options)),
         Subcommand::Audit => Next::Ends(audit_streams(rt)),
         Subcommand::Shift(options) => Next::Shift(options),
         Subcommand::Serve(options) => Next::Serve(options),

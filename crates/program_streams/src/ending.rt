@@ -1,9 +1,10 @@
 //! How the program ends: its exit status, and what it tells on standard error.
 //! docs/crawlgate.1.md has the table.
 ghost use Rattle.std.specs.Prelude.{◌≡◌, option_map};
-ghost use Rattle.program_streams.specs.Endings.{ending_of, message_of, exit_status};
+ghost use Rattle.program_streams.specs.Endings.{ending_of, ending_of_check, message_of, exit_status};
 
 use command_server::SessionFault;
+use robots_check::{CheckFault, Outcome};
 
 /// How a run of the program ended.
 #[derive(Clone, Copy, Debug, PartialEq, Eq)]
@@ -16,6 +17,10 @@ pub enum Ending {
     ManyLines,
     /// The audit found a bad line, and told its number.
     BadLine,
+    /// A check found that a URL is denied, and each could be read.
+    DeniedUrl,
+    /// A check met a URL that could not be read.
+    BadUrl,
     /// The program's words were refused, or asked for help.
     BadWords,
     /// A growth of memory was refused.
@@ -38,14 +43,27 @@ impl Ending {
         }
     }
 
+    /// The ending of a check.
+    pub fn of_check(end: Result<Outcome, CheckFault>) -> Ending
+        ensures { result ≡ ending_of_check end }
+    {
+        match end {
+            Ok(Outcome::Allowed) => Ending::Done,
+            Ok(Outcome::Denied) => Ending::DeniedUrl,
+            Ok(Outcome::Unread) => Ending::BadUrl,
+            Err(CheckFault::Read | CheckFault::Write) => Ending::Device,
+            Err(CheckFault::NoMemory) => Ending::NoMemory,
+        }
+    }
+
     /// The exit status.
     pub fn status(self) -> u8
         ensures { result ≡ exit_status self }
     {
         match self {
             Ending::Done => 0,
-            Ending::LongLine | Ending::ManyLines | Ending::BadLine => 1,
-            Ending::BadWords => 2,
+            Ending::LongLine | Ending::ManyLines | Ending::BadLine | Ending::DeniedUrl => 1,
+            Ending::BadUrl | Ending::BadWords => 2,
             Ending::NoMemory | Ending::Device => 3,
         }
     }
@@ -55,7 +73,11 @@ impl Ending {
         ensures { option_map (λ text. text.now) result ≡ message_of self }
     {
         match self {
-            Ending::Done | Ending::BadLine | Ending::BadWords => None,
+            Ending::Done
+            | Ending::BadLine
+            | Ending::DeniedUrl
+            | Ending::BadUrl
+            | Ending::BadWords => None,
             Ending::LongLine => Some("line too long"),
             Ending::ManyLines => Some("too many lines"),
             Ending::NoMemory => Some("no memory"),

@@ -6,6 +6,7 @@
 mod asked;
 mod audits;
 mod books;
+mod checks;
 mod ending;
 mod found;
 mod next;

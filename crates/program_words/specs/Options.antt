@@ -3,7 +3,9 @@
 use Rattle.program_words.specs.declared.words.ServeOptions.{ServeOptions}
 use Rattle.program_words.specs.declared.words.ShiftOptions.{ShiftOptions}
 use Rattle.program_words.specs.declared.words.Subcommand.{Subcommand}
-use Rattle.program_words.specs.declared.words.Subcommand.TheVariants.{Replay, Export, Lines, Audit, Shift, Serve}
+use Rattle.program_words.specs.declared.words.Subcommand.TheVariants.{Replay, Export, Lines, Check, Audit, Shift, Serve}
+use Rattle.program_words.specs.declared.words.Chosen.{Chosen}
+use Rattle.program_words.specs.declared.words.Chosen.TheVariants.{Taken, Refused}
 use Rattle.client_wire.specs.Accepts.{AreServed}
 use Rattle.client_wire.specs.Waiting.{IsPatience}
 use Rattle.gate_core.specs.Limits.{AreLimits}
@@ -31,6 +33,12 @@ abbrev pub IsInRange : Subcommand → Type 0
 IsInRange (Replay limits) = AreLimits limits
 IsInRange (Export limits) = AreLimits limits
 IsInRange Lines = Unit {0}
+IsInRange (Check options) = Unit {0}
 IsInRange Audit = Unit {0}
 IsInRange (Shift options) = AreForShift options
 IsInRange (Serve options) = AreForServe options
+
+-- the same of what is taken
+abbrev pub IsChosen : Chosen → Type 0
+IsChosen (Taken subcommand) = IsInRange subcommand
+IsChosen (Refused reason) = Unit {0}

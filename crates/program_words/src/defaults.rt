@@ -1,7 +1,12 @@
-//! The numbers of the options that nobody sets, as the help shows them.
+//! The options that are numbers: their ranges, and the numbers that nobody sets, as the help shows them.
 //! docs/crawlgate.1.md has them all.
-use client_wire::PATIENCE_SECONDS;
-use gate_core::Limits;
+ghost use Rattle.std.specs.Prelude.{◌≤◌};
+ghost use Rattle.permit_book.specs.Numbers.{last_generation};
+
+use client_wire::{MAX_CONNECTIONS, PATIENCE_SECONDS};
+use gate_core::{Limits, MAX_AUTHORITIES, MAX_LOG, MAX_PLACES};
+use job_line::MAX_WORKERS;
+use permit_book::{LAST_GENERATION, MAX_SLOTS};
 use std::alloc::{AllocError, Global};
 use tcp_wire::{CONNECT_SECONDS, STEP_SECONDS, WHOLE_SECONDS};
 
@@ -11,47 +16,144 @@ const USUAL_WORKERS: u64 = 4;
 /// The port at which clients connect: one that is free.
 const USUAL_PORT: u64 = 0;
 
+/// The greatest port.
+const MAX_PORT: u64 = 65_535;
+
 /// How many connections are taken in all.
 const USUAL_CONNECTIONS: u64 = 4_096;
 
-/// A text for each option that has a number.
+/// An option that is a number from `least` to `most`, and what the help shows of it.
 #[derive(Drop)]
-pub(crate) struct Defaults {
-    pub(crate) slots: String,
-    pub(crate) generation: String,
-    pub(crate) log: String,
-    pub(crate) authorities: String,
-    pub(crate) places: String,
-    pub(crate) workers: String,
-    pub(crate) port: String,
-    pub(crate) connections: String,
-    pub(crate) connect_timeout: String,
-    pub(crate) read_timeout: String,
-    pub(crate) fetch_timeout: String,
-    pub(crate) patience: String,
+pub(crate) struct NumberOption {
+    pub(crate) least: u64,
+    pub(crate) most: u64,
+    pub(crate) usual: String,
+    pub(crate) about: String,
+    ghost fits: { (least ≤ last_generation) × (most ≤ last_generation) },
 }
 
-impl Defaults {
-    /// The texts of the usual limits.
-    pub(crate) fn new(alloc: Global) -> Result<Defaults, AllocError> {
-        let limits = Limits::usual();
-        Ok(Defaults {
-            slots: text_of(alloc, limits.slots)?,
-            generation: text_of(alloc, limits.first_generation)?,
-            log: text_of(alloc, limits.log_limit)?,
-            authorities: text_of(alloc, limits.authority_limit)?,
-            places: text_of(alloc, limits.places)?,
-            workers: text_of(alloc, USUAL_WORKERS)?,
-            port: text_of(alloc, USUAL_PORT)?,
-            connections: text_of(alloc, USUAL_CONNECTIONS)?,
-            connect_timeout: text_of(alloc, CONNECT_SECONDS)?,
-            read_timeout: text_of(alloc, STEP_SECONDS)?,
-            fetch_timeout: text_of(alloc, WHOLE_SECONDS)?,
-            patience: text_of(alloc, PATIENCE_SECONDS)?,
+/// Each option that has a number.
+#[derive(Drop)]
+pub(crate) struct Defaults {
+    pub(crate) book: BookOptions,
+    pub(crate) jobs: NumberOption,
+    pub(crate) clients: ClientOptions,
+    pub(crate) times: TimeOptions,
+}
+
+/// The limits of a book.
+#[derive(Drop)]
+pub(crate) struct BookOptions {
+    pub(crate) slots: NumberOption,
+    pub(crate) generation: NumberOption,
+    pub(crate) log: NumberOption,
+    pub(crate) authorities: NumberOption,
+    pub(crate) places: NumberOption,
+}
+
+/// Where clients connect, how many, and how long they are waited for.
+#[derive(Drop)]
+pub(crate) struct ClientOptions {
+    pub(crate) port: NumberOption,
+    pub(crate) workers: NumberOption,
+    pub(crate) connections: NumberOption,
+    pub(crate) patience: NumberOption,
+}
+
+/// The limits of time of fetches.
+#[derive(Drop)]
+pub(crate) struct TimeOptions {
+    pub(crate) connect: NumberOption,
+    pub(crate) read: NumberOption,
+    pub(crate) fetch: NumberOption,
+}
+
+impl NumberOption {
+    // An option from 1 on.
+    fn new(alloc: Global, about: &str, usual: u64, most: u64) -> Result<NumberOption, AllocError>
+        requires { most ≤ last_generation }
+    {
+        NumberOption::from_least(alloc, about, usual, 1, most)
+    }
+
+    fn from_least(
+        alloc: Global,
+        about: &str,
+        usual: u64,
+        least: u64,
+        most: u64,
+    ) -> Result<NumberOption, AllocError>
+        requires { (least ≤ last_generation) × (most ≤ last_generation) }
+    {
+        let usual = format!(in alloc; "{usual}")?;
+        let about = format!(in alloc; "{about}, {least} to {most}")?;
+        Ok(NumberOption {
+            least,
+            most,
+            usual,
+            about,
         })
     }
 }
 
-fn text_of(alloc: Global, number: u64) -> Result<String, AllocError> {
-    format!(in alloc; "{number}")
+impl Defaults {
+    /// The options with the usual limits.
+    pub(crate) fn new(alloc: Global) -> Result<Defaults, AllocError> {
+        let about = "Jobs that are done at a time";
+        Ok(Defaults {
+            book: BookOptions::new(alloc)?,
+            jobs: NumberOption::new(alloc, about, USUAL_WORKERS, MAX_WORKERS)?,
+            clients: ClientOptions::new(alloc)?,
+            times: TimeOptions::new(alloc)?,
+        })
+    }
+}
+
+impl BookOptions {
+    fn new(alloc: Global) -> Result<BookOptions, AllocError> {
+        let usual = Limits::usual();
+        let slots = "Permits that may be out at a time";
+        let generation = "Generation of the first permit of each slot";
+        let log = "Entries of the history";
+        let authorities = "Authorities that are known at a time";
+        let places = "Permits that may be out for an authority at a time";
+        let first = usual.first_generation;
+        let most = MAX_AUTHORITIES;
+        Ok(BookOptions {
+            slots: NumberOption::new(alloc, slots, usual.slots, MAX_SLOTS)?,
+            generation: NumberOption::new(alloc, generation, first, LAST_GENERATION)?,
+            log: NumberOption::new(alloc, log, usual.log_limit, MAX_LOG)?,
+            authorities: NumberOption::new(alloc, authorities, usual.authority_limit, most)?,
+            places: NumberOption::new(alloc, places, usual.places, MAX_PLACES)?,
+        })
+    }
+}
+
+impl ClientOptions {
+    fn new(alloc: Global) -> Result<ClientOptions, AllocError> {
+        let port = "Port to listen at, where 0 takes one that is free";
+        let workers = "Clients that are served at a time";
+        let connections = "Connections that are taken in all";
+        let patience = "Seconds that a client is waited for between two ends of lines";
+        let (usual, most) = (USUAL_CONNECTIONS, MAX_CONNECTIONS);
+        Ok(ClientOptions {
+            port: NumberOption::from_least(alloc, port, USUAL_PORT, 0, MAX_PORT)?,
+            workers: NumberOption::new(alloc, workers, USUAL_WORKERS, MAX_WORKERS)?,
+            connections: NumberOption::new(alloc, connections, usual, most)?,
+            patience: NumberOption::new(alloc, patience, PATIENCE_SECONDS, PATIENCE_SECONDS)?,
+        })
+    }
+}
+
+impl TimeOptions {
+    fn new(alloc: Global) -> Result<TimeOptions, AllocError> {
+        let connect = "Seconds for a connection to one address";
+        let read = "Seconds for one read or one write";
+        let fetch = "Seconds for a page, or a robots file with its redirects";
+        Ok(TimeOptions {
+            connect: NumberOption::new(alloc, connect, CONNECT_SECONDS, CONNECT_SECONDS)?,
+            read: NumberOption::new(alloc, read, STEP_SECONDS, STEP_SECONDS)?,
+            fetch: NumberOption::new(alloc, fetch, WHOLE_SECONDS, WHOLE_SECONDS)?,
+        })
+    }
 }

@@ -4,6 +4,7 @@
 
 mod command;
 mod defaults;
+mod help;
 mod words;
 
-pub use words::{ServeOptions, ShiftOptions, Subcommand, Told, options};
+pub use words::{CheckOptions, CheckedUrls, ServeOptions, ShiftOptions, Subcommand, Told, options};

@@ -3,8 +3,7 @@
 ghost use Rattle.std.specs.Prelude.{IfOk, IfSome, ◌≤◌};
 ghost use Rattle.permit_book.specs.Numbers.{last_generation};
 ghost use Rattle.gate_core.specs.Limits.{AreLimits};
-ghost use Rattle.program_words.specs.Options.{IsInRange};
-ghost use Rattle.job_line.specs.Limits.{IsCrew};
+ghost use Rattle.program_words.specs.Options.{IsChosen, IsInRange};
 ghost use Rattle.tcp_wire.specs.TimeLimits.{AreWithin};
 
 use crate::command::program;
@@ -15,11 +14,18 @@ use client_wire::{MAX_CONNECTIONS, PATIENCE_SECONDS};
 use gate_core::{Limits, MAX_AUTHORITIES, MAX_LOG, MAX_PLACES};
 use job_line::MAX_WORKERS;
 use permit_book::{LAST_GENERATION, MAX_SLOTS};
-use std::alloc::Global;
+use robots_check::Detail;
+use robots_text::{Token, TokenFault};
+use std::alloc::{AllocError, Global};
 use tcp_wire::{CONNECT_SECONDS, STEP_SECONDS, TimeLimits, WHOLE_SECONDS};
 
+// Why words that `clap` takes are refused.
+const BAD_NUMBER: &str = "a number is written in digits alone";
+
+const BAD_TOKEN: &str = "a product token has 1 to 64 letters, - and _";
+
 /// What the program is asked to do.
-#[derive(Clone, Copy)]
+#[derive(Drop)]
 pub enum Subcommand {
     /// Reads replay lines from standard input, on a book of these limits, and writes their replies
     /// to standard output.
@@ -28,7 +34,9 @@ pub enum Subcommand {
     Export(Limits),
     /// Reads a robots text from standard input, and writes what each of its lines says.
     Lines,
-    /// Audits the text of a history on standard input.
+    /// Reads a robots text from standard input, and says of URLs whether it allows them.
+    Check(CheckOptions),
+    /// Audits the text of a history, or those of its segments, on standard input.
     Audit,
     /// Has workers do the jobs on standard input, and writes what is told of them to standard output.
     Shift(ShiftOptions),
@@ -65,6 +73,32 @@ pub struct ServeOptions {
     pub patience: u64,
 }
 
+/// What is checked.
+#[derive(Drop)]
+pub struct CheckOptions {
+    /// The crawler for which it is.
+    pub token: Token,
+    pub urls: CheckedUrls,
+    pub detail: Detail,
+}
+
+/// Where the URLs of a check come from.
+#[derive(Drop)]
+pub enum CheckedUrls {
+    /// They are words of the command line.
+    Words(Vec<String>),
+    /// They are lines of the input, behind the robots text.
+    Input,
+}
+
+// What the words come to.
+#[derive(Drop)]
+enum Chosen {
+    Taken(Subcommand),
+    // They are refused for this reason, though `clap` takes them.
+    Refused(&'static str),
+}
+
 /// What is written of a shift.
 #[derive(Clone, Copy, Debug, PartialEq, Eq)]
 pub enum Told {
@@ -83,35 +117,39 @@ pub fn options<'a>(alloc: Global, words: &'a [&'a str]) -> Result<Subcommand, Er
 {
     let defaults = Defaults::new(alloc)?;
     let mut program = program(alloc, &defaults)?;
-    read_words(&mut program, words)
+    read_words(alloc, &mut program, words)
 }
 
 // (`clap`'s own values are large: each has one owner, which makes one call.)
-fn read_words<'a>(program: &mut Command<'a>, words: &'a [&'a str]) -> Result<Subcommand, Error>
+fn read_words<'a>(
+    alloc: Global,
+    program: &mut Command<'a>,
+    words: &'a [&'a str],
+) -> Result<Subcommand, Error>
     ensures { IfOk result IsInRange }
 {
-    match chosen_by(program, words)? {
-        Some(subcommand) => Ok(subcommand),
-        // `clap` has refused such numbers, but for those with a sign.
-        None => Err(program.error(
-            ErrorKind::ValueValidation,
-            "a number is written in digits alone",
-        )?),
+    match chosen_by(alloc, program, words)? {
+        Chosen::Taken(subcommand) => Ok(subcommand),
+        Chosen::Refused(reason) => Err(program.error(ErrorKind::ValueValidation, reason)?),
     }
 }
 
 // The subcommand of the words, where each option is in its range and no number has a sign.
 fn chosen_by<'a>(
+    alloc: Global,
     program: &mut Command<'a>,
     words: &'a [&'a str],
-) -> Result<Option<Subcommand>, Error>
-    ensures { IfOk result (λ chosen. IfSome chosen IsInRange) }
+) -> Result<Chosen, Error>
+    ensures { IfOk result IsChosen }
 {
     let matches = program.try_get_matches_from_mut(words)?;
-    if has_sign(words) {
-        return Ok(None);
+    if let Some(("check", check)) = matches.subcommand() {
+        return Ok(check_of(alloc, check)?);
     }
-    Ok(subcommand_of(&matches))
+    if has_sign(words) {
+        return Ok(Chosen::Refused(BAD_NUMBER));
+    }
+    Ok(chosen_of(&matches))
 }
 
 // Whether a word, or what stands behind its `=`, begins with a plus sign. (Rust reads `+5` as a number.)
@@ -125,6 +163,16 @@ fn has_sign(words: &[&str]) -> bool {
     false
 }
 
+// `clap` has refused numbers out of their ranges.
+fn chosen_of(matches: &ArgMatches<'_>) -> Chosen
+    ensures { IsChosen result }
+{
+    match subcommand_of(matches) {
+        Some(subcommand) => Chosen::Taken(subcommand),
+        None => Chosen::Refused(BAD_NUMBER),
+    }
+}
+
 fn subcommand_of(matches: &ArgMatches<'_>) -> Option<Subcommand>
     ensures { IfSome result IsInRange }
 {
@@ -136,6 +184,42 @@ fn subcommand_of(matches: &ArgMatches<'_>) -> Option<Subcommand>
         // There is no other subcommand, and one is required.
         _ => Some(Subcommand::Lines),
     }
+}
+
+fn check_of(alloc: Global, matches: &ArgMatches<'_>) -> Result<Chosen, AllocError>
+    ensures { IfOk result IsChosen }
+{
+    let token = matches.get_str("token").unwrap_or("");
+    match Token::new(alloc, token.as_bytes()) {
+        Ok(token) => Ok(Chosen::Taken(Subcommand::Check(CheckOptions {
+            token,
+            urls: urls_of(alloc, matches)?,
+            detail: detail_of(matches),
+        }))),
+        Err(TokenFault::BadToken) => Ok(Chosen::Refused(BAD_TOKEN)),
+        Err(TokenFault::NoMemory) => Err(AllocError),
+    }
+}
+
+fn detail_of(matches: &ArgMatches<'_>) -> Detail {
+    if matches.get_flag("explain") {
+        Detail::Explained
+    } else {
+        Detail::Plain
+    }
+}
+
+// The URLs of a check: `-` alone stands for lines of the input.
+fn urls_of(alloc: Global, matches: &ArgMatches<'_>) -> Result<CheckedUrls, AllocError> {
+    let words = matches.get_strs("url").unwrap_or(&[]);
+    if words.len() == 1 && words[0] == "-" {
+        return Ok(CheckedUrls::Input);
+    }
+    let mut urls = Vec::new(alloc);
+    for word in words {
+        urls.push(String::from_str(alloc, word)?)?;
+    }
+    Ok(CheckedUrls::Words(urls))
 }
 
 fn replay_of(matches: &ArgMatches<'_>) -> Option<Subcommand>

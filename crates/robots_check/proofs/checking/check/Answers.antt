@@ -1,0 +1,8 @@
+-- What is told of the text is told of the input.
+-- The lemmas of `Reading` say so.
+use Rattle.robots_check.proofs.Reading.{checks_of, text_read}
+use Rattle.robots_check.proofs.checking.check.Goals as goal
+
+pub returns-clause-checks : goal.returns-clause-checks
+returns-clause-checks g c =
+    checks_of _ _ _ _ _ _ _ _ c.answer.result (text_read _ _ c.in_ok-body.body.items _ c.in_ok-body.ensures.body c.of.ensures) c.answer.ensures.tells

@@ -1,0 +1,32 @@
+-- Each step halves what is left between the two.
+-- The lemmas of `Placing` say what the line in the middle tells.
+use Rattle.std.proofs.Common.{◌≡◌, ◌<◌, slice_index_or, ℕ, List, length, map, ◌+◌, ◌-◌, ◌/◌, ap, arith}
+use Rattle.robots_text.specs.Walk.{rule_seen}
+use Rattle.robots_text.specs.declared.groups.RuleLine.{RuleLine}
+use Rattle.robots_check.specs.Rules.{rule_at}
+use Rattle.robots_check.proofs.Judging.{no_line, seen_at}
+use Rattle.robots_check.proofs.Placing.{above_middle, up_to_middle}
+use Rattle.robots_check.proofs.rules.place_of.Goals as goal
+
+line_at : (rules : List RuleLine) (i : ℕ) → i < length (map rule_seen rules) → (slice_index_or rules i no_line).line ≡ (rule_at (map rule_seen rules) i).line
+line_at rules i within = ap (λ ruled. ruled.line) (seen_at rules i within)
+
+pub loop-low-preserved-then-rules-middle : goal.loop-low-preserved-then-rules-middle
+loop-low-preserved-then-rules-middle c =
+    let rules = map rule_seen c.args.rules.now in
+    let low = c.loop-low.low in
+    let high = c.loop-low.high in
+    let middle = low + (high - low) / 2 in
+    let to : middle < high = omega (arith, c.loop-low-test.true) in
+    above_middle rules c.args.line low high middle c.requires.rising c.loop-low.invariant to
+    (omega (arith, c.if-rules-middle.true, line_at c.args.rules.now middle (omega (arith, to, c.loop-low.invariant.within))))
+
+pub loop-low-preserved : goal.loop-low-preserved
+loop-low-preserved c =
+    let rules = map rule_seen c.args.rules.now in
+    let low = c.loop-low.low in
+    let high = c.loop-low.high in
+    let middle = low + (high - low) / 2 in
+    let to : middle < high = omega (arith, c.loop-low-test.true) in
+    up_to_middle rules c.args.line low high middle c.requires.rising c.loop-low.invariant to
+    (omega (arith, c.if-rules-middle.false, line_at c.args.rules.now middle (omega (arith, to, c.loop-low.invariant.within))))

@@ -1,0 +1,127 @@
+-- What a check read and wrote, by its result.
+-- The contract of `check` cites it.
+use Rattle.std.specs.Prelude.{◌≡◌, ◌⊎◌, ◌≤◌, ◌<◌, ◌+◌, ℕ, List, [], ◌++◌, length, Option, None, Some, Result, Ok, Err}
+use Rattle.std.specs.Io.KnownBytes.{Consumes, Appends, IsAtEnd}
+use Rattle.counted_io.specs.Device.{AppendsPrefix, one_more}
+use Rattle.robots_text.specs.Lines.{kept, text_limit}
+use Rattle.robots_text.specs.Records.{Numbered, numbered_records}
+use Rattle.robots_check.specs.Input.{HasUrls}
+use Rattle.robots_check.specs.Outcomes.{outcome_of}
+use Rattle.robots_check.specs.declared.fault.CheckFault.{CheckFault}
+use Rattle.robots_check.specs.declared.fault.CheckFault.TheVariants.{Read, Write, NoMemory}
+use Rattle.robots_check.specs.Told.{Told, AreTold, answers_text}
+use Rattle.robots_check.specs.declared.detail.Detail.{Detail}
+use Rattle.robots_check.specs.declared.outcome.Outcome.{Outcome}
+
+-- the body was read: all that the input has, but no more than so many octets
+pub record ReadsTo (most : ℕ) (old new : Option (List ℕ)) (body : List ℕ) : Type 0 where
+  pub consumed : Consumes old new body
+  pub fits : length body ≤ most
+  pub all : length body < most → IsAtEnd new
+
+-- no more than a front of the input was read, and no more than so many octets
+pub record ReadsFront (most : ℕ) (old new : Option (List ℕ)) : Type 0 where
+  pub front : List ℕ
+  pub consumed : Consumes old new front
+  pub fits : length front ≤ most
+
+-- of the body is kept what is kept of the whole input, where that is known
+abbrev pub KeepsSame : Option (List ℕ) → List ℕ → Type 0
+KeepsSame None body = Unit {0}
+KeepsSame (Some input) body = kept body ≡ kept input
+
+-- these are what was kept of the input as a robots text: the input was read, or one octet more than is kept
+pub record ReadsText (old new : Option (List ℕ)) (text : List ℕ) : Type 0 where
+  pub body : List ℕ
+  pub reads : ReadsTo (text_limit + 1) old new body
+  pub same : KeepsSame old body
+  pub text_is : text ≡ kept body
+
+-- the answers to all URLs were written, and come to this
+pub record Answers (detail : Detail) (lines : List Numbered) (word : List ℕ) (urls : List (List ℕ)) (old new : Option (List ℕ)) (outcome : Outcome) : Type 0 where
+  pub answers : List Told
+  pub are : AreTold detail lines word urls answers
+  pub wrote : Appends old new (answers_text urls answers)
+  pub come_to : outcome ≡ outcome_of answers
+
+-- no more than a front of the answers to the first URLs was written
+pub record AnswersFront (detail : Detail) (lines : List Numbered) (word : List ℕ) (urls : List (List ℕ)) (old new : Option (List ℕ)) : Type 0 where
+  pub first : List (List ℕ)
+  pub later : List (List ℕ)
+  pub split : urls ≡ first ++ later
+  pub answers : List Told
+  pub are : AreTold detail lines word first answers
+  pub wrote : AppendsPrefix old new (answers_text first answers)
+
+-- what was written of a text for the token, by the result
+abbrev pub Tells : Detail → List ℕ → List ℕ → List (List ℕ) → (written new : Option (List ℕ)) → Result Outcome CheckFault → Type 0
+Tells detail text word urls written new (Ok outcome) = Answers detail (numbered_records text) word urls written new outcome
+Tells detail text word urls written new (Err Read) = ⊥
+Tells detail text word urls written new (Err Write) = AnswersFront detail (numbered_records text) word urls written new
+Tells detail text word urls written new (Err NoMemory) = AnswersFront detail (numbered_records text) word urls written new
+
+-- the input was read no further than a robots text needs, and nothing was written
+abbrev pub StopsAtInput : (input left written new : Option (List ℕ)) → Type 0
+StopsAtInput input left written new = ReadsFront (text_limit + 1) input left × Appends written new []
+
+-- the text was read, and what is told of it was written
+abbrev pub ReadsAndTells : Detail → (input left : Option (List ℕ)) → List ℕ → List (List ℕ) → (written new : Option (List ℕ)) → Result Outcome CheckFault → Type 0
+ReadsAndTells detail input left word urls written new result =
+    (text : List ℕ) × ReadsText input left text × Tells detail text word urls written new result
+
+-- the text was read and all was told; or a read failed or memory was refused, and nothing was written; or a write
+-- failed or memory was refused later, and no more than a front of what was to be told was written
+abbrev pub Checks : Detail → (input left : Option (List ℕ)) → List ℕ → List (List ℕ) → (written new : Option (List ℕ)) → Result Outcome CheckFault → Type 0
+Checks detail input left word urls written new (Ok outcome) = ReadsAndTells detail input left word urls written new (Ok outcome)
+Checks detail input left word urls written new (Err Read) = StopsAtInput input left written new
+Checks detail input left word urls written new (Err Write) = ReadsAndTells detail input left word urls written new (Err Write)
+Checks detail input left word urls written new (Err NoMemory) =
+    StopsAtInput input left written new ⊎ ReadsAndTells detail input left word urls written new (Err NoMemory)
+
+-- the whole input was read
+pub record ReadsWhole (old new : Option (List ℕ)) (input : List ℕ) : Type 0 where
+  pub consumed : Consumes old new input
+  pub all : IsAtEnd new
+
+-- no more than a front of the input was read, and nothing was written
+abbrev pub StopsWithin : (input left written new : Option (List ℕ)) → Type 0
+StopsWithin input left written new = ((front : List ℕ) × Consumes input left front) × Appends written new []
+
+-- the whole input was read, and what is told of its text and its URLs was written
+pub record ReadsAndTellsWhole (detail : Detail) (input left : Option (List ℕ)) (word : List ℕ) (written new : Option (List ℕ)) (result : Result Outcome CheckFault) : Type 0 where
+  pub whole : List ℕ
+  pub reads : ReadsWhole input left whole
+  pub text : List ℕ
+  pub urls : List (List ℕ)
+  pub has : HasUrls whole text urls
+  pub tells : Tells detail text word urls written new result
+
+-- the same as `Checks` where the URLs stand in the input behind the text
+abbrev pub ChecksInput : Detail → (input left : Option (List ℕ)) → List ℕ → (written new : Option (List ℕ)) → Result Outcome CheckFault → Type 0
+ChecksInput detail input left word written new (Ok outcome) = ReadsAndTellsWhole detail input left word written new (Ok outcome)
+ChecksInput detail input left word written new (Err Read) = StopsWithin input left written new
+ChecksInput detail input left word written new (Err Write) = ReadsAndTellsWhole detail input left word written new (Err Write)
+ChecksInput detail input left word written new (Err NoMemory) =
+    StopsWithin input left written new ⊎ ReadsAndTellsWhole detail input left word written new (Err NoMemory)
+
+-- the fault is one of reading
+abbrev pub IsReadFault : CheckFault → Type 0
+IsReadFault fault = (fault ≡ Read) ⊎ (fault ≡ NoMemory)
+
+-- the fault is one of telling
+abbrev pub IsTellFault : CheckFault → Type 0
+IsTellFault fault = (fault ≡ Write) ⊎ (fault ≡ NoMemory)
+
+-- the reader's count of failures behind a check: it rises exactly where a read failed
+abbrev pub failures_after_reads : {T : Type 0} → ℕ → Result T CheckFault → ℕ
+failures_after_reads failures (Ok _) = failures
+failures_after_reads failures (Err Read) = one_more failures
+failures_after_reads failures (Err Write) = failures
+failures_after_reads failures (Err NoMemory) = failures
+
+-- the writer's count of failures behind a check: it rises exactly where a write failed
+abbrev pub failures_after_writes : {T : Type 0} → ℕ → Result T CheckFault → ℕ
+failures_after_writes failures (Ok _) = failures
+failures_after_writes failures (Err Read) = failures
+failures_after_writes failures (Err Write) = one_more failures
+failures_after_writes failures (Err NoMemory) = failures

@@ -1,0 +1,15 @@
+-- What contracts say of a check: which page a URL names, what is said of it, and what was read and written.
+pub mod AgentText
+pub mod AnswerText
+pub mod Answering
+pub mod Answers
+pub mod Checks
+pub mod Explained
+pub mod Input
+pub mod Outcomes
+pub mod Reads
+pub mod Ready
+pub mod Rows
+pub mod Rules
+pub mod Targets
+pub mod Told

@@ -1,0 +1,45 @@
+-- What the answers to all URLs come to.
+-- The exit status of `crawlgate check` tells it.
+use Rattle.std.specs.Prelude.{Bool, true, false, List, if◌then◌else◌}
+use Rattle.std.specs.List.{list_any}
+use Rattle.robots_check.specs.Answers.{Answer, allowed_by, allowed_unruled, allowed_robots, denied_by, unread}
+use Rattle.robots_check.specs.Told.{Told}
+use Rattle.robots_check.specs.declared.outcome.Outcome.{Outcome}
+use Rattle.robots_check.specs.declared.outcome.Outcome.TheVariants.{Allowed, Denied, Unread}
+
+-- the URL is denied
+abbrev pub is_denied : Answer → Bool
+is_denied (allowed_by ruled) = false
+is_denied allowed_unruled = false
+is_denied allowed_robots = false
+is_denied (denied_by ruled) = true
+is_denied (unread fault) = false
+
+-- the URL could not be read
+abbrev pub is_unread : Answer → Bool
+is_unread (allowed_by ruled) = false
+is_unread allowed_unruled = false
+is_unread allowed_robots = false
+is_unread (denied_by ruled) = false
+is_unread (unread fault) = true
+
+-- one that could not be read outranks all, and one that is denied those that are allowed
+abbrev pub outcome_of : List Told → Outcome
+outcome_of answers =
+    if list_any (λ told. is_unread told.answer) answers then Unread else if list_any (λ told. is_denied told.answer) answers then Denied else Allowed
+
+-- what one answer comes to
+abbrev pub outcome_of_one : Answer → Outcome
+outcome_of_one (allowed_by ruled) = Allowed
+outcome_of_one allowed_unruled = Allowed
+outcome_of_one allowed_robots = Allowed
+outcome_of_one (denied_by ruled) = Denied
+outcome_of_one (unread fault) = Unread
+
+-- what two come to together
+abbrev pub worse : Outcome → Outcome → Outcome
+worse Allowed other = other
+worse Denied Allowed = Denied
+worse Denied Denied = Denied
+worse Denied Unread = Unread
+worse Unread other = Unread

@@ -1,0 +1,69 @@
+-- The rule lines for a token beside a path: which match it, and which of them is the strongest but for one.
+-- RFC 9309, section 2.2.2.
+use Rattle.std.specs.Prelude.{◌≡◌, ◌↔◌, ◌&&◌, ◌==◌, not, ℕ, Bool, true, false, IsTrue, List, [], ◌∷◌, Option, Some, None, Contains, length, if◌then◌else◌}
+use Rattle.std.specs.declared.cmp.Ordering.{Ordering}
+use Rattle.std.specs.Ordering.{is_lt, nat_cmp, ordering_then}
+use Rattle.path_normal.specs.Normal.{normal_pattern}
+use Rattle.path_pattern.specs.Matches.{Matches}
+use Rattle.robots_text.specs.Groups.{Ruled}
+use Rattle.robots_text.specs.Walk.{rule_seen}
+use Rattle.robots_verdict.specs.Weights.{kind_place}
+use Rattle.robots_check.specs.declared.rows.Row.{Row}
+
+-- a rule line, the octets of its pattern in normal form, and whether that matches a path
+pub record Tried : Type 0 where
+  pub ruled : Ruled
+  pub octets : ℕ
+  pub hits : Bool
+
+-- what a row is seen as
+abbrev pub row_seen : Row → Tried
+row_seen row = record { ruled = rule_seen row.rule; octets = row.octets; hits = row.matches }
+
+-- it is that of the rule line, beside the path
+pub record IsRow (path : List ℕ) (ruled : Ruled) (tried : Tried) : Type 0 where
+  pub of_line : tried.ruled ≡ ruled
+  pub as_many : tried.octets ≡ length (normal_pattern ruled.pattern)
+  pub hits : IsTrue tried.hits ↔ Matches (normal_pattern ruled.pattern) path
+
+-- these are those of the rule lines, one of each, in order
+abbrev pub AreRows : List ℕ → List Ruled → List Tried → Type 0
+AreRows path [] [] = Unit {0}
+AreRows path (ruled ∷ rules) (tried ∷ rows) = IsRow path ruled tried × AreRows path rules rows
+AreRows path [] (tried ∷ rows) = ⊥
+AreRows path (ruled ∷ rules) [] = ⊥
+
+-- the order of rows, strongest first, as that of the weights of their lines (`falling`): more octets before fewer,
+-- allow before disallow, and the smaller number before the greater
+abbrev pub falling_rows : Tried → Tried → Ordering
+falling_rows one other =
+    ordering_then (nat_cmp other.octets one.octets)
+    (ordering_then (nat_cmp (kind_place one.ruled.kind) (kind_place other.ruled.kind)) (nat_cmp one.ruled.line other.ruled.line))
+
+-- the one is stronger than the other
+abbrev pub is_row_above : Tried → Tried → Bool
+is_row_above one other = is_lt (falling_rows one other)
+
+-- it matches, and is not the line of this number
+abbrev pub is_other : ℕ → Tried → Bool
+is_other line tried = tried.hits && not (tried.ruled.line == line)
+
+-- it is one of those that match, but for the line of this number, and none of these is stronger
+pub record IsBestOther (rows : List Tried) (line : ℕ) (best : Tried) : Type 0 where
+  pub stands : Contains rows best
+  pub other : is_other line best ≡ true
+  pub strongest : (tried : Tried) → Contains rows tried → is_other line tried ≡ true → is_row_above tried best ≡ false
+
+-- the strongest that matches, but for the line of this number; or none does
+abbrev pub IsSecond : List Tried → ℕ → Option Tried → Type 0
+IsSecond rows line None = (tried : Tried) → Contains rows tried → is_other line tried ≡ true → ⊥
+IsSecond rows line (Some best) = IsBestOther rows line best
+
+-- the stronger of two
+abbrev pub stronger_row : Option Tried → Tried → Tried
+stronger_row None other = other
+stronger_row (Some best) other = if is_row_above other best then other else best
+
+-- the strongest of the others with a row more
+abbrev pub weighed_row : ℕ → Option Tried → Tried → Option Tried
+weighed_row line best tried = if is_other line tried then Some (stronger_row best tried) else best

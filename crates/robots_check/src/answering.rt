@@ -1,0 +1,208 @@
+//! The answers to URLs, one after another.
+//! docs/FORMATS.md has their lines.
+ghost use Rattle.std.specs.Prelude.{◌≡◌, ◌∷◌, [], Ok, IfErr, IfOk, OnErr, map};
+ghost use Rattle.robots_text.specs.Records.{numbered_records};
+ghost use Rattle.robots_check.specs.Answering.{CutsBefore, PassesBefore, Passing, PassingFront};
+ghost use Rattle.robots_check.specs.Answers.{answer_seen};
+ghost use Rattle.robots_check.specs.Targets.{HasFault, page_named};
+ghost use Rattle.robots_check.specs.Ready.{IsReady};
+ghost use Rattle.robots_check.specs.Checks.{IsTellFault, Tells, failures_after_writes};
+
+use crate::agents::agents_for;
+use crate::detail::Detail;
+use crate::explaining::{push_explanation, reason_pieces, second_for, winner_octets};
+use crate::fault::CheckFault;
+use crate::finding::{Finding, finding_pieces};
+use crate::judge::Judge;
+use crate::outcome::Outcome;
+use crate::page::read_page;
+use crate::rows::rows_of;
+use crate::rules::rules_for;
+use counted_io::{Output, Sink};
+use path_normal::{PageUrl, Unread, UrlFault};
+use robots_text::{RobotsText, Token};
+use robots_verdict::Policy;
+use std::alloc::Global;
+
+/// Writes what a text says to a crawler of each URL, and tells what that comes to.
+pub(crate) fn answer<W: Sink>(
+    alloc: Global,
+    text: RobotsText,
+    token: &Token,
+    urls: &[&[u8]],
+    detail: Detail,
+    writer: &mut W,
+) -> Result<Outcome, CheckFault>
+    ensures tells { Tells detail text token.now (map (λ url. url.now) urls.now)
+        (W.written writer.old) (W.written writer.new) result }
+    ensures writes { W.failures writer.new
+        ≡ failures_after_writes (W.failures writer.old) result }
+{
+    let policy = Policy::new(alloc, text)?.indexed(alloc)?;
+    let rules = rules_for(alloc, policy.text(), token)?;
+    let agents = agents_for(alloc, policy.text(), token)?;
+    let mut output = Output::new(alloc)?;
+    let judge = Judge {
+        policy: &policy,
+        token,
+        rules: rules.as_slice(),
+        agents: agents.as_slice(),
+        detail,
+    };
+    let outcome = push_answers(alloc, judge, urls, &mut output, writer)?;
+    output.flush(writer)?;
+    Ok(outcome)
+}
+
+// Pushes the answer to each URL.
+fn push_answers<W: Sink>(
+    alloc: Global,
+    judge: Judge<'_>,
+    urls: &[&[u8]],
+    output: &mut Output,
+    sink: &mut W,
+) -> Result<Outcome, CheckFault>
+    requires { IsReady judge }
+    ensures passes { IfOk result (Passing judge.entry.detail
+        (numbered_records judge.entry.policy.now) judge.entry.token.now (map (λ url. url.now) urls.now)
+        (W.written sink.old) (W.written sink.new) output.old output.new) }
+    ensures cut { OnErr result (PassingFront judge.entry.detail
+        (numbered_records judge.entry.policy.now) judge.entry.token.now (map (λ url. url.now) urls.now)
+        (W.written sink.old) (W.written sink.new) output.old) }
+    ensures faults { IfErr result IsTellFault }
+    ensures count { W.failures sink.new ≡ failures_after_writes (W.failures sink.old) result }
+{
+    let mut outcome = Outcome::Allowed;
+    for url in urls {
+        outcome = outcome.worse(push_answer(alloc, judge, url, output, sink)?);
+    }
+    Ok(outcome)
+}
+
+// Pushes what is told of a URL.
+fn push_answer<W: Sink>(
+    alloc: Global,
+    judge: Judge<'_>,
+    url: &[u8],
+    output: &mut Output,
+    sink: &mut W,
+) -> Result<Outcome, CheckFault>
+    requires { IsReady judge }
+    ensures passes { IfOk result (Passing judge.entry.detail
+        (numbered_records judge.entry.policy.now) judge.entry.token.now (url.now ∷ [])
+        (W.written sink.old) (W.written sink.new) output.old output.new) }
+    ensures cut { OnErr result (PassingFront judge.entry.detail
+        (numbered_records judge.entry.policy.now) judge.entry.token.now (url.now ∷ [])
+        (W.written sink.old) (W.written sink.new) output.old) }
+    ensures faults { IfErr result IsTellFault }
+    ensures count { W.failures sink.new ≡ failures_after_writes (W.failures sink.old) result }
+{
+    match read_page(alloc, url) {
+        Ok(page) => push_page(alloc, judge, url, &page, output, sink),
+        Err(Unread::Fault(fault)) => push_unread(judge, url, fault, output, sink),
+        Err(_) => Err(CheckFault::NoMemory),
+    }
+}
+
+// Pushes what is told of a URL that can't be read.
+fn push_unread<W: Sink>(
+    judge: Judge<'_>,
+    url: &[u8],
+    fault: UrlFault,
+    output: &mut Output,
+    sink: &mut W,
+) -> Result<Outcome, CheckFault>
+    requires { HasFault url.now fault }
+    ensures passes { IfOk result (Passing judge.entry.detail
+        (numbered_records judge.entry.policy.now) judge.entry.token.now (url.now ∷ [])
+        (W.written sink.old) (W.written sink.new) output.old output.new) }
+    ensures cut { OnErr result (PassingFront judge.entry.detail
+        (numbered_records judge.entry.policy.now) judge.entry.token.now (url.now ∷ [])
+        (W.written sink.old) (W.written sink.new) output.old) }
+    ensures faults { IfErr result IsTellFault }
+    ensures count { W.failures sink.new ≡ failures_after_writes (W.failures sink.old) result }
+{
+    let finding = Finding::Unread(fault);
+    finding_pieces(finding, url).push(output, sink)?;
+    Ok(finding.outcome())
+}
+
+// Pushes what is told of the page of a URL.
+fn push_page<W: Sink>(
+    alloc: Global,
+    judge: Judge<'_>,
+    url: &[u8],
+    page: &PageUrl,
+    output: &mut Output,
+    sink: &mut W,
+) -> Result<Outcome, CheckFault>
+    requires ready { IsReady judge }
+    requires named { page_named url.now ≡ Ok page.now }
+    ensures passes { IfOk result (Passing judge.entry.detail
+        (numbered_records judge.entry.policy.now) judge.entry.token.now (url.now ∷ [])
+        (W.written sink.old) (W.written sink.new) output.old output.new) }
+    ensures cut { OnErr result (PassingFront judge.entry.detail
+        (numbered_records judge.entry.policy.now) judge.entry.token.now (url.now ∷ [])
+        (W.written sink.old) (W.written sink.new) output.old) }
+    ensures faults { IfErr result IsTellFault }
+    ensures count { W.failures sink.new ≡ failures_after_writes (W.failures sink.old) result }
+{
+    let finding = judge.find_page(page);
+    push_before(alloc, judge, page.path_to_match(), finding, output, sink)?;
+    finding_pieces(finding, url).push(output, sink)?;
+    Ok(finding.outcome())
+}
+
+// Pushes what stands before an answer on a path.
+fn push_before<W: Sink>(
+    alloc: Global,
+    judge: Judge<'_>,
+    path: &[u8],
+    finding: Finding<'_>,
+    output: &mut Output,
+    sink: &mut W,
+) -> Result<(), CheckFault>
+    requires { IsReady judge }
+    ensures passes { IfOk result (λ _. PassesBefore judge.entry.detail
+        (numbered_records judge.entry.policy.now) judge.entry.token.now path.now
+        (answer_seen finding.entry)
+        (W.written sink.old) (W.written sink.new) output.old output.new) }
+    ensures cut { OnErr result (CutsBefore judge.entry.detail
+        (numbered_records judge.entry.policy.now) judge.entry.token.now path.now
+        (answer_seen finding.entry) (W.written sink.old) (W.written sink.new) output.old) }
+    ensures faults { IfErr result IsTellFault }
+    ensures count { W.failures sink.new ≡ failures_after_writes (W.failures sink.old) result }
+{
+    match judge.detail {
+        Detail::Plain => Ok(()),
+        Detail::Explained => push_explained(alloc, judge, path, finding, output, sink),
+    }
+}
+
+// Pushes the explanation of an answer on a path. All memory is taken before anything is pushed.
+fn push_explained<W: Sink>(
+    alloc: Global,
+    judge: Judge<'_>,
+    path: &[u8],
+    finding: Finding<'_>,
+    output: &mut Output,
+    sink: &mut W,
+) -> Result<(), CheckFault>
+    requires { IsReady judge }
+    ensures passes { IfOk result (λ _. PassesBefore Detail.Explained
+        (numbered_records judge.entry.policy.now) judge.entry.token.now path.now
+        (answer_seen finding.entry)
+        (W.written sink.old) (W.written sink.new) output.old output.new) }
+    ensures cut { OnErr result (CutsBefore Detail.Explained
+        (numbered_records judge.entry.policy.now) judge.entry.token.now path.now
+        (answer_seen finding.entry) (W.written sink.old) (W.written sink.new) output.old) }
+    ensures faults { IfErr result IsTellFault }
+    ensures count { W.failures sink.new ≡ failures_after_writes (W.failures sink.old) result }
+{
+    let rows = rows_of(alloc, judge.rules, path)?;
+    let octets = winner_octets(alloc, finding)?;
+    let second = second_for(rows.as_slice(), finding);
+    let reason = reason_pieces(octets, finding, second);
+    push_explanation(judge.agents, rows.as_slice(), reason, output, sink)?;
+    Ok(())
+}

@@ -1,0 +1,186 @@
+//! Why the answer to a URL is what it is: the lines that it comes from, and the reason for the one that decides.
+//! RFC 9309, section 2.2; docs/FORMATS.md has the lines.
+ghost use Rattle.std.specs.Prelude.{◌≡◌, ◌++◌, IfOk, flat_map, map, option_map};
+ghost use Rattle.counted_io.specs.Output.{Pushes};
+ghost use Rattle.line_text.specs.Escapes.{escaped};
+ghost use Rattle.line_text.specs.Pieces.{pieces_text};
+ghost use Rattle.robots_text.specs.Records.{line_seen};
+ghost use Rattle.robots_check.specs.AgentText.{agents_text};
+ghost use Rattle.robots_check.specs.Answers.{answer_seen};
+ghost use Rattle.robots_check.specs.Explained.{IsSecondFor, alike_text, because_by, because_text, hits_text, row_text, rule_word, value_text, winner_octets};
+ghost use Rattle.robots_check.specs.Rows.{row_seen};
+ghost use Rattle.robots_text.specs.Walk.{rule_seen};
+
+use crate::agents::push_agents;
+use crate::finding::Finding;
+use crate::rows::{Row, second};
+use counted_io::{DeviceFault, Output, Sink};
+use line_text::{Piece, Pieces};
+use path_normal::normal_pattern;
+use robots_text::{RecordLine, RuleKind, RuleLine};
+use std::alloc::{AllocError, Global};
+
+/// Pushes the explanation of a finding: the user-agent lines, the rows, and the reason.
+pub(crate) fn push_explanation<W: Sink>(
+    agents: &[RecordLine<'_>],
+    rows: &[Row<'_>],
+    reason: Pieces<'_>,
+    output: &mut Output,
+    sink: &mut W,
+) -> Result<(), DeviceFault>
+    ensures { Pushes (W.written sink.old) (W.written sink.new)
+        (W.failures sink.old) (W.failures sink.new) output.old output.new
+        (agents_text (map line_seen agents.now) ++ (flat_map (λ row. row_text (row_seen row)) rows.now
+        ++ pieces_text reason.entry)) result }
+{
+    push_agents(agents, output, sink)?;
+    push_rows_and(rows, reason, output, sink)
+}
+
+fn push_rows_and<W: Sink>(
+    rows: &[Row<'_>],
+    reason: Pieces<'_>,
+    output: &mut Output,
+    sink: &mut W,
+) -> Result<(), DeviceFault>
+    ensures { Pushes (W.written sink.old) (W.written sink.new)
+        (W.failures sink.old) (W.failures sink.new) output.old output.new
+        (flat_map (λ row. row_text (row_seen row)) rows.now ++ pieces_text reason.entry) result }
+{
+    push_rows(rows, output, sink)?;
+    reason.push(output, sink)
+}
+
+fn push_rows<W: Sink>(
+    rows: &[Row<'_>],
+    output: &mut Output,
+    sink: &mut W,
+) -> Result<(), DeviceFault>
+    ensures { Pushes (W.written sink.old) (W.written sink.new)
+        (W.failures sink.old) (W.failures sink.new) output.old output.new
+        (flat_map (λ row. row_text (row_seen row)) rows.now) result }
+{
+    for row in rows {
+        row_pieces(*row).push(output, sink)?;
+    }
+    Ok(())
+}
+
+fn row_pieces(row: Row<'_>) -> Pieces<'_>
+    ensures { pieces_text result ≡ row_text (row_seen row.entry) }
+{
+    Pieces::of(&[
+        Piece::Text("rule line "),
+        Piece::Number(row.rule.line),
+        Piece::Text(" "),
+        Piece::Text(rule_word(row.rule.kind)),
+        Piece::Text(gap_before(row.rule.pattern)),
+        Piece::Escaped(row.rule.pattern),
+        Piece::Text(" octets "),
+        Piece::Number(row.octets as u64),
+        Piece::Text(hits_word(row.matches)),
+    ])
+}
+
+fn rule_word(kind: RuleKind) -> &'static str
+    ensures { result.now ≡ rule_word kind }
+{
+    match kind {
+        RuleKind::Allow => "allow",
+        RuleKind::Disallow => "disallow",
+    }
+}
+
+fn hits_word(hits: bool) -> &'static str
+    ensures { result.now ≡ hits_text hits }
+{
+    if hits { " matches\n" } else { " no\n" }
+}
+
+// What stands between the word of a rule and its value.
+fn gap_before(value: &[u8]) -> &str
+    ensures { value_text value.now ≡ result.now ++ escaped value.now }
+{
+    match value {
+        [] => "",
+        _ => " ",
+    }
+}
+
+/// The strongest row that matches, but for that of the line that decides.
+pub(crate) fn second_for<'t>(rows: &[Row<'t>], finding: Finding<'t>) -> Option<Row<'t>>
+    ensures { IsSecondFor (map row_seen rows.now) (answer_seen finding.entry)
+        (option_map row_seen result) }
+{
+    match finding {
+        Finding::Allowed(rule) | Finding::Denied(rule) => second(rows, rule.line),
+        Finding::NoRule | Finding::RobotsFile | Finding::Unread(_) => None,
+    }
+}
+
+/// The octets of the pattern of the line that decides, in normal form.
+pub(crate) fn winner_octets(alloc: Global, finding: Finding<'_>) -> Result<usize, AllocError>
+    ensures { IfOk result (λ octets. octets ≡ winner_octets (answer_seen finding.entry)) }
+{
+    match finding {
+        Finding::Allowed(rule) | Finding::Denied(rule) => {
+            Ok(normal_pattern(alloc, rule.pattern)?.len())
+        }
+        Finding::NoRule | Finding::RobotsFile | Finding::Unread(_) => Ok(0),
+    }
+}
+
+/// The line with the reason of a finding.
+pub(crate) fn reason_pieces<'a>(
+    octets: usize,
+    finding: Finding<'a>,
+    second: Option<Row<'a>>,
+) -> Pieces<'a>
+    ensures { pieces_text result ≡ because_text octets (answer_seen finding.entry)
+        (option_map row_seen second.entry) }
+{
+    match finding {
+        Finding::Allowed(rule) | Finding::Denied(rule) => above_pieces(octets, rule, second),
+        Finding::NoRule => Pieces::whole("because norule\n"),
+        Finding::RobotsFile => Pieces::whole("because robots\n"),
+        Finding::Unread(_) => Pieces::whole(""),
+    }
+}
+
+fn above_pieces<'a>(octets: usize, rule: RuleLine<'a>, second: Option<Row<'a>>) -> Pieces<'a>
+    ensures { pieces_text result ≡ because_by octets (rule_seen rule.entry)
+        (option_map row_seen second.entry) }
+{
+    match second {
+        None => Pieces::whole("because only\n"),
+        Some(other) if other.octets == octets => alike_pieces(rule, other.rule),
+        Some(other) => Pieces::of(&[
+            Piece::Text("because octets "),
+            Piece::Number(octets as u64),
+            Piece::Text(" above "),
+            Piece::Number(other.octets as u64),
+            Piece::Text(" of line "),
+            Piece::Number(other.rule.line),
+            Piece::Text("\n"),
+        ]),
+    }
+}
+
+fn alike_pieces<'a>(rule: RuleLine<'a>, other: RuleLine<'a>) -> Pieces<'a>
+    ensures { pieces_text result ≡ alike_text (rule_seen rule.entry) (rule_seen other.entry) }
+{
+    if rule.kind == other.kind {
+        return Pieces::of(&[
+            Piece::Text("because first of line "),
+            Piece::Number(rule.line),
+            Piece::Text(" and "),
+            Piece::Number(other.line),
+            Piece::Text("\n"),
+        ]);
+    }
+    Pieces::of(&[
+        Piece::Text("because allow above disallow of line "),
+        Piece::Number(other.line),
+        Piece::Text("\n"),
+    ])
+}

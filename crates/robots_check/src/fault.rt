@@ -1,0 +1,38 @@
+//! Why a check stopped before its last URL.
+//! `check` answers with it.
+use counted_io::DeviceFault;
+use std::alloc::AllocError;
+
+/// Why a check stopped.
+#[derive(Clone, Copy, Debug, PartialEq, Eq)]
+pub enum CheckFault {
+    /// A read failed. Nothing was written.
+    Read,
+    /// A write failed. What was written is a part of what was to be written.
+    Write,
+    /// There is no memory. What was written is a part of what was to be written.
+    NoMemory,
+}
+
+impl From<AllocError> for CheckFault {
+    ghost use Rattle.std.specs.Prelude.{◌≡◌};
+    ghost use Rattle.robots_check.specs.declared.fault.CheckFault.TheVariants.{NoMemory};
+
+    ghost from_gives = { λ _ fault. fault ≡ NoMemory };
+
+    fn from(_: AllocError) -> CheckFault {
+        CheckFault::NoMemory
+    }
+}
+
+impl From<DeviceFault> for CheckFault {
+    ghost use Rattle.std.specs.Prelude.{◌≡◌};
+    ghost use Rattle.robots_check.specs.declared.fault.CheckFault.TheVariants.{Write};
+
+    ghost from_gives = { λ _ fault. fault ≡ Write };
+
+    /// Only the writes of a check report a device's fault as it is.
+    fn from(_: DeviceFault) -> CheckFault {
+        CheckFault::Write
+    }
+}

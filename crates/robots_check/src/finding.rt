@@ -1,0 +1,93 @@
+//! What is said of a URL, and its line.
+//! docs/FORMATS.md has the lines.
+ghost use Rattle.std.specs.Prelude.{◌≡◌};
+ghost use Rattle.line_text.specs.Pieces.{pieces_text};
+ghost use Rattle.robots_check.specs.AnswerText.{answer_text, fault_word, rule_answer_text, url_answer_text};
+ghost use Rattle.robots_check.specs.Answers.{answer_seen};
+ghost use Rattle.robots_check.specs.Outcomes.{outcome_of_one};
+
+use crate::outcome::Outcome;
+use line_text::{Piece, Pieces};
+use path_normal::UrlFault;
+use robots_text::RuleLine;
+
+/// What is said of a URL.
+#[derive(Clone, Copy)]
+pub(crate) enum Finding<'t> {
+    /// This rule line allows it.
+    Allowed(RuleLine<'t>),
+    /// No rule line for the token matches it.
+    NoRule,
+    /// It is the URL of a robots file.
+    RobotsFile,
+    /// This rule line denies it.
+    Denied(RuleLine<'t>),
+    /// It could not be read.
+    Unread(UrlFault),
+}
+
+impl<'t> Finding<'t> {
+    /// What it comes to.
+    pub(crate) fn outcome(self) -> Outcome
+        ensures { result ≡ outcome_of_one (answer_seen self.entry) }
+    {
+        match self {
+            Finding::Allowed(_) | Finding::NoRule | Finding::RobotsFile => Outcome::Allowed,
+            Finding::Denied(_) => Outcome::Denied,
+            Finding::Unread(_) => Outcome::Unread,
+        }
+    }
+}
+
+/// The line that says it of a URL.
+pub(crate) fn finding_pieces<'a>(finding: Finding<'a>, url: &'a [u8]) -> Pieces<'a>
+    ensures { pieces_text result ≡ answer_text url.now (answer_seen finding.entry) }
+{
+    match finding {
+        Finding::Allowed(rule) => rule_pieces("allowed line ", " allow ", rule, url),
+        Finding::Denied(rule) => rule_pieces("denied line ", " disallow ", rule, url),
+        Finding::NoRule => url_pieces("allowed norule ", url),
+        Finding::RobotsFile => url_pieces("allowed robots ", url),
+        Finding::Unread(fault) => Pieces::of(&[
+            Piece::Text("ERR url "),
+            Piece::Text(fault_word(fault)),
+            Piece::Text(" "),
+            Piece::Escaped(url),
+            Piece::Text("\n"),
+        ]),
+    }
+}
+
+fn rule_pieces<'a>(front: &'a str, kind: &'a str, rule: RuleLine<'a>, url: &'a [u8]) -> Pieces<'a>
+    ensures { pieces_text result ≡ rule_answer_text front.now rule.entry.line kind.now
+        rule.entry.pattern.now url.now }
+{
+    Pieces::of(&[
+        Piece::Text(front),
+        Piece::Number(rule.line),
+        Piece::Text(kind),
+        Piece::Escaped(rule.pattern),
+        Piece::Text(" "),
+        Piece::Escaped(url),
+        Piece::Text("\n"),
+    ])
+}
+
+fn url_pieces<'a>(front: &'a str, url: &'a [u8]) -> Pieces<'a>
+    ensures { pieces_text result ≡ url_answer_text front.now url.now }
+{
+    Pieces::of(&[Piece::Text(front), Piece::Escaped(url), Piece::Text("\n")])
+}
+
+// The word of a fault, as in the replies of a gate.
+fn fault_word(fault: UrlFault) -> &'static str
+    ensures { result.now ≡ fault_word fault }
+{
+    match fault {
+        UrlFault::TooLong => "long",
+        UrlFault::BadUrl => "bad",
+        UrlFault::NotHttp => "scheme",
+        UrlFault::HasUser => "user",
+        UrlFault::NoMemory => "memory",
+    }
+}

@@ -1,0 +1,44 @@
+//! The page that a URL of a check names: a path stands for one of any host, and https for http.
+//! Only its path and query count; RFC 9309, section 2.2.2.
+ghost use Rattle.std.specs.Prelude.{◌≡◌, ◌++◌};
+ghost use Rattle.robots_check.specs.Targets.{IsReadAs, page_named, page_octets, page_read};
+
+use path_normal::{PageUrl, Unread, UrlFault};
+use robots_text::is_same_word;
+use std::alloc::Global;
+
+/// Reads the page that a URL names.
+pub(crate) fn read_page(alloc: Global, url: &[u8]) -> Result<PageUrl, Unread>
+    ensures { IsReadAs (page_named url.now) result }
+{
+    let (front, rest) = split_url(url);
+    if front.is_empty() {
+        return read_octets(alloc, rest);
+    }
+    let mut octets = Vec::from_slice(alloc, front)?;
+    octets.extend_from_slice(rest)?;
+    read_octets(alloc, octets.as_slice())
+}
+
+// What is put in front of a URL, and which part of it follows.
+fn split_url(url: &[u8]) -> (&[u8], &[u8])
+    ensures { page_octets url.now ≡ result.0.now ++ result.1.now }
+{
+    match url {
+        [b'/', ..] => (b"http://h".as_slice(), url),
+        [one, two, three, four, five, six, rest @ ..]
+            if is_same_word(&[*one, *two, *three, *four, *five, *six], b"https:") => {
+            (b"http:".as_slice(), rest)
+        }
+        _ => (b"".as_slice(), url),
+    }
+}
+
+fn read_octets(alloc: Global, octets: &[u8]) -> Result<PageUrl, Unread>
+    ensures { IsReadAs (page_read octets.now) result }
+{
+    match std::str::from_utf8(octets) {
+        Ok(text) => PageUrl::read(alloc, text),
+        Err(_) => Err(Unread::Fault(UrlFault::BadUrl)),
+    }
+}
