@@ -90,8 +90,8 @@ impl<
     }
 }
 
-// Has the workers serve on threads of their own, and the gate seen to on this one. Without a thread the
-// workers come first, and then nothing is left to see to.
+// Has the workers serve on threads of their own, and the gate seen to on another. What is named first is done last
+// where no thread can be made: then nothing is left to see to.
 fn serve_by<
     G: Gate + Send + Sync,
     F: Fetcher + Sync,
@@ -105,10 +105,10 @@ fn serve_by<
     counters: &Counters,
     servants: &mut [Servant<G>],
 ) -> Result<Receipts<G>, ServeFault> {
-    let (_, receipts) = thread::join(
+    let (receipts, _) = thread::join(
         rt,
-        || employ_all(rt, server, gate, counters, servants),
         || server.watch(gate, counters),
+        || employ_all(rt, server, gate, counters, servants),
     );
     receipts
 }
