@@ -1,0 +1,162 @@
+"""Robots files that are made to cost much, and what the lines of a replay take over them."""
+import os
+import re
+import subprocess
+import time
+
+from auditor import TEXT_LIMIT, spelled
+
+# how long a line may take that is no ARRIVE, in milliseconds; what takes longer is measured again, since the machine may be busy
+MOST, ATTEMPTS = 50, 3
+SIZE = 500_000
+WALKS = 16
+LONG = "/" + "ab" * 1_990
+
+
+def filled(line, head=b"user-agent: *\n"):
+    """Returns a text of about 500,000 octets of a line: {n} in it counts."""
+    if b"{n}" not in line:
+        return head + line * ((SIZE - len(head)) // len(line))
+    lines, size, at = [head], len(head), 0
+    while size < SIZE:
+        lines.append(line.replace(b"{n}", b"%d" % at))
+        size, at = size + len(lines[-1]), at + 1
+    return b"".join(lines)[:SIZE].rpartition(b"\n")[0] + b"\n"
+
+
+def stairs(piece, sign=b""):
+    """Rules each of which is longer than the one before."""
+    lines, size, at = [b"user-agent: *\n"], 14, 0
+    while size < SIZE:
+        at += 1
+        lines.append(b"disallow: /" + piece * at + sign + b"\n")
+        size += len(lines[-1])
+    return b"".join(lines[:-1])
+
+
+TEXTS = {
+    "plain rules": filled(b"disallow: /part{n}/page\n"),
+    "the shortest rules": filled(b"allow:/\n"),
+    "rules that all begin the path": stairs(b"ab"),
+    "stairs with a star at each step": stairs(b"a*"),
+    "stairs of stars": stairs(b"*"),
+    "stairs that end the path": stairs(b"ab", b"$"),
+    "rules with stars that nearly match": filled(b"allow:*abb*{n}\n"),
+    "rules of a star that nearly match": filled(b"allow:*bbab\n"),
+    "rules of two runs that nearly match": filled(b"allow:*aba*abb*{n}\n"),
+    "rules of two stars": filled(b"disallow:*a*b{n}\n"),
+    "rules of 1,000 stars": filled(b"disallow: /" + b"a*" * 1_000 + b"x{n}\n"),
+    "rules of 1,000 stars alone": filled(b"disallow: /" + b"*" * 1_000 + b"x{n}\n"),
+    "rules that end the path": filled(b"disallow:*b$\n"),
+    "rules of 4,000 octets": filled(b"disallow: " + LONG.encode() + b"{n}\n"),
+    "one rule of 499,000 octets": b"user-agent: *\ndisallow: /" + b"ab" * 249_500 + b"\n",
+    "one rule of 249,000 stars": b"user-agent: *\ndisallow: /" + b"a*" * 249_000 + b"x\n",
+    "rules to be rewritten": filled(b"allow:/%7e%7e%7e{n}\n"),
+    "octets to be escaped": filled(b"allow:/\xff\xff\xff\xff{n}\n"),
+    "a group for each rule": filled(b"user-agent: foobot\nallow: /a{n}\n", b""),
+    "heads that name the token": filled(b"user-agent: foobot\n", b"user-agent: *\nallow: /\n") + b"disallow: /b\n",
+    "heads that name others": filled(b"user-agent: bot-{n}\n", b"") + b"disallow: /a\n",
+    "groups of others": filled(b"user-agent: x\ndisallow: /\n", b""),
+    "heads before each rule": filled(b"user-agent: foobot\nuser-agent: *\nuser-agent: x\ndisallow: /*a*{n}\n", b""),
+    "empty lines": filled(b"\n"),
+    "CR alone": filled(b"\r") + b"disallow: /b\n",
+    "colons": filled(b":"),
+    "comments": filled(b"#\n"),
+    "NULs": filled(b"\0"),
+    "UTF-16": filled(b"disallow: /a{n}\n").decode().encode("utf-16")[:SIZE],
+    "HTML": filled(b"<p>user-agent: *<br>disallow: /{n}</p>\n"),
+}
+PATHS = [LONG, "/" + "a" * 3_990, "/", "/part7/page", "/x" * 1_990, "/%7e%7e%7e7", "/" + "%2A" * 1_300, "/ab", "/" + "aab" * 1_330]
+# what takes longer as the program is, and for how long at most (docs/FAULTS.md): few texts have so many places that nearly match
+DEAR = {"rules of a star that nearly match": 1_000}
+
+
+class Conversation:
+    """A replay over a pair of pipes, a line at a time."""
+
+    def __init__(self, program, *words):
+        self.process = subprocess.Popen([program, "replay", *words], stdin=subprocess.PIPE, stdout=subprocess.PIPE)
+        self.said = []
+
+    def __enter__(self):
+        return self
+
+    def __exit__(self, *_):
+        self.process.kill()
+        self.process.communicate()
+
+    def say(self, line):
+        """Returns the first line of the reply, and the milliseconds that it took."""
+        self.said.append(line)
+        began = time.perf_counter()
+        self.process.stdin.write(line.encode() + b"\n")
+        self.process.stdin.flush()
+        reply = self.process.stdout.readline()
+        took = 1_000 * (time.perf_counter() - began)
+        for _ in range(int(reply.split()[1]) if reply.startswith(b"SEALED ") else 0):
+            self.process.stdout.readline()
+        return reply.decode().rstrip("\n"), took
+
+    def resident(self):
+        """Returns the octets of memory that it has."""
+        with open(f"/proc/{self.process.pid}/statm") as file:
+            return int(file.read().split()[1]) * os.sysconf("SC_PAGE_SIZE")
+
+
+def lines_over(text):
+    """The lines of a session over a robots file: enough asks of each path for walks, for the index, and by it."""
+    yield from ["1 BEGIN a.example", f"1 ARRIVE a.example 1 200 {spelled(text[:TEXT_LIMIT])}"]
+    for path in PATHS * 4:
+        yield f"2 ASK foobot http://a.example{path}"
+    yield "2 STATE a.example"
+    for path in PATHS:
+        yield f"2 ASK barbot http://a.example{path}"
+    yield from ["3 START {permit} {token} {url}", "3 DONE {permit}", "4 SEAL"]
+    yield "86402 SWEEP"
+
+
+def measure(program, text):
+    """Returns the milliseconds of each line by its verb, the greatest; those of an ask by its number, too, and the memory."""
+    most, asks, replies, permit = {}, [], [], {"permit": 1, "token": "foobot", "url": "http://a.example/"}
+    with Conversation(program) as it:
+        it.say("0 STATE a.example")
+        before = it.resident()
+        for line in lines_over(text):
+            verb = line.split(" ")[1]
+            reply, took = it.say(line.format(**permit))
+            replies.append(reply)
+            if reply.startswith("PERMIT "):
+                permit = {"permit": reply.split(" ")[1], "token": line.split(" ")[2], "url": line.split(" ")[3]}
+            most[verb] = max(most.get(verb, 0), took)
+            asks += [took] if verb == "ASK" else []
+        return most, asks, it.resident() - before, replies, it.said
+
+
+def try_costs(tried, only=None):
+    """Sees to it that no line but an ARRIVE takes long, over each text."""
+    for name, text in TEXTS.items():
+        if only not in (None, name):
+            continue
+        for left in reversed(range(ATTEMPTS)):
+            most, _, _, replies, said = measure(tried.program, text)
+            slow = {verb: f"{took:.1f} ms" for verb, took in most.items() if took > DEAR.get(name, MOST) and verb != "ARRIVE"}
+            if not slow:
+                break
+        tried.count("dear texts")
+        given = "".join(f"{it}\n" for it in said).encode()
+        tried.expect(f"{name}: a line that takes long", given, not slow, str(slow), ["replay"])
+        odd = [it for it in replies if not re.match("TURN|TAKEN|PERMIT|GO|NO|BACK|DONE|STATE|SEALED|SWEPT", it)]
+        tried.expect(f"{name}: a reply", given, len(odd) <= 2, str(odd[:3]), ["replay"])
+
+
+def print_costs(program):
+    """Prints a table: what an arrival, a walk, the ask that makes an index, and an ask by it take, and the memory."""
+    print("| robots file of 500,000 octets | `ARRIVE` | walk | with the index | by the index | memory |")
+    print("|---|---|---|---|---|---|")
+    for name, text in TEXTS.items():
+        rounds = [measure(program, text) for _ in range(3)]
+        arrive = min(it[0]["ARRIVE"] for it in rounds)
+        walk = min(max(it[1][:WALKS]) for it in rounds)
+        index = min(it[1][WALKS] for it in rounds)
+        later = min(max(it[1][WALKS + 1 :]) for it in rounds)
+        print(f"| {name} | {arrive:.1f} ms | {walk:.2f} ms | {index:.2f} ms | {later:.2f} ms | {max(it[2] for it in rounds) / 1e6:.1f} MB |", flush=True)
