@@ -3,4 +3,5 @@
 pub mod PlaceLemmas
 pub mod SpellsLemmas
 pub mod StarLemmas
+pub mod BlockLemmas
 pub mod CallerLemmas

@@ -2,6 +2,7 @@
 //! RFC 9309, section 2.2.3.
 #![tactic(auto)]
 
+mod blocks;
 pub mod laws;
 mod pattern;
 mod runs;

@@ -1,10 +1,11 @@
 //! The runs of a pattern between its stars, and where they stand in a path.
 //! RFC 9309, section 2.2.3.
-ghost use Rattle.std.specs.Prelude.{◌≡◌, ◌++◌, ◌↔◌, List, ℕ, IsTrue, MatchOption, Some};
+ghost use Rattle.std.specs.Prelude.{◌≡◌, ◌++◌, ◌↔◌, ◌<◌, List, ℕ, IsTrue, MatchOption, Some, length};
 ghost use Rattle.memchr.specs.Find.{FindsNeedle, IsFirstByte, OccursAt, is_byte};
 ghost use Rattle.path_normal.specs.Octets.{star};
 ghost use Rattle.path_pattern.specs.Runs.{BeginsNot, HasNoStar, IsAfterFirst, IsSplitAtStar, IsStarOf, StandsNowhere, has_no_star};
 
+use crate::blocks::{PLACES, first_by_blocks};
 use memchr::arch::all::{is_prefix, is_suffix};
 use memchr::{memchr, memmem};
 
@@ -119,8 +120,21 @@ fn first_place(path: &[u8], run: &[u8]) -> Option<usize>
     if begins_with(rest, run) {
         return Some(place);
     }
-    let later = memmem::find(rest, run)?;
+    let later = later_place(rest, run)?;
     Some(place + later)
+}
+
+// What `memmem` costs grows with the places at which the run nearly stands: it compares at each of
+// them. A path that has no block of places for the run has few.
+fn later_place(path: &[u8], run: &[u8]) -> Option<usize>
+    requires { 1 < length run.now }
+    ensures { FindsNeedle path.now run.now 0 result }
+{
+    if path.len() < run.len() + (PLACES - 1) {
+        memmem::find(path, run)
+    } else {
+        first_by_blocks(path, run)
+    }
 }
 
 /// Whether the path ends with the run.

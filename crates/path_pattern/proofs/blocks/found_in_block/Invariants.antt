@@ -1,0 +1,12 @@
+-- A lane is left where the octets that were seen stand, and there is one.
+-- Used by `found_in_block`.
+use Rattle.std.proofs.Common.{◌+◌, ◌-◌, length}
+use Rattle.path_pattern.specs.Blocks.{IsNoneLeft}
+use Rattle.path_pattern.proofs.BlockLemmas.{IsLeft}
+use Rattle.path_pattern.proofs.blocks.found_in_block.Given as goal
+
+abbrev pub invariant-loop-seen : goal.invariant-loop-seen
+invariant-loop-seen l = IsLeft l.path l.run l.start l.seen l.left × ¬ (IsNoneLeft l.left)
+
+abbrev pub decreases-loop-seen : goal.decreases-loop-seen
+decreases-loop-seen l = length l.run + 2 - l.seen

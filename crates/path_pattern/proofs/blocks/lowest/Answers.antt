@@ -1,0 +1,11 @@
+-- The count of trailing zeros is the place of the lowest bit.
+-- Used by `lowest`.
+use Rattle.std.proofs.Common.{arith, w64}
+use Rattle.std.proofs.lemmas.Nat.Bits.{bit_at-trailing_zeros}
+use Rattle.path_pattern.proofs.blocks.lowest.Goals as goal
+
+pub returns-clause-set : goal.returns-clause-set
+returns-clause-set c = (bit_at-trailing_zeros w64 c.args.marks (omega (arith, c.requires)) c.ranges.marks.fits).1
+
+pub returns-clause-below : goal.returns-clause-below
+returns-clause-below c = (bit_at-trailing_zeros w64 c.args.marks (omega (arith, c.requires)) c.ranges.marks.fits).2

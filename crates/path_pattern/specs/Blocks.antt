@@ -1,0 +1,35 @@
+-- What the lanes of a block of 64 places say of them, and what a block holds of a run.
+-- Used by the contracts of the search by blocks.
+use Rattle.std.specs.Prelude.{◌≡◌, ◌+◌, ◌<◌, ◌≤◌, ℕ, List, length, slice_index}
+use Rattle.memchr.specs.Find as find
+use Rattle.memchr.specs.Find.{NoneBefore, OccursAt}
+use Rattle.path_pattern.specs.declared.blocks.Found.{Found}
+use Rattle.path_pattern.specs.declared.blocks.Found.TheVariants.{At, Nowhere}
+
+-- there are 64 lanes, and lane k holds f k
+pub record HasLanes (lanes : List ℕ) (f : ℕ → ℕ) : Type 0 where
+  pub long : length lanes ≡ 64
+  pub each : (k : ℕ) → k < 64 → slice_index lanes k ≡ f k
+
+-- no lane is left: none has its top bit
+abbrev pub IsNoneLeft : List ℕ → Type 0
+IsNoneLeft lanes = (k : ℕ) → slice_index lanes k < 128
+
+-- at the k-th place from start on the octet of the run stands that is its j-th
+abbrev pub HasOctet : List ℕ → List ℕ → ℕ → ℕ → ℕ → Type 0
+HasOctet path run start k j = slice_index path (start + k + j) ≡ slice_index run j
+
+-- of the lanes before, those are left at whose places the two octets of the run stand
+pub record IsLeftOf (path run : List ℕ) (start pair : ℕ) (before left : List ℕ) : Type 0 where
+  pub kept : (k : ℕ) → k < 64 → 128 ≤ slice_index before k → HasOctet path run start k pair
+      → HasOctet path run start k (pair + 1) → 128 ≤ slice_index left k
+  pub was : (k : ℕ) → k < 64 → 128 ≤ slice_index left k → 128 ≤ slice_index before k
+  pub first : (k : ℕ) → k < 64 → 128 ≤ slice_index left k → HasOctet path run start k pair
+  pub second : (k : ℕ) → k < 64 → 128 ≤ slice_index left k → HasOctet path run start k (pair + 1)
+
+-- this is where the run stands first of the 64 places from start on; where nowhere the pair is in it
+abbrev pub IsFoundIn : List ℕ → List ℕ → ℕ → Found → Type 0
+IsFoundIn path run start (At place) =
+    NoneBefore (OccursAt path run) start (start + 64) place × OccursAt path run place
+IsFoundIn path run start (Nowhere pair) =
+    find.Nowhere (OccursAt path run) start (start + 64) × (pair + 1 < length run)
