@@ -8,3 +8,4 @@ pub mod Limits
 pub mod Lines
 pub mod Messages
 pub mod Output
+pub mod Reads

@@ -10,6 +10,7 @@ mod line_part;
 mod line_reader;
 mod next_line;
 mod output;
+mod reading;
 mod sink;
 mod source;
 
@@ -20,5 +21,6 @@ pub use crate::line_end::LineEnd;
 pub use crate::line_reader::{LINE_BUFFER, LineReader};
 pub use crate::next_line::{NextLine, ReadLineFault};
 pub use crate::output::{OUTPUT_BUFFER, Output};
+pub use crate::reading::read_to;
 pub use crate::sink::{Sink, write_all};
 pub use crate::source::Source;

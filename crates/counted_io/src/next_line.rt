@@ -18,7 +18,7 @@ pub enum NextLine {
     TooLong,
 }
 
-/// Why no line was read. The octets consumed by then are lost.
+/// Why no line was read, or no input to its end. The octets consumed by then are lost.
 #[derive(Clone, Copy, Debug, PartialEq, Eq)]
 pub enum ReadLineFault {
     /// The source failed.

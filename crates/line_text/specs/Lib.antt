@@ -3,5 +3,6 @@ pub mod Escapes
 pub mod Limits
 pub mod Number
 pub mod Pieces
+pub mod RuleWords
 pub mod Strips
 pub mod Words

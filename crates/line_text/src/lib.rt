@@ -7,10 +7,12 @@ mod numbers;
 mod octets;
 mod piece;
 mod pieces;
+mod rule_words;
 mod words;
 
 pub use limits::MAX_LONG_LINE;
 pub use numbers::{is_numeral, number_of};
 pub use piece::Piece;
 pub use pieces::Pieces;
+pub use rule_words::{gap_before, rule_word};
 pub use words::Words;

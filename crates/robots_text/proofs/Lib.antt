@@ -14,4 +14,5 @@ pub mod Walks
 pub mod Plains
 pub mod Bounds
 pub mod GroupLaws
+pub mod Keeping
 pub mod CallerLemmas

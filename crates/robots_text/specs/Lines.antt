@@ -1,6 +1,6 @@
 -- What is kept of a robots text, and its lines: the one way to write it as lines and their ends.
 -- RFC 9309, sections 2.2 and 2.5.
-use Rattle.std.specs.Prelude.{◌≡◌, ◌≢◌, ◌⊎◌, ◌≤◌, ℕ, Bool, true, false, ◌&&◌, ◌||◌, ◌==◌, nat_le, List, [], ◌∷◌, ◌++◌, length, take, if◌then◌else◌}
+use Rattle.std.specs.Prelude.{◌≡◌, ◌≢◌, ◌⊎◌, ◌≤◌, ℕ, Bool, true, false, ◌&&◌, ◌||◌, ◌==◌, nat_le, List, [], ◌∷◌, ◌++◌, length, take, if◌then◌else◌, Option, None, Some}
 use Rattle.std.specs.List.{list_any, onto_first}
 use Rattle.robots_text.specs.Octets.{carriage_return, line_feed}
 
@@ -21,6 +21,11 @@ whole_lines (octet ∷ octets) =
 -- what is kept of a body: all, or if it is over the limit the whole lines within the limit
 abbrev pub kept : List ℕ → List ℕ
 kept body = if nat_le (length body) text_limit then body else whole_lines (take text_limit body)
+
+-- of the body is kept what is kept of the whole input, where that is known
+abbrev pub KeepsSame : Option (List ℕ) → List ℕ → Type 0
+KeepsSame None body = Unit {0}
+KeepsSame (Some input) body = kept body ≡ kept input
 
 -- a front of a body that is within the limit and ends with CR or LF
 pub record IsWholeFront (body front : List ℕ) : Type 0 where

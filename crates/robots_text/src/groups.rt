@@ -20,10 +20,12 @@ pub struct RuleLine<'a> {
     pub pattern: &'a [u8],
 }
 
-// Whose rules are looked for.
+/// Whose rules are looked for.
 #[derive(Clone, Copy)]
-pub(crate) enum Whom<'a> {
+pub enum Whom<'a> {
+    /// Those of this token.
     Token(&'a [u8]),
+    /// Those of `*`, where no line names the token.
     Everybody,
 }
 
@@ -86,8 +88,8 @@ impl<'t, 'k> Iterator for RulesFor<'t, 'k> {
     }
 }
 
-// Whose rules are looked for: those of the token where a line names it, and else those of everybody.
-pub(crate) fn whom_for<'a>(records: Records<'_>, word: &'a [u8]) -> Whom<'a>
+/// Whose rules are looked for: those of the token where a line names it, and else those of everybody.
+pub fn whom_for<'a>(records: Records<'_>, word: &'a [u8]) -> Whom<'a>
     ensures { (kind : Record) → speaks result kind
         ≡ speaks_to (records_left records.entry) word.now kind }
 {
@@ -126,7 +128,8 @@ fn names_everybody(kind: RecordKind<'_>) -> bool
     matches!(kind, RecordKind::Agent(Agent::All))
 }
 
-pub(crate) fn speaks(whom: Whom<'_>, kind: RecordKind<'_>) -> bool
+/// Whether a record is a user-agent line that speaks to them.
+pub fn speaks(whom: Whom<'_>, kind: RecordKind<'_>) -> bool
     ensures { result ≡ speaks whom.entry (kind_seen kind.entry) }
 {
     match whom {

@@ -13,7 +13,7 @@ mod token;
 mod words;
 
 pub use grouped::{GroupedRecord, GroupedRecords};
-pub use groups::{RuleLine, RulesFor};
+pub use groups::{RuleLine, RulesFor, Whom, speaks, whom_for};
 pub use record::{Agent, RecordKind, RecordLine, RuleKind};
 pub use records::Records;
 pub use text::{MAX_TEXT, RobotsText};
