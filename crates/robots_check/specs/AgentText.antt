@@ -1,17 +1,13 @@
 -- The user-agent lines that speak to a token, and what an explanation says of them.
 -- RFC 9309, section 2.2.1; docs/FORMATS.md has the lines.
-use Rattle.std.specs.Prelude.{ℕ, Bool, List, [], ◌∷◌, ◌++◌, codes, decimal, filter, flat_map, if◌then◌else◌}
-use Rattle.robots_text.specs.Groups.{names_everybody, names_token, speaks_to}
+use Rattle.std.specs.Prelude.{ℕ, List, [], ◌∷◌, ◌++◌, codes, decimal, filter, flat_map}
+use Rattle.robots_text.specs.Groups.{speaks_to}
 use Rattle.robots_text.specs.Records.{everybody, token, nobody, Record, agent, rule, other, Numbered}
 use Rattle.robots_text.specs.Token.{lower_case}
 
 -- the lines that speak to the token, in order
 abbrev pub agents_for : List Numbered → List ℕ → List Numbered
 agents_for lines word = filter (λ line. speaks_to lines word line.kind) lines
-
--- the record speaks to the token, where a line names it or none does
-abbrev pub speaks_if : Bool → List ℕ → Record → Bool
-speaks_if named word kind = if named then names_token word kind else names_everybody kind
 
 -- a user-agent line's number, and some words
 abbrev pub agent_line_text : ℕ → List ℕ → List ℕ → List ℕ

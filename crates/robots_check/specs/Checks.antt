@@ -1,9 +1,12 @@
 -- What a check read and wrote, by its result.
 -- The contract of `check` cites it.
-use Rattle.std.specs.Prelude.{◌≡◌, ◌⊎◌, ◌≤◌, ◌<◌, ◌+◌, ℕ, List, [], ◌++◌, length, Option, None, Some, Result, Ok, Err}
+use Rattle.std.specs.Prelude.{◌≡◌, ◌⊎◌, ◌+◌, ℕ, List, [], ◌++◌, Option, Result, Ok, Err}
 use Rattle.std.specs.Io.KnownBytes.{Consumes, Appends, IsAtEnd}
 use Rattle.counted_io.specs.Device.{AppendsPrefix, one_more}
-use Rattle.robots_text.specs.Lines.{kept, text_limit}
+use Rattle.counted_io.specs.Reads.{ReadsFront, ReadsTo}
+use Rattle.counted_io.specs.declared.next_line.ReadLineFault.{ReadLineFault}
+use Rattle.counted_io.specs.declared.next_line.ReadLineFault.TheVariants as causes
+use Rattle.robots_text.specs.Lines.{KeepsSame, kept, text_limit}
 use Rattle.robots_text.specs.Records.{Numbered, numbered_records}
 use Rattle.robots_check.specs.Input.{HasUrls}
 use Rattle.robots_check.specs.Outcomes.{outcome_of}
@@ -12,23 +15,6 @@ use Rattle.robots_check.specs.declared.fault.CheckFault.TheVariants.{Read, Write
 use Rattle.robots_check.specs.Told.{Told, AreTold, answers_text}
 use Rattle.robots_check.specs.declared.detail.Detail.{Detail}
 use Rattle.robots_check.specs.declared.outcome.Outcome.{Outcome}
-
--- the body was read: all that the input has, but no more than so many octets
-pub record ReadsTo (most : ℕ) (old new : Option (List ℕ)) (body : List ℕ) : Type 0 where
-  pub consumed : Consumes old new body
-  pub fits : length body ≤ most
-  pub all : length body < most → IsAtEnd new
-
--- no more than a front of the input was read, and no more than so many octets
-pub record ReadsFront (most : ℕ) (old new : Option (List ℕ)) : Type 0 where
-  pub front : List ℕ
-  pub consumed : Consumes old new front
-  pub fits : length front ≤ most
-
--- of the body is kept what is kept of the whole input, where that is known
-abbrev pub KeepsSame : Option (List ℕ) → List ℕ → Type 0
-KeepsSame None body = Unit {0}
-KeepsSame (Some input) body = kept body ≡ kept input
 
 -- these are what was kept of the input as a robots text: the input was read, or one octet more than is kept
 pub record ReadsText (old new : Option (List ℕ)) (text : List ℕ) : Type 0 where
@@ -103,6 +89,11 @@ ChecksInput detail input left word written new (Err Read) = StopsWithin input le
 ChecksInput detail input left word written new (Err Write) = ReadsAndTellsWhole detail input left word written new (Err Write)
 ChecksInput detail input left word written new (Err NoMemory) =
     StopsWithin input left written new ⊎ ReadsAndTellsWhole detail input left word written new (Err NoMemory)
+
+-- the fault of a check whose read failed so
+abbrev pub check_fault : ReadLineFault → CheckFault
+check_fault causes.Read = Read
+check_fault causes.NoMemory = NoMemory
 
 -- the fault is one of reading
 abbrev pub IsReadFault : CheckFault → Type 0

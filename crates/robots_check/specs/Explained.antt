@@ -1,27 +1,15 @@
 -- What an explanation says of a path before the answer: the user-agent lines that speak to the token, each rule line
 -- for it, and why the one that gives the verdict is above the others.
 -- RFC 9309, section 2.2; docs/FORMATS.md has the lines.
-use Rattle.std.specs.Prelude.{◌≡◌, ◌==◌, ℕ, Bool, List, [], ◌∷◌, ◌++◌, Option, Some, None, codes, decimal, flat_map, length, if◌then◌else◌}
-use Rattle.line_text.specs.Escapes.{escaped}
+use Rattle.std.specs.Prelude.{◌≡◌, ◌==◌, ℕ, Bool, List, [], ◌++◌, Option, Some, None, codes, decimal, flat_map, length, if◌then◌else◌}
+use Rattle.line_text.specs.RuleWords.{rule_word, value_text}
 use Rattle.path_normal.specs.Normal.{normal_pattern}
-use Rattle.robots_text.specs.declared.record.RuleKind.{RuleKind}
-use Rattle.robots_text.specs.declared.record.RuleKind.TheVariants.{Allow, Disallow}
 use Rattle.robots_text.specs.Groups.{AreRulesFor, Ruled}
 use Rattle.robots_text.specs.Records.{Numbered}
 use Rattle.robots_verdict.specs.Weights.{kind_place}
 use Rattle.robots_check.specs.AgentText.{agents_for, agents_text}
 use Rattle.robots_check.specs.Answers.{Answer, allowed_by, allowed_unruled, allowed_robots, denied_by, unread}
 use Rattle.robots_check.specs.Rows.{AreRows, IsSecond, Tried}
-
--- the word of a rule
-abbrev pub rule_word : RuleKind → List ℕ
-rule_word Allow = codes "allow"
-rule_word Disallow = codes "disallow"
-
--- a value with a space before it; an empty one is left out, and its space
-abbrev pub value_text : List ℕ → List ℕ
-value_text [] = []
-value_text (octet ∷ octets) = codes " " ++ escaped (octet ∷ octets)
 
 -- whether a pattern matches the path
 abbrev pub hits_text : Bool → List ℕ

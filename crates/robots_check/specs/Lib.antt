@@ -7,7 +7,6 @@ pub mod Checks
 pub mod Explained
 pub mod Input
 pub mod Outcomes
-pub mod Reads
 pub mod Ready
 pub mod Rows
 pub mod Rules

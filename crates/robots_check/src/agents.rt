@@ -3,14 +3,16 @@
 ghost use Rattle.std.specs.Prelude.{◌≡◌, IfOk, filter, flat_map, map};
 ghost use Rattle.counted_io.specs.Output.{Pushes};
 ghost use Rattle.line_text.specs.Pieces.{piece_text, pieces_text};
-ghost use Rattle.robots_text.specs.Groups.{is_named, names_everybody, names_token};
 ghost use Rattle.robots_text.specs.Left.{records_left};
-ghost use Rattle.robots_text.specs.Records.{kind_seen, line_seen, numbered_records};
-ghost use Rattle.robots_check.specs.AgentText.{agent_line_text, agent_text, agents_for, agents_text, speaks_if};
+ghost use Rattle.robots_text.specs.Records.{line_seen, numbered_records};
+ghost use Rattle.robots_text.specs.Walk.{speaks};
+ghost use Rattle.robots_check.specs.AgentText.{agent_line_text, agent_text, agents_for, agents_text};
 
 use counted_io::{DeviceFault, Output, Sink};
 use line_text::{Piece, Pieces};
-use robots_text::{Agent, RecordKind, RecordLine, Records, RobotsText, Token, is_same_word};
+use robots_text::{
+    Agent, RecordKind, RecordLine, Records, RobotsText, Token, Whom, speaks, whom_for,
+};
 use std::alloc::{AllocError, Global};
 
 /// The user-agent lines that speak to the token.
@@ -22,66 +24,27 @@ pub(crate) fn agents_for<'t>(
     ensures { IfOk result (λ agents.
         map line_seen agents.items ≡ agents_for (numbered_records text.now) token.now) }
 {
-    let word = token.text().as_bytes();
-    speaking(alloc, text.records(), is_named(text.records(), word), word)
+    let whom = whom_for(text.records(), token.text().as_bytes());
+    speaking(alloc, text.records(), whom)
 }
 
-// Those of the lines that are left, where a line names the token or none does.
+// Those of the lines that are left which speak to them.
 fn speaking<'t>(
     alloc: Global,
     records: Records<'t>,
-    named: bool,
-    word: &[u8],
+    whom: Whom<'_>,
 ) -> Result<Vec<RecordLine<'t>>, AllocError>
     ensures { IfOk result (λ agents. map line_seen agents.items
-        ≡ filter (λ line. speaks_if named word.now line.kind) (records_left records.entry)) }
+        ≡ filter (λ line. speaks whom.entry line.kind) (records_left records.entry)) }
 {
     let mut agents = Vec::new(alloc);
     let mut left = records;
     while let Some(record) = left.next() {
-        if speaks(named, word, record.kind) {
+        if speaks(whom, record.kind) {
             agents.push(record)?;
         }
     }
     Ok(agents)
-}
-
-// Whether a line names the token.
-fn is_named(records: Records<'_>, word: &[u8]) -> bool
-    ensures { result ≡ is_named (records_left records.entry) word.now }
-{
-    let mut rest = records;
-    while let Some(record) = rest.next() {
-        if names_token(word, record.kind) {
-            return true;
-        }
-    }
-    false
-}
-
-fn speaks(named: bool, word: &[u8], kind: RecordKind<'_>) -> bool
-    ensures { result ≡ speaks_if named word.now (kind_seen kind.entry) }
-{
-    if named {
-        names_token(word, kind)
-    } else {
-        names_everybody(kind)
-    }
-}
-
-fn names_token(word: &[u8], kind: RecordKind<'_>) -> bool
-    ensures { result ≡ names_token word.now (kind_seen kind.entry) }
-{
-    match kind {
-        RecordKind::Agent(Agent::Name(name)) => is_same_word(name, word),
-        _ => false,
-    }
-}
-
-fn names_everybody(kind: RecordKind<'_>) -> bool
-    ensures { result ≡ names_everybody (kind_seen kind.entry) }
-{
-    matches!(kind, RecordKind::Agent(Agent::All))
 }
 
 /// Pushes their lines, or one that says that there is none.

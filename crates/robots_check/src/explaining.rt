@@ -2,12 +2,11 @@
 //! RFC 9309, section 2.2; docs/FORMATS.md has the lines.
 ghost use Rattle.std.specs.Prelude.{◌≡◌, ◌++◌, IfOk, flat_map, map, option_map};
 ghost use Rattle.counted_io.specs.Output.{Pushes};
-ghost use Rattle.line_text.specs.Escapes.{escaped};
 ghost use Rattle.line_text.specs.Pieces.{pieces_text};
 ghost use Rattle.robots_text.specs.Records.{line_seen};
 ghost use Rattle.robots_check.specs.AgentText.{agents_text};
 ghost use Rattle.robots_check.specs.Answers.{answer_seen};
-ghost use Rattle.robots_check.specs.Explained.{IsSecondFor, alike_text, because_by, because_text, hits_text, row_text, rule_word, value_text, winner_octets};
+ghost use Rattle.robots_check.specs.Explained.{IsSecondFor, alike_text, because_by, because_text, hits_text, row_text, winner_octets};
 ghost use Rattle.robots_check.specs.Rows.{row_seen};
 ghost use Rattle.robots_text.specs.Walk.{rule_seen};
 
@@ -15,9 +14,9 @@ use crate::agents::push_agents;
 use crate::finding::Finding;
 use crate::rows::{Row, second};
 use counted_io::{DeviceFault, Output, Sink};
-use line_text::{Piece, Pieces};
+use line_text::{Piece, Pieces, gap_before, rule_word};
 use path_normal::normal_pattern;
-use robots_text::{RecordLine, RuleKind, RuleLine};
+use robots_text::{RecordLine, RuleLine};
 use std::alloc::{AllocError, Global};
 
 /// Pushes the explanation of a finding: the user-agent lines, the rows, and the reason.
@@ -82,29 +81,10 @@ fn row_pieces(row: Row<'_>) -> Pieces<'_>
     ])
 }
 
-fn rule_word(kind: RuleKind) -> &'static str
-    ensures { result.now ≡ rule_word kind }
-{
-    match kind {
-        RuleKind::Allow => "allow",
-        RuleKind::Disallow => "disallow",
-    }
-}
-
 fn hits_word(hits: bool) -> &'static str
     ensures { result.now ≡ hits_text hits }
 {
     if hits { " matches\n" } else { " no\n" }
-}
-
-// What stands between the word of a rule and its value.
-fn gap_before(value: &[u8]) -> &str
-    ensures { value_text value.now ≡ result.now ++ escaped value.now }
-{
-    match value {
-        [] => "",
-        _ => " ",
-    }
 }
 
 /// The strongest row that matches, but for that of the line that decides.

@@ -1,6 +1,6 @@
 //! Why a check stopped before its last URL.
 //! `check` answers with it.
-use counted_io::DeviceFault;
+use counted_io::{DeviceFault, ReadLineFault};
 use std::alloc::AllocError;
 
 /// Why a check stopped.
@@ -34,5 +34,19 @@ impl From<DeviceFault> for CheckFault {
     /// Only the writes of a check report a device's fault as it is.
     fn from(_: DeviceFault) -> CheckFault {
         CheckFault::Write
+    }
+}
+
+impl From<ReadLineFault> for CheckFault {
+    ghost use Rattle.std.specs.Prelude.{◌≡◌};
+    ghost use Rattle.robots_check.specs.Checks.{check_fault};
+
+    ghost from_gives = { λ cause fault. fault ≡ check_fault cause };
+
+    fn from(fault: ReadLineFault) -> CheckFault {
+        match fault {
+            ReadLineFault::Read => CheckFault::Read,
+            ReadLineFault::NoMemory => CheckFault::NoMemory,
+        }
     }
 }

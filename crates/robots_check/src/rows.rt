@@ -1,16 +1,14 @@
 //! The rule lines for a token beside a path: which match it, and the strongest of the others.
 //! RFC 9309, section 2.2.2.
 ghost use Rattle.std.specs.Prelude.{◌≡◌, IfOk, map, option_map};
-ghost use Rattle.std.specs.Ordering.{nat_cmp};
 ghost use Rattle.robots_text.specs.Walk.{rule_seen};
-ghost use Rattle.robots_verdict.specs.Weights.{kind_place};
 ghost use Rattle.robots_check.specs.Rows.{AreRows, IsRow, IsSecond, is_row_above, row_seen, stronger_row, weighed_row};
 
 use path_normal::normal_pattern;
 use path_pattern::matches;
-use robots_text::{RuleKind, RuleLine};
+use robots_text::RuleLine;
+use robots_verdict::compare_kinds;
 use std::alloc::{AllocError, Global};
-use std::cmp::Ordering;
 
 /// A rule line beside a path.
 #[derive(Clone, Copy)]
@@ -90,14 +88,4 @@ fn is_above(one: Row<'_>, other: Row<'_>) -> bool
         .then(compare_kinds(one.rule.kind, other.rule.kind))
         .then(one.rule.line.cmp(&other.rule.line))
         .is_lt()
-}
-
-fn compare_kinds(one: RuleKind, other: RuleKind) -> Ordering
-    ensures { result ≡ nat_cmp (kind_place one) (kind_place other) }
-{
-    match (one, other) {
-        (RuleKind::Allow, RuleKind::Disallow) => Ordering::Less,
-        (RuleKind::Disallow, RuleKind::Allow) => Ordering::Greater,
-        _ => Ordering::Equal,
-    }
 }

@@ -27,3 +27,4 @@ pub use decision::{Allowed, Verdict};
 pub use policy::Policy;
 pub use rules::{Rules, with_index};
 pub use said::{PolicyHandle, Said};
+pub use weight::compare_kinds;

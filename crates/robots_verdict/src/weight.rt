@@ -36,7 +36,8 @@ impl Weight {
     }
 }
 
-fn compare_kinds(one: RuleKind, other: RuleKind) -> Ordering
+/// The order of two kinds in which the stronger one comes first.
+pub fn compare_kinds(one: RuleKind, other: RuleKind) -> Ordering
     ensures { result ≡ nat_cmp (kind_place one) (kind_place other) }
 {
     match (one, other) {
