@@ -116,8 +116,8 @@ fn open(
     ensures opened { OnOk result ((limit : ℕ) → Changes (known_in limit sites.old.entries)
         authority.now (with_flight flight (site_of (known_in limit sites.old.entries) authority.now))
         (known_in limit sites.new.entries)) }
-    ensures err { IfErr result (λ refusal. refusal ≡ FlightRefusal.NoMemory) }
-    ensures same { OnErr result (sites.new.entries ≡ sites.old.entries) }
+    ensures err { IfErr result (λ refusal. (refusal ≡ FlightRefusal.NoMemory)
+        × (sites.new.entries ≡ sites.old.entries)) }
     ensures known { AllKnown sites.new.entries }
     ensures covered { (kept : KeptEnds) → Covers kept sites.old.entries
         → Covers kept sites.new.entries }
