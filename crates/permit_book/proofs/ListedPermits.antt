@@ -1,5 +1,5 @@
 -- The lists of what is out in a table have under each number what the table has.
--- Cited by `Permits::unspent_permits` and `running_permits`.
+-- Cited by `Permits::permits_at`.
 use Rattle.std.proofs.Common.{◌≡◌, ◌≢◌, ℕ, ◌+◌, ◌<◌, ◌≤◌, ◌==◌, zero, suc, Bool, true, false, if◌then◌else◌, List, [], ◌∷◌, ◌++◌, length, filter, take, get_or, inl, inr, refl, sym, ap, ◌∙◌, append_assoc, arith}
 use Rattle.std.proofs.lemmas.Bool.Decides.{eqb_tells}
 use Rattle.std.proofs.lemmas.List.{append-nil, length-take-le, take_more}
@@ -7,9 +7,11 @@ use Rattle.std.proofs.lemmas.List.Elements.{filter-append}
 use Rattle.permit_book.specs.declared.granted_permit.GrantedPermit.{GrantedPermit}
 use Rattle.permit_book.specs.declared.out.Out.{Out}
 use Rattle.permit_book.specs.declared.out.Out.TheVariants.{Nothing, Unspent, Running}
+use Rattle.permit_book.specs.declared.listing.Stage.{Stage}
+use Rattle.permit_book.specs.declared.listing.Stage.TheVariants as stages
 use Rattle.permit_book.specs.declared.out.Slot.{Slot}
 use Rattle.permit_book.specs.Numbers.{generation_of, most_slots, number_in, slot_of}
-use Rattle.permit_book.specs.Outstanding.{is_numbered, running_in, unspent_in}
+use Rattle.permit_book.specs.Outstanding.{is_numbered, listed_in, running_in, unspent_in}
 use Rattle.permit_book.specs.Table.{Table, last_in, out_under, slot_at, unused}
 use Rattle.permit_book.proofs.TableLaws.{same_number}
 use Rattle.permit_book.proofs.TellingFree.{number_parts}
@@ -108,7 +110,7 @@ module _ (has : ℕ → Out → List GrantedPermit) (lists : Lists has) where
       by false = sym (lists.none number)
 
 -- the unspent ones are listed so
-pub lists_unspent : Lists unspent_in
+lists_unspent : Lists unspent_in
 lists_unspent = record {
   own = λ number out. own number out;
   others = λ number m out apart. others number m out apart;
@@ -126,7 +128,7 @@ lists_unspent = record {
     others number m (Running fetch) apart = refl
 
 -- and the running ones
-pub lists_running : Lists running_in
+lists_running : Lists running_in
 lists_running = record {
   own = λ number out. own number out;
   others = λ number m out apart. others number m out apart;
@@ -142,3 +144,8 @@ lists_running = record {
     others number m Nothing apart = refl
     others number m (Unspent fetch) apart = refl
     others number m (Running fetch) apart = rw apart refl
+
+-- and those at each stage
+pub lists_at : (stage : Stage) → Lists (listed_in stage)
+lists_at stages.Unspent = lists_unspent
+lists_at stages.Running = lists_running

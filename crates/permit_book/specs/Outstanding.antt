@@ -9,6 +9,8 @@ use Rattle.permit_book.specs.declared.out.Fetch.{Fetch}
 use Rattle.permit_book.specs.declared.out.Out.{Out}
 use Rattle.permit_book.specs.declared.out.Out.TheVariants.{Unspent, Running}
 use Rattle.permit_book.specs.declared.granted_permit.GrantedPermit.{GrantedPermit}
+use Rattle.permit_book.specs.declared.listing.Stage.{Stage}
+use Rattle.permit_book.specs.declared.listing.Stage.TheVariants as stages
 use Rattle.permit_book.specs.Numbers.{slot_of, generation_of, last_generation}
 use Rattle.permit_book.specs.Table.{Table, is_fetch_of, last_in, out_under}
 use Rattle.permit_book.specs.Next.{generation_after}
@@ -36,13 +38,26 @@ abbrev pub running_in : ℕ → Out → List GrantedPermit
 running_in number (Running fetch) = permit_for number fetch ∷ []
 running_in number _ = []
 
+-- the permit of the number, where what is out has come so far
+abbrev pub listed_in : Stage → ℕ → Out → List GrantedPermit
+listed_in stages.Unspent = unspent_in
+listed_in stages.Running = running_in
+
+-- the list has of each number the permits that there are
+abbrev pub ListsEach : (ℕ → List GrantedPermit) → List GrantedPermit → Type 0
+ListsEach permits_of permits = (number : ℕ) → filter (is_numbered number) permits ≡ permits_of number
+
+-- the list has each permit that is out and has come so far, once
+abbrev pub ListsAt : Stage → Table → List GrantedPermit → Type 0
+ListsAt stage t = ListsEach (λ number. listed_in stage number (out_under t number))
+
 -- the list has each unspent permit that is out, once
 abbrev pub ListsUnspent : Table → List GrantedPermit → Type 0
-ListsUnspent t unspent = (number : ℕ) → filter (is_numbered number) unspent ≡ unspent_in number (out_under t number)
+ListsUnspent = ListsAt stages.Unspent
 
 -- the list has each running one, once
 abbrev pub ListsRunning : Table → List GrantedPermit → Type 0
-ListsRunning t running = (number : ℕ) → filter (is_numbered number) running ≡ running_in number (out_under t number)
+ListsRunning = ListsAt stages.Running
 
 -- what is out is an unspent permit whose fetch passes the test
 abbrev pub is_unspent_for : (Fetch → Bool) → Out → Bool

@@ -2,7 +2,7 @@
 //! RFC 9309 has no permits: they make each fetch look at the answer in force (2.4).
 ghost use Rattle.std.specs.Prelude.{◌≡◌, ◌<◌, ◌≤◌, ◌++◌, IfOk, OnOk};
 ghost use Rattle.permit_book.specs.Numbers.{last_generation, most_slots, number_in};
-ghost use Rattle.permit_book.specs.Outstanding.{ListsRunning, ListsUnspent, permit_for, running_in, unspent_in};
+ghost use Rattle.permit_book.specs.Outstanding.{listed_in, ListsAt, ListsRunning, ListsUnspent, permit_for};
 
 use crate::granted_permit::GrantedPermit;
 use crate::number::PermitNo;
@@ -10,52 +10,59 @@ use crate::out::{Fetch, Out, Slot};
 use crate::permits::Permits;
 use std::alloc::{AllocError, Global};
 
+// How far a permit has come that is out.
+#[derive(Clone, Copy)]
+pub(crate) enum Stage {
+    // No start has spent it.
+    Unspent,
+    // Its fetch was started.
+    Running,
+}
+
 impl Permits {
     /// The permits that no start has spent, in the order of their slots.
     pub fn unspent_permits(&self, alloc: Global) -> Result<Vec<GrantedPermit>, AllocError>
         ensures { IfOk result (λ permits. ListsUnspent self.now permits.items) }
     {
-        let mut permits = Vec::new(alloc);
-        for place in 0..self.slots.len() {
-            push_unspent(&mut permits, place as u64, &self.slots[place])?;
-        }
-        Ok(permits)
+        self.permits_at(alloc, Stage::Unspent)
     }
 
     /// The permits whose fetch was started and has not ended, in the order of their slots.
     pub fn running_permits(&self, alloc: Global) -> Result<Vec<GrantedPermit>, AllocError>
         ensures { IfOk result (λ permits. ListsRunning self.now permits.items) }
     {
+        self.permits_at(alloc, Stage::Running)
+    }
+
+    // The permits that have come so far, in the order of their slots.
+    fn permits_at(&self, alloc: Global, stage: Stage) -> Result<Vec<GrantedPermit>, AllocError>
+        ensures { IfOk result (λ permits. ListsAt stage self.now permits.items) }
+    {
         let mut permits = Vec::new(alloc);
         for place in 0..self.slots.len() {
-            push_running(&mut permits, place as u64, &self.slots[place])?;
+            push_at(&mut permits, stage, place as u64, &self.slots[place])?;
         }
         Ok(permits)
     }
 }
 
-// Adds the unspent permit of a slot, where one is out.
-fn push_unspent(permits: &mut Vec<GrantedPermit>, place: u64, slot: &Slot) -> Result<(), AllocError>
+// Adds the permit of a slot, where one is out that has come so far.
+fn push_at(
+    permits: &mut Vec<GrantedPermit>,
+    stage: Stage,
+    place: u64,
+    slot: &Slot,
+) -> Result<(), AllocError>
     requires place { place < most_slots }
     requires last { slot.now.last ≤ last_generation }
     ensures { OnOk result (permits.new.items
-        ≡ permits.old.items ++ unspent_in (number_in place slot.now.last) slot.now.out) }
+        ≡ permits.old.items ++ listed_in stage (number_in place slot.now.last) slot.now.out) }
 {
-    if let Out::Unspent(fetch) = &slot.out {
-        permits.push(permit_for(place, slot.last, fetch)?)?;
-    }
-    Ok(())
-}
-
-// Adds the running permit of a slot, where one is out.
-fn push_running(permits: &mut Vec<GrantedPermit>, place: u64, slot: &Slot) -> Result<(), AllocError>
-    requires place { place < most_slots }
-    requires last { slot.now.last ≤ last_generation }
-    ensures { OnOk result (permits.new.items
-        ≡ permits.old.items ++ running_in (number_in place slot.now.last) slot.now.out) }
-{
-    if let Out::Running(fetch) = &slot.out {
-        permits.push(permit_for(place, slot.last, fetch)?)?;
+    match (stage, &slot.out) {
+        (Stage::Unspent, Out::Unspent(fetch)) | (Stage::Running, Out::Running(fetch)) => {
+            permits.push(permit_for(place, slot.last, fetch)?)?;
+        }
+        _ => {}
     }
     Ok(())
 }
