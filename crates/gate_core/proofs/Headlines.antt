@@ -42,7 +42,6 @@ use Rattle.gate_core.specs.Calls.{Replies, Step}
 use Rattle.gate_core.specs.Gate.{Adds, Gate, history, Stays}
 use Rattle.gate_core.specs.Replies.{Arrives, Asks, Begins, Finishes, Returns, Starts, Sweeps}
 use Rattle.gate_core.specs.Headline.{Allows, Denies, IsAskTold, IsCauseOfStart, IsStartTold, IsTold, RunTells}
-use Rattle.gate_core.proofs.Keeping.{followed_push}
 
 -- a reason as an outcome
 abbrev allowing : Reason → Result Reason Cause
@@ -190,7 +189,7 @@ step_told old _ _ new legal step = tt
 -- with one legal entry more
 added_legal : (old new : Gate) (e : Entry) → IsLegal (history old) → Adds old e new → IsLegal (history new)
 added_legal old new e legal adds =
-    subst (λ (g : Gate). IsLegal (history g)) (sym adds.adds) (subst IsLegal (sym (followed_push (from old.base) old.entries e)) (legal, adds.fit))
+    subst (λ (g : Gate). IsLegal (history g)) (sym adds.adds) (subst IsLegal (sym (history_laws.followed_push (from old.base) old.entries e)) (legal, adds.fit))
 
 stays_legal : (old new : Gate) → IsLegal (history old) → Stays old new → IsLegal (history new)
 stays_legal old new legal stays = subst (λ (g : Gate). IsLegal (history g)) (sym stays) legal

@@ -38,7 +38,7 @@ use Rattle.gate_history.specs.Grants.{generation_in, greatest_of, is_covered, is
 use Rattle.gate_history.specs.Outstanding.{grants, greatest_in, running, unspent, was_granted}
 use Rattle.gate_history.specs.Laws.{StandsOnce}
 use Rattle.gate_history.specs.Standing.{has_turn as standing_turn, in_flight, is_fetching, past_count, standing}
-use Rattle.gate_history.proofs.CallerLemmas.{all-append, all-filter, each_entry_counts, leads_to_base, stands_once}
+use Rattle.gate_history.proofs.CallerLemmas.{all-append, all-filter, each_entry_counts, followed_count, followed_push, leads_to_base, rise_push, stands_once}
 use Rattle.gate_history.proofs.CallerLemmas as history_laws
 use Rattle.gate_history.specs.Base.{Base, empty_base, IsBase}
 use Rattle.gate_core.specs.declared.book.Book.TheInside.{Inside}
@@ -50,19 +50,6 @@ use Rattle.gate_core.specs.Kept.{gate_of, is_grant_of, IsKept}
 use Rattle.gate_core.specs.Limits.{AreLimits, greatest_number}
 use Rattle.gate_core.specs.TurnNames.{HasNames, KeepsName, names_by, NamesBy}
 use Rattle.gate_core.specs.Places.{AddsOne, held_by, HeldBy, LeavesPlace, one_at}
-
-pub followed_push : (h : History) (es : List Entry) (e : Entry) → followed_by h (es ++ e ∷ []) ≡ followed_by h es ▸ e
-followed_push h [] e = refl
-followed_push h (first ∷ es) e = followed_push (h ▸ first) es e
-
--- a history whose grants rise, with one more that does
-rise_push : (h : History) (es : List Entry) (e : Entry) → AllRise h es → Rises (followed_by h es) e → AllRise h (es ++ e ∷ [])
-rise_push h [] e rises rise = (rise, tt)
-rise_push h (first ∷ es) e rises rise = (rises.0, rise_push (h ▸ first) es e rises.1 rise)
-
-followed_count : (h : History) (es : List Entry) → entry_count (followed_by h es) ≡ entry_count h + length es
-followed_count h [] = omega arith
-followed_count h (first ∷ es) = omega (arith, followed_count (h ▸ first) es)
 
 -- the history of a book
 abbrev pub told : Inside → History

@@ -14,7 +14,7 @@ use Rattle.permit_book.specs.Table.{last_in, unused}
 use Rattle.gate_history.specs.declared.base.SlotGrant.{SlotGrant}
 use Rattle.gate_history.specs.Base.{Base}
 use Rattle.gate_history.specs.Grants.{generation_in, greatest_of, is_in, IsSlotGrant}
-use Rattle.gate_history.specs.History.{History, entry_count, from}
+use Rattle.gate_history.specs.History.{entry_count, from}
 use Rattle.gate_history.specs.Outstanding.{grants, running, unspent}
 use Rattle.gate_history.specs.Seal.{SaySame, SaysAs}
 use Rattle.gate_history.specs.Standing.{in_flight, standing}
@@ -25,26 +25,6 @@ use Rattle.gate_core.specs.Kept.{IsKept, is_grant_of}
 use Rattle.gate_core.specs.Sealing.{ListsGrants, grants_at}
 use Rattle.gate_core.proofs.Keeping.{told}
 use Rattle.gate_core.proofs.ListedGrants.{none_at, some_at}
-
--- lists that say the same as lists that say the same
-same_on : {K X : Type 0} (is_of : K → X → Bool) (xs ys zs : List X) → SaySame is_of xs ys → SaySame is_of ys zs → SaySame is_of xs zs
-same_on is_of xs ys zs one other = record { each = λ k. one.each k ∙ other.each k; counts = λ p. one.counts p ∙ other.counts p }
-
--- what says what a history does that says what another does says that
-pub says_on : (f g h : History) → SaysAs f g → SaysAs g h → SaysAs f h
-says_on f g h one other = record {
-  answers = same_on _ (standing f) (standing g) (standing h) one.answers other.answers;
-  turns = same_on _ (in_flight f) (in_flight g) (in_flight h) one.turns other.turns;
-  permits = same_on _ (unspent f) (unspent g) (unspent h) one.permits other.permits;
-  runs = same_on _ (running f) (running g) (running h) one.runs other.runs;
-  slots = same_on _ (grants f) (grants g) (grants h) one.slots other.slots;
-  greatest = λ slot. one.greatest slot ∙ other.greatest slot;
-  granted = λ number is. one.granted number (other.granted number is);
-  begun = one.begun ∙ other.begun;
-  moment = one.moment ∙ other.moment;
-  entries = one.entries ∙ other.entries;
-  started = one.started ∙ other.started;
-}
 
 -- what is listed of no slot has no greatest generation
 none_greatest : (limits : Limits) (slot : ℕ) (xs : List SlotGrant) → length (filter (is_in slot) xs) ≡ 0 → greatest_of xs slot ≡ 0

@@ -12,4 +12,5 @@ pub mod EntryCounts
 pub mod KnownLaws
 pub mod Deciding
 pub mod Looking
+pub mod Following
 pub mod CallerLemmas

@@ -21,7 +21,7 @@ use Rattle.gate_history.specs.Laws.{GoOnAlike, SayingAnswersAlike, SealSaysAlike
 use Rattle.gate_history.proofs.Counting.{count-alike}
 use Rattle.gate_history.proofs.SealLaws.{greatest_is}
 use Rattle.gate_history.proofs.Soundness.{granted_covered}
-use Rattle.gate_history.proofs.Saying.{says-any, says-append, says-filter, says-first, says-itself, says-length, says-map}
+use Rattle.gate_history.proofs.Saying.{same_on, says-any, says-append, says-filter, says-first, says-itself, says-length, says-map}
 
 -- the greatest generation of a slot is that of its grants
 of_slot : (xs : List SlotGrant) (slot : ℕ) → greatest_of xs slot ≡ greatest_of (filter (is_in slot) xs) slot
@@ -54,6 +54,22 @@ grants_alike number xs ys same =
 pub covered_alike : (xs ys : List SlotGrant) → SaySame is_in xs ys → (number : ℕ) → is_covered xs number ≡ is_covered ys number
 covered_alike xs ys same number =
     rw (says-any is_in xs ys same (is_in (slot_of number)), greatest_alike xs ys same (slot_of number)) refl
+
+-- what says what a history does that says what another does says that
+pub says_on : (f g h : History) → SaysAs f g → SaysAs g h → SaysAs f h
+says_on f g h one other = record {
+  answers = same_on _ (standing f) (standing g) (standing h) one.answers other.answers;
+  turns = same_on _ (in_flight f) (in_flight g) (in_flight h) one.turns other.turns;
+  permits = same_on _ (unspent f) (unspent g) (unspent h) one.permits other.permits;
+  runs = same_on _ (running f) (running g) (running h) one.runs other.runs;
+  slots = same_on _ (grants f) (grants g) (grants h) one.slots other.slots;
+  greatest = λ slot. one.greatest slot ∙ other.greatest slot;
+  granted = λ number is. one.granted number (other.granted number is);
+  begun = one.begun ∙ other.begun;
+  moment = one.moment ∙ other.moment;
+  entries = one.entries ∙ other.entries;
+  started = one.started ∙ other.started;
+}
 
 -- what says the same says the same after one more entry
 pub one-more : (g h : History) (e : Entry) → SaysAs g h → SaysAs (g ▸ e) (h ▸ e)

@@ -46,6 +46,10 @@ filter-map p f (x ∷ xs) = by (p (f x)) (filter-map p f xs)
 pub says-itself : {K X : Type 0} (is_of : K → X → Bool) (xs : List X) → SaySame is_of xs xs
 says-itself is_of xs = record { each = λ k. refl; counts = λ p. refl }
 
+-- and what says it of a list that says it of another, of that one
+pub same_on : {K X : Type 0} (is_of : K → X → Bool) (xs ys zs : List X) → SaySame is_of xs ys → SaySame is_of ys zs → SaySame is_of xs zs
+same_on is_of xs ys zs one other = record { each = λ k. one.each k ∙ other.each k; counts = λ p. one.counts p ∙ other.counts p }
+
 -- after a filter
 pub says-filter : {K X : Type 0} (is_of : K → X → Bool) (q : X → Bool) (xs ys : List X) → SaySame is_of xs ys → SaySame is_of (filter q xs) (filter q ys)
 says-filter is_of q xs ys same = record {

@@ -4,10 +4,10 @@ use Rattle.std.proofs.Common.{refl, ap, subst, sym, ◌∙◌}
 use Rattle.gate_history.specs.Base.{Base, IsBase}
 use Rattle.gate_history.specs.History.{entry_count, from}
 use Rattle.gate_history.specs.Seal.{SaysAs}
-use Rattle.gate_history.proofs.CallerLemmas.{reordering_says, says_base}
+use Rattle.gate_history.proofs.CallerLemmas.{reordering_says, says_base, says_on}
 use Rattle.gate_core.specs.Gate.{Gate, history}
 use Rattle.gate_core.proofs.Keeping.{told}
-use Rattle.gate_core.proofs.NextBase.{given_says, grants_fit, says_on}
+use Rattle.gate_core.proofs.NextBase.{given_says, grants_fit}
 use Rattle.gate_core.proofs.book.Book.next_base.Goals as goal
 
 abbrev given : goal.After-entry_count → Base
