@@ -33,21 +33,20 @@ cause_words causes.Expired = codes "expired" ∷ []
 cause_words causes.Closed = codes "closed" ∷ []
 cause_words (causes.Line line) = codes "line" ∷ decimal line ∷ []
 
+-- what a word names by a list of words, each with what it names
+abbrev pub named_by : {X : Type 0} → List (List ℕ × Option X) → List ℕ → Option X
+named_by [] word = None
+named_by (name ∷ others) word = if bytes_eq word name.0 then name.1 else named_by others word
+
 -- the reason that a word names, of a line with the number behind it
 abbrev pub reason_named : List ℕ → Option ℕ → Option Reason
-reason_named word line =
-    if bytes_eq word (codes "open") then Some reasons.Open
-    else (if bytes_eq word (codes "norule") then Some reasons.NoRule
-    else (if bytes_eq word (codes "robots") then Some reasons.RobotsPath
-    else (if bytes_eq word (codes "line") then option_map reasons.Line line
-    else None)))
+reason_named word line = named_by
+    ((codes "open", Some reasons.Open) ∷ (codes "norule", Some reasons.NoRule)
+    ∷ (codes "robots", Some reasons.RobotsPath) ∷ (codes "line", option_map reasons.Line line) ∷ []) word
 
 -- the cause that a word names, of a line with the number behind it
 abbrev pub cause_named : List ℕ → Option ℕ → Option Cause
-cause_named word line =
-    if bytes_eq word (codes "spent") then Some causes.Spent
-    else (if bytes_eq word (codes "unknown") then Some causes.Unknown
-    else (if bytes_eq word (codes "expired") then Some causes.Expired
-    else (if bytes_eq word (codes "closed") then Some causes.Closed
-    else (if bytes_eq word (codes "line") then option_map causes.Line line
-    else None))))
+cause_named word line = named_by
+    ((codes "spent", Some causes.Spent) ∷ (codes "unknown", Some causes.Unknown)
+    ∷ (codes "expired", Some causes.Expired) ∷ (codes "closed", Some causes.Closed)
+    ∷ (codes "line", option_map causes.Line line) ∷ []) word
