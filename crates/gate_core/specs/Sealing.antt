@@ -1,10 +1,10 @@
 -- What sealing hands out, and what it leaves: the entries with their base, and a book that goes on from a base
 -- which says what the history did. RFC 9309, sections 2.3.1 and 2.4.
-use Rattle.std.specs.Prelude.{◌≡◌, ℕ, ◌==◌, List, [], ◌∷◌, Result, Ok, Err, filter, if◌then◌else◌}
+use Rattle.std.specs.Prelude.{◌≡◌, ℕ, ◌==◌, List, [], ◌∷◌, Result, Ok, Err, if◌then◌else◌}
 use Rattle.permit_book.specs.Table.{Table, last_in}
 use Rattle.gate_history.specs.declared.base.SlotGrant.{SlotGrant}
 use Rattle.gate_history.specs.declared.entry.Entry.{Entry}
-use Rattle.gate_history.specs.Grants.{is_in}
+use Rattle.gate_history.specs.Grants.{ListsEach}
 use Rattle.gate_history.specs.History.{from}
 use Rattle.gate_history.specs.Seal.{SaysAs}
 use Rattle.gate_history.specs.Segment.{Sealed, nothing_sealed}
@@ -33,4 +33,4 @@ grants_at slot last = if last == 0 then [] else record { slot = slot; generation
 
 -- the list has the greatest generation of each slot in which something was granted
 abbrev pub ListsGrants : Table → List SlotGrant → Type 0
-ListsGrants t grants = (slot : ℕ) → filter (is_in slot) grants ≡ grants_at slot (last_in t slot)
+ListsGrants t = ListsEach (λ slot. grants_at slot (last_in t slot))

@@ -1,6 +1,6 @@
 -- The greatest generation that was granted in each slot, as a list of the slots in which something was.
 -- RFC 9309 has no permits: they make each fetch look at the answer in force (2.4).
-use Rattle.std.specs.Prelude.{ℕ, ◌<◌, ◌≤◌, ◌==◌, Bool, not, ◌&&◌, nat_le, max, List, [], ◌∷◌, ◌++◌, if◌then◌else◌, filter}
+use Rattle.std.specs.Prelude.{◌≡◌, ℕ, ◌<◌, ◌≤◌, ◌==◌, Bool, not, ◌&&◌, nat_le, max, List, [], ◌∷◌, ◌++◌, if◌then◌else◌, filter}
 use Rattle.std.specs.List.{list_any}
 use Rattle.permit_book.specs.Numbers.{generation_of, last_generation, most_slots, slot_of}
 use Rattle.gate_history.specs.declared.base.SlotGrant.{SlotGrant}
@@ -12,6 +12,10 @@ IsSlotGrant g = (g.slot < most_slots) × (g.generation ≤ last_generation)
 -- the grant was in this slot
 abbrev pub is_in : ℕ → SlotGrant → Bool
 is_in slot grant = grant.slot == slot
+
+-- the list has of each slot the grants that there are
+abbrev pub ListsEach : (ℕ → List SlotGrant) → List SlotGrant → Type 0
+ListsEach grants_of grants = (slot : ℕ) → filter (is_in slot) grants ≡ grants_of slot
 
 -- the generation of the grant where it was in this slot, else 0
 abbrev pub generation_in : ℕ → SlotGrant → ℕ
