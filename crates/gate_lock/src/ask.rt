@@ -10,7 +10,7 @@ use crate::desk::{Desk, make_room};
 use crate::desk_ask::DeskAsk;
 use crate::ledgers::Gate;
 use crate::lock::Held;
-use crate::tokens::Permit;
+use crate::tokens::{Pass, Permit};
 use gate_core::AskRefusal;
 use path_normal::PageUrl;
 use robots_text::Token;
@@ -87,7 +87,7 @@ impl<'a, G: Gate> Desk<'a, G> {
                 self.permits += 1;
                 self.marks
                     .push_reserved(round.last().granted(number, fetch));
-                Ok(Permit {
+                Ok(Pass {
                     number,
                     token,
                     url,

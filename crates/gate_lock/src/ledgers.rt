@@ -86,8 +86,8 @@ impl<G: Gate> Ledger for StartLedger<G> {
     ghost parts = { all_desk_parts };
 }
 
-// Counts the unspent permits; each permit has a share of 1.
-pub(crate) struct UnspentLedger<G> {
+/// Counts the unspent permits; each permit has a share of 1.
+pub struct UnspentLedger<G> {
     gate: PhantomData<G>,
 }
 
@@ -99,8 +99,8 @@ impl<G: Gate> Ledger for UnspentLedger<G> {
     ghost parts = { all_out_parts };
 }
 
-// Counts the running fetches; each running one, spent or not, has a share of 1.
-pub(crate) struct RunningLedger<G> {
+/// Counts the running fetches; each running one, spent or not, has a share of 1.
+pub struct RunningLedger<G> {
     gate: PhantomData<G>,
 }
 

@@ -13,7 +13,7 @@ use crate::awaited::Awaited;
 use crate::desk::Desk;
 use crate::ledgers::Gate;
 use crate::lock::Held;
-use crate::tokens::{Fetched, Permit, Running};
+use crate::tokens::{Fetched, Pass, Permit, Running};
 use gate_core::Denial;
 use gate_history::{Entry, Ruling};
 use std::sync::Wait;
@@ -118,7 +118,7 @@ impl<'a, G: Gate> Desk<'a, G> {
         ensures { DeskStarts self.old held.old permit moment result held.new self.new }
     {
         let round = &mut *held.guard;
-        let Permit {
+        let Pass {
             number,
             token,
             url,
@@ -147,12 +147,14 @@ impl<'a, G: Gate> Desk<'a, G> {
             reason: started.reason,
         }));
         Ok(Running {
-            number,
-            token,
-            url: started.url,
-            desk,
+            fetched: Pass {
+                number,
+                token,
+                url: started.url,
+                desk,
+                one,
+            },
             reason: started.reason,
-            one,
         })
     }
 
@@ -163,13 +165,7 @@ impl<'a, G: Gate> Desk<'a, G> {
         ensures { DeskReturns self.old held.old permit.number held.new self.new }
     {
         let round = &mut *held.guard;
-        let Permit {
-            number,
-            token: _,
-            url: _,
-            desk: _,
-            one,
-        } = permit;
+        let (number, one) = permit.into_share();
         round.back(number, one, &mut self.mine);
         self.seen = round.entry_count();
         self.permits -= 1;
@@ -185,13 +181,7 @@ impl<'a, G: Gate> Desk<'a, G> {
         ensures { DeskFinishes self.old held.old fetched.number held.new self.new }
     {
         let round = &mut *held.guard;
-        let Fetched {
-            number,
-            token: _,
-            url: _,
-            desk: _,
-            one,
-        } = fetched;
+        let (number, one) = fetched.into_share();
         round.finish(number, one, &mut self.mine);
         self.seen = round.entry_count();
         self.runs -= 1;

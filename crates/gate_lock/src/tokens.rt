@@ -10,47 +10,56 @@ use path_normal::{Authority, PageUrl};
 use permit_book::PermitNo;
 use robots_text::Token;
 use std::marker::Model;
+use std::sync::ledger::Ledger;
 
-/// A permit for one fetch of a URL under a token. It has no `Drop`: a start spends it, or `back` returns it.
-/// Dropping one would leave it unspent for ever, and its slot and its authority's place taken.
+/// A permit, or a fetch that was made: its number, token and URL, and the desk that must spend it. It has no `Drop`, and
+/// counts for one in the ledger `L`.
 #[must_use]
-pub struct Permit<G: Gate> {
+pub struct Pass<L: Ledger> {
     pub(crate) number: PermitNo,
     pub(crate) token: Token,
     pub(crate) url: PageUrl,
     pub(crate) desk: u64,
-    pub(crate) one: One<UnspentLedger<G>>,
+    pub(crate) one: One<L>,
 }
 
-impl<G: Gate> Model for Permit<G> {
-    ghost use Rattle.gate_lock.specs.Desks.{Pass};
+impl<L: Ledger> Model for Pass<L> {
+    ghost use Rattle.gate_lock.specs.Desks.{Pass as View};
 
-    ghost Value = { Pass };
+    ghost Value = { View };
 
-    ghost view = { λ permit. record {
-      number = permit.number;
-      token = permit.token;
-      url = permit.url;
-      desk = permit.desk;
+    ghost view = { λ pass. record {
+      number = pass.number;
+      token = pass.token;
+      url = pass.url;
+      desk = pass.desk;
     } };
 }
 
-impl<G: Gate> Permit<G> {
-    /// Its number.
+/// A permit for one fetch of a URL under a token. It has no `Drop`: a start spends it, or `back` returns it.
+/// Dropping one would leave it unspent for ever, and its slot and its authority's place taken.
+pub type Permit<G> = Pass<UnspentLedger<G>>;
+
+/// A fetch that was made. It has no `Drop`: `finish` ends it.
+/// Dropping one would leave it running for ever, and its slot and its authority's place taken.
+pub type Fetched<G> = Pass<RunningLedger<G>>;
+
+impl<L: Ledger> Pass<L> {
+    /// The number of the permit.
     pub fn number(&self) -> PermitNo
         ensures { result ≡ self.now.number }
     {
         self.number
     }
 
-    /// The token under which the URL may be fetched.
+    /// The token under which the URL may be fetched, or was.
     pub fn token(&self) -> &Token
         ensures { result.now ≡ self.now.token }
     {
         &self.token
     }
 
-    /// The URL that may be fetched.
+    /// The URL that may be fetched, or was.
     pub fn url(&self) -> &PageUrl
         ensures { result.now ≡ self.now.url }
     {
@@ -63,18 +72,28 @@ impl<G: Gate> Permit<G> {
     {
         self.desk
     }
+
+    // Its number, and what it counts for.
+    pub(crate) fn into_share(self) -> (PermitNo, One<L>)
+        ensures { result.0 ≡ self.number }
+    {
+        let Pass {
+            number,
+            token: _,
+            url: _,
+            desk: _,
+            one,
+        } = self;
+        (number, one)
+    }
 }
 
 /// A fetch that may be made, once. It has no `Drop`: `spend` makes a `Fetched` of it when it is made.
 /// Dropping one would leave it running for ever, and its slot and its authority's place taken.
 #[must_use]
 pub struct Running<G: Gate> {
-    pub(crate) number: PermitNo,
-    pub(crate) token: Token,
-    pub(crate) url: PageUrl,
-    pub(crate) desk: u64,
+    pub(crate) fetched: Fetched<G>,
     pub(crate) reason: Reason,
-    pub(crate) one: One<RunningLedger<G>>,
 }
 
 impl<G: Gate> Model for Running<G> {
@@ -83,12 +102,7 @@ impl<G: Gate> Model for Running<G> {
     ghost Value = { Run };
 
     ghost view = { λ run. record {
-      pass = record {
-        number = run.number;
-        token = run.token;
-        url = run.url;
-        desk = run.desk;
-      };
+      pass = run.fetched;
       reason = run.reason;
     } };
 }
@@ -98,21 +112,21 @@ impl<G: Gate> Running<G> {
     pub fn number(&self) -> PermitNo
         ensures { result ≡ self.now.pass.number }
     {
-        self.number
+        self.fetched.number
     }
 
     /// The token under which the URL is fetched.
     pub fn token(&self) -> &Token
         ensures { result.now ≡ self.now.pass.token }
     {
-        &self.token
+        &self.fetched.token
     }
 
     /// The URL to fetch.
     pub fn url(&self) -> &PageUrl
         ensures { result.now ≡ self.now.pass.url }
     {
-        &self.url
+        &self.fetched.url
     }
 
     /// Why the fetch is allowed.
@@ -126,82 +140,15 @@ impl<G: Gate> Running<G> {
     pub fn desk_no(&self) -> u64
         ensures { result ≡ self.now.pass.desk }
     {
-        self.desk
+        self.fetched.desk
     }
 
     /// The fetch is made: its one leave is used up, and what is left is to be finished.
     pub fn spend(self) -> Fetched<G>
         ensures { result ≡ self.pass }
     {
-        let Running {
-            number,
-            token,
-            url,
-            desk,
-            reason: _,
-            one,
-        } = self;
-        Fetched {
-            number,
-            token,
-            url,
-            desk,
-            one,
-        }
-    }
-}
-
-/// A fetch that was made. It has no `Drop`: `finish` ends it.
-/// Dropping one would leave it running for ever, and its slot and its authority's place taken.
-#[must_use]
-pub struct Fetched<G: Gate> {
-    pub(crate) number: PermitNo,
-    pub(crate) token: Token,
-    pub(crate) url: PageUrl,
-    pub(crate) desk: u64,
-    pub(crate) one: One<RunningLedger<G>>,
-}
-
-impl<G: Gate> Model for Fetched<G> {
-    ghost use Rattle.gate_lock.specs.Desks.{Pass};
-
-    ghost Value = { Pass };
-
-    ghost view = { λ fetched. record {
-      number = fetched.number;
-      token = fetched.token;
-      url = fetched.url;
-      desk = fetched.desk;
-    } };
-}
-
-impl<G: Gate> Fetched<G> {
-    /// The number of the permit that was spent.
-    pub fn number(&self) -> PermitNo
-        ensures { result ≡ self.now.number }
-    {
-        self.number
-    }
-
-    /// The token under which the URL was fetched.
-    pub fn token(&self) -> &Token
-        ensures { result.now ≡ self.now.token }
-    {
-        &self.token
-    }
-
-    /// The URL that was fetched.
-    pub fn url(&self) -> &PageUrl
-        ensures { result.now ≡ self.now.url }
-    {
-        &self.url
-    }
-
-    /// The number of the desk that started it, at which it is finished.
-    pub fn desk_no(&self) -> u64
-        ensures { result ≡ self.now.desk }
-    {
-        self.desk
+        let Running { fetched, reason: _ } = self;
+        fetched
     }
 }
 
