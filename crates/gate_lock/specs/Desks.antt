@@ -101,11 +101,11 @@ out_of d = d.permits + d.runs + d.turns
 
 -- what is true of every desk: its shares count its marks; it made no more entries than it has seen; and there
 -- is room for the marks of what it must still spend, two for each permit and one for each run and turn
-pub record IsDesk (view : DeskView) (shares : Shares) (room : ℕ) : Type 0 where
-  pub entries_are : shares.entries ≡ length view.sealed.places + length view.marks
-  pub starts_are : shares.starts ≡ view.sealed.starts + starts_in view.marks
-  pub few : length view.sealed.places + length view.marks ≤ view.seen
-  pub fits : length view.marks + (2 * view.permits + view.runs + view.turns) ≤ room
+pub record IsDesk (seen permits runs turns : ℕ) (sealed : SealedView) (marks : List Mark) (shares : Shares) (room : ℕ) : Type 0 where
+  pub entries_are : shares.entries ≡ length sealed.places + length marks
+  pub starts_are : shares.starts ≡ sealed.starts + starts_in marks
+  pub few : length sealed.places + length marks ≤ seen
+  pub fits : length marks + (2 * permits + runs + turns) ≤ room
 
 -- a new desk of a lock of these limits, which has looked at the history of some gate that the lock kept
 abbrev pub IsNew : Limits → DeskView → Type 0

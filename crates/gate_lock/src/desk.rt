@@ -49,16 +49,8 @@ impl<'a, G: Gate> Model for Desk<'a, G> {
       marks = desk.marks.items;
     } };
 
-    ghost invariant = { λ desk. IsDesk (record {
-      limits = desk.gate.now;
-      no = desk.mine.no;
-      seen = desk.seen;
-      permits = desk.permits;
-      runs = desk.runs;
-      turns = desk.turns;
-      sealed = desk.sealed;
-      marks = desk.marks.items;
-    }) desk.mine (vec_capacity desk.marks) };
+    ghost invariant = { λ desk. IsDesk desk.seen desk.permits desk.runs desk.turns desk.sealed
+        desk.marks.items desk.mine (vec_capacity desk.marks) };
 }
 
 impl<G: Gate> GateLock<G> {
