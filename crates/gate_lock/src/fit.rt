@@ -7,7 +7,7 @@ ghost use Rattle.gate_lock.specs.Settling.{AreEntries, EachFits, Fits, IsEntryAt
 use crate::ledgers::Gate;
 use crate::mark::Mark;
 use crate::places::{ascend, each_once};
-use crate::receipts::{Receipts, entry_at};
+use crate::receipts::{Receipts, agrees_at};
 use gate_history::Entry;
 use std::alloc::{AllocError, Global};
 
@@ -80,12 +80,10 @@ fn are_entries(sealed: u64, history: &[Entry], marks: &[Mark]) -> bool
     true
 }
 
-// Whether the mark is the entry at its place, unless that is sealed.
+// Whether the mark is the entry at its place, unless that is sealed. No entry is at a place behind the history.
 fn is_entry(sealed: u64, history: &[Entry], mark: &Mark) -> bool
     ensures { IsTrue result ↔ IsEntryAt sealed history.now mark.now }
 {
-    match entry_at(sealed, history, mark.place) {
-        Some(entry) => mark.entry.is(entry),
-        None => mark.place < sealed,
-    }
+    (mark.place < sealed || mark.place - sealed < history.len() as u64)
+        && agrees_at(sealed, history, mark)
 }

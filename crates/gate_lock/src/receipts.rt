@@ -92,7 +92,7 @@ impl<G: Gate> Receipts<G> {
 }
 
 // Whether the mark is the entry at its place, where that is among these, before which so many were sealed.
-fn agrees_at(sealed: u64, entries: &[Entry], mark: &Mark) -> bool
+pub(crate) fn agrees_at(sealed: u64, entries: &[Entry], mark: &Mark) -> bool
     ensures { IsTrue result ↔ AgreesFrom sealed entries.now mark.now }
 {
     match entry_at(sealed, entries, mark.place) {
@@ -102,7 +102,7 @@ fn agrees_at(sealed: u64, entries: &[Entry], mark: &Mark) -> bool
 }
 
 // The entry at a place, where that is among these, before which so many were sealed.
-pub(crate) fn entry_at(sealed: u64, entries: &[Entry], place: u64) -> Option<&Entry>
+fn entry_at(sealed: u64, entries: &[Entry], place: u64) -> Option<&Entry>
     ensures below { place < sealed → IfSome result (λ _. ⊥) }
     ensures there { sealed ≤ place → option_map (λ entry. entry.now) result
         ≡ slice_get entries.now (place - sealed) }
