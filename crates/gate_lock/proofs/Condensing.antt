@@ -1,6 +1,6 @@
 -- Marks of sealed entries: what is kept of the first ones, and what is left.
 -- Used by the functions of `mark` and by `Desk::condense`.
-use Rattle.std.proofs.Common.{◌≡◌, ℕ, zero, suc, ◌+◌, ◌*◌, ◌<◌, ◌≤◌, List, [], ◌∷◌, ◌++◌, length, get_or, take, drop, map, Result, Ok, Err, OnOk, OnErr, refl, sym, ap, subst, ◌∙◌, arith}
+use Rattle.std.proofs.Common.{◌≡◌, ℕ, zero, suc, ◌+◌, ◌<◌, ◌≤◌, List, [], ◌∷◌, ◌++◌, length, get_or, take, drop, map, Result, Ok, Err, OnOk, OnErr, refl, sym, ap, subst, ◌∙◌, arith}
 use Rattle.std.proofs.lemmas.List.{append-nil, length-append, length-map, take-append-drop}
 use Rattle.gate_lock.specs.declared.mark.Mark.{Mark}
 use Rattle.gate_lock.specs.Marks.{AreSealed, SealedView, sealed_with, starts_in}

@@ -1,8 +1,6 @@
 -- A place that can't be come by, one that was, and the end.
 -- The lemmas of `Merging` say so.
-use Rattle.std.proofs.Common.{◌≡◌, ℕ, ◌+◌, ◌∙◌, nat_lt, arith, rules}
-use Rattle.authority_cache.specs.Calls.{one_if}
-use Rattle.gate_lock.specs.Places.{times_in_all}
+use Rattle.std.proofs.Common.{arith, rules}
 use Rattle.gate_lock.proofs.Merging.{ended, next_below, passes_ascend, passes_times, stuck}
 use Rattle.gate_lock.proofs.places.merge.Goals as goal
 

@@ -1,5 +1,5 @@
 -- The turn that was begun is one more that must be spent, and there is room for its marks.
-use Rattle.std.proofs.Common.{rules, arith}
+use Rattle.std.proofs.Common.{arith}
 use Rattle.std.proofs.lemmas.Grind.{common_steps}
 use Rattle.gate_lock.proofs.Starts.{starts_in_push}
 use Rattle.gate_lock.proofs.desk.Desk.begin_copied.Goals as goal

@@ -1,6 +1,6 @@
 -- As many marks are kept, one way or the other.
 -- The lemmas of `Condensing` say so.
-use Rattle.std.proofs.Common.{◌+◌, ◌≤◌, length, map, take, refl, ap, sym, ◌∙◌, arith, rules}
+use Rattle.std.proofs.Common.{◌≤◌, map, take, refl, ap, sym, ◌∙◌, arith, rules}
 use Rattle.gate_lock.specs.Marks.{AreSealed, sealed_with}
 use Rattle.gate_lock.specs.Desks.{DeskView}
 use Rattle.gate_lock.proofs.Condensing.{keeps_count, taken_in}
