@@ -21,7 +21,7 @@ use Rattle.crawl_audit.specs.declared.ledger.Ledger.{Ledger}
 use Rattle.crawl_audit.specs.declared.numbers.Numbers.{Numbers}
 use Rattle.crawl_audit.specs.declared.numbers.Phase.{Phase}
 use Rattle.crawl_audit.specs.declared.numbers.Phase.TheVariants as phases
-use Rattle.crawl_audit.specs.FirstBase.{SaysBase, is_used}
+use Rattle.crawl_audit.specs.FirstBase.{SaysBase, is_used, key_of, permit_row}
 use Rattle.crawl_audit.specs.Loading.{Sets, with_numbers}
 use Rattle.crawl_audit.specs.OpenRows.{Greatest, Unspent, Running, IsOpenRow, MayStand, with_row}
 use Rattle.crawl_audit.specs.Tables.{Puts, Tells, TellsNumbers, grants_under, is_above, lasts_of, phases_of, running_under, unspent_under}
@@ -144,7 +144,7 @@ module _ (first first' : FirstBase) (ledger : Ledger) (numbers : Numbers) (b : B
     abbrev permit : GrantedPermit
     permit = permit_for number fetch
 
-    pub unspent_loaded : Puts ledger.numbers number (Some (phases.Unspent fetch)) numbers → first'.last ≡ Some (lasts.Unspent number) → ((turn : ℕ) → is_used first' turn ≡ is_used first turn) →
+    unspent_loaded : Puts ledger.numbers number (Some (phases.Unspent fetch)) numbers → first'.last ≡ Some (lasts.Unspent number) → ((turn : ℕ) → is_used first' turn ≡ is_used first turn) →
         IsOpenRow (Unspent permit) → MayStand b (Unspent permit) → SaysBase first' (with_numbers ledger numbers) (with_row b (Unspent permit))
     unspent_loaded puts last used fields may =
         let all = says.tells in
@@ -170,7 +170,7 @@ module _ (first first' : FirstBase) (ledger : Ledger) (numbers : Numbers) (b : B
         })
         (puts.rising ∙ says.rising) last (λ turn. used turn ∙ says.turns_are turn)
 
-    pub running_loaded : Puts ledger.numbers number (Some (phases.Running fetch)) numbers → first'.last ≡ Some (lasts.Running number) → ((turn : ℕ) → is_used first' turn ≡ is_used first turn) →
+    running_loaded : Puts ledger.numbers number (Some (phases.Running fetch)) numbers → first'.last ≡ Some (lasts.Running number) → ((turn : ℕ) → is_used first' turn ≡ is_used first turn) →
         IsOpenRow (Running permit) → MayStand b (Running permit) → SaysBase first' (with_numbers ledger numbers) (with_row b (Running permit))
     running_loaded puts last used fields may =
         let all = says.tells in
@@ -195,3 +195,9 @@ module _ (first first' : FirstBase) (ledger : Ledger) (numbers : Numbers) (b : B
           few = all.few;
         })
         (puts.rising ∙ says.rising) last (λ turn. used turn ∙ says.turns_are turn)
+
+  -- however it is out
+  pub permit_loaded : (number : ℕ) (phase : Phase) → Puts ledger.numbers number (Some phase) numbers → first'.last ≡ Some (key_of (permit_row number phase)) → ((turn : ℕ) → is_used first' turn ≡ is_used first turn) →
+      IsOpenRow (permit_row number phase) → MayStand b (permit_row number phase) → SaysBase first' (with_numbers ledger numbers) (with_row b (permit_row number phase))
+  permit_loaded number (phases.Unspent fetch) = unspent_loaded number fetch
+  permit_loaded number (phases.Running fetch) = running_loaded number fetch

@@ -10,11 +10,14 @@ use Rattle.authority_cache.specs.Sites.{is_flying, site_of}
 use Rattle.gate_history.specs.Base.{Base, empty_base, times_turned}
 use Rattle.gate_history.specs.History.{from}
 use Rattle.permit_book.specs.Numbers.{generation_of, slot_of}
+use Rattle.permit_book.specs.Outstanding.{permit_for}
 use Rattle.crawl_audit.specs.declared.first_base.FirstBase.{FirstBase}
 use Rattle.crawl_audit.specs.declared.first_base.LastLine.{LastLine}
 use Rattle.crawl_audit.specs.declared.first_base.LastLine.TheVariants as lasts
 use Rattle.crawl_audit.specs.declared.ledger.Ledger.{Ledger}
 use Rattle.crawl_audit.specs.declared.numbers.Numbers.{Numbers}
+use Rattle.crawl_audit.specs.declared.numbers.Phase.{Phase}
+use Rattle.crawl_audit.specs.declared.numbers.Phase.TheVariants as phases
 use Rattle.crawl_audit.specs.declared.unread_line.UnreadLine.{UnreadLine}
 use Rattle.crawl_audit.specs.declared.unread_line.UnreadLine.TheVariants.{NotOne, NoMemory}
 use Rattle.crawl_audit.specs.Chains.{IsTextBase}
@@ -98,6 +101,11 @@ answered_row authority turn begun answer =
 
 abbrev pub turn_row : List ℕ → ℕ → ℕ → OpenRow
 turn_row authority turn begun = InFlight (record { authority = authority; turn = turn; begun = begun })
+
+-- a row with a permit that is out so
+abbrev pub permit_row : ℕ → Phase → OpenRow
+permit_row number (phases.Unspent fetch) = Unspent (permit_for number fetch)
+permit_row number (phases.Running fetch) = Running (permit_for number fetch)
 
 -- a row that may stand was loaded, so they say what the base with it does
 abbrev pub Loads : Base → OpenRow → Result (Unit {0}) AllocError → FirstBase → Ledger → Type 0

@@ -13,45 +13,25 @@ use Rattle.crawl_audit.specs.Tables.{KeepsLast, lasts_of}
 
 -- the same numbers, from where on grants must rise
 abbrev pub risen : Numbers → Numbers
-risen numbers = record {
-  out = numbers.out;
-  by_slot = numbers.by_slot;
-  rising = true;
-  granted = numbers.granted;
-}
+risen numbers = record numbers { rising = true }
 
 -- the same ledger with the numbers of a base
 abbrev pub counted_from : Ledger → Counts → Ledger
-counted_from ledger numbers = record {
+counted_from ledger numbers = record ledger {
   clock = numbers.moment;
   begins = numbers.begins;
   entries = numbers.entries;
   started = numbers.started;
-  cache = ledger.cache;
   numbers = risen ledger.numbers;
 }
 
 -- the same ledger with this cache
 abbrev pub with_cache : Ledger → Known → Ledger
-with_cache ledger cache = record {
-  clock = ledger.clock;
-  begins = ledger.begins;
-  entries = ledger.entries;
-  started = ledger.started;
-  cache = cache;
-  numbers = ledger.numbers;
-}
+with_cache ledger cache = record ledger { cache = cache }
 
 -- the same ledger with these numbers of permits
 abbrev pub with_numbers : Ledger → Numbers → Ledger
-with_numbers ledger numbers = record {
-  clock = ledger.clock;
-  begins = ledger.begins;
-  entries = ledger.entries;
-  started = ledger.started;
-  cache = ledger.cache;
-  numbers = numbers;
-}
+with_numbers ledger numbers = record ledger { numbers = numbers }
 
 -- the flight of a turn that began at this moment
 abbrev pub flight_of : ℕ → ℕ → Flight

@@ -2,13 +2,12 @@
 //! checked against those before it. docs/FORMATS.md has the lines; RFC 9309, sections 2.3.1 and 2.4.
 ghost use Rattle.std.specs.Prelude.{◌≡◌, ◌≢◌, ℕ, ◌+◌, ◌<◌, ◌≤◌, ◌==◌, ◌||◌, ◌↔◌};
 ghost use Rattle.std.specs.Prelude.{◌∷◌, [], IsTrue, List, OnOk, codes};
-ghost use Rattle.permit_book.specs.Outstanding.{permit_for};
 ghost use Rattle.gate_history.specs.Base.{Base, empty_base};
 ghost use Rattle.gate_history.specs.History.{from};
 ghost use Rattle.crawl_audit.specs.FirstBase.{Reads, ReadsHead, ReadsRows, SaysBase, TakesBaseLine};
 ghost use Rattle.crawl_audit.specs.FirstBase.{Loads, answered_row, fits, is_behind, is_used};
-ghost use Rattle.crawl_audit.specs.FirstBase.{key_of, kind_place, may_have_begun, turn_row};
-ghost use Rattle.crawl_audit.specs.OpenRows.{Greatest, IsOpenRow, MayStand, Running, Unspent};
+ghost use Rattle.crawl_audit.specs.FirstBase.{key_of, kind_place, may_have_begun, permit_row, turn_row};
+ghost use Rattle.crawl_audit.specs.OpenRows.{Greatest, IsOpenRow, MayStand};
 ghost use Rattle.crawl_audit.specs.OpenRows.{row_of};
 ghost use Rattle.crawl_audit.specs.Tables.{TellsAll};
 
@@ -21,7 +20,7 @@ use authority_cache::{TimedAnswer, TurnNo};
 use gate_history::{Numbers, SlotGrant};
 use indexmap::IndexMap;
 use path_normal::Authority;
-use permit_book::{Fetch, PermitNo};
+use permit_book::PermitNo;
 use std::alloc::{AllocError, Global};
 use std::hash::RandomState;
 
@@ -181,8 +180,12 @@ impl FirstBase {
                 begun,
             } => self.load_turn(ledger, authority, turn, begun),
             BaseRow::Greatest(grant) => self.load_grant(ledger, grant),
-            BaseRow::Unspent { number, fetch } => self.load_unspent(ledger, number, fetch),
-            BaseRow::Running { number, fetch } => self.load_running(ledger, number, fetch),
+            BaseRow::Unspent { number, fetch } => {
+                self.load_permit(ledger, number, Phase::Unspent(fetch))
+            }
+            BaseRow::Running { number, fetch } => {
+                self.load_permit(ledger, number, Phase::Running(fetch))
+            }
         }
     }
 
@@ -228,31 +231,18 @@ impl FirstBase {
         Ok(())
     }
 
-    fn load_unspent(
+    fn load_permit(
         &mut self,
         ledger: &mut Ledger,
         number: PermitNo,
-        fetch: Fetch,
+        phase: Phase,
     ) -> Result<(), AllocError>
         ensures { (b : Base) → SaysBase self.old ledger.old b
-            → Loads b (Unspent (permit_for number fetch)) result self.new ledger.new }
+            → Loads b (permit_row number phase) result self.new ledger.new }
     {
-        ledger.numbers.put(number, Phase::Unspent(fetch))?;
-        self.last = Some(LastLine::Unspent(number));
-        Ok(())
-    }
-
-    fn load_running(
-        &mut self,
-        ledger: &mut Ledger,
-        number: PermitNo,
-        fetch: Fetch,
-    ) -> Result<(), AllocError>
-        ensures { (b : Base) → SaysBase self.old ledger.old b
-            → Loads b (Running (permit_for number fetch)) result self.new ledger.new }
-    {
-        ledger.numbers.put(number, Phase::Running(fetch))?;
-        self.last = Some(LastLine::Running(number));
+        let last = LastLine::of_permit(number, &phase);
+        ledger.numbers.put(number, phase)?;
+        self.last = Some(last);
         Ok(())
     }
 
@@ -270,6 +260,16 @@ impl FirstBase {
 }
 
 impl LastLine {
+    // The line of a permit that is out so.
+    fn of_permit(number: PermitNo, phase: &Phase) -> LastLine
+        ensures { result ≡ key_of (permit_row number phase.now) }
+    {
+        match phase {
+            Phase::Unspent(_) => LastLine::Unspent(number),
+            Phase::Running(_) => LastLine::Running(number),
+        }
+    }
+
     // Whether the row comes behind this line: it is of a later kind, or of the same and with a
     // greater key.
     fn is_before(&self, row: &BaseRow) -> bool
