@@ -65,7 +65,7 @@ pub fn run_shift<
         clock,
         watcher,
     };
-    do_all(rt, alloc, gate, &crew, workers, &mut handover)?;
+    crew.do_all(rt, alloc, gate, workers, &mut handover)?;
     let Handover {
         drawn,
         done,
@@ -97,33 +97,6 @@ fn no_outcomes(alloc: Global, count: usize) -> Result<Vec<Crawled>, AllocError>
     Ok(outcomes)
 }
 
-// Lets so many workers do all jobs, and takes what they hand over.
-fn do_all<
-    G: Gate + Send + Sync,
-    F: Fetcher + Sync,
-    C: Clock + Sync,
-    W: Watcher + Sync,
-    R: Threads + Wait + Sync,
->(
-    rt: &R,
-    alloc: Global,
-    gate: &GateLock<G>,
-    crew: &Crew<'_, F, C, W>,
-    workers: u64,
-    handover: &mut Handover<G>,
-) -> Result<(), ShiftFault>
-    requires few { workers ≤ max_workers }
-    requires new { handover.old ≡ nothing_handed }
-    ensures { OnOk result (AreAllDone
-        (world_of (F.gives crew.now.fetcher.now) (C.reads crew.now.clock.now))
-        crew.now.jobs.now workers handover.new) }
-{
-    let mut members = hire(alloc, workers)?;
-    employ_all(rt, alloc, gate, crew, &mut members);
-    handover.take_all(members)?;
-    Ok(())
-}
-
 // So many workers, who have drawn nothing.
 fn hire<G: Gate>(alloc: Global, workers: u64) -> Result<Vec<Member<G>>, AllocError>
     ensures { IfOk result (λ members. members.items ≡ replicate workers newcomer) }
@@ -139,28 +112,52 @@ fn hire<G: Gate>(alloc: Global, workers: u64) -> Result<Vec<Member<G>>, AllocErr
     Ok(members)
 }
 
-// Lets each worker work on a thread of its own, and the last one on this.
-fn employ_all<
-    G: Gate + Send + Sync,
-    F: Fetcher + Sync,
-    C: Clock + Sync,
-    W: Watcher + Sync,
-    R: Threads + Wait + Sync,
->(rt: &R, alloc: Global, gate: &GateLock<G>, crew: &Crew<'_, F, C, W>, members: &mut [Member<G>])
-    requires new { All (λ member. member ≡ newcomer) members.old }
-    ensures { (i : ℕ) (d : MemberView) → i < length members.old →
-        HasEnded (world_of (F.gives crew.now.fetcher.now) (C.reads crew.now.clock.now))
-        crew.now.jobs.now (slice_index_or members.new i d) }
-{
-    thread::for_each_mut(
-        rt,
-        members,
-        MAX_WORKERS as usize,
-        &|_: usize, member: &mut Member<G>|
-            requires { member.old ≡ newcomer }
-            ensures { HasEnded
-                (world_of (F.gives crew.entry.now.fetcher.now) (C.reads crew.entry.now.clock.now))
-                crew.entry.now.jobs.now member.new }
-        { crew.employ(rt, alloc, gate, member) },
-    );
+impl<F: Fetcher + Sync, C: Clock + Sync, W: Watcher + Sync> Crew<'_, F, C, W> {
+    // Lets so many workers do all jobs, and takes what they hand over.
+    fn do_all<G: Gate + Send + Sync, R: Threads + Wait + Sync>(
+        &self,
+        rt: &R,
+        alloc: Global,
+        gate: &GateLock<G>,
+        workers: u64,
+        handover: &mut Handover<G>,
+    ) -> Result<(), ShiftFault>
+        requires few { workers ≤ max_workers }
+        requires new { handover.old ≡ nothing_handed }
+        ensures { OnOk result (AreAllDone
+            (world_of (F.gives self.now.fetcher.now) (C.reads self.now.clock.now))
+            self.now.jobs.now workers handover.new) }
+    {
+        let mut members = hire(alloc, workers)?;
+        self.employ_all(rt, alloc, gate, &mut members);
+        handover.take_all(members)?;
+        Ok(())
+    }
+
+    // Lets each worker work on a thread of its own, and the last one on this.
+    fn employ_all<G: Gate + Send + Sync, R: Threads + Wait + Sync>(
+        &self,
+        rt: &R,
+        alloc: Global,
+        gate: &GateLock<G>,
+        members: &mut [Member<G>],
+    )
+        requires new { All (λ member. member ≡ newcomer) members.old }
+        ensures { (i : ℕ) (d : MemberView) → i < length members.old →
+            HasEnded (world_of (F.gives self.now.fetcher.now) (C.reads self.now.clock.now))
+            self.now.jobs.now (slice_index_or members.new i d) }
+    {
+        let crew = self;
+        thread::for_each_mut(
+            rt,
+            members,
+            MAX_WORKERS as usize,
+            &|_: usize, member: &mut Member<G>|
+                requires { member.old ≡ newcomer }
+                ensures { HasEnded
+                    (world_of (F.gives crew.entry.now.fetcher.now) (C.reads crew.entry.now.clock.now))
+                    crew.entry.now.jobs.now member.new }
+            { crew.employ(rt, alloc, gate, member) },
+        );
+    }
 }
