@@ -1,5 +1,6 @@
 -- What contracts say of jobs and refreshes, of leaves to fetch, and of the crate's clock.
 pub mod Clock
+pub mod Closings
 pub mod Crews
 pub mod Leaves
 pub mod Limits

@@ -1,10 +1,14 @@
 //! What workers tell of a job while they do it.
 //! RFC 9309 has none of it.
+ghost use Rattle.std.specs.Prelude.{◌≡◌};
+ghost use Rattle.robots_verdict.specs.Answer.{said};
+ghost use Rattle.crawl_workers.specs.Closings.{closing_of, decided_by, leads_to_https};
+
 use crawl_job::Hop;
 use http_wire::{HttpReply, WireFault};
 use path_normal::PageUrl;
 use robots_fetch::RobotsReply;
-use robots_text::Token;
+use robots_text::{Token, is_same_word};
 use robots_verdict::{Answer, Closure};
 use tcp_wire::Failure;
 
@@ -51,7 +55,9 @@ pub enum ClosedBy {
 
 impl ClosedBy {
     /// What came of a fetch, which failed for this where its device did.
-    pub(crate) fn met(given: &Result<HttpReply, WireFault>, failure: Option<Failure>) -> ClosedBy {
+    pub(crate) fn met(given: &Result<HttpReply, WireFault>, failure: Option<Failure>) -> ClosedBy
+        ensures { result ≡ closing_of given.now failure }
+    {
         match given {
             Ok(reply) => ClosedBy::Status(reply.status),
             Err(fault) => ClosedBy::Fault(*fault, failure),
@@ -59,7 +65,9 @@ impl ClosedBy {
     }
 
     /// The same, where it decided this answer: of a redirect why it is not followed.
-    pub(crate) fn decided(self, reply: &RobotsReply, answer: &Answer) -> ClosedBy {
+    pub(crate) fn decided(self, reply: &RobotsReply, answer: &Answer) -> ClosedBy
+        ensures { result ≡ decided_by self reply.now (said answer.now) }
+    {
         match answer {
             Answer::Closed(Closure::Scheme) if leads_to_https(reply) => ClosedBy::Https,
             Answer::Closed(Closure::Scheme) => ClosedBy::OtherScheme,
@@ -69,14 +77,18 @@ impl ClosedBy {
     }
 }
 
-fn leads_to_https(reply: &RobotsReply) -> bool {
+// Whether the reply's Location begins with `https:`, in whatever case.
+fn leads_to_https(reply: &RobotsReply) -> bool
+    ensures { result ≡ leads_to_https reply.now }
+{
     match reply {
         RobotsReply::Status {
             location: Some(location),
             ..
-        } => location
-            .split_once(':')
-            .map_or(false, |(scheme, _)| scheme.eq_ignore_ascii_case("https")),
+        } => {
+            let octets = location.as_bytes();
+            is_same_word(&octets[..octets.len().min(6)], b"https:")
+        }
         _ => false,
     }
 }
