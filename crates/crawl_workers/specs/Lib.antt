@@ -7,6 +7,7 @@ pub mod Limits
 pub mod Network
 pub mod OutcomeLaws
 pub mod Outcomes
+pub mod Queues
 pub mod Refreshes
 pub mod ScriptedSites
 pub mod Shifts

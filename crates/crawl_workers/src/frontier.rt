@@ -1,5 +1,8 @@
 //! The frontier of a shift: the jobs that nobody has drawn, in a queue for each site. Workers draw from
 //! the sites in turn, and pass by a site that would have them wait.
+ghost use Rattle.std.specs.Prelude.{◌≡◌, false, MatchOption};
+ghost use Rattle.crawl_workers.specs.Queues.{Gives, left_by, may_give};
+
 use crawl_job::Job;
 use std::alloc::{AllocError, Global};
 use std::collections::BTreeMap;
@@ -250,16 +253,21 @@ impl Waiting {
 
 impl Queue {
     // Whether a job may be drawn: one is left, no worker fetches the robots file, and a place is free.
-    fn may_give(&self, places: u64) -> bool {
+    fn may_give(&self, places: u64) -> bool
+        ensures { result ≡ may_give self.now places }
+    {
         self.drawn < self.numbers.len() && self.workers < places && self.robots != Robots::Fetched
     }
 
     // The next job. Who draws the first one of a site fetches its robots file.
-    fn draw(&mut self, places: u64) -> Option<u64> {
+    fn draw(&mut self, places: u64) -> Option<u64>
+        ensures { MatchOption result ((may_give self.old places ≡ false) × (self.new ≡ self.old))
+            (λ number. Gives self.old places number self.new) }
+    {
         if !self.may_give(places) {
             return None;
         }
-        let number = *self.numbers.get(self.drawn)?;
+        let number = self.numbers[self.drawn];
         self.drawn += 1;
         self.workers = self.workers.saturating_add(1);
         if self.robots == Robots::Unknown {
@@ -269,7 +277,9 @@ impl Queue {
     }
 
     // A worker has left. Where nobody else is there, nobody fetches the robots file.
-    fn leave(&mut self) {
+    fn leave(&mut self)
+        ensures { self.new ≡ left_by self.old }
+    {
         self.workers = self.workers.saturating_sub(1);
         if self.workers == 0 && self.robots == Robots::Fetched {
             self.robots = Robots::Unknown;
