@@ -1,6 +1,5 @@
 -- Lemmas that several proofs share.
 pub mod PlainText
-pub mod Readings
 pub mod Giving
 pub mod Serving
 pub mod Walking

@@ -23,11 +23,14 @@ use Rattle.line_text.specs.Number.{number_of}
 use Rattle.command_server.specs.Verbs.{row_of, verb_of}
 use Rattle.line_text.specs.Words.{is_count_within, is_empty_word, words_of}
 
+-- one word, which is an authority: `STATE <authority>` and `REFRESH <authority>`
+abbrev pub authority_alone : List (List ℕ) → Capacity → Result (List ℕ) LineFault
+authority_alone (authority ∷ []) capacity = authority_word authority capacity
+authority_alone _ capacity = Err faults.Words
+
 -- `BEGIN <authority>`
 abbrev pub begin_of : ℕ → List (List ℕ) → Capacity → Result Call LineFault
-begin_of moment (authority ∷ []) capacity =
-    read_on (authority_word authority capacity) (λ a. Ok (calls.Begin a moment))
-begin_of moment _ capacity = Err faults.Words
+begin_of moment words capacity = read_on (authority_alone words capacity) (λ a. Ok (calls.Begin a moment))
 
 -- `ARRIVE <authority> <turn> <reply> ..`
 abbrev pub arrive_of : ℕ → List (List ℕ) → Capacity → Result Arrival LineFault
@@ -37,25 +40,6 @@ arrive_of moment (authority ∷ turn ∷ replies) capacity =
     Ok (record { authority = a; turn = t; replies = words; moment = moment }))))
 arrive_of moment _ capacity = Err faults.Words
 
--- `STATE <authority>` and `REFRESH <authority>`
-abbrev pub authority_alone : List (List ℕ) → Capacity → Result (List ℕ) LineFault
-authority_alone (authority ∷ []) capacity = authority_word authority capacity
-authority_alone _ capacity = Err faults.Words
-
--- `ASK <token> <url>`
-abbrev pub ask_of : ℕ → List (List ℕ) → Capacity → Result Call LineFault
-ask_of moment (token ∷ url ∷ []) capacity =
-    read_on (token_word token capacity) (λ t.
-    read_on (page_word url capacity) (λ u. Ok (calls.Ask t u moment)))
-ask_of moment _ capacity = Err faults.Words
-
--- `START <n> <token> <url>`
-abbrev pub start_of : ℕ → List (List ℕ) → Capacity → Result Call LineFault
-start_of moment (number ∷ token ∷ url ∷ []) capacity =
-    read_on (number_word number) (λ n. read_on (token_word token capacity) (λ t.
-    read_on (page_word url capacity) (λ u. Ok (calls.Start n t u moment))))
-start_of moment _ capacity = Err faults.Words
-
 -- `FETCH <token> <url>`, and a job of a shift
 abbrev pub job_words_of : List (List ℕ) → Capacity → Result Job LineFault
 job_words_of (token ∷ url ∷ []) capacity =
@@ -63,15 +47,30 @@ job_words_of (token ∷ url ∷ []) capacity =
     read_on (page_word url capacity) (λ u. Ok (record { token = t; url = u })))
 job_words_of _ capacity = Err faults.Words
 
+-- `ASK <token> <url>`
+abbrev pub ask_of : ℕ → List (List ℕ) → Capacity → Result Call LineFault
+ask_of moment words capacity =
+    read_on (job_words_of words capacity) (λ job. Ok (calls.Ask job.token job.url moment))
+
+-- `START <n> <token> <url>`
+abbrev pub start_of : ℕ → List (List ℕ) → Capacity → Result Call LineFault
+start_of moment (number ∷ token ∷ url ∷ []) capacity =
+    read_on (number_word number) (λ n.
+    read_on (job_words_of (token ∷ url ∷ []) capacity) (λ job. Ok (calls.Start n job.token job.url moment)))
+start_of moment _ capacity = Err faults.Words
+
+-- one word, which is a permit's number
+abbrev pub permit_alone : List (List ℕ) → Result ℕ LineFault
+permit_alone (number ∷ []) = number_word number
+permit_alone _ = Err faults.Words
+
 -- `BACK <n>`
 abbrev pub back_of : List (List ℕ) → Result Call LineFault
-back_of (number ∷ []) = read_on (number_word number) (λ n. Ok (calls.Back n))
-back_of _ = Err faults.Words
+back_of words = read_on (permit_alone words) (λ n. Ok (calls.Back n))
 
 -- `DONE <n>`
 abbrev pub done_of : List (List ℕ) → Result Call LineFault
-done_of (number ∷ []) = read_on (number_word number) (λ n. Ok (calls.Finish n))
-done_of _ = Err faults.Words
+done_of words = read_on (permit_alone words) (λ n. Ok (calls.Finish n))
 
 -- the command that makes a call
 abbrev pub calling : Result Call LineFault → Result Command LineFault

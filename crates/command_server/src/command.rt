@@ -2,14 +2,14 @@
 //! Used by the session; `CallOf` has the order of the checks.
 ghost use Rattle.std.specs.Prelude.{◌≡◌, IfOk, IsTrue, MatchOption, false, true};
 ghost use Rattle.path_normal.specs.Capacity.{IsRead};
-ghost use Rattle.command_server.specs.CallOf.{arguments_of, CanBeMade, command_of, counted_of};
+ghost use Rattle.command_server.specs.CallOf.{arguments_of, CanBeMade, command_of};
 ghost use Rattle.command_server.specs.CallOf.{is_line_octet};
 ghost use Rattle.command_server.specs.CallOf.{has_line_octets, takes, timed_words_of, verb_words_of};
 ghost use Rattle.line_text.specs.Words.{words_left};
 
 use crate::arrival::Arrival;
 use crate::calls::{
-    read_arrive, read_ask, read_back, read_begin, read_done, read_fetch, read_start, read_state,
+    read_arrive, read_authority_alone, read_job_words, read_permit_alone, read_start,
 };
 use crate::fault::LineFault;
 use crate::verbs::{Dialogue, Verb};
@@ -112,18 +112,6 @@ fn read_verb(
     let Some(verb) = Verb::of(dialogue, name) else {
         return Err(LineFault::Verb);
     };
-    read_counted(alloc, verb, moment, words)
-}
-
-fn read_counted(
-    alloc: Global,
-    verb: Verb,
-    moment: u64,
-    words: Words<'_>,
-) -> Result<Command<'_>, LineFault>
-    ensures read { IsRead result (counted_of verb moment (words_left words.entry)) }
-    ensures spare { IfOk result CanBeMade }
-{
     let row = verb.row();
     if !words.count_is_within(row.least, row.most) {
         return Err(LineFault::Words);
@@ -142,23 +130,35 @@ fn read_arguments(
     ensures spare { IfOk result CanBeMade }
 {
     Ok(Command::Call(match verb {
-        Verb::Begin => read_begin(alloc, moment, words)?,
+        Verb::Begin => {
+            let authority = read_authority_alone(alloc, words)?;
+            Call::Begin { authority, moment }
+        }
         Verb::Arrive => return Ok(Command::Arrive(read_arrive(alloc, moment, words)?)),
-        Verb::Ask => read_ask(alloc, moment, words)?,
+        Verb::Ask => {
+            let Job { token, url } = read_job_words(alloc, words)?;
+            Call::Ask { token, url, moment }
+        }
         Verb::Start => read_start(alloc, moment, words)?,
-        Verb::Back => read_back(words)?,
-        Verb::Done => read_done(words)?,
+        Verb::Back => {
+            let number = read_permit_alone(words)?;
+            Call::Back { number }
+        }
+        Verb::Done => {
+            let number = read_permit_alone(words)?;
+            Call::Finish { number }
+        }
         Verb::State => {
-            let authority = read_state(alloc, words)?;
+            let authority = read_authority_alone(alloc, words)?;
             return Ok(Command::State { authority, moment });
         }
         Verb::Sweep => Call::Sweep { moment },
         Verb::Seal => return Ok(Command::Seal),
         Verb::Refresh => {
-            let authority = read_state(alloc, words)?;
+            let authority = read_authority_alone(alloc, words)?;
             return Ok(Command::Refresh { authority });
         }
-        Verb::Fetch => return Ok(Command::Fetch(read_fetch(alloc, words)?)),
+        Verb::Fetch => return Ok(Command::Fetch(read_job_words(alloc, words)?)),
         Verb::Quit => return Ok(Command::Quit),
     }))
 }

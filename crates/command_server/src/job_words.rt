@@ -5,7 +5,7 @@ ghost use Rattle.path_normal.specs.Capacity.{IsRead};
 ghost use Rattle.command_server.specs.JobWords.{job_of};
 ghost use Rattle.line_text.specs.Words.{words_left};
 
-use crate::calls::read_fetch;
+use crate::calls::read_job_words;
 use crate::command::plain_text;
 use crate::fault::LineFault;
 use crawl_job::Job;
@@ -28,5 +28,5 @@ fn read_words(alloc: Global, words: Words<'_>) -> Result<Job, LineFault>
     if !words.count_is_within(2, 2) {
         return Err(LineFault::Words);
     }
-    read_fetch(alloc, words)
+    read_job_words(alloc, words)
 }
