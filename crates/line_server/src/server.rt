@@ -76,7 +76,9 @@ impl<
         })
     }
 
-    // Has the workers serve, and the gate seen to meanwhile; the receipts are those of who sees to it.
+    // Has the workers serve on threads of their own, and the gate seen to on another; the receipts are those of
+    // who sees to it. What is named first is done last where no thread can be made: then nothing is left to
+    // see to.
     fn serve_all<G: Gate + Send + Sync>(
         &self,
         gate: &GateLock<G>,
@@ -86,31 +88,28 @@ impl<
             drawn: AtomicU64::new(0),
             left: AtomicU64::new(self.workers),
         };
-        serve_by(self.rt, self, gate, &counters, servants)
+        let (receipts, _) = thread::join(
+            self.rt,
+            || self.watch(gate, &counters),
+            || self.employ_all(gate, &counters, servants),
+        );
+        receipts
     }
-}
 
-// Has the workers serve on threads of their own, and the gate seen to on another. What is named first is done last
-// where no thread can be made: then nothing is left to see to.
-fn serve_by<
-    G: Gate + Send + Sync,
-    F: Fetcher + Sync,
-    C: Clock + Sync,
-    A: Alarm + Sync,
-    R: Threads + Wait + time::Clock + Sync,
->(
-    rt: &R,
-    server: &Server<'_, F, C, A, R>,
-    gate: &GateLock<G>,
-    counters: &Counters,
-    servants: &mut [Servant<G>],
-) -> Result<Receipts<G>, ServeFault> {
-    let (receipts, _) = thread::join(
-        rt,
-        || server.watch(gate, counters),
-        || employ_all(rt, server, gate, counters, servants),
-    );
-    receipts
+    // Lets each worker work on a thread of its own.
+    fn employ_all<G: Gate + Send + Sync>(
+        &self,
+        gate: &GateLock<G>,
+        counters: &Counters,
+        servants: &mut [Servant<G>],
+    ) {
+        thread::for_each_mut(
+            self.rt,
+            servants,
+            MAX_WORKERS as usize,
+            &|_: usize, servant: &mut Servant<G>| self.employ(gate, counters, servant),
+        );
+    }
 }
 
 // So many workers, who have taken nobody.
@@ -124,28 +123,6 @@ fn hire<G: Gate>(alloc: Global, workers: u64) -> Result<Vec<Servant<G>>, AllocEr
         servants.push(servant).map_err(AllocError::from)?;
     }
     Ok(servants)
-}
-
-// Lets each worker work on a thread of its own.
-fn employ_all<
-    G: Gate + Send + Sync,
-    F: Fetcher + Sync,
-    C: Clock + Sync,
-    A: Alarm + Sync,
-    R: Threads + Wait + time::Clock + Sync,
->(
-    rt: &R,
-    server: &Server<'_, F, C, A, R>,
-    gate: &GateLock<G>,
-    counters: &Counters,
-    servants: &mut [Servant<G>],
-) {
-    thread::for_each_mut(
-        rt,
-        servants,
-        MAX_WORKERS as usize,
-        &|_: usize, servant: &mut Servant<G>| server.employ(gate, counters, servant),
-    );
 }
 
 // How many connections the workers took, whose receipts come to the others. The first that has none tells
