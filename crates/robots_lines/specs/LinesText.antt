@@ -1,22 +1,10 @@
 -- The text that `lines` writes, as docs/FORMATS.md has it: one line for each line of a robots text.
 -- Cited by the contracts of `lines` and of the pieces of a line.
-use Rattle.std.specs.Prelude.{ℕ, List, [], ◌∷◌, ◌++◌, codes, decimal, flat_map}
-use Rattle.line_text.specs.Escapes.{escaped}
+use Rattle.std.specs.Prelude.{ℕ, List, ◌++◌, codes, decimal, flat_map}
+use Rattle.line_text.specs.RuleWords.{rule_word, value_text}
 use Rattle.robots_text.specs.Lines.{kept}
 use Rattle.robots_text.specs.Records.{everybody, token, nobody, Record, agent, rule, other, Numbered, numbered_records}
 use Rattle.robots_text.specs.Token.{lower_case}
-use Rattle.robots_text.specs.declared.record.RuleKind.{RuleKind}
-use Rattle.robots_text.specs.declared.record.RuleKind.TheVariants.{Allow, Disallow}
-
--- the word of a rule
-abbrev pub rule_word : RuleKind → List ℕ
-rule_word Allow = codes "allow"
-rule_word Disallow = codes "disallow"
-
--- a value with a space before it; an empty one is left out, and its space
-abbrev pub value_text : List ℕ → List ℕ
-value_text [] = []
-value_text (octet ∷ octets) = codes " " ++ escaped (octet ∷ octets)
 
 -- the words of a record
 abbrev pub record_text : Record → List ℕ

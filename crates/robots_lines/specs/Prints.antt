@@ -1,18 +1,12 @@
 -- What `lines` read and wrote, by its result.
 -- The contract of `lines` cites it.
-use Rattle.std.specs.Prelude.{◌≡◌, ◌⊎◌, ◌≤◌, ◌<◌, ◌+◌, ℕ, List, [], ◌++◌, length, Option, None, Some, Result, Ok, Err}
+use Rattle.std.specs.Prelude.{◌≡◌, ◌⊎◌, ◌≤◌, ◌<◌, ◌+◌, ℕ, List, [], length, Option, Result, Ok, Err}
 use Rattle.std.specs.Io.KnownBytes.{Consumes, Appends, IsAtEnd}
 use Rattle.counted_io.specs.Device.{AppendsPrefix}
-use Rattle.robots_text.specs.Lines.{text_limit}
-use Rattle.robots_text.specs.Lines.{kept}
+use Rattle.robots_text.specs.Lines.{KeepsSame, text_limit}
 use Rattle.robots_lines.specs.LinesText.{lines_text}
 use Rattle.command_server.specs.declared.session_fault.SessionFault.{SessionFault}
 use Rattle.command_server.specs.declared.session_fault.SessionFault.TheVariants.{LongLine, Lines, Read, Write, NoMemory}
-
--- of the body is kept what is kept of the whole input, where that is known
-abbrev pub KeepsSame : Option (List ℕ) → List ℕ → Type 0
-KeepsSame None body = Unit {0}
-KeepsSame (Some input) body = kept body ≡ kept input
 
 -- the body was read: all that the input has, but at most one octet more than the limit
 pub record ReadsBody (old new : Option (List ℕ)) (body : List ℕ) : Type 0 where
@@ -26,20 +20,6 @@ pub record ReadsPart (old new : Option (List ℕ)) : Type 0 where
   pub part : List ℕ
   pub consumed : Consumes old new part
   pub fits : length part ≤ text_limit + 1
-
--- one read gave these octets: none only at the end
-pub record ReadsMore (old new : Option (List ℕ)) (before after : List ℕ) (most : ℕ) : Type 0 where
-  pub octets : List ℕ
-  pub added : after ≡ before ++ octets
-  pub consumed : Consumes old new octets
-  pub fits : length octets ≤ most
-  pub end : length octets ≡ 0 → IsAtEnd new
-
--- after one read, whose octets may be lost
-pub record ReadsLost (old new : Option (List ℕ)) (most : ℕ) : Type 0 where
-  pub octets : List ℕ
-  pub consumed : Consumes old new octets
-  pub fits : length octets ≤ most
 
 -- the fault is one of reading
 abbrev pub IsReadFault : SessionFault → Type 0

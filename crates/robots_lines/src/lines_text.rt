@@ -1,12 +1,11 @@
 //! The line that `lines` writes for a record.
 //! Its text is that of docs/FORMATS.md.
-ghost use Rattle.std.specs.Prelude.{◌≡◌, ◌++◌};
+ghost use Rattle.std.specs.Prelude.{◌≡◌};
 ghost use Rattle.robots_text.specs.Records.{agent, agent_seen, line_seen, rule};
-ghost use Rattle.line_text.specs.Escapes.{escaped};
-ghost use Rattle.robots_lines.specs.LinesText.{numbered, numbered_text, value_text};
+ghost use Rattle.robots_lines.specs.LinesText.{numbered, numbered_text};
 ghost use Rattle.line_text.specs.Pieces.{pieces_text};
 
-use line_text::{Piece, Pieces};
+use line_text::{Piece, Pieces, gap_before};
 use robots_text::{Agent, RecordKind, RecordLine, RuleKind};
 
 /// The line of a record, with its number.
@@ -37,15 +36,5 @@ fn rule_pieces(line: u64, kind: RuleKind, value: &[u8]) -> Pieces<'_>
     match kind {
         RuleKind::Allow => Pieces::numbered(line, "allow", gap, Piece::Escaped(value)),
         RuleKind::Disallow => Pieces::numbered(line, "disallow", gap, Piece::Escaped(value)),
-    }
-}
-
-// What stands between the word of a rule and its value.
-fn gap_before(value: &[u8]) -> &str
-    ensures { value_text value.now ≡ result.now ++ escaped value.now }
-{
-    match value {
-        [] => "",
-        _ => " ",
     }
 }
