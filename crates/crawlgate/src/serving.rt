@@ -40,29 +40,20 @@ pub(crate) fn serve<R: Threads + Wait + time::Clock + Sync>(
 {
     match new_book(host, options.limits) {
         Ok(book) => match Listener::bind(host, options.port) {
-            Ok(listener) => serve_at(rt, host, options, book, &listener),
+            Ok(listener) => match tell_port(host, &listener) {
+                Ending::Done => serve_clients(rt, host, options, book, &listener),
+                ending => ending,
+            },
             Err(_) => Ending::Device,
         },
         Err(ending) => ending,
     }
 }
 
-// Tells where it listens, and serves.
-fn serve_at<R: Threads + Wait + time::Clock + Sync>(
-    rt: &R,
-    host: &HostRuntime,
-    options: ServeOptions,
-    book: Book,
-    listener: &Listener,
-) -> Ending
-    requires options { AreForServe options }
-    requires book { (book.base ≡ empty_base) × (book.entries ≡ []) }
-{
+// Tells where it listens.
+fn tell_port(host: &HostRuntime, listener: &Listener) -> Ending {
     match listener.port() {
-        Ok(port) => match tell_listening(host, port) {
-            Ending::Done => serve_clients(rt, host, options, book, listener),
-            ending => ending,
-        },
+        Ok(port) => tell_listening(host, port),
         Err(_) => Ending::Device,
     }
 }
