@@ -1,7 +1,6 @@
 //! A shift: jobs, a line for each, done by several workers, and what is told of them.
 //! `crawlgate shift` runs it over standard input and output.
-ghost use Rattle.std.specs.Prelude.{◌≡◌, ◌≤◌, [], OnOk, length};
-ghost use Rattle.gate_history.specs.Base.{empty_base};
+ghost use Rattle.std.specs.Prelude.{◌≤◌, OnOk, length};
 ghost use Rattle.job_line.specs.Limits.{IsCrew, max_jobs};
 ghost use Rattle.crawl_shift.specs.Histories.{WritesHistory};
 
@@ -15,8 +14,7 @@ use counted_io::{Output, Sink, Source};
 use crawl_audit::export;
 use crawl_job::Job;
 use crawl_workers::{Clock, Fetcher, Report, ShiftFault, Watcher, run_shift};
-use gate_core::Book;
-use gate_lock::{Blanks, Gate, GateLock};
+use gate_lock::{Gate, GateLock};
 use std::alloc::Global;
 use std::sync::Wait;
 use std::thread::Threads;
@@ -39,22 +37,6 @@ impl<
     C: Clock + Sync,
     R: Threads + Wait + time::Clock + Sync,
 > Shift<'_, '_, E, F, C, R> {
-    /// `report` over a new gate.
-    pub fn report_over<G: Gate + Send + Sync, S: Source, W: Sink + Send>(
-        &self,
-        reader: &mut S,
-        writer: &mut W,
-        book: Book,
-        blanks: Blanks,
-    ) -> Result<(), NotShifted>
-        requires workers { IsCrew self.now.workers }
-        requires book { (book.base ≡ empty_base) × (book.entries ≡ []) }
-        requires blanks { blanks ≡ G.ledgers }
-    {
-        let gate: GateLock<G> = GateLock::new(book, blanks);
-        self.report(reader, writer, &gate)
-    }
-
     /// Reads the jobs to the end of the input, has the workers do them over the gate, and writes the
     /// report. Once a write of it has failed nothing more is fetched.
     pub fn report<G: Gate + Send + Sync, S: Source, W: Sink + Send>(
@@ -72,22 +54,6 @@ impl<
         Ok(())
     }
 
-    /// `table` over a new gate.
-    pub fn table_over<G: Gate + Send + Sync, S: Source, W: Sink + Send>(
-        &self,
-        reader: &mut S,
-        writer: &mut W,
-        book: Book,
-        blanks: Blanks,
-    ) -> Result<(), NotShifted>
-        requires workers { IsCrew self.now.workers }
-        requires book { (book.base ≡ empty_base) × (book.entries ≡ []) }
-        requires blanks { blanks ≡ G.ledgers }
-    {
-        let gate: GateLock<G> = GateLock::new(book, blanks);
-        self.table(reader, writer, &gate)
-    }
-
     /// The same, but what is written is a table with a line for each hop, as soon as the hop has ended.
     pub fn table<G: Gate + Send + Sync, S: Source, W: Sink + Send>(
         &self,
@@ -102,23 +68,6 @@ impl<
         self.run_told(jobs.as_slice(), gate, &table)?;
         table.finish()?;
         Ok(())
-    }
-
-    /// `history` over a new gate.
-    pub fn history_over<G: Gate + Send + Sync, S: Source, W: Sink>(
-        &self,
-        reader: &mut S,
-        writer: &mut W,
-        book: Book,
-        blanks: Blanks,
-    ) -> Result<(), NotShifted>
-        requires workers { IsCrew self.now.workers }
-        requires book { (book.base ≡ empty_base) × (book.entries ≡ []) }
-        requires blanks { blanks ≡ G.ledgers }
-        ensures { OnOk result (WritesHistory (W.written writer.old) (W.written writer.new)) }
-    {
-        let gate: GateLock<G> = GateLock::new(book, blanks);
-        self.history(reader, writer, &gate)
     }
 
     /// Reads the jobs to the end of the input, has the workers do them over the gate, and writes the

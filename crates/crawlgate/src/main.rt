@@ -14,7 +14,7 @@ use counted_io::{Counted, Sink};
 use crawl_shift::{NotShifted, Shift, StatusLine};
 use crawl_workers::{Clock, Fetcher, SystemClock, TcpFetcher};
 use gate_core::Book;
-use gate_lock::Blanks;
+use gate_lock::{Blanks, Gate, GateLock};
 use program_streams::{Ending, Next, new_book, run, tell_bad_line, tell_ending};
 use program_words::{ShiftOptions, Told};
 use std::io::IsTerminal;
@@ -55,7 +55,7 @@ fn shift<R: Threads + Wait + time::Clock + Sync>(
     }
 }
 
-// Does it over a new gate.
+// Does it over a new book.
 fn shift_by<F: Fetcher + Sync, C: Clock + Sync, R: Threads + Wait + time::Clock + Sync>(
     rt: &R,
     host: &HostRuntime,
@@ -91,7 +91,12 @@ fn shift_shown<F: Fetcher + Sync, C: Clock + Sync, R: Threads + Wait + time::Clo
         None
     };
     match StatusLine::new(rt, host.alloc(), sink) {
-        Ok(status) => shift_told(rt, host, options, book, &status, fetcher, clock),
+        Ok(status) => {
+            let blanks = Blanks::new();
+            shift_told::<Brand, _, _, _, _>(
+                rt, host, options, book, blanks, &status, fetcher, clock,
+            )
+        }
         Err(_) => Err(NotShifted::NoMemory),
     }
 }
@@ -101,8 +106,9 @@ fn is_watched(host: &HostRuntime) -> bool {
     host.stderr().is_terminal() && !host.stdout().is_terminal()
 }
 
-// Does it, and writes what is to be told of it to standard output.
+// Does it over a new gate, and writes what is to be told of it to standard output.
 fn shift_told<
+    G: Gate + Send + Sync,
     E: Sink + Send,
     F: Fetcher + Sync,
     C: Clock + Sync,
@@ -112,12 +118,14 @@ fn shift_told<
     host: &HostRuntime,
     options: ShiftOptions,
     book: Book,
+    blanks: Blanks,
     status: &StatusLine<'_, E, R>,
     fetcher: &F,
     clock: &C,
 ) -> Result<(), NotShifted>
     requires workers { IsCrew options.workers }
     requires book { (book.base ≡ empty_base) × (book.entries ≡ []) }
+    requires blanks { blanks ≡ G.ledgers }
 {
     let shift = Shift {
         rt,
@@ -127,14 +135,13 @@ fn shift_told<
         clock,
         status,
     };
-    let blanks = Blanks::new();
+    let gate: GateLock<G> = GateLock::new(book, blanks);
     let mut reader = Counted::new(host.stdin());
     let mut writer = Counted::new(host.stdout());
-    let (input, output) = (&mut reader, &mut writer);
     match options.told {
-        Told::Outcomes => shift.report_over::<Brand, _, _>(input, output, book, blanks),
-        Told::Table => shift.table_over::<Brand, _, _>(input, output, book, blanks),
-        Told::History => shift.history_over::<Brand, _, _>(input, output, book, blanks),
+        Told::Outcomes => shift.report(&mut reader, &mut writer, &gate),
+        Told::Table => shift.table(&mut reader, &mut writer, &gate),
+        Told::History => shift.history(&mut reader, &mut writer, &gate),
     }
 }
 

@@ -1,12 +1,14 @@
 //! Shifts over what a fetcher fetches.
-ghost use Rattle.std.specs.Prelude.{◌≡◌};
+ghost use Rattle.std.specs.Prelude.{◌≡◌, []};
+ghost use Rattle.gate_history.specs.Base.{empty_base};
 ghost use Rattle.job_line.specs.Limits.{IsCrew};
 
 use super::new_book;
 use counted_io::FailAt;
 use crawl_shift::{NotShifted, Shift, StatusLine};
 use crawl_workers::{Clock, Fetcher};
-use gate_lock::Blanks;
+use gate_core::Book;
+use gate_lock::{Blanks, Gate, GateLock};
 use std::marker::Brand;
 use std::random::RandomSource;
 use std::sync::Wait;
@@ -39,5 +41,26 @@ pub(super) fn crawl_over<
         clock,
         status: &status,
     };
-    Ok(shift.report_over::<Brand, _, _>(jobs, report, book, Blanks::new()))
+    Ok(report_over::<Brand, _, _, _>(&shift, jobs, report, book, Blanks::new()))
+}
+
+// Its report, over a gate of this book.
+fn report_over<
+    G: Gate + Send + Sync,
+    F: Fetcher + Sync,
+    C: Clock + Sync,
+    R: Threads + Wait + time::Clock + Sync,
+>(
+    shift: &Shift<'_, '_, FailAt, F, C, R>,
+    jobs: &mut FailAt,
+    report: &mut FailAt,
+    book: Book,
+    blanks: Blanks,
+) -> Result<(), NotShifted>
+    requires workers { IsCrew shift.now.workers }
+    requires book { (book.base ≡ empty_base) × (book.entries ≡ []) }
+    requires blanks { blanks ≡ G.ledgers }
+{
+    let gate: GateLock<G> = GateLock::new(book, blanks);
+    shift.report(jobs, report, &gate)
 }
