@@ -68,10 +68,10 @@ TEXTS = {
     "UTF-16": filled(b"disallow: /a{n}\n").decode().encode("utf-16")[:SIZE],
     "HTML": filled(b"<p>user-agent: *<br>disallow: /{n}</p>\n"),
 }
-# (a bar and a caret are escaped in a normal form, which has three times their octets then)
+# (a query's bars and carets are escaped in the normal form alone, which has three times as many octets then)
 PATHS = [
     LONG, "/" + "a" * 3_990, "/", "/part7/page", "/x" * 1_990, "/%7e%7e%7e7", "/" + "%2A" * 1_300, "/ab", "/" + "aab" * 1_330, "/" + ("a" * 31 + "b") * 124,
-    "/" + "||^" * 1_330,
+    "/?" + "||^" * 1_330,
 ]
 # what takes longer as the program is, and for how long at most (docs/FAULTS.md): few texts have so many places that nearly match
 DEAR = {"rules of a star that nearly match": 1_000}

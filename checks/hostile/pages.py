@@ -87,7 +87,7 @@ def path_of(text):
         if plain == "..":
             done = done[:-1]
         if plain not in (".", ".."):
-            done.append(escaped(segment, "\"<>`{}"))
+            done.append(escaped(segment, "\"<>^`{}"))
         elif place == len(segments) - 1:
             done.append("")
     return "/" + "/".join(done)

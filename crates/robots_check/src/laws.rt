@@ -8,5 +8,6 @@ ghost use Rattle.robots_check.specs.Rows.{IsRow, Tried, is_row_above};
 /// Rows rank as the weights of their rule lines do.
 pub fn rows_rank_as_weights()
     ensures { (path : List ℕ) (one other : Ruled) (row beside : Tried) → IsRow path one row
-        → IsRow path other beside → is_row_above row beside ≡ is_above (weight_of one) (weight_of other) }
+        → IsRow path other beside
+        → is_row_above row beside ≡ is_above (weight_of one) (weight_of other) }
 {}

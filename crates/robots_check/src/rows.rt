@@ -71,7 +71,8 @@ fn weighed<'t>(best: Option<Row<'t>>, row: Row<'t>, line: u64) -> Option<Row<'t>
 }
 
 fn stronger<'t>(best: Option<Row<'t>>, other: Row<'t>) -> Row<'t>
-    ensures { row_seen result ≡ stronger_row (option_map row_seen best.entry) (row_seen other.entry) }
+    ensures { row_seen result
+        ≡ stronger_row (option_map row_seen best.entry) (row_seen other.entry) }
 {
     match best {
         Some(best) if !is_above(other, best) => best,
