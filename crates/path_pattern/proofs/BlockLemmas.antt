@@ -54,15 +54,15 @@ module _ (path run : List ℕ) (start j place : ℕ) (lanes more : List ℕ) (at
       (sym (there k) ∙ eqb-true _ _ was.0, was.1)
 
 -- two octets, one after the other
-pub left_of_pair : (path run : List ℕ) (start pair place next : ℕ) (before one two : List ℕ) → place ≡ start + pair → next ≡ start + (pair + 1)
-    → HasLanes one (λ k. if slice_index path (place + k) == slice_index run pair then slice_index before k else 0)
-    → HasLanes two (λ k. if slice_index path (next + k) == slice_index run (pair + 1) then slice_index one k else 0)
-    → IsLeftOf path run start pair before two
-left_of_pair path run start pair place next before one two at at_next test test_next =
-    let was_one = λ (k : ℕ) (below : k < 64) (low : 128 ≤ slice_index two k). lane_was_kept path run start (pair + 1) next one two at_next test_next k below low in
-    let was = λ (k : ℕ) (below : k < 64) (low : 128 ≤ slice_index two k). lane_was_kept path run start pair place before one at test k below (was_one k below low).1 in
+pub left_of_two : (path run : List ℕ) (start i j place next : ℕ) (before one two : List ℕ) → place ≡ start + i → next ≡ start + j
+    → HasLanes one (λ k. if slice_index path (place + k) == slice_index run i then slice_index before k else 0)
+    → HasLanes two (λ k. if slice_index path (next + k) == slice_index run j then slice_index one k else 0)
+    → IsLeftOf path run start i j before two
+left_of_two path run start i j place next before one two at at_next test test_next =
+    let was_one = λ (k : ℕ) (below : k < 64) (low : 128 ≤ slice_index two k). lane_was_kept path run start j next one two at_next test_next k below low in
+    let was = λ (k : ℕ) (below : k < 64) (low : 128 ≤ slice_index two k). lane_was_kept path run start i place before one at test k below (was_one k below low).1 in
     record {
-      kept = λ k below low stands stands_next. lane_kept path run start (pair + 1) next one two at_next test_next k below stands_next (lane_kept path run start pair place before one at test k below stands low);
+      kept = λ k below low stands stands_next. lane_kept path run start j next one two at_next test_next k below stands_next (lane_kept path run start i place before one at test k below stands low);
       was = λ k below low. (was k below low).1;
       first = λ k below low. (was k below low).0;
       second = λ k below low. (was_one k below low).0;
@@ -70,21 +70,21 @@ left_of_pair path run start pair place next before one two at at_next test test_
 
 -- ---- the octets of the run, two by two
 
-left_all : (path run : List ℕ) (start pair : ℕ) (before left : List ℕ) → pair + 1 < length run → IsLeftOf path run start pair before left → (k : ℕ) → k < 64 → OccursAt path run (start + k) → 128 ≤ slice_index before k → 128 ≤ slice_index left k
-left_all path run start pair before left within of k below occurs low =
-    of.kept k below low (occurs.reads pair (omega arith)) (occurs.reads (pair + 1) within)
+left_all : (path run : List ℕ) (start i j : ℕ) (before left : List ℕ) → i < length run → j < length run → IsLeftOf path run start i j before left → (k : ℕ) → k < 64 → OccursAt path run (start + k) → 128 ≤ slice_index before k → 128 ≤ slice_index left k
+left_all path run start i j before left within within_next of k below occurs low =
+    of.kept k below low (occurs.reads i within) (occurs.reads j within_next)
 
-pub left_at_first : (path run : List ℕ) (start pair : ℕ) (left : List ℕ) → pair + 1 < length run → IsLeftOf path run start pair (replicate 64 255) left → IsLeft path run start 0 left
-left_at_first path run start pair left within of = record {
+pub left_at_first : (path run : List ℕ) (start i j : ℕ) (left : List ℕ) → i < length run → j < length run → IsLeftOf path run start i j (replicate 64 255) left → IsLeft path run start 0 left
+left_at_first path run start i j left within within_next of = record {
   all = λ k below occurs.
       let full : slice_index (replicate 64 255) k ≡ 255 = get_or-replicate 64 k 255 0 below in
-      left_all path run start pair (replicate 64 255) left within of k below occurs (omega arith);
+      left_all path run start i j (replicate 64 255) left within within_next of k below occurs (omega arith);
   begun = λ k below low j none. absurd (omega arith);
 }
 
-pub left_by_next : (path run : List ℕ) (start seen pair : ℕ) (before left : List ℕ) → pair + 1 < length run → pair ≤ seen → (pair ≡ seen) ⊎ (pair + 2 ≡ length run) → IsLeftOf path run start pair before left → IsLeft path run start seen before → IsLeft path run start (seen + 2) left
+pub left_by_next : (path run : List ℕ) (start seen pair : ℕ) (before left : List ℕ) → pair + 1 < length run → pair ≤ seen → (pair ≡ seen) ⊎ (pair + 2 ≡ length run) → IsLeftOf path run start pair (pair + 1) before left → IsLeft path run start seen before → IsLeft path run start (seen + 2) left
 left_by_next path run start seen pair before left within low_pair which of was = record {
-  all = λ k below occurs. left_all path run start pair before left within of k below occurs (was.all k below occurs);
+  all = λ k below occurs. left_all path run start pair (pair + 1) before left (omega arith) within of k below occurs (was.all k below occurs);
   begun = λ k below low j under inside.
       ⊎_elim (λ old. was.begun k below (of.was k below low) j old inside) (λ new.
       ⊎_elim (λ same. subst (HasOctet path run start k) (sym same) (of.first k below low)) (λ other.

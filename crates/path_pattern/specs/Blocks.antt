@@ -5,6 +5,7 @@ use Rattle.memchr.specs.Find as find
 use Rattle.memchr.specs.Find.{NoneBefore, OccursAt}
 use Rattle.path_pattern.specs.declared.blocks.Found.{Found}
 use Rattle.path_pattern.specs.declared.blocks.Found.TheVariants.{At, Nowhere}
+use Rattle.path_pattern.specs.declared.blocks.Telling.{Telling}
 
 -- there are 64 lanes, and lane k holds f k
 pub record HasLanes (lanes : List ℕ) (f : ℕ → ℕ) : Type 0 where
@@ -19,17 +20,21 @@ IsNoneLeft lanes = (k : ℕ) → slice_index lanes k < 128
 abbrev pub HasOctet : List ℕ → List ℕ → ℕ → ℕ → ℕ → Type 0
 HasOctet path run start k j = slice_index path (start + k + j) ≡ slice_index run j
 
--- of the lanes before, those are left at whose places the two octets of the run stand
-pub record IsLeftOf (path run : List ℕ) (start pair : ℕ) (before left : List ℕ) : Type 0 where
-  pub kept : (k : ℕ) → k < 64 → 128 ≤ slice_index before k → HasOctet path run start k pair
-      → HasOctet path run start k (pair + 1) → 128 ≤ slice_index left k
+-- of the lanes before, those are left at whose places these two octets of the run stand
+pub record IsLeftOf (path run : List ℕ) (start one other : ℕ) (before left : List ℕ) : Type 0 where
+  pub kept : (k : ℕ) → k < 64 → 128 ≤ slice_index before k → HasOctet path run start k one
+      → HasOctet path run start k other → 128 ≤ slice_index left k
   pub was : (k : ℕ) → k < 64 → 128 ≤ slice_index left k → 128 ≤ slice_index before k
-  pub first : (k : ℕ) → k < 64 → 128 ≤ slice_index left k → HasOctet path run start k pair
-  pub second : (k : ℕ) → k < 64 → 128 ≤ slice_index left k → HasOctet path run start k (pair + 1)
+  pub first : (k : ℕ) → k < 64 → 128 ≤ slice_index left k → HasOctet path run start k one
+  pub second : (k : ℕ) → k < 64 → 128 ≤ slice_index left k → HasOctet path run start k other
 
--- this is where the run stands first of the 64 places from start on; where nowhere the pair is in it
+-- both octets are of the run
+abbrev pub IsWithin : Telling → List ℕ → Type 0
+IsWithin telling run = (telling.first < length run) × (telling.second < length run)
+
+-- this is where the run stands first of the 64 places from start on; where nowhere, the octets that tell are of it
 abbrev pub IsFoundIn : List ℕ → List ℕ → ℕ → Found → Type 0
 IsFoundIn path run start (At place) =
     NoneBefore (OccursAt path run) start (start + 64) place × OccursAt path run place
-IsFoundIn path run start (Nowhere pair) =
-    find.Nowhere (OccursAt path run) start (start + 64) × (pair + 1 < length run)
+IsFoundIn path run start (Nowhere telling) =
+    find.Nowhere (OccursAt path run) start (start + 64) × IsWithin telling run

@@ -3,7 +3,7 @@
 ghost use Rattle.std.specs.Prelude.{◌≡◌, ◌≢◌, ◌↔◌, ℕ, ◌+◌, ◌<◌, ◌≤◌, ◌==◌, if◌then◌else◌, length, slice_index, IsTrue};
 ghost use Rattle.std.specs.Int.{bit_at};
 ghost use Rattle.memchr.specs.Find.{FindsNeedle};
-ghost use Rattle.path_pattern.specs.Blocks.{HasLanes, IsFoundIn, IsLeftOf, IsNoneLeft};
+ghost use Rattle.path_pattern.specs.Blocks.{HasLanes, IsFoundIn, IsLeftOf, IsNoneLeft, IsWithin};
 
 use std::simd::prelude::*;
 
@@ -14,8 +14,17 @@ pub(crate) const PLACES: usize = 64;
 enum Found {
     /// The run stands at this place first.
     At(usize),
-    /// It stands at none. Two octets of it, from this one on, were tested last.
-    Nowhere(usize),
+    /// It stands at none, and these octets of it mostly tell so of the next block.
+    Nowhere(Telling),
+}
+
+/// Two octets of a run, by their places in it.
+#[derive(Clone, Copy)]
+struct Telling {
+    /// The one that left no place of a block last.
+    first: usize,
+    /// The one that did so before.
+    second: usize,
 }
 
 /// The first place of the run in a path that has a block of places for it.
@@ -27,52 +36,75 @@ pub(crate) fn first_by_blocks(path: &[u8], run: &[u8]) -> Option<usize>
     // The last block ends with the path, so it may begin within the one before.
     let last = path.len() - run.len() - (PLACES - 1);
     let mut start = 0;
-    let mut pair = 0;
+    let mut telling = Telling {
+        first: 0,
+        second: run.len() - 1,
+    };
     while start < last {
-        match found_in_block(path, run, start, pair) {
+        match found_in_block(path, run, start, telling) {
             Found::At(place) => return Some(place),
-            Found::Nowhere(last_pair) => pair = last_pair,
+            Found::Nowhere(octets) => telling = octets,
         }
         start += PLACES;
     }
-    match found_in_block(path, run, last, pair) {
+    match found_in_block(path, run, last, telling) {
         Found::At(place) => Some(place),
         Found::Nowhere(_) => None,
     }
 }
 
-// Two octets a step, until no place is left. First come those that left none in the block before:
-// they mostly leave none in this one.
-fn found_in_block(path: &[u8], run: &[u8], start: usize, first_pair: usize) -> Found
-    requires pair { first_pair + 1 < length run.now }
+// Two octets a step, until no place is left. First come those that tell: where the run is nearly there
+// again and again, they mostly leave no place at once.
+fn found_in_block(path: &[u8], run: &[u8], start: usize, telling: Telling) -> Found
+    requires two { 1 < length run.now }
+    requires telling { IsWithin telling run.now }
     requires room { start + 63 + length run.now ≤ length path.now }
     ensures { IsFoundIn path.now run.now start result }
 {
-    let mut left = pair_left(u8x64::splat(255), path, run, start, first_pair);
+    let all = u8x64::splat(255);
+    let mut left = two_left(all, path, run, start, telling.first, telling.second);
     if is_none(left) {
-        return Found::Nowhere(first_pair);
+        return Found::Nowhere(telling);
     }
     let mut seen = 0;
     while seen < run.len() {
         let pair = seen.min(run.len() - 2);
-        left = pair_left(left, path, run, start, pair);
-        if is_none(left) {
-            return Found::Nowhere(pair);
+        let next = two_left(left, path, run, start, pair, pair + 1);
+        if is_none(next) {
+            let first = telling_of(left, path, run, start, pair);
+            let second = telling.first;
+            return Found::Nowhere(Telling { first, second });
         }
+        left = next;
         seen += 2;
     }
     Found::At(start + lowest(top_bits(left)))
 }
 
-// The lanes of the block at whose places these two octets of the run stand. The others are 0.
+// Which octet of a pair that leaves none of the lanes does so.
 #[inline(always)]
-fn pair_left(lanes: u8x64, path: &[u8], run: &[u8], start: usize, pair: usize) -> u8x64
+fn telling_of(lanes: u8x64, path: &[u8], run: &[u8], start: usize, pair: usize) -> usize
     requires pair { pair + 1 < length run.now }
     requires room { start + 63 + length run.now ≤ length path.now }
-    ensures { IsLeftOf path.now run.now start pair lanes result }
+    ensures { result < length run.now }
 {
-    let first = octet_left(lanes, path, start + pair, run[pair]);
-    octet_left(first, path, start + pair + 1, run[pair + 1])
+    if is_none(octet_left(lanes, path, start + pair, run[pair])) {
+        pair
+    } else {
+        pair + 1
+    }
+}
+
+// The lanes of the block at whose places these two octets of the run stand. The others are 0.
+#[inline(always)]
+fn two_left(lanes: u8x64, path: &[u8], run: &[u8], start: usize, one: usize, other: usize) -> u8x64
+    requires one { one < length run.now }
+    requires other { other < length run.now }
+    requires room { start + 63 + length run.now ≤ length path.now }
+    ensures { IsLeftOf path.now run.now start one other lanes result }
+{
+    let first = octet_left(lanes, path, start + one, run[one]);
+    octet_left(first, path, start + other, run[other])
 }
 
 // The lanes at whose places, from this one on, the octet stands. The others are 0.

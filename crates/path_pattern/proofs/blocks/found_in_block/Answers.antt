@@ -7,14 +7,14 @@ use Rattle.path_pattern.proofs.blocks.found_in_block.Goals as goal
 
 pub loop-seen-init : goal.loop-seen-init
 loop-seen-init c = (
-  left_at_first c.args.path.now c.args.run.now c.args.start c.args.first_pair _ c.requires.pair c.pair_left-left.ensures,
+  left_at_first c.args.path.now c.args.run.now c.args.start _ _ _ c.requires.telling.0 c.requires.telling.1 c.two_left-left.ensures,
   λ none. true≢false (sym (c.is_none.ensures.1 none) ∙ c.if-is_none.false),
 )
 
 pub returns-then-is_none : goal.returns-then-is_none
 returns-then-is_none c =
-    let left = left_at_first c.args.path.now c.args.run.now c.args.start c.args.first_pair _ c.requires.pair c.pair_left-left.ensures in
-    (nowhere_in_block c.args.path.now c.args.run.now _ c.args.start 0 left (c.is_none.ensures.0 c.if-is_none.true), c.requires.pair)
+    let left = left_at_first c.args.path.now c.args.run.now c.args.start _ _ _ c.requires.telling.0 c.requires.telling.1 c.two_left-left.ensures in
+    (nowhere_in_block c.args.path.now c.args.run.now _ c.args.start 0 left (c.is_none.ensures.0 c.if-is_none.true), c.requires.telling)
 
 within : (run : List ℕ) (pair seen : ℕ) → 1 < length run → pair ≡ min seen (length run - 2) → pair + 1 < length run
 within run pair seen two is = omega arith
@@ -26,9 +26,8 @@ pub loop-seen-preserved : goal.loop-seen-preserved
 loop-seen-preserved c =
     let run = c.args.run.now in
     let seen = c.loop-seen.seen in
-    let two : 1 < length run = omega (arith, c.requires.pair) in
     let is = c.min-pair.ensures in (
-      left_by_next c.args.path.now run c.args.start seen c.min-pair.result c.loop-seen.left _ (within run _ seen two is) (omega arith) (which run _ seen two is) c.pair_left-left-in-loop-seen.ensures c.loop-seen.invariant.0,
+      left_by_next c.args.path.now run c.args.start seen c.min-pair.result c.loop-seen.left _ (within run _ seen c.requires.two is) (omega arith) (which run _ seen c.requires.two is) c.two_left-next.ensures c.loop-seen.invariant.0,
       λ none. true≢false (sym (c.is_none-in-loop-seen.ensures.1 none) ∙ c.if-is_none-2.false),
     )
 
@@ -36,10 +35,9 @@ pub returns-then-is_none-2 : goal.returns-then-is_none-2
 returns-then-is_none-2 c =
     let run = c.args.run.now in
     let seen = c.loop-seen.seen in
-    let two : 1 < length run = omega (arith, c.requires.pair) in
     let is = c.min-pair.ensures in
-    let left = left_by_next c.args.path.now run c.args.start seen c.min-pair.result c.loop-seen.left _ (within run _ seen two is) (omega arith) (which run _ seen two is) c.pair_left-left-in-loop-seen.ensures c.loop-seen.invariant.0 in
-    (nowhere_in_block c.args.path.now run _ c.args.start (seen + 2) left (c.is_none-in-loop-seen.ensures.0 c.if-is_none-2.true), within run _ seen two is)
+    let left = left_by_next c.args.path.now run c.args.start seen c.min-pair.result c.loop-seen.left _ (within run _ seen c.requires.two is) (omega arith) (which run _ seen c.requires.two is) c.two_left-next.ensures c.loop-seen.invariant.0 in
+    (nowhere_in_block c.args.path.now run _ c.args.start (seen + 2) left (c.is_none-in-loop-seen.ensures.0 c.if-is_none-2.true), (c.telling_of-first.ensures, c.requires.telling.0))
 
 pub lowest-requires : goal.lowest-requires
 lowest-requires c = some_marked c.loop-seen.left _ c.loop-seen.invariant.1 c.top_bits.ensures
