@@ -258,13 +258,16 @@ class Auditor(History):
         self.slots[int(slot)] = int(generation)
         return (int(slot),)
 
-    def base_U(self, number, token, url, out="unspent"):
+    def out(self, table, number, token, url):
         need(numeral(number) // 65_536 <= self.slots.get(int(number) % 65_536, -1) and int(number) not in self.unspent)
-        getattr(self, out)[int(number)] = page(token, url)
+        table[int(number)] = page(token, url)
         return (int(number),)
 
+    def base_U(self, number, token, url):
+        return self.out(self.unspent, number, token, url)
+
     def base_Y(self, number, token, url):
-        return self.base_U(number, token, url, "running")
+        return self.out(self.running, number, token, url)
 
     def base_E(self):
         return ()

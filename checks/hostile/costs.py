@@ -8,6 +8,8 @@ from auditor import TEXT_LIMIT, spelled
 
 # how long a line may take that is no ARRIVE, in milliseconds; what takes longer is measured again, since the machine may be busy
 MOST, ATTEMPTS = 50, 3
+# how many times as long it may take on this machine
+slower = 1.0
 SIZE = 500_000
 WALKS = 16
 LONG = "/" + "ab" * 1_990
@@ -73,8 +75,6 @@ PATHS = [
     LONG, "/" + "a" * 3_990, "/", "/part7/page", "/x" * 1_990, "/%7e%7e%7e7", "/" + "%2A" * 1_300, "/ab", "/" + "aab" * 1_330, "/" + ("a" * 31 + "b") * 124,
     "/?" + "||^" * 1_330,
 ]
-# what takes longer as the program is, and for how long at most (docs/FAULTS.md): few texts have so many places that nearly match
-DEAR = {"rules of a star that nearly match": 1_000}
 
 
 class Conversation:
@@ -159,7 +159,7 @@ def try_costs(tried, only=None):
             continue
         for left in reversed(range(ATTEMPTS)):
             most, _, _, replies, said = measure(tried.program, text)
-            slow = {verb: f"{took:.1f} ms" for verb, took in most.items() if took > DEAR.get(name, MOST) and verb != "ARRIVE"}
+            slow = {verb: f"{took:.1f} ms" for verb, took in most.items() if took > slower * MOST and verb != "ARRIVE"}
             if not slow:
                 break
         tried.count("dear texts")
