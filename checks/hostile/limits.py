@@ -1,4 +1,5 @@
 """A system that has little left: no threads, few descriptors, little room for addresses, a full disk, and an end by a signal."""
+import contextlib
 import os
 import re
 import resource
@@ -17,11 +18,12 @@ HOPS = re.compile(r"([1-9] [1-9] .*\n)*")
 
 
 def without_threads():
-    """(A privileged user may have as many threads as it likes.)"""
-    if os.geteuid() == 0:
-        os.setgroups([])
-        os.setgid(NOBODY)
-        os.setuid(NOBODY)
+    """(A privileged user may have as many threads as it likes; where it can be no other one, it has them.)"""
+    with contextlib.suppress(PermissionError):
+        if os.geteuid() == 0:
+            os.setgroups([])
+            os.setgid(NOBODY)
+            os.setuid(NOBODY)
     resource.setrlimit(resource.RLIMIT_NPROC, (0, 0))
 
 
