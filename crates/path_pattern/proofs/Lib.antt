@@ -5,3 +5,4 @@ pub mod SpellsLemmas
 pub mod StarLemmas
 pub mod BlockLemmas
 pub mod CallerLemmas
+pub mod SortedLemmas

@@ -1,8 +1,8 @@
 -- Where a run stands in a path, by the places that a search gives.
 -- Used by `after_first`, `after_start`, `ends_with` and `first_place`.
-use Rattle.std.proofs.Common.{◌≡◌, ℕ, ◌+◌, ◌-◌, ◌<◌, ◌≤◌, List, [], ◌++◌, length, take, drop, get_or, append-nil, sym, ap, ◌∙◌, subst, arith, length-append, length-drop}
+use Rattle.std.proofs.Common.{◌≡◌, ℕ, ◌+◌, ◌-◌, ◌<◌, ◌≤◌, List, [], ◌++◌, length, take, drop, get_or, append-nil, refl, sym, ap, ◌∙◌, subst, arith, length-append, length-drop}
 use Rattle.std.proofs.lemmas.Bool.{eq-eqb}
-use Rattle.std.proofs.lemmas.List.{take-append-drop, drop-drop, get_or-drop}
+use Rattle.std.proofs.lemmas.List.{take-append-drop, drop-drop, get_or-drop, get_or-take, length-take}
 use Rattle.std.proofs.Math.Seq.{take-append_seam, drop-append_seam, drop-append-add}
 use Rattle.std.proofs.Math.ListN.{drop_of_length-le}
 use Rattle.std.specs.Prelude.{Option, None, Some}
@@ -101,7 +101,7 @@ none_anywhere path run part before is many none at low high occurs =
 
 -- ---- places in the part of the path from a place on
 
-onward : (path run part : List ℕ) (place later : ℕ) → part ≡ drop place path → place ≤ length path → OccursAt part run later → OccursAt path run (place + later)
+pub onward : (path run part : List ℕ) (place later : ℕ) → part ≡ drop place path → place ≤ length path → OccursAt part run later → OccursAt path run (place + later)
 onward path run part place later is within occurs =
     let fits = occurs.fits in
     let lengths = ap length is ∙ length-drop place path in
@@ -112,7 +112,7 @@ onward path run part place later is within occurs =
           ap (λ k. get_or path k 0) there ∙ sym (get_or-drop place path (later + j) 0) ∙ ap (λ p. get_or p (later + j) 0) (sym is) ∙ occurs.reads j below;
     }
 
-backward : (path run part : List ℕ) (place at : ℕ) → part ≡ drop place path → place ≤ at → OccursAt path run at → OccursAt part run (at - place)
+pub backward : (path run part : List ℕ) (place at : ℕ) → part ≡ drop place path → place ≤ at → OccursAt path run at → OccursAt part run (at - place)
 backward path run part place at is past occurs =
     let fits = occurs.fits in
     let lengths = ap length is ∙ length-drop place path in
@@ -145,6 +145,44 @@ first_here path run part place is within none occurs =
 pub first_onward : (path run part : List ℕ) (place later : ℕ) → part ≡ drop place path → place ≤ length path → Nowhere (OccursAt path run) 0 place → NoneBefore (OccursAt part run) 0 (length part + 1) later → OccursAt part run later → NoneBefore (OccursAt path run) 0 (length path + 1) (place + later) × OccursAt path run (place + later)
 first_onward path run part place later is within none none_later occurs =
     first_from path run part place later (place + later) is within (omega arith) none none_later.before occurs
+
+-- what is first from a place on is first in the part there
+pub left_nowhere : (path run : List ℕ) (place : ℕ) → place ≤ length path → Nowhere (OccursAt path run) place (length path + 1) → Nowhere (OccursAt (drop place path) run) 0 (length (drop place path) + 1)
+left_nowhere path run place within none at low high occurs =
+    let lengths = length-drop place path in
+    none (place + at) (omega arith) (omega arith) (onward path run (drop place path) place at refl within occurs)
+
+pub left_first : (path run : List ℕ) (place first : ℕ) → place ≤ length path → NoneBefore (OccursAt path run) place (length path + 1) first × OccursAt path run first
+    → NoneBefore (OccursAt (drop place path) run) 0 (length (drop place path) + 1) (first - place) × OccursAt (drop place path) run (first - place)
+left_first path run place first within found =
+    let lengths = length-drop place path in
+    let low = found.0.low in
+    let high = found.0.high in (
+      record { low = omega arith; high = omega arith; before = λ at from below occurs. found.0.before (place + at) (omega arith) (omega arith) (onward path run (drop place path) place at refl within occurs) },
+      backward path run (drop place path) place first refl low found.1,
+    )
+
+-- what stands in the front of a path stands in it, and the other way round where the front is long enough
+of_front : (path run : List ℕ) (room at : ℕ) → OccursAt (take room path) run at → OccursAt path run at
+of_front path run room at occurs =
+    let inside = occurs.fits in
+    let long = length-take room path in
+    record { fits = omega arith; reads = λ j below. sym (get_or-take room path (at + j) 0 (omega arith)) ∙ occurs.reads j below }
+
+in_front : (path run : List ℕ) (room at end : ℕ) → end ≡ length (take room path) → at + length run ≤ end → OccursAt path run at → OccursAt (take room path) run at
+in_front path run room at end is inside occurs =
+    let long = length-take room path in
+    record { fits = omega arith; reads = λ j below. get_or-take room path (at + j) 0 (omega arith) ∙ occurs.reads j below }
+
+pub front_first : (path run : List ℕ) (room first : ℕ) → NoneBefore (OccursAt (take room path) run) 0 (length (take room path) + 1) first × OccursAt (take room path) run first
+    → NoneBefore (OccursAt path run) 0 (length path + 1) first × OccursAt path run first
+front_first path run room first found =
+    let inside = found.1.fits in
+    let there = of_front path run room first found.1 in
+    let fits = there.fits in (
+      record { low = omega arith; high = omega arith; before = λ at low below occurs. found.0.before at low below (in_front path run room at (length (take room path)) refl (omega arith) occurs) },
+      there,
+    )
 
 -- ---- a run of one octet
 

@@ -2,7 +2,6 @@
 -- Used by the answers of the matchers.
 use Rattle.std.proofs.Common.{◌≡◌, ℕ, suc, ◌==◌, Bool, true, false, List, [], ◌∷◌, ◌++◌, length, sym, refl, ap, ◌∙◌, subst, append_assoc, append-nil, drop, arith, eqb-true}
 use Rattle.std.specs.Prelude.{IsTrue, ◌↔◌, Option, None, Some, MatchOption, is_some}
-use Rattle.std.specs.Borrow.{Bor}
 use Rattle.std.proofs.lemmas.Bool.{cond-false, true≢false}
 use Rattle.std.proofs.lemmas.List.Elements.{All-head, All-tail}
 use Rattle.std.proofs.Math.Seq.{drop-append_seam}
@@ -169,7 +168,7 @@ last_ended run anchored ends path plain bound tested = (
       tested.1 (tail.0, tail.2 ∙ ap (λ t. tail.0 ++ t) (off.1 ∙ ap (λ t. run ++ t) (off.2 bound) ∙ append-nil run)),
 )
 
-pub last_open : (run : List ℕ) (anchored : Bool) (path : List ℕ) (found : Option (Bor (List ℕ))) → HasNoStar run → anchored ≡ false → MatchOption found (StandsNowhere path run) (λ rest. IsAfterFirst path run rest.now) → IsTrue (is_some found) ↔ Spells (star ∷ run) anchored path
+pub last_open : (run : List ℕ) (anchored : Bool) (path : List ℕ) (found : Option (List ℕ)) → HasNoStar run → anchored ≡ false → MatchOption found (StandsNowhere path run) (λ rest. IsAfterFirst path run rest) → IsTrue (is_some found) ↔ Spells (star ∷ run) anchored path
 last_open run anchored path None plain free nowhere = (
   λ no. absurd (true≢false (sym no)),
   λ spells.
@@ -179,8 +178,8 @@ last_open run anchored path None plain free nowhere = (
 )
 last_open run anchored path (Some rest) plain free first = (
   λ _.
-      let fits = fits_open run anchored (run ++ rest.now) rest.now plain refl free in
-      subst (Spells (star ∷ run) anchored) (sym first.stands) (on_star first.front run anchored (run ++ rest.now) fits),
+      let fits = fits_open run anchored (run ++ rest) rest plain refl free in
+      subst (Spells (star ∷ run) anchored) (sym first.stands) (on_star first.front run anchored (run ++ rest) fits),
   λ _. refl,
 )
 

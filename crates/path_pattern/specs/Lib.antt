@@ -3,3 +3,4 @@
 pub mod Blocks
 pub mod Matches
 pub mod Runs
+pub mod Sorted

@@ -4,8 +4,12 @@
 
 mod blocks;
 pub mod laws;
+mod path;
 mod pattern;
+mod places;
 mod runs;
 
+pub use path::Path;
 pub use pattern::{Pattern, matches};
+pub use places::Places;
 pub use runs::has_no_star;

@@ -6,6 +6,7 @@ ghost use Rattle.path_normal.specs.Octets.{star};
 ghost use Rattle.path_pattern.specs.Matches.{Matches, Spells};
 ghost use Rattle.path_pattern.specs.Runs.{HasNoStar, IsStarOf};
 
+use crate::path::Path;
 use crate::runs::{
     Star, after_first, after_start, ends_with, first_star, split_at_place, split_at_star, star_of,
 };
@@ -51,7 +52,7 @@ impl Pattern {
     }
 
     /// Whether the pattern matches the path, which is to be in normal form. Takes no memory.
-    pub fn matches(&self, path: &[u8]) -> bool
+    pub fn matches(&self, path: &Path<'_>) -> bool
         ensures { IsTrue result ↔ Matches self.now path.now }
     {
         if self.text.is_empty() {
@@ -79,7 +80,7 @@ impl Pattern {
 
 /// Whether a pattern matches a path, both in normal form. The second star is looked for only where the
 /// path begins with what stands before the first. Takes no memory.
-pub fn matches(pattern: &[u8], path: &[u8]) -> bool
+pub fn matches(pattern: &[u8], path: &Path<'_>) -> bool
     ensures { IsTrue result ↔ Matches pattern.now path.now }
 {
     if pattern.is_empty() {
@@ -90,7 +91,7 @@ pub fn matches(pattern: &[u8], path: &[u8]) -> bool
 }
 
 // Whether the pattern, with no anchor of its own, fits the path from its first octet on.
-fn fits(pattern: &[u8], star: Star, anchored: bool, path: &[u8]) -> bool
+fn fits(pattern: &[u8], star: Star, anchored: bool, path: &Path<'_>) -> bool
     requires { IsStarOf pattern.now star }
     ensures { IsTrue result ↔ Spells pattern.now anchored path.now }
 {
@@ -99,7 +100,7 @@ fn fits(pattern: &[u8], star: Star, anchored: bool, path: &[u8]) -> bool
         Star::Only(place) => {
             let (run, after) = split_at_place(pattern, place);
             match after_start(path, run) {
-                Some(rest) => fits_last(after, anchored, rest),
+                Some(rest) => fits_last(after, anchored, &rest),
                 None => false,
             }
         }
@@ -114,35 +115,35 @@ fn fits(pattern: &[u8], star: Star, anchored: bool, path: &[u8]) -> bool
 }
 
 // The same of a run without a star.
-fn fits_run(run: &[u8], anchored: bool, path: &[u8]) -> bool
+fn fits_run(run: &[u8], anchored: bool, path: &Path<'_>) -> bool
     requires { HasNoStar run.now }
     ensures { IsTrue result ↔ Spells run.now anchored path.now }
 {
     match after_start(path, run) {
-        Some(rest) => !anchored || rest.is_empty(),
+        Some(rest) => !anchored || rest.octets().is_empty(),
         None => false,
     }
 }
 
 // Whether the pattern fits from some octet of the path on: a star stands before it. Each run
 // is taken at its first place: what a later place would leave is the end of what that leaves.
-fn fits_after_star(pattern: &[u8], anchored: bool, path: &[u8]) -> bool
-    ensures { IsTrue result ↔ Spells (star ∷ pattern.now) anchored path.now }
+fn fits_after_star(pattern: &[u8], anchored: bool, path: Path<'_>) -> bool
+    ensures { IsTrue result ↔ Spells (star ∷ pattern.now) anchored path.entry }
 {
     let mut left = pattern;
     let mut rest = path;
     while let Some((run, after)) = split_at_star(left) {
-        let Some(next) = after_first(rest, run) else {
+        let Some(next) = after_first(&rest, run) else {
             return false;
         };
         rest = next;
         left = after;
     }
-    fits_last(left, anchored, rest)
+    fits_last(left, anchored, &rest)
 }
 
 // The same of a run without a star.
-fn fits_last(run: &[u8], anchored: bool, path: &[u8]) -> bool
+fn fits_last(run: &[u8], anchored: bool, path: &Path<'_>) -> bool
     requires { HasNoStar run.now }
     ensures { IsTrue result ↔ Spells (star ∷ run.now) anchored path.now }
 {

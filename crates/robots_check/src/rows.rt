@@ -5,7 +5,7 @@ ghost use Rattle.robots_text.specs.Walk.{rule_seen};
 ghost use Rattle.robots_check.specs.Rows.{AreRows, IsRow, IsSecond, is_row_above, row_seen, stronger_row, weighed_row};
 
 use path_normal::normal_pattern;
-use path_pattern::matches;
+use path_pattern::{Path, matches};
 use robots_text::RuleLine;
 use robots_verdict::compare_kinds;
 use std::alloc::{AllocError, Global};
@@ -43,7 +43,7 @@ fn row_of<'t>(alloc: Global, rule: RuleLine<'t>, path: &[u8]) -> Result<Row<'t>,
     Ok(Row {
         rule,
         octets: form.len(),
-        matches: matches(form.as_slice(), path),
+        matches: matches(form.as_slice(), &Path::new(path)),
     })
 }
 

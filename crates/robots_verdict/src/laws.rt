@@ -10,7 +10,7 @@ ghost use Rattle.robots_verdict.specs.Verdict.{IsVerdict};
 use crate::answer::Answer;
 use crate::decision::{Allowed, Verdict, is_robots_path, verdict_of};
 use crate::weight::{Weight, stronger};
-use path_pattern::Pattern;
+use path_pattern::{Path, Pattern};
 use robots_text::{RobotsText, Token};
 use std::alloc::{AllocError, Global};
 
@@ -40,7 +40,7 @@ pub fn verdict_plain(
     if is_robots_path(path) {
         return Ok(Verdict::Allow(Allowed::RobotsPath));
     }
-    let best = strongest(alloc, text, token, path)?;
+    let best = strongest(alloc, text, token, &Path::new(path))?;
     Ok(verdict_of(best))
 }
 
@@ -49,7 +49,7 @@ fn strongest(
     alloc: Global,
     text: &RobotsText,
     token: &Token,
-    path: &[u8],
+    path: &Path<'_>,
 ) -> Result<Option<Weight>, AllocError>
     ensures { IfOk result (IsBest (numbered_records text.now) token.now path.now) }
 {

@@ -9,7 +9,7 @@ ghost use Rattle.robots_verdict.specs.Strongest.{IsBest};
 
 use crate::rewritten::Rewritten;
 use crate::weight::{Weight, stronger};
-use path_pattern::matches;
+use path_pattern::{Path, matches};
 use robots_text::{RobotsText, RuleLine, Token};
 use std::alloc::{AllocError, Global};
 use std::marker::Model;
@@ -54,7 +54,7 @@ impl NormalText {
     }
 
     /// The weight of the strongest line for the token that matches the path. It takes no memory.
-    pub(crate) fn strongest(&self, token: &Token, path: &[u8]) -> Option<Weight>
+    pub(crate) fn strongest(&self, token: &Token, path: &Path<'_>) -> Option<Weight>
         ensures { IsBest (numbered_records self.now) token.now path.now result }
     {
         let mut best = None;

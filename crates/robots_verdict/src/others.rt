@@ -7,7 +7,7 @@ ghost use Rattle.robots_verdict.specs.Search.{ArePlaces, compare_others, IsAbove
 
 use crate::places::groups_at;
 use crate::rows::Rows;
-use path_pattern::matches;
+use path_pattern::{Path, matches};
 use std::alloc::{AllocError, Global};
 use std::cmp::Ordering;
 
@@ -43,7 +43,7 @@ impl Others {
         &self,
         rows: &Rows,
         group: u32,
-        path: &[u8],
+        path: &Path<'_>,
         found: Option<usize>,
     ) -> Option<usize>
         requires { IsOtherIndex rows.now.rows self.now.places.items self.now.groups.items }

@@ -9,6 +9,7 @@ ghost use Rattle.robots_verdict.specs.Verdict.{IsVerdict, robots_path};
 use crate::decision::{Allowed, Verdict, is_robots_path, verdict_of};
 use crate::index::Index;
 use crate::normal_text::NormalText;
+use path_pattern::{Path, Places};
 use robots_text::{RobotsText, Token};
 use std::alloc::{AllocError, Global};
 use std::marker::Model;
@@ -24,6 +25,14 @@ const WALKS: u64 = 16;
 const SHORT_TEXT: usize = 1_024;
 
 const FEW_OTHERS: usize = 32;
+
+// To put the places of a path in order takes up to two milliseconds. It pays where patterns with signs would take
+// longer: on a path of more octets than these, with a text of more than those, or with so many such patterns.
+const SHORT_PATH: usize = 1_024;
+
+const LONG_TEXT: usize = 65_536;
+
+const MANY_OTHERS: usize = 1_024;
 
 /// A robots text, and an index of its rules, where one was made. Without it, verdicts walk over the text.
 #[derive(Drop)]
@@ -110,6 +119,29 @@ impl Policy {
         if is_robots_path(path) {
             return Verdict::Allow(Allowed::RobotsPath);
         }
+        if self.wants_places(path) {
+            let places = Places::of(path);
+            self.verdict_elsewhere(token, &Path::with(path, &places))
+        } else {
+            self.verdict_elsewhere(token, &Path::new(path))
+        }
+    }
+
+    // Whether to put the places of a path in order pays: where it is long, and where many patterns with signs
+    // may be tried on it.
+    fn wants_places(&self, path: &[u8]) -> bool {
+        path.len() > SHORT_PATH
+            && match &self.index {
+                Some(index) => index.ranks.other_count() > MANY_OTHERS,
+                None => self.text().bytes().len() > LONG_TEXT,
+            }
+    }
+
+    // The verdict on a path that is not that of robots files.
+    fn verdict_elsewhere(&self, token: &Token, path: &Path<'_>) -> Verdict
+        requires { path.now ≢ robots_path }
+        ensures { IsVerdict (numbered_records self.now) token.now path.now result }
+    {
         match &self.index {
             Some(index) => self.verdict_by(index, token, path),
             None => {
@@ -119,8 +151,8 @@ impl Policy {
         }
     }
 
-    // The same by the index, on a path that is not that of robots files.
-    fn verdict_by(&self, index: &Index, token: &Token, path: &[u8]) -> Verdict
+    // The same by the index.
+    fn verdict_by(&self, index: &Index, token: &Token, path: &Path<'_>) -> Verdict
         requires index { IsIndexOf self.now index.now }
         requires elsewhere { path.now ≢ robots_path }
         ensures { IsVerdict (numbered_records self.now) token.now path.now result }

@@ -11,6 +11,7 @@ use crate::others::Others;
 use crate::places::places_of;
 use crate::plain::Plain;
 use crate::rows::Rows;
+use path_pattern::Path;
 use std::alloc::{AllocError, Global};
 
 /// The places of the rows in two lists. A place is a rank: the smaller one is that of the stronger
@@ -39,7 +40,7 @@ impl Ranks {
     }
 
     /// The place of the strongest row of these groups that matches the path.
-    pub(crate) fn first(&self, rows: &Rows, groups: &[u32], path: &[u8]) -> Option<usize>
+    pub(crate) fn first(&self, rows: &Rows, groups: &[u32], path: &Path<'_>) -> Option<usize>
         requires falling { IsSortedBy is_row_above rows.now.rows }
         requires searchable { IsSearchable rows.now.rows self.now }
         ensures { FindsLeast (IsHit rows.now.rows groups.now path.now) result }
@@ -57,13 +58,19 @@ impl Ranks {
     }
 
     // The same of one group, or the place that was found so far where that row is stronger.
-    fn first_of(&self, rows: &Rows, group: u32, path: &[u8], found: Option<usize>) -> Option<usize>
+    fn first_of(
+        &self,
+        rows: &Rows,
+        group: u32,
+        path: &Path<'_>,
+        found: Option<usize>,
+    ) -> Option<usize>
         requires falling { IsSortedBy is_row_above rows.now.rows }
         requires searchable { IsSearchable rows.now.rows self.now }
         ensures { FindsLeast (λ place. IsFound found place
             ⊎ IsHitIn rows.now.rows group path.now place) result }
     {
-        let stronger = lesser(found, self.plain.least(rows, group, path));
+        let stronger = lesser(found, self.plain.least(rows, group, path.octets()));
         self.others.least(rows, group, path, stronger)
     }
 }

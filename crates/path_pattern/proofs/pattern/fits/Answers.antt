@@ -26,7 +26,7 @@ not_begun pattern run after path anchored split not = (
 pub returns-in-Some : goal.returns-in-Some
 returns-in-Some c =
     let cut = c.split_at_place.result in
-    begun c.args.pattern.now cut.0.now cut.1.now c.args.path.now c.in-Some.rest.now c.args.anchored c.fits_last.result c.split_at_place.ensures c.in-Some.ensures c.fits_last.ensures
+    begun c.args.pattern.now cut.0.now cut.1.now c.args.path.now c.in-Some.rest c.args.anchored c.fits_last.result c.split_at_place.ensures c.in-Some.ensures c.fits_last.ensures
 
 pub returns-in-None-after_start : goal.returns-in-None-after_start
 returns-in-None-after_start c =
@@ -36,7 +36,7 @@ returns-in-None-after_start c =
 pub returns-in-Some-after_start : goal.returns-in-Some-after_start
 returns-in-Some-after_start c =
     let cut = c.split_at_place-in-First.result in
-    begun c.args.pattern.now cut.0.now cut.1.now c.args.path.now c.in-Some-after_start.rest.now c.args.anchored c.fits_after_star.result c.split_at_place-in-First.ensures c.in-Some-after_start.ensures c.fits_after_star.ensures
+    begun c.args.pattern.now cut.0.now cut.1.now c.args.path.now c.in-Some-after_start.rest c.args.anchored c.fits_after_star.result c.split_at_place-in-First.ensures c.in-Some-after_start.ensures c.fits_after_star.ensures
 
 pub returns-in-None-after_start-2 : goal.returns-in-None-after_start-2
 returns-in-None-after_start-2 c =

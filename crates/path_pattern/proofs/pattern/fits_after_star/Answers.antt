@@ -10,13 +10,13 @@ returns-in_default-after_first c = (
   λ no. absurd (true≢false (sym no)),
   λ spells.
       let left = c.loop-run.invariant.1 spells in
-      absurd (off_nowhere c.loop-run.left.now c.in-Some.run'.now c.in-Some.after.now c.args.anchored c.loop-run.rest.now c.in-Some.ensures c.in_default-after_first.ensures left),
+      absurd (off_nowhere c.loop-run.left.now c.in-Some.run'.now c.in-Some.after.now c.args.anchored c.loop-run.rest c.in-Some.ensures c.in_default-after_first.ensures left),
 )
 
 pub loop-run-preserved : goal.loop-run-preserved
 loop-run-preserved c =
     let split = c.in-Some.ensures in
     let first = c.in-Some-after_first.ensures in (
-      λ spells. c.loop-run.invariant.0 (on_first c.loop-run.left.now c.in-Some.run'.now c.in-Some.after.now c.args.anchored c.loop-run.rest.now c.in-Some-after_first.next.now split first spells),
-      λ spells. off_first c.loop-run.left.now c.in-Some.run'.now c.in-Some.after.now c.args.anchored c.loop-run.rest.now c.in-Some-after_first.next.now split first (c.loop-run.invariant.1 spells),
+      λ spells. c.loop-run.invariant.0 (on_first c.loop-run.left.now c.in-Some.run'.now c.in-Some.after.now c.args.anchored c.loop-run.rest c.in-Some-after_first.next split first spells),
+      λ spells. off_first c.loop-run.left.now c.in-Some.run'.now c.in-Some.after.now c.args.anchored c.loop-run.rest c.in-Some-after_first.next split first (c.loop-run.invariant.1 spells),
     )

@@ -1,9 +1,14 @@
 -- The least of the plain rows, then of the others.
 -- The lemmas of `Joining` say so.
+use Rattle.std.proofs.Common.{subst}
+use Rattle.robots_verdict.specs.Index.{FindsLeast}
+use Rattle.robots_verdict.specs.Search.{IsPlainHit}
 use Rattle.robots_verdict.proofs.Joining.{first_in_group}
 use Rattle.robots_verdict.proofs.ranks.Ranks.first_of.Goals as goal
 
 pub returns : goal.returns
 returns c =
-    first_in_group c.args.rows.now.rows c.args.group c.args.path.now c.args.found c.least.result c.lesser-stronger.result c.least-2.result
-    c.least.ensures c.lesser-stronger.ensures c.least-2.ensures
+    let rows = c.args.rows.now.rows in
+    let plain = subst (λ path. FindsLeast (IsPlainHit rows c.args.group path) c.least.result) c.octets.ensures c.least.ensures in
+    first_in_group rows c.args.group c.args.path.now c.args.found c.least.result c.lesser-stronger.result c.least-2.result
+    plain c.lesser-stronger.ensures c.least-2.ensures
