@@ -5,9 +5,10 @@ use Rattle.std.proofs.lemmas.List.Concat.{flat_map-append}
 use Rattle.std.proofs.lemmas.List.Elements.{All-push}
 use Rattle.gate_history.specs.declared.entry.Entry.{Entry}
 use Rattle.gate_history.specs.Base.{Base, empty_base, IsBase}
-use Rattle.gate_history.specs.History.{History, ◌▸◌, entry_count, followed_by, from}
-use Rattle.gate_history.specs.Legal.{AllRise, IsLegal, MayFollow, Rises}
+use Rattle.gate_history.specs.History.{entry_count, from}
+use Rattle.gate_history.specs.Legal.{IsLegal, MayFollow, Rises}
 use Rattle.gate_history.specs.Seal.{SaysAs}
+use Rattle.gate_history.proofs.CallerLemmas.{followed_push, rise_push}
 use Rattle.gate_core.specs.Limits.{greatest_number, most_entries}
 use Rattle.crawl_audit.specs.Chains.{AllGoOn, chain_lines, FollowsBase, GoesOn, head_lines, IsText, Text, text_history, text_lines}
 use Rattle.crawl_audit.specs.Entries.{IsEntry}
@@ -17,14 +18,6 @@ use Rattle.crawl_audit.specs.Spell.{entry_line}
 
 abbrev pub with_entry : Text → Entry → Text
 with_entry t e = record { version = t.version; base = t.base; entries = t.entries ++ e ∷ [] }
-
-pub followed_push : (h : History) (es : List Entry) (e : Entry) → followed_by h (es ++ e ∷ []) ≡ followed_by h es ▸ e
-followed_push h [] e = refl
-followed_push h (first ∷ es) e = followed_push (h ▸ first) es e
-
-pub rise_push : (h : History) (es : List Entry) (e : Entry) → AllRise h es → Rises (followed_by h es) e → AllRise h (es ++ e ∷ [])
-rise_push h [] e all last = (last, tt)
-rise_push h (first ∷ es) e all last = (all.0, rise_push (h ▸ first) es e all.1 last)
 
 pub map_push : {X Y : Type 0} (f : X → Y) (xs : List X) (x : X) → map f (xs ++ x ∷ []) ≡ map f xs ++ f x ∷ []
 map_push f [] x = refl

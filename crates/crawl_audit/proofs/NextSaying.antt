@@ -1,6 +1,6 @@
 -- The base that is made of what the tables have is that of a text, and says what the history does.
 -- Cited by `Ledger::next_base`, and where a further text's base was read.
-use Rattle.std.proofs.Common.{◌≡◌, ℕ, ◌<◌, All, Bool, true, true≢false, List, [], ◌∷◌, codes, filter, inl, inr, refl, sym, subst, ◌∙◌, arith}
+use Rattle.std.proofs.Common.{◌≡◌, ℕ, ◌<◌, All, true, true≢false, List, [], ◌∷◌, codes, filter, inl, inr, refl, sym, subst, ◌∙◌, arith}
 use Rattle.std.specs.Prelude.{Option, Some, None}
 use Rattle.std.proofs.lemmas.Bool.Decides.{eqb_tells}
 use Rattle.std.proofs.lemmas.List.Elements.{All-cons, All-nil}
@@ -17,7 +17,7 @@ use Rattle.gate_history.specs.Legal.{IsLegal}
 use Rattle.gate_history.specs.Outstanding.{grants, running, unspent}
 use Rattle.gate_history.specs.Seal.{SaySame, SaysAs}
 use Rattle.gate_history.specs.Standing.{in_flight, standing}
-use Rattle.gate_history.proofs.CallerLemmas.{covered_alike, granted_covered, greatest_alike, greatest_is, keys_say, reordering_says, says_base}
+use Rattle.gate_history.proofs.CallerLemmas.{covered_alike, granted_covered, greatest_alike, greatest_is, keys_say, reordering_says, says_base, says_on}
 use Rattle.crawl_audit.specs.declared.ledger.Ledger.{Ledger}
 use Rattle.crawl_audit.specs.declared.next_base.NextBase.{NextBase}
 use Rattle.crawl_audit.specs.Chains.{IsTextBase}
@@ -25,28 +25,6 @@ use Rattle.crawl_audit.specs.Loading.{risen, with_numbers}
 use Rattle.crawl_audit.specs.NextBase.{Expects, IsNextOf, TellsLeft, base_in, lines_behind}
 use Rattle.crawl_audit.specs.Tables.{Lasts, Tells, TellsAll, TellsNumbers, grants_under}
 use Rattle.crawl_audit.proofs.OneOrder.{Among, among_filter}
-
--- ---- histories that say the same
-
--- lists that say the same as lists that say the same
-same_on : {K X : Type 0} (is_of : K → X → Bool) (xs ys zs : List X) → SaySame is_of xs ys → SaySame is_of ys zs → SaySame is_of xs zs
-same_on is_of xs ys zs one other = record { each = λ k. one.each k ∙ other.each k; counts = λ p. one.counts p ∙ other.counts p }
-
--- what says what a history does that says what another does says that
-pub says_on : (f g h : History) → SaysAs f g → SaysAs g h → SaysAs f h
-says_on f g h one other = record {
-  answers = same_on _ (standing f) (standing g) (standing h) one.answers other.answers;
-  turns = same_on _ (in_flight f) (in_flight g) (in_flight h) one.turns other.turns;
-  permits = same_on _ (unspent f) (unspent g) (unspent h) one.permits other.permits;
-  runs = same_on _ (running f) (running g) (running h) one.runs other.runs;
-  slots = same_on _ (grants f) (grants g) (grants h) one.slots other.slots;
-  greatest = λ slot. one.greatest slot ∙ other.greatest slot;
-  granted = λ number is. one.granted number (other.granted number is);
-  begun = one.begun ∙ other.begun;
-  moment = one.moment ∙ other.moment;
-  entries = one.entries ∙ other.entries;
-  started = one.started ∙ other.started;
-}
 
 -- ---- tables that tell
 

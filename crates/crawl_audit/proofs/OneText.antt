@@ -1,10 +1,11 @@
 -- Exports and segments are the texts of chains of one.
 -- Used by `laws`.
-use Rattle.std.proofs.Common.{◌≡◌, ℕ, ◌+◌, ◌==◌, Bool, true, false, cond, List, [], ◌∷◌, ◌++◌, length, map, inl, inr, refl, sym, ap, ◌∙◌, arith, append-nil}
+use Rattle.std.proofs.Common.{◌≡◌, ℕ, ◌==◌, Bool, true, false, cond, List, [], ◌∷◌, ◌++◌, map, inl, inr, refl, sym, ap, ◌∙◌, arith, append-nil}
 use Rattle.std.proofs.lemmas.List.Concat.{flat_map-append}
 use Rattle.gate_history.specs.declared.entry.Entry.{Entry}
 use Rattle.gate_history.specs.Base.{Base, empty_base}
-use Rattle.gate_history.specs.History.{History, ◌▸◌, entry_count, followed_by, from}
+use Rattle.gate_history.specs.History.{from}
+use Rattle.gate_history.proofs.CallerLemmas.{followed_count}
 use Rattle.crawl_audit.specs.declared.version.Version.{Version}
 use Rattle.crawl_audit.specs.declared.version.Version.TheVariants.{One, Two}
 use Rattle.crawl_audit.specs.Chains.{chain_text, IsText, version_lines}
@@ -21,14 +22,10 @@ same_text : (v : Version) (es : List Entry) → spell v es ≡ chain_text (plain
 same_text One es = lines_of One es ∙ ap lines_text (sym (append-nil (map (entry_line One) es)))
 same_text Two es = ap (λ l. 86 ∷ 32 ∷ 50 ∷ 10 ∷ l) (lines_of Two es ∙ ap lines_text (sym (append-nil (map (entry_line Two) es))))
 
-counted : (h : History) (es : List Entry) → entry_count (followed_by h es) ≡ entry_count h + length es
-counted h [] = omega arith
-counted h (e ∷ es) = let rest = counted (h ▸ e) es in omega arith
-
 right_text : (v : Version) (es : List Entry) → IsExport v es → IsText (plain_text v es)
 right_text v es is =
     let few = is.within in
-    record { follows = inl refl; spelled = is.spelled; legal = is.legal; within = is.within; counted = omega (arith, counted (from empty_base) es) }
+    record { follows = inl refl; spelled = is.spelled; legal = is.legal; within = is.within; counted = omega (arith, followed_count (from empty_base) es) }
 
 pub export_is_chain : ExportIsChain
 export_is_chain v es is = (record { begins = right_text v es is; goes_on = tt }, sym (same_text v es))

@@ -8,6 +8,7 @@ use Rattle.gate_history.specs.Base.{Base, empty_base}
 use Rattle.gate_history.specs.History.{History, ◌▸◌, entry_count, from}
 use Rattle.gate_history.specs.Legal.{MayFollow, Rises}
 use Rattle.gate_history.specs.Seal.{SaysAs}
+use Rattle.gate_history.proofs.CallerLemmas.{followed_push}
 use Rattle.crawl_audit.specs.declared.version.Version.{Version}
 use Rattle.crawl_audit.specs.declared.version.Version.TheVariants.{One, Two}
 use Rattle.crawl_audit.specs.BaseFields.{IsAnswerRow, IsGrantRow, IsPermitRow, IsTurnRow}
@@ -18,7 +19,7 @@ use Rattle.crawl_audit.specs.Laws.{EndsAreChains, ReadsAreFronts}
 use Rattle.crawl_audit.specs.Spell.{entry_line}
 use Rattle.crawl_audit.specs.SpellBase.{base_lines, numbers_line, open_lines}
 use Rattle.crawl_audit.specs.Steps.{IsBaseFor, Place, among, inside, Runs, start, Steps, TakesEntry}
-use Rattle.crawl_audit.proofs.Growing.{empty_is_base, HasRoomFor, base_grows, based, chain_grows, followed_push, grow_first, grow_last, grow_later, grow_lines, last_text, snoc_all, snoc_last, snoc_lines, with_entry}
+use Rattle.crawl_audit.proofs.Growing.{empty_is_base, HasRoomFor, base_grows, based, chain_grows, grow_first, grow_last, grow_later, grow_lines, last_text, snoc_all, snoc_last, snoc_lines, with_entry}
 
 -- ---- texts without entries
 

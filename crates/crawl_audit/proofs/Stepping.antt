@@ -9,6 +9,7 @@ use Rattle.gate_history.specs.declared.entry.Entry.TheVariants.{Begun, Arrived, 
 use Rattle.gate_history.specs.Base.{Base, empty_base}
 use Rattle.gate_history.specs.History.{History, ◌▸◌, entry_count, followed_by, from}
 use Rattle.gate_history.specs.Legal.{AllRise, IsLegal}
+use Rattle.gate_history.proofs.CallerLemmas.{followed_count}
 use Rattle.gate_core.specs.Limits.{greatest_number, most_entries}
 use Rattle.crawl_audit.specs.declared.version.Version.{Version}
 use Rattle.crawl_audit.specs.declared.version.Version.TheVariants.{One, Two}
@@ -112,15 +113,11 @@ one_run p q r (x ∷ xs) a b =
 
 -- ---- the lines of a chain
 
-count_grows : (h : History) (es : List Entry) → entry_count h ≤ entry_count (followed_by h es)
-count_grows h [] = omega arith
-count_grows h (e ∷ es) = let more = count_grows (h ▸ e) es in omega arith
-
 run_entries : (v : Version) (r : Bool) (h : History) (n : ℕ) (es : List Entry) → All (IsEntry v) es → IsLegal (followed_by h es) → (r ≡ true → AllRise h es) → n + length es ≤ most_entries →
     entry_count (followed_by h es) ≤ greatest_number → Runs (among v r h n) (map (entry_line v) es) (among v r (followed_by h es) (n + length es))
 run_entries v r h n [] spelled legal rises room counted = let e : n + 0 ≡ n = omega arith in ap (among v r h) e
 run_entries v r h n (e ∷ es) spelled legal rises room counted =
-    let more = count_grows (h ▸ e) es in
+    let more = followed_count (h ▸ e) es in
     let rest = run_entries v r (h ▸ e) (n + 1) es (All-tail (IsEntry v) e es spelled) legal (λ is. (rises is).1) (omega arith) counted in
     let same : n + 1 + length es ≡ n + length (e ∷ es) = omega arith in (
       among v r (h ▸ e) (n + 1),
