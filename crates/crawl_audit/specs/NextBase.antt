@@ -1,14 +1,10 @@
 -- The base of a further text, made of what the tables say, and how far its lines were read.
 -- The contracts of `listing.rt` and `next_base.rt`.
-use Rattle.std.specs.Prelude.{◌≡◌, ℕ, ◌+◌, ◌⊎◌, List, [], ◌∷◌, ◌++◌, Some, codes, filter, length}
-use Rattle.permit_book.specs.declared.granted_permit.GrantedPermit.{GrantedPermit}
-use Rattle.permit_book.specs.Outstanding.{is_numbered}
+use Rattle.std.specs.Prelude.{◌≡◌, ℕ, ◌+◌, ◌⊎◌, List, [], ◌∷◌, ◌++◌, Some, codes, length}
 use Rattle.authority_cache.specs.Lists.{ListsAnswers, ListsTurns}
 use Rattle.gate_history.specs.declared.base.LeftOpen.{LeftOpen}
 use Rattle.gate_history.specs.declared.base.Numbers.{Numbers as BaseNumbers}
-use Rattle.gate_history.specs.declared.base.SlotGrant.{SlotGrant}
 use Rattle.gate_history.specs.Base.{Base}
-use Rattle.gate_history.specs.Grants.{is_in}
 use Rattle.gate_history.specs.History.{History, entry_count, from}
 use Rattle.gate_history.specs.Kept.{base_with}
 use Rattle.gate_history.specs.Order.{IsInOrder, Reorders}
@@ -17,24 +13,11 @@ use Rattle.crawl_audit.specs.declared.ledger.Ledger.{Ledger}
 use Rattle.crawl_audit.specs.declared.next_base.NextBase.{NextBase}
 use Rattle.crawl_audit.specs.declared.next_base.BaseLine.{BaseLine}
 use Rattle.crawl_audit.specs.declared.next_base.BaseLine.TheVariants.{Taken, Last, Other}
-use Rattle.crawl_audit.specs.declared.numbers.Numbers.{Numbers}
 use Rattle.crawl_audit.specs.BaseFields.{HasBaseFields}
 use Rattle.crawl_audit.specs.Chains.{IsTextBase}
 use Rattle.crawl_audit.specs.SpellBase.{base_lines, numbers_line, open_lines}
 use Rattle.crawl_audit.specs.Steps.{EndsBase, Place, TakesLine, inside}
-use Rattle.crawl_audit.specs.Tables.{grants_under, lasts_of, phases_of, running_under, unspent_under}
-
--- the list has each unspent permit that is out, once
-abbrev pub ListsUnspent : Numbers → List GrantedPermit → Type 0
-ListsUnspent numbers permits = (number : ℕ) → filter (is_numbered number) permits ≡ unspent_under number (phases_of numbers number)
-
--- the list has each running one, once
-abbrev pub ListsRunning : Numbers → List GrantedPermit → Type 0
-ListsRunning numbers permits = (number : ℕ) → filter (is_numbered number) permits ≡ running_under number (phases_of numbers number)
-
--- the list has the greatest generation of each slot in which something was granted, once
-abbrev pub ListsGrants : Numbers → List SlotGrant → Type 0
-ListsGrants numbers grants = (slot : ℕ) → filter (is_in slot) grants ≡ grants_under slot (lasts_of numbers slot)
+use Rattle.crawl_audit.specs.Tables.{ListsGrants, ListsRunning, ListsUnspent}
 
 -- the lists have what the tables of the ledger have
 pub record TellsLeft (l : Ledger) (left : LeftOpen) : Type 0 where

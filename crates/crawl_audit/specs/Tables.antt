@@ -1,21 +1,20 @@
 -- The tables by which a text is audited, and that they say what a history does.
 -- RFC 9309, sections 2.3.1 and 2.4.
-use Rattle.std.specs.Prelude.{◌≡◌, ℕ, ◌≤◌, ◌==◌, ◌||◌, Bool, true, false, max, nat_lt, not, List, [], ◌∷◌, Option, Some, None, Result, Ok, Err, is_some, filter, if◌then◌else◌}
+use Rattle.std.specs.Prelude.{◌≡◌, ℕ, ◌≤◌, ◌==◌, ◌||◌, Bool, true, false, max, nat_lt, not, List, [], ◌∷◌, Option, Some, None, Result, Ok, Err, is_some, if◌then◌else◌}
 use Rattle.std.specs.Borrow.{Bor}
 use Rattle.std.specs.HashMap.{get}
 use Rattle.permit_book.specs.declared.out.Fetch.{Fetch}
 use Rattle.permit_book.specs.declared.granted_permit.GrantedPermit.{GrantedPermit}
 use Rattle.permit_book.specs.Numbers.{generation_of, slot_of}
-use Rattle.permit_book.specs.Outstanding.{is_numbered, permit_for}
+use Rattle.permit_book.specs.Outstanding.{ListsEach as ListsPermits, permit_for}
 use Rattle.authority_cache.specs.Lists.{TellsCache}
 use Rattle.gate_history.specs.declared.base.SlotGrant.{SlotGrant}
 use Rattle.gate_history.specs.declared.entry.Entry.{Entry}
-use Rattle.gate_history.specs.Grants.{is_in}
 use Rattle.gate_history.specs.History.{History, ◌▸◌, begins, entry_count, now, started_count}
 use Rattle.gate_history.specs.Legal.{MayFollow, Rises}
 use Rattle.gate_history.specs.Outstanding.{grants, running, unspent, was_granted}
 use Rattle.gate_history.specs.Standing.{in_flight, standing}
-use Rattle.gate_history.specs.Grants.{IsSlotGrant}
+use Rattle.gate_history.specs.Grants.{IsSlotGrant, ListsEach}
 use Rattle.crawl_audit.specs.declared.numbers.Numbers.{Numbers}
 use Rattle.crawl_audit.specs.declared.numbers.Phase.{Phase}
 use Rattle.crawl_audit.specs.declared.numbers.Phase.TheVariants.{Unspent, Running}
@@ -135,11 +134,23 @@ pub record Grants (old : Numbers) (number : ℕ) (fetch : Fetch) (new : Numbers)
   pub rising : new.rising ≡ old.rising
   pub fits : IsSlotGrant (record { slot = slot_of number; generation = generation_of number })
 
+-- the list has each unspent permit that is out, once
+abbrev pub ListsUnspent : Numbers → List GrantedPermit → Type 0
+ListsUnspent numbers = ListsPermits (λ number. unspent_under number (phases_of numbers number))
+
+-- the list has each running one, once
+abbrev pub ListsRunning : Numbers → List GrantedPermit → Type 0
+ListsRunning numbers = ListsPermits (λ number. running_under number (phases_of numbers number))
+
+-- the list has the greatest generation of each slot in which something was granted, once
+abbrev pub ListsGrants : Numbers → List SlotGrant → Type 0
+ListsGrants numbers = ListsEach (λ slot. grants_under slot (lasts_of numbers slot))
+
 -- the tables say what the history does of each number and of each slot; what is out was granted
 pub record TellsNumbers (numbers : Numbers) (h : History) : Type 0 where
-  pub unspent_are : (number : ℕ) → filter (is_numbered number) (unspent h) ≡ unspent_under number (phases_of numbers number)
-  pub running_are : (number : ℕ) → filter (is_numbered number) (running h) ≡ running_under number (phases_of numbers number)
-  pub grants_are : (slot : ℕ) → filter (is_in slot) (grants h) ≡ grants_under slot (lasts_of numbers slot)
+  pub unspent_are : ListsUnspent numbers (unspent h)
+  pub running_are : ListsRunning numbers (running h)
+  pub grants_are : ListsGrants numbers (grants h)
   pub granted_are : numbers.rising ≡ false → (number : ℕ) → was_granted h number ≡ is_noted numbers number
   pub out_noted : numbers.rising ≡ false → (number : ℕ) → is_noted numbers number ≡ false → phases_of numbers number ≡ None
   pub out_covered : (number : ℕ) → is_above (generation_of number) (lasts_of numbers (slot_of number)) ≡ true → phases_of numbers number ≡ None

@@ -2,8 +2,8 @@
 //! RFC 9309, sections 2.3.1 and 2.4.
 ghost use Rattle.std.specs.Prelude.{◌≡◌, ◌++◌, IfOk, OnOk, Some};
 ghost use Rattle.permit_book.specs.Outstanding.{permit_for};
-ghost use Rattle.crawl_audit.specs.NextBase.{ListsGrants, ListsRunning, ListsUnspent, TellsLeft};
-ghost use Rattle.crawl_audit.specs.Tables.{running_under, unspent_under};
+ghost use Rattle.crawl_audit.specs.NextBase.{TellsLeft};
+ghost use Rattle.crawl_audit.specs.Tables.{ListsGrants, ListsRunning, ListsUnspent, running_under, unspent_under};
 
 use crate::ledger::Ledger;
 use crate::numbers::{Numbers, Phase};
