@@ -1,11 +1,11 @@
 -- The lists of what the tables of numbers have say of each number and of each slot what the tables do.
 -- Cited by the lists of `listing.rt`.
-use Rattle.std.proofs.Common.{◌≡◌, ℕ, ◌+◌, ◌==◌, Bool, false, List, [], ◌∷◌, ◌++◌, filter, take, inl, inr, refl, sym, ap, subst, ◌∙◌, append_assoc, append-nil}
+use Rattle.std.proofs.Common.{◌≡◌, ℕ, ◌+◌, ◌≤◌, ◌==◌, Bool, false, List, [], ◌∷◌, ◌++◌, filter, length, take, inl, inr, refl, sym, ap, subst, ◌∙◌, append_assoc, append-nil}
 use Rattle.std.specs.Prelude.{Option, Some, None, slice_get}
 use Rattle.std.specs.List.{AllByRecursion, IsDistinct}
 use Rattle.std.specs.Map.{keys_of, lookup}
 use Rattle.std.proofs.lemmas.Bool.Decides.{eqb_tells}
-use Rattle.std.proofs.lemmas.List.{take_more}
+use Rattle.std.proofs.lemmas.List.{take_all, take_more}
 use Rattle.std.proofs.lemmas.List.Elements.{filter-append}
 use Rattle.std.proofs.lemmas.Option.{get_or_from_slice_get, slice_get_within}
 use Rattle.permit_book.specs.Outstanding.{is_numbered}
@@ -33,11 +33,12 @@ module _ {V X : Type 0} (has : ℕ → Option V → List X) where
   all_more (f ∷ es) e =
       ap (λ ys. has f.0 (Some f.1) ++ ys) (all_more es e) ∙ sym (append_assoc (has f.0 (Some f.1)) (all_of has es) (has e.0 (Some e.1)))
 
-  -- with the entry at an index more
-  pub listed_more : (es : List (ℕ × V)) (i : ℕ) (e : ℕ × V) → slice_get es i ≡ Some e → all_of has (take (i + 1) es) ≡ all_of has (take i es) ++ has e.0 (Some e.1)
-  listed_more es i e at =
-      ap (all_of has) (take_more es i e (slice_get_within es i e at) ∙ ap (λ (x : ℕ × V). take i es ++ x ∷ []) (get_or_from_slice_get es i e e at))
-      ∙ all_more (take i es) e
+  -- a list of what the entries so far have, with what the next one has
+  pub listed_more : (es : List (ℕ × V)) (i : ℕ) (e : ℕ × V) (old new : List X) → Some e ≡ slice_get es i → old ≡ all_of has (take i es) → new ≡ old ++ has e.0 (Some e.1) →
+      new ≡ all_of has (take (i + 1) es)
+  listed_more es i e old new at so_far more =
+      more ∙ ap (λ xs. xs ++ has e.0 (Some e.1)) so_far ∙ sym (all_more (take i es) e)
+      ∙ sym (ap (all_of has) (take_more es i e (slice_get_within es i e (sym at)) ∙ ap (λ (x : ℕ × V). take i es ++ x ∷ []) (get_or_from_slice_get es i e e (sym at))))
 
   -- a key that is equal to none is not found
   absent : (n : ℕ) (es : List (ℕ × V)) → AllByRecursion (λ other. (n == other) ≡ false) (keys_of es) → lookup (λ other. n == other) es ≡ None
@@ -45,16 +46,16 @@ module _ {V X : Type 0} (has : ℕ → Option V → List X) where
   absent n (e ∷ es) apart = rw apart.0 (absent n es apart.1)
 
   -- of each key there is what is found under it
-  pub listed : (is_of : ℕ → X → Bool) → AreOwn has is_of → (n : ℕ) (es : List (ℕ × V)) → IsDistinct (λ (one other : ℕ). one == other) (keys_of es) →
+  of_key : (is_of : ℕ → X → Bool) → AreOwn has is_of → (n : ℕ) (es : List (ℕ × V)) → IsDistinct (λ (one other : ℕ). one == other) (keys_of es) →
       filter (is_of n) (all_of has es) ≡ has n (lookup (λ other. n == other) es)
   unfolding IsDistinct
-  listed is_of are n [] apart = sym (are.none n)
-  listed is_of are n (e ∷ es) apart = elim (eqb_tells n e.0) [
+  of_key is_of are n [] apart = sym (are.none n)
+  of_key is_of are n (e ∷ es) apart = elim (eqb_tells n e.0) [
     | inl same ↦ (let here : filter (is_of n) (has e.0 (Some e.1)) ≡ has n (Some e.1) = ap (λ m. filter (is_of n) (has m (Some e.1))) (sym same.1) ∙ are.own n e.1 in
         let gone : lookup (λ other. n == other) es ≡ None = subst (λ m. lookup (λ other. m == other) es ≡ None) (sym same.1) (absent e.0 es apart.0) in
-        let left : filter (is_of n) (all_of has es) ≡ [] = listed is_of are n es apart.1 ∙ (ap (has n) gone ∙ are.none n) in
+        let left : filter (is_of n) (all_of has es) ≡ [] = of_key is_of are n es apart.1 ∙ (ap (has n) gone ∙ are.none n) in
         rw same.0 (both ∙ (ap (λ ys. ys ++ filter (is_of n) (all_of has es)) here ∙ (ap (λ ys. has n (Some e.1) ++ ys) left ∙ append-nil (has n (Some e.1))))))
-    | inr other ↦ rw other.0 (both ∙ (ap (λ ys. ys ++ filter (is_of n) (all_of has es)) (are.others n e.0 e.1 (turned other.1)) ∙ listed is_of are n es apart.1))
+    | inr other ↦ rw other.0 (both ∙ (ap (λ ys. ys ++ filter (is_of n) (all_of has es)) (are.others n e.0 e.1 (turned other.1)) ∙ of_key is_of are n es apart.1))
   ]
     where
       both : filter (is_of n) (has e.0 (Some e.1) ++ all_of has es) ≡ filter (is_of n) (has e.0 (Some e.1)) ++ filter (is_of n) (all_of has es)
@@ -62,6 +63,11 @@ module _ {V X : Type 0} (has : ℕ → Option V → List X) where
 
       turned : (n ≡ e.0 → ⊥) → (e.0 == n) ≡ false
       turned apart = elim (eqb_tells e.0 n) [ inl same ↦ absurd (apart (sym same.1)) | inr other ↦ other.0 ]
+
+  -- so there is in a list of what all entries have
+  pub listed : (is_of : ℕ → X → Bool) → AreOwn has is_of → (es : List (ℕ × V)) → IsDistinct (λ (one other : ℕ). one == other) (keys_of es) → (i : ℕ) (found : List X) → length es ≤ i →
+      found ≡ all_of has (take i es) → (n : ℕ) → filter (is_of n) found ≡ has n (lookup (λ other. n == other) es)
+  listed is_of are es apart i found whole is n = ap (filter (is_of n)) (is ∙ ap (all_of has) (take_all i es whole)) ∙ of_key is_of are n es apart
 
 -- the unspent permits are so
 pub unspent_own : AreOwn unspent_under is_numbered

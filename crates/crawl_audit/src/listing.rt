@@ -3,7 +3,8 @@
 ghost use Rattle.std.specs.Prelude.{◌≡◌, ◌++◌, IfOk, OnOk, Some};
 ghost use Rattle.permit_book.specs.Outstanding.{permit_for};
 ghost use Rattle.crawl_audit.specs.NextBase.{TellsLeft};
-ghost use Rattle.crawl_audit.specs.Tables.{ListsGrants, ListsRunning, ListsUnspent, running_under, unspent_under};
+ghost use Rattle.crawl_audit.specs.Tables.{ListsGrants, ListsRunning, ListsUnspent};
+ghost use Rattle.crawl_audit.specs.Tables.{running_under, unspent_under};
 
 use crate::ledger::Ledger;
 use crate::numbers::{Numbers, Phase};
@@ -16,43 +17,35 @@ impl Ledger {
     pub(crate) fn left_open(&self, alloc: Global) -> Result<LeftOpen, AllocError>
         ensures { IfOk result (λ left. TellsLeft self.now left) }
     {
+        let (unspent, running) = self.numbers.permits(alloc)?;
         Ok(LeftOpen {
             standing: self.cache.standing_answers(alloc)?,
             in_flight: self.cache.turns(alloc)?,
-            unspent: self.numbers.unspent_permits(alloc)?,
-            running: self.numbers.running_permits(alloc)?,
+            unspent,
+            running,
             grants: self.numbers.slot_grants(alloc)?,
         })
     }
 }
 
 impl Numbers {
-    /// The permits that no start has spent, in no order.
-    pub(crate) fn unspent_permits(&self, alloc: Global) -> Result<Vec<GrantedPermit>, AllocError>
-        ensures { IfOk result (λ permits. ListsUnspent self.now permits.items) }
+    /// The permits that no start has spent, and those whose fetch runs, each list in no order.
+    pub(crate) fn permits(
+        &self,
+        alloc: Global,
+    ) -> Result<(Vec<GrantedPermit>, Vec<GrantedPermit>), AllocError>
+        ensures unspent { IfOk result (λ lists. ListsUnspent self.now lists.0.items) }
+        ensures running { IfOk result (λ lists. ListsRunning self.now lists.1.items) }
     {
-        let mut permits = Vec::new(alloc);
+        let mut unspent = Vec::new(alloc);
+        let mut running = Vec::new(alloc);
         for index in 0..self.out.len() {
             match self.out.get_index(index) {
-                Some((number, phase)) => push_unspent(&mut permits, *number, phase)?,
+                Some((number, phase)) => push_permit(&mut unspent, &mut running, *number, phase)?,
                 None => unreachable!(),
             }
         }
-        Ok(permits)
-    }
-
-    /// The permits whose fetch was started and has not ended, in no order.
-    pub(crate) fn running_permits(&self, alloc: Global) -> Result<Vec<GrantedPermit>, AllocError>
-        ensures { IfOk result (λ permits. ListsRunning self.now permits.items) }
-    {
-        let mut permits = Vec::new(alloc);
-        for index in 0..self.out.len() {
-            match self.out.get_index(index) {
-                Some((number, phase)) => push_running(&mut permits, *number, phase)?,
-                None => unreachable!(),
-            }
-        }
-        Ok(permits)
+        Ok((unspent, running))
     }
 
     /// Of each slot in which something was granted, the greatest generation, in no order.
@@ -73,32 +66,21 @@ impl Numbers {
     }
 }
 
-// Adds the permit of the number, where it is unspent.
-fn push_unspent(
-    permits: &mut Vec<GrantedPermit>,
+// Adds the permit of the number to the unspent ones, or to the running ones.
+fn push_permit(
+    unspent: &mut Vec<GrantedPermit>,
+    running: &mut Vec<GrantedPermit>,
     number: u64,
     phase: &Phase,
 ) -> Result<(), AllocError>
-    ensures { OnOk result (permits.new.items
-        ≡ permits.old.items ++ unspent_under number (Some phase.now)) }
+    ensures unspent { OnOk result (unspent.new.items
+        ≡ unspent.old.items ++ unspent_under number (Some phase.now)) }
+    ensures running { OnOk result (running.new.items
+        ≡ running.old.items ++ running_under number (Some phase.now)) }
 {
-    if let Phase::Unspent(fetch) = phase {
-        permits.push(permit_for(number, fetch)?)?;
-    }
-    Ok(())
-}
-
-// Adds the permit of the number, where its fetch runs.
-fn push_running(
-    permits: &mut Vec<GrantedPermit>,
-    number: u64,
-    phase: &Phase,
-) -> Result<(), AllocError>
-    ensures { OnOk result (permits.new.items
-        ≡ permits.old.items ++ running_under number (Some phase.now)) }
-{
-    if let Phase::Running(fetch) = phase {
-        permits.push(permit_for(number, fetch)?)?;
+    match phase {
+        Phase::Unspent(fetch) => unspent.push(permit_for(number, fetch)?)?,
+        Phase::Running(fetch) => running.push(permit_for(number, fetch)?)?,
     }
     Ok(())
 }
