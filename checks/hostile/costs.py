@@ -1,5 +1,6 @@
 """Robots files that are made to cost much, and what the lines of a replay take over them."""
 import os
+import random
 import re
 import subprocess
 import time
@@ -47,6 +48,8 @@ TEXTS = {
     "rules of a star that nearly match": filled(b"allow:*bbab\n"),
     "rules of two runs that nearly match": filled(b"allow:*aba*abb*{n}\n"),
     "rules of escapes that nearly match": filled(b"allow:*^^|^\n"),
+    "rules of three escapes that nearly match": filled(b"allow:*{|}\n"),
+    "rules of twelve escapes that nearly match": filled(b"allow:*^^|^^^^|||^|\n"),
     "long rules that match to their end": filled(b"allow:*" + b"a" * 10 + b"b" + b"a" * 31 + b"b" + b"a" * 5 + b"ba\n"),
     "rules of two stars": filled(b"disallow:*a*b{n}\n"),
     "rules of 1,000 stars": filled(b"disallow: /" + b"a*" * 1_000 + b"x{n}\n"),
@@ -70,10 +73,11 @@ TEXTS = {
     "UTF-16": filled(b"disallow: /a{n}\n").decode().encode("utf-16")[:SIZE],
     "HTML": filled(b"<p>user-agent: *<br>disallow: /{n}</p>\n"),
 }
-# (a query's bars and carets are escaped in the normal form alone, which has three times as many octets then)
+DICE = random.Random(9309)
+# (a query's bars, carets and braces are escaped in the normal form alone, which has three times as many octets then)
 PATHS = [
     LONG, "/" + "a" * 3_990, "/", "/part7/page", "/x" * 1_990, "/%7e%7e%7e7", "/" + "%2A" * 1_300, "/ab", "/" + "aab" * 1_330, "/" + ("a" * 31 + "b") * 124,
-    "/?" + "||^" * 1_330,
+    "/?" + "||^" * 1_330, "/?" + "".join(DICE.choices(["||", "|^", "^^", "^|"], k=1_990)), "/?" + "".join(DICE.choices(["{||", "{{}", "||}"], k=1_330)),
 ]
 
 
@@ -143,7 +147,9 @@ def measure(program, text):
         before = it.resident()
         for line in lines_over(text):
             verb = line.split(" ")[1]
-            reply, took = it.say(line.format(**permit))
+            for name, value in permit.items() if verb in ("START", "DONE") else ():
+                line = line.replace(f"{{{name}}}", str(value))
+            reply, took = it.say(line)
             replies.append(reply)
             if reply.startswith("PERMIT "):
                 permit = {"permit": reply.split(" ")[1], "token": line.split(" ")[2], "url": line.split(" ")[3]}

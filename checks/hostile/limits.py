@@ -109,7 +109,8 @@ def full_file(tried, size=4_096):
 
 def killed(tried, number):
     """What was answered before a signal stands; segments that were handed out are right by themselves."""
-    process = subprocess.Popen([tried.program, "replay"], stdin=subprocess.PIPE, stdout=subprocess.PIPE)
+    # (what a shell starts in the background ignores some signals, and so does what that starts)
+    process = subprocess.Popen([tried.program, "replay"], stdin=subprocess.PIPE, stdout=subprocess.PIPE, preexec_fn=lambda: signal.signal(signal.SIGINT, signal.SIG_DFL))
     lines = list(memory.replay_lines())
     lines = lines[: lines.index("8 SEAL") + 1]
     process.stdin.write("".join(f"{it}\n" for it in lines).encode())
