@@ -50,6 +50,7 @@ TEXTS = {
     "rules of escapes that nearly match": filled(b"allow:*^^|^\n"),
     "rules of three escapes that nearly match": filled(b"allow:*{|}\n"),
     "rules of twelve escapes that nearly match": filled(b"allow:*^^|^^^^|||^|\n"),
+    "rules of twenty runs that stand far apart": filled(b"allow:" + b"*<*>" * 10 + b"*}}\n"),
     "long rules that match to their end": filled(b"allow:*" + b"a" * 10 + b"b" + b"a" * 31 + b"b" + b"a" * 5 + b"ba\n"),
     "rules of two stars": filled(b"disallow:*a*b{n}\n"),
     "rules of 1,000 stars": filled(b"disallow: /" + b"a*" * 1_000 + b"x{n}\n"),
@@ -78,6 +79,7 @@ DICE = random.Random(9309)
 PATHS = [
     LONG, "/" + "a" * 3_990, "/", "/part7/page", "/x" * 1_990, "/%7e%7e%7e7", "/" + "%2A" * 1_300, "/ab", "/" + "aab" * 1_330, "/" + ("a" * 31 + "b") * 124,
     "/?" + "||^" * 1_330, "/?" + "".join(DICE.choices(["||", "|^", "^^", "^|"], k=1_990)), "/?" + "".join(DICE.choices(["{||", "{{}", "||}"], k=1_330)),
+    "/?" + "".join("".join(DICE.choices("{|", k=197)) + it for it in "<>" * 10),
 ]
 
 
