@@ -51,6 +51,12 @@ TEXTS = {
     "rules of three escapes that nearly match": filled(b"allow:*{|}\n"),
     "rules of twelve escapes that nearly match": filled(b"allow:*^^|^^^^|||^|\n"),
     "rules of twenty runs that stand far apart": filled(b"allow:" + b"*<*>" * 10 + b"*}}\n"),
+    "rules of twenty runs that nearly stand where they are next": filled(b"allow:" + b"*{|}" * 19 + b"*}~\n"),
+    "rules that stand before a sign alone": filled(b"allow:*<*^^^^\n"),
+    "rules that fall behind where the path is": filled(b"allow:*" + b"^|" * 5 + b"^^\n"),
+    "rules that leave the path in their midst": filled(b"allow:*" + b"^|" * 6 + b"{^|\n"),
+    "rules that follow the path for 69 signs": filled(b"allow:*" + b"^|" * 34 + b"\n"),
+    "rules that follow the path for 900 signs": filled(b"allow:*" + b"^|" * 454 + b"\n"),
     "long rules that match to their end": filled(b"allow:*" + b"a" * 10 + b"b" + b"a" * 31 + b"b" + b"a" * 5 + b"ba\n"),
     "rules of two stars": filled(b"disallow:*a*b{n}\n"),
     "rules of 1,000 stars": filled(b"disallow: /" + b"a*" * 1_000 + b"x{n}\n"),
@@ -77,9 +83,13 @@ TEXTS = {
 DICE = random.Random(9309)
 # (a query's bars, carets and braces are escaped in the normal form alone, which has three times as many octets then)
 PATHS = [
-    LONG, "/" + "a" * 3_990, "/", "/part7/page", "/x" * 1_990, "/%7e%7e%7e7", "/" + "%2A" * 1_300, "/ab", "/" + "aab" * 1_330, "/" + ("a" * 31 + "b") * 124,
+    LONG, "/" + "a" * 3_990, "/part7/page", "/x" * 1_990, "/" + "%2A" * 1_300, "/" + "aab" * 1_330, "/" + ("a" * 31 + "b") * 124,
     "/?" + "||^" * 1_330, "/?" + "".join(DICE.choices(["||", "|^", "^^", "^|"], k=1_990)), "/?" + "".join(DICE.choices(["{||", "{{}", "||}"], k=1_330)),
-    "/?" + "".join("".join(DICE.choices("{|", k=197)) + it for it in "<>" * 10),
+    "/?" + "".join("".join(DICE.choices("{|", k=197)) + it for it in "<>" * 10), "/?" + "^|" * 1_990, "/?" + "^" * 2_000 + "<" + "^^^|" * 490,
+    "/?" + "".join("".join(DICE.choices(["{||", "{{}", "||}"], k=64)) + "{|}" for _ in range(20)),
+    "/?" + ("^|" * 30 + "{|") * 64, "/?" + ("^|" * 450 + "{|") * 4,
+    # (all but these are asked before there is an index, too)
+    "/", "/ab", "/%7e%7e%7e7",
 ]
 
 

@@ -1,13 +1,13 @@
 -- What is left of the lanes of a block, octet by octet of the run, and where its first place is.
 -- Used by the search by blocks.
 use Rattle.std.proofs.Common.{◌^◌, w64, ◌≡◌, ◌≢◌, ◌↔◌, ◌+◌, ◌-◌, ◌<◌, ◌≤◌, ◌==◌, ℕ, Bool, true, false, List, length, get_or, replicate, cond, refl, sym, ap, subst, ◌∙◌, arith, ⊎_elim, ◌⊎◌}
-use Rattle.std.specs.Prelude.{if◌then◌else◌, slice_index}
+use Rattle.std.specs.Prelude.{if◌then◌else◌, slice_index, Option, None, Some}
 use Rattle.std.specs.Int.{bit_at}
 use Rattle.std.specs.Simd.Lanes.{sel_l, zip2}
 use Rattle.std.proofs.lemmas.Bool.{cases_lt, cases_eq, eq-eqb, eqb-true, true≢false}
 use Rattle.std.proofs.lemmas.Nat.Bits.{bit_at-trailing_zeros, bit_at-zero}
 use Rattle.std.proofs.lemmas.Simd.{get_or-replicate, get_or-sel_l, get_or-zip2, length-sel_l, length-zip2}
-use Rattle.memchr.specs.Find.{NoneBefore, Nowhere, OccursAt}
+use Rattle.memchr.specs.Find.{FindsNeedle, NoneBefore, Nowhere, OccursAt}
 use Rattle.memchr.proofs.lemmas.FindLemmas.{Nowhere-then}
 use Rattle.path_pattern.specs.Blocks.{HasLanes, HasOctet, IsLeftOf, IsNoneLeft}
 
@@ -132,15 +132,22 @@ first_in_block path run lanes start seen marks bit room all left bits bound set 
 
 -- ---- the blocks of a path
 
-pub first_of_blocks : (path run : List ℕ) (start end place : ℕ) → Nowhere (OccursAt path run) 0 start → NoneBefore (OccursAt path run) start end place → OccursAt path run place → NoneBefore (OccursAt path run) 0 (length path + 1) place × OccursAt path run place
-first_of_blocks path run start end place none found occurs =
-    let fits = occurs.fits in
-    (record { low = omega arith; high = omega arith; before = Nowhere-then none found.before }, occurs)
+module _ (path run : List ℕ) (from start : ℕ) (none : Nowhere (OccursAt path run) from start) where
+  pub first_of_blocks : (end place : ℕ) → from ≤ start → NoneBefore (OccursAt path run) start end place → OccursAt path run place → FindsNeedle path run from (Some place)
+  first_of_blocks end place not_before found occurs =
+      let fits = occurs.fits in
+      (record { low = omega (arith, found.low); high = omega arith; before = Nowhere-then none found.before }, occurs)
 
-pub nowhere_before : (path run : List ℕ) (start last : ℕ) → last ≤ start → Nowhere (OccursAt path run) 0 start → Nowhere (OccursAt path run) 0 last
-nowhere_before path run start last past none k low high = none k low (omega arith)
+  pub nowhere_before : (last : ℕ) → last ≤ start → Nowhere (OccursAt path run) from last
+  nowhere_before last past k low high = none k low (omega arith)
 
-pub nowhere_in_blocks : (path run : List ℕ) (start last : ℕ) → last + 63 + length run ≡ length path → last ≤ start → Nowhere (OccursAt path run) 0 start → Nowhere (OccursAt path run) last (last + 64) → Nowhere (OccursAt path run) 0 (length path + 1)
-nowhere_in_blocks path run start last ends past none later k low high occurs =
-    let fits = occurs.fits in
-    ⊎_elim (λ before. none k low (omega arith) occurs) (λ from. later k from (omega arith) occurs) (cases_lt k last)
+  pub nowhere_in_blocks : (last : ℕ) → last + 63 + length run ≡ length path → last ≤ start → Nowhere (OccursAt path run) last (last + 64) → FindsNeedle path run from None
+  nowhere_in_blocks last ends past later k low high occurs =
+      let fits = occurs.fits in
+      ⊎_elim (λ before. none k low (omega arith) occurs) (λ from. later k from (omega arith) occurs) (cases_lt k last)
+
+  -- a search from the place on at which one was left goes on with it
+  pub search_goes_on : (result : Option ℕ) → from ≤ start → FindsNeedle path run start result → FindsNeedle path run from result
+  search_goes_on None not_before later = Nowhere-then none later
+  search_goes_on (Some place) not_before found =
+      (record { low = omega (arith, found.0.low); high = found.0.high; before = Nowhere-then none found.0.before }, found.1)

@@ -2,7 +2,7 @@
 -- Used by `after_first`, `after_start`, `ends_with` and `first_place`.
 use Rattle.std.proofs.Common.{◌≡◌, ℕ, ◌+◌, ◌-◌, ◌<◌, ◌≤◌, List, [], ◌++◌, length, take, drop, get_or, append-nil, refl, sym, ap, ◌∙◌, subst, arith, length-append, length-drop}
 use Rattle.std.proofs.lemmas.Bool.{eq-eqb}
-use Rattle.std.proofs.lemmas.List.{take-append-drop, drop-drop, get_or-drop, get_or-take, length-take}
+use Rattle.std.proofs.lemmas.List.{take-append-drop, drop-drop, get_or-drop}
 use Rattle.std.proofs.Math.Seq.{take-append_seam, drop-append_seam, drop-append-add}
 use Rattle.std.proofs.Math.ListN.{drop_of_length-le}
 use Rattle.std.specs.Prelude.{Option, None, Some}
@@ -160,28 +160,6 @@ left_first path run place first within found =
     let high = found.0.high in (
       record { low = omega arith; high = omega arith; before = λ at from below occurs. found.0.before (place + at) (omega arith) (omega arith) (onward path run (drop place path) place at refl within occurs) },
       backward path run (drop place path) place first refl low found.1,
-    )
-
--- what stands in the front of a path stands in it, and the other way round where the front is long enough
-of_front : (path run : List ℕ) (room at : ℕ) → OccursAt (take room path) run at → OccursAt path run at
-of_front path run room at occurs =
-    let inside = occurs.fits in
-    let long = length-take room path in
-    record { fits = omega arith; reads = λ j below. sym (get_or-take room path (at + j) 0 (omega arith)) ∙ occurs.reads j below }
-
-in_front : (path run : List ℕ) (room at end : ℕ) → end ≡ length (take room path) → at + length run ≤ end → OccursAt path run at → OccursAt (take room path) run at
-in_front path run room at end is inside occurs =
-    let long = length-take room path in
-    record { fits = omega arith; reads = λ j below. get_or-take room path (at + j) 0 (omega arith) ∙ occurs.reads j below }
-
-pub front_first : (path run : List ℕ) (room first : ℕ) → NoneBefore (OccursAt (take room path) run) 0 (length (take room path) + 1) first × OccursAt (take room path) run first
-    → NoneBefore (OccursAt path run) 0 (length path + 1) first × OccursAt path run first
-front_first path run room first found =
-    let inside = found.1.fits in
-    let there = of_front path run room first found.1 in
-    let fits = there.fits in (
-      record { low = omega arith; high = omega arith; before = λ at low below occurs. found.0.before at low below (in_front path run room at (length (take room path)) refl (omega arith) occurs) },
-      there,
     )
 
 -- ---- a run of one octet

@@ -2,9 +2,11 @@
 -- Used by the contracts of the search by blocks.
 use Rattle.std.specs.Prelude.{◌≡◌, ◌+◌, ◌<◌, ◌≤◌, ℕ, List, length, slice_index}
 use Rattle.memchr.specs.Find as find
-use Rattle.memchr.specs.Find.{NoneBefore, OccursAt}
+use Rattle.memchr.specs.Find.{FindsNeedle, NoneBefore, OccursAt}
 use Rattle.path_pattern.specs.declared.blocks.Found.{Found}
-use Rattle.path_pattern.specs.declared.blocks.Found.TheVariants.{At, Nowhere}
+use Rattle.path_pattern.specs.declared.blocks.Found.TheVariants.{At, Nearly, Nowhere}
+use Rattle.path_pattern.specs.declared.blocks.Search.{Search}
+use Rattle.path_pattern.specs.declared.blocks.Search.TheVariants.{Ended, LeftAt}
 use Rattle.path_pattern.specs.declared.blocks.Telling.{Telling}
 
 -- there are 64 lanes, and lane k holds f k
@@ -36,5 +38,12 @@ IsWithin telling run = (telling.first < length run) × (telling.second < length 
 abbrev pub IsFoundIn : List ℕ → List ℕ → ℕ → Found → Type 0
 IsFoundIn path run start (At place) =
     NoneBefore (OccursAt path run) start (start + 64) place × OccursAt path run place
-IsFoundIn path run start (Nowhere telling) =
+IsFoundIn path run start Nowhere = find.Nowhere (OccursAt path run) start (start + 64)
+IsFoundIn path run start (Nearly telling) =
     find.Nowhere (OccursAt path run) start (start + 64) × IsWithin telling run
+
+-- it ended with the first place of the run from this one on; or it was left further on, the run stands nowhere before that, and the path has a block of places from there on
+abbrev pub IsSearch : List ℕ → List ℕ → ℕ → Search → Type 0
+IsSearch path run from (Ended place) = FindsNeedle path run from place
+IsSearch path run from (LeftAt place) =
+    find.Nowhere (OccursAt path run) from place × (from < place) × (place + 63 + length run ≤ length path)

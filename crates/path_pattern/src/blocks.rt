@@ -3,19 +3,32 @@
 ghost use Rattle.std.specs.Prelude.{◌≡◌, ◌≢◌, ◌↔◌, ℕ, ◌+◌, ◌<◌, ◌≤◌, ◌==◌, if◌then◌else◌, length, slice_index, IsTrue};
 ghost use Rattle.std.specs.Int.{bit_at};
 ghost use Rattle.memchr.specs.Find.{FindsNeedle};
-ghost use Rattle.path_pattern.specs.Blocks.{HasLanes, IsFoundIn, IsLeftOf, IsNoneLeft, IsWithin};
+ghost use Rattle.path_pattern.specs.Blocks.{HasLanes, IsFoundIn, IsLeftOf, IsNoneLeft, IsSearch, IsWithin};
 
 use std::simd::prelude::*;
 
 /// How many places a block has.
 pub(crate) const PLACES: usize = 64;
 
+// As so many others counts a block in which the run nearly stands: it costs as much, or more.
+const NEARLY: usize = 16;
+
+/// How a search by blocks ends.
+pub(crate) enum Search {
+    /// With the first place of the run, where there is one.
+    Ended(Option<usize>),
+    /// It took long, and is left here: the run stands at no place before.
+    LeftAt(usize),
+}
+
 /// What a block of places holds of a run.
 enum Found {
     /// The run stands at this place first.
     At(usize),
-    /// It stands at none, and these octets of it mostly tell so of the next block.
-    Nowhere(Telling),
+    /// It stands at none, as the octets that mostly tell did at once.
+    Nowhere,
+    /// It stands at none, and nearly at some: others told. These mostly tell so of the next block.
+    Nearly(Telling),
 }
 
 /// Two octets of a run, by their places in it.
@@ -27,29 +40,54 @@ struct Telling {
     second: usize,
 }
 
-/// The first place of the run in a path that has a block of places for it.
-pub(crate) fn first_by_blocks(path: &[u8], run: &[u8]) -> Option<usize>
+/// The first place of the run that is not before this one. The path has a block of places for it from there on.
+pub(crate) fn first_by_blocks(path: &[u8], run: &[u8], from: usize) -> Option<usize>
     requires pair { 1 < length run.now }
-    requires room { 63 + length run.now ≤ length path.now }
-    ensures { FindsNeedle path.now run.now 0 result }
+    requires room { from + 63 + length run.now ≤ length path.now }
+    ensures { FindsNeedle path.now run.now from result }
+{
+    let mut start = from;
+    loop {
+        match search_from(path, run, start, usize::MAX) {
+            Search::Ended(place) => return place,
+            Search::LeftAt(place) => start = place,
+        }
+    }
+}
+
+/// The same, in so many blocks at the most.
+pub(crate) fn search_from(path: &[u8], run: &[u8], from: usize, patience: usize) -> Search
+    requires some { 0 < patience }
+    requires pair { 1 < length run.now }
+    requires room { from + 63 + length run.now ≤ length path.now }
+    ensures { IsSearch path.now run.now from result }
 {
     // The last block ends with the path, so it may begin within the one before.
     let last = path.len() - run.len() - (PLACES - 1);
-    let mut start = 0;
+    let mut start = from;
+    let mut patience = patience;
     let mut telling = Telling {
         first: 0,
         second: run.len() - 1,
     };
     while start < last {
+        if patience == 0 {
+            return Search::LeftAt(start);
+        }
         match found_in_block(path, run, start, telling) {
-            Found::At(place) => return Some(place),
-            Found::Nowhere(octets) => telling = octets,
+            Found::At(place) => return Search::Ended(Some(place)),
+            Found::Nowhere => patience = patience.saturating_sub(1),
+            Found::Nearly(octets) => {
+                telling = octets;
+                patience = patience.saturating_sub(NEARLY);
+            }
         }
         start += PLACES;
     }
     match found_in_block(path, run, last, telling) {
-        Found::At(place) => Some(place),
-        Found::Nowhere(_) => None,
+        Found::At(place) => Search::Ended(Some(place)),
+        Found::Nowhere => Search::Ended(None),
+        Found::Nearly(_) => Search::Ended(None),
     }
 }
 
@@ -64,7 +102,7 @@ fn found_in_block(path: &[u8], run: &[u8], start: usize, telling: Telling) -> Fo
     let all = u8x64::splat(255);
     let mut left = two_left(all, path, run, start, telling.first, telling.second);
     if is_none(left) {
-        return Found::Nowhere(telling);
+        return Found::Nowhere;
     }
     let mut seen = 0;
     while seen < run.len() {
@@ -73,7 +111,7 @@ fn found_in_block(path: &[u8], run: &[u8], start: usize, telling: Telling) -> Fo
         if is_none(next) {
             let first = telling_of(left, path, run, start, pair);
             let second = telling.first;
-            return Found::Nowhere(Telling { first, second });
+            return Found::Nearly(Telling { first, second });
         }
         left = next;
         seen += 2;

@@ -7,6 +7,7 @@ pub mod laws;
 mod path;
 mod pattern;
 mod places;
+mod ranks;
 mod runs;
 
 pub use path::Path;

@@ -1,16 +1,16 @@
 //! A path that patterns are tried on, and its places in the order of what stands there.
 //! RFC 9309, section 2.2.3.
-ghost use Rattle.std.specs.Prelude.{◌≡◌, ◌≤◌, ◌<◌, drop, length, take};
+ghost use Rattle.std.specs.Prelude.{◌≡◌, ◌+◌, ◌≤◌, ◌<◌, drop, length};
 ghost use Rattle.memchr.specs.Find.{FindsNeedle};
-ghost use Rattle.path_pattern.specs.Sorted.{ArePlacesOf, AreSorted};
+ghost use Rattle.path_pattern.specs.Sorted.{ArePlacesOf};
 
-use crate::blocks::{PLACES, first_by_blocks};
+use crate::blocks::{PLACES, Search, first_by_blocks, search_from};
 use crate::places::{Places, first_of};
 use memchr::memmem;
 use std::marker::Model;
 
-// So many octets are searched without the places first: a run that is near is found sooner so.
-const NEAR: usize = 512;
+// So many blocks are searched before the run is looked up among the places, which takes about as long.
+const PATIENCE: usize = 64;
 
 /// A path in normal form, or what is left of one, that patterns are tried on.
 #[derive(Drop)]
@@ -79,52 +79,33 @@ impl<'p> Path<'p> {
         }
     }
 
-    /// The first place of the run. The places help where the run is not near, and may nearly stand often.
+    /// The first place of the run. What `memmem` costs grows with the places at which the run nearly stands: it
+    /// compares at each of them. A path that has no block of places for the run has few.
     pub(crate) fn first(&self, run: &[u8]) -> Option<usize>
         requires { 1 < length run.now }
         ensures { FindsNeedle self.now run.now 0 result }
     {
         let octets = self.octets();
-        if self.places.is_empty() {
-            return first_by_octets(octets, run);
+        if octets.len() < run.len() + (PLACES - 1) {
+            return memmem::find(octets, run);
         }
-        match first_by_octets(near_part(octets), run) {
-            Some(near) => Some(near),
-            None => first_behind(self.text, self.places, run, self.from),
-        }
+        let place = first_from(self.text, self.places, run, self.from)?;
+        Some(place - self.from)
     }
 }
 
-// The first place of the run behind so many octets of a path, by its places.
-fn first_behind(path: &[u8], places: &[u16], run: &[u8], from: usize) -> Option<usize>
-    requires sorted { AreSorted path.now places.now }
-    requires within { from ≤ length path.now }
-    requires some { 0 < length run.now }
-    ensures { FindsNeedle (drop from path.now) run.now 0 result }
+// The first place of the run that is not before this one. The places of the path tell where blocks of it are dear.
+fn first_from(path: &[u8], places: &[u16], run: &[u8], from: usize) -> Option<usize>
+    requires places { ArePlacesOf path.now places.now }
+    requires pair { 1 < length run.now }
+    requires room { from + 63 + length run.now ≤ length path.now }
+    ensures { FindsNeedle path.now run.now from result }
 {
-    let first = first_of(path, places, run, from)?;
-    Some(first - from)
-}
-
-fn near_part(octets: &[u8]) -> &[u8]
-    ensures { result.now ≡ take 512 octets.now }
-{
-    if octets.len() > NEAR {
-        &octets[..NEAR]
-    } else {
-        octets
+    if places.is_empty() {
+        return first_by_blocks(path, run, from);
     }
-}
-
-// What `memmem` costs grows with the places at which the run nearly stands: it compares at each of
-// them. A path that has no block of places for the run has few.
-fn first_by_octets(path: &[u8], run: &[u8]) -> Option<usize>
-    requires { 1 < length run.now }
-    ensures { FindsNeedle path.now run.now 0 result }
-{
-    if path.len() < run.len() + (PLACES - 1) {
-        memmem::find(path, run)
-    } else {
-        first_by_blocks(path, run)
+    match search_from(path, run, from, PATIENCE) {
+        Search::Ended(place) => place,
+        Search::LeftAt(place) => first_of(path, places, run, place),
     }
 }

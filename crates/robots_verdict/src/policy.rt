@@ -26,13 +26,14 @@ const SHORT_TEXT: usize = 1_024;
 
 const FEW_OTHERS: usize = 32;
 
-// To put the places of a path in order takes up to two milliseconds. It pays where patterns with signs would take
-// longer: on a path of more octets than these, with a text of more than those, or with so many such patterns.
-const SHORT_PATH: usize = 1_024;
+// To put the places of a path in order takes a few milliseconds, a tenth of one where the path is short. It pays where
+// patterns with signs may take longer: on a path of more octets than these, with a text of more than those, or with
+// so many such patterns.
+const SHORT_PATH: usize = 512;
 
-const LONG_TEXT: usize = 65_536;
+const LONG_TEXT: usize = 16_384;
 
-const MANY_OTHERS: usize = 1_024;
+const MANY_OTHERS: usize = 64;
 
 /// A robots text, and an index of its rules, where one was made. Without it, verdicts walk over the text.
 #[derive(Drop)]
@@ -133,7 +134,10 @@ impl Policy {
         path.len() > SHORT_PATH
             && match &self.index {
                 Some(index) => index.ranks.other_count() > MANY_OTHERS,
-                None => self.text().bytes().len() > LONG_TEXT,
+                None => {
+                    let text = self.text().bytes();
+                    text.len() > LONG_TEXT && text.contains(&b'*')
+                }
             }
     }
 

@@ -14,7 +14,7 @@ loop-seen-init c = (
 pub returns-then-is_none : goal.returns-then-is_none
 returns-then-is_none c =
     let left = left_at_first c.args.path.now c.args.run.now c.args.start _ _ _ c.requires.telling.0 c.requires.telling.1 c.two_left-left.ensures in
-    (nowhere_in_block c.args.path.now c.args.run.now _ c.args.start 0 left (c.is_none.ensures.0 c.if-is_none.true), c.requires.telling)
+    nowhere_in_block c.args.path.now c.args.run.now _ c.args.start 0 left (c.is_none.ensures.0 c.if-is_none.true)
 
 within : (run : List ℕ) (pair seen : ℕ) → 1 < length run → pair ≡ min seen (length run - 2) → pair + 1 < length run
 within run pair seen two is = omega arith

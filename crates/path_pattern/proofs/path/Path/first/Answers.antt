@@ -1,18 +1,22 @@
--- What is found in the front is the first; else the places tell.
+-- What is found behind so many octets is found in what is left.
 -- Used by `Path::first`.
-use Rattle.std.proofs.Common.{take, subst, ap, ◌∙◌}
-use Rattle.std.specs.Prelude.{Some}
+use Rattle.std.proofs.Common.{◌-◌, subst, sym}
+use Rattle.std.specs.Prelude.{None, Some}
 use Rattle.memchr.specs.Find.{FindsNeedle}
-use Rattle.path_pattern.proofs.PlaceLemmas.{front_first}
+use Rattle.path_pattern.proofs.PlaceLemmas.{left_first, left_nowhere}
 use Rattle.path_pattern.proofs.path.Path.first.Goals as goal
 
-pub returns-then-is_empty : goal.returns-then-is_empty
-returns-then-is_empty c = subst (λ octets. FindsNeedle octets c.args.run.now 0 c.first_by_octets.result) c.octets-octets.ensures c.first_by_octets.ensures
+pub returns-then-octets-run : goal.returns-then-octets-run
+returns-then-octets-run c = subst (λ octets. FindsNeedle octets c.args.run.now 0 c.find.result) c.octets-octets.ensures c.find.ensures
 
-pub returns-in-Some : goal.returns-in-Some
-returns-in-Some c =
-    front_first c.args.self.now c.args.run.now 512 c.in-Some.near
-    (subst (λ octets. FindsNeedle octets c.args.run.now 0 (Some c.in-Some.near)) (c.near_part.ensures ∙ ap (take 512) c.octets-octets.ensures) c.in-Some.ensures)
+pub returns-in_err-place : goal.returns-in_err-place
+returns-in_err-place c =
+    let text = c.self.inside.text.now in
+    let none = left_nowhere text c.args.run.now c.self.inside.from c.self.invariant.0 c.in_err-place.ensures in
+    subst (FindsNeedle c.args.self.now c.args.run.now 0) (sym c.from_residual.ensures) (subst (λ path. FindsNeedle path c.args.run.now 0 None) c.self.view_is none)
 
-pub returns-in-None : goal.returns-in-None
-returns-in-None c = subst (λ path. FindsNeedle path c.args.run.now 0 c.first_behind.result) c.self.view_is c.first_behind.ensures
+pub returns : goal.returns
+returns c =
+    let text = c.self.inside.text.now in
+    let first = left_first text c.args.run.now c.self.inside.from c.in_ok-place.place c.self.invariant.0 c.in_ok-place.ensures in
+    subst (λ path. FindsNeedle path c.args.run.now 0 (Some (c.in_ok-place.place - c.self.inside.from))) c.self.view_is first
