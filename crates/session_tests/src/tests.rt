@@ -8,11 +8,15 @@ mod desks;
 mod faults;
 mod turns;
 
-use crawl_workers::{Clock, ScriptedPage};
+use command_server::{DeskKeeper, Keeper, SessionFault, serve};
+use counted_io::{FailAt, Sink, Source};
+use crawl_workers::{Clock, ScriptedPage, ScriptedSites};
 use gate_core::{Book, Config, Limits};
+use gate_lock::{Gate, GateLock, SettleFault, Settled, settle};
 use std::alloc::Global;
 use std::hash::RandomState;
 use std::random::RandomSource;
+use std::sync::Wait;
 use std::test::Fail;
 
 // A clock that stands.
@@ -59,6 +63,38 @@ fn book(rt: &impl RandomSource, alloc: Global, limits: Limits) -> Result<Book, F
         keys: RandomState::new(rt)?,
     };
     Ok(Book::new(alloc, config)?)
+}
+
+// A session to its end, at 110.
+fn served<R: Source, W: Sink, K: Keeper>(
+    alloc: Global,
+    reader: &mut R,
+    writer: &mut W,
+    keeper: &mut K,
+) -> Result<(), SessionFault> {
+    serve(alloc, reader, writer, keeper, &FixedClock(110))
+}
+
+// How a session ends, and what its gate is settled to.
+type Ended = (Result<(), SessionFault>, Result<Settled, SettleFault>);
+
+// A session at the only desk of a gate.
+fn session_at<G: Gate, R: Wait>(
+    rt: &R,
+    alloc: Global,
+    gate: &GateLock<G>,
+    reader: &mut FailAt,
+    writer: &mut FailAt,
+) -> Result<Ended, Fail> {
+    let sites = ScriptedSites {
+        alloc,
+        pages: &PAGES,
+    };
+    let mut all = Vec::with_capacity(alloc, 1)?;
+    let mut keeper = DeskKeeper::open(rt, alloc, gate, &sites)?;
+    let end = served(alloc, reader, writer, &mut keeper);
+    all.push_reserved(keeper.close());
+    Ok((end, settle(rt, alloc, gate, all.as_slice())))
 }
 
 // Holds where the row of this name is as it must be.

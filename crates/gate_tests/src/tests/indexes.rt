@@ -27,7 +27,7 @@ fn an_ask_makes_an_index_or_brings_one(rt: HostRuntime) -> Result<(), Fail> {
 
 // The ask behind the last walk makes it.
 fn makes_one(alloc: Global, book: &mut Book) -> Result<(), Fail> {
-    load(alloc, book)?;
+    load(alloc, book, CLOSED)?;
     for _ in 0..WALKS {
         ask(alloc, book)?;
     }
@@ -38,7 +38,7 @@ fn makes_one(alloc: Global, book: &mut Book) -> Result<(), Fail> {
 
 // An index is handed in with an ask, of the same text.
 fn brings_one(alloc: Global, book: &mut Book) -> Result<(), Fail> {
-    load(alloc, book)?;
+    load(alloc, book, CLOSED)?;
     let Some(policy) = book.hint("a.example", 110) else {
         return Err(Fail::new("no policy"));
     };
@@ -55,9 +55,9 @@ fn brings_one(alloc: Global, book: &mut Book) -> Result<(), Fail> {
     is_indexed(book, true)
 }
 
-// Begins a turn and brings its rules.
-fn load(alloc: Global, book: &mut Book) -> Result<(), Fail> {
-    let rules = Answer::rules(alloc, RobotsText::read(alloc, CLOSED.as_bytes())?)?;
+// Begins a turn and brings the rules of the text.
+pub(super) fn load(alloc: Global, book: &mut Book, text: &str) -> Result<(), Fail> {
+    let rules = Answer::rules(alloc, RobotsText::read(alloc, text.as_bytes())?)?;
     let answer = TimedAnswer::new(rules, LIFE);
     if answer.spares() < 1 {
         return Err(Fail::new("an answer without spares"));

@@ -6,6 +6,7 @@ ghost use Rattle.gate_lock.specs.Desks.{out_of};
 
 use super::desk_calls::{Form, bring, round, worked};
 use super::gates::book;
+use super::threads::keep;
 use gate_core::{Book, NoMemory};
 use gate_history::Segment;
 use gate_lock::{Blanks, Desk, DesksFull, Gate, GateLock, Receipts, SettleFault, Settled, settle};
@@ -154,13 +155,6 @@ fn keep_sealed<G: Gate>(
         keep_segment(segments, Ok(segment));
     }
     all.push(receipts).is_ok()
-}
-
-fn keep<G: Gate>(all: &mut Vec<Receipts<G>>, made: Result<Receipts<G>, DesksFull>) -> bool {
-    match made {
-        Ok(receipts) => all.push(receipts).is_ok(),
-        Err(_) => false,
-    }
 }
 
 fn entries_of(segments: &[Segment]) -> usize {

@@ -50,7 +50,10 @@ fn at_a_gate<G: Gate + Send + Sync, R: Threads + Wait + Sync>(
 }
 
 // Whether the desk was made, and its receipts are added.
-fn keep<G: Gate>(all: &mut Vec<Receipts<G>>, made: Result<Receipts<G>, DesksFull>) -> bool {
+pub(super) fn keep<G: Gate>(
+    all: &mut Vec<Receipts<G>>,
+    made: Result<Receipts<G>, DesksFull>,
+) -> bool {
     match made {
         Ok(receipts) => all.push(receipts).is_ok(),
         Err(_) => false,

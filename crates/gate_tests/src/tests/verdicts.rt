@@ -2,11 +2,11 @@
 //! That it is answered like any other is proved. That it makes no verdict of its own is seen here alone.
 
 use super::gates::book;
-use authority_cache::{LIFE, TimedAnswer};
+use super::indexes::load;
 use gate_core::{Book, Judged};
-use path_normal::{Authority, PageUrl};
-use robots_text::{RobotsText, Token};
-use robots_verdict::{Answer, Policy};
+use path_normal::PageUrl;
+use robots_text::Token;
+use robots_verdict::Policy;
 use std::alloc::{AllocError, Global};
 use std::hash::RandomState;
 use std::sync::Arc;
@@ -27,7 +27,8 @@ fn a_judged_ask_makes_no_verdict(rt: HostRuntime) -> Result<(), Fail> {
 }
 
 fn compares(rt: &HostRuntime, book: &mut Book) -> Result<(), Fail> {
-    load(rt.alloc(), book)?;
+    let text = repeated(rt.alloc(), "User-agent: *\n", "Disallow: *bba*q\n", RULES)?;
+    load(rt.alloc(), book, text.as_str())?;
     let Some(policy) = book.hint("a.example", 110) else {
         return Err(Fail::new("no policy"));
     };
@@ -37,24 +38,6 @@ fn compares(rt: &HostRuntime, book: &mut Book) -> Result<(), Fail> {
         Ok(())
     } else {
         Err(Fail::new(format_args!("{judged} ns where it was judged before, {other} where not")))
-    }
-}
-
-// Begins a turn and brings its rules.
-fn load(alloc: Global, book: &mut Book) -> Result<(), Fail> {
-    let text = repeated(alloc, "User-agent: *\n", "Disallow: *bba*q\n", RULES)?;
-    let rules = Answer::rules(alloc, RobotsText::read(alloc, text.as_bytes())?)?;
-    let answer = TimedAnswer::new(rules, LIFE);
-    if answer.spares() < 1 {
-        return Err(Fail::new("an answer without spares"));
-    }
-    let site = Authority::new(alloc, "a.example")?;
-    let Ok(turn) = book.begin(&site, 100) else {
-        return Err(Fail::new("no turn"));
-    };
-    match book.arrive(&site, turn, answer, 105) {
-        Ok(()) => Ok(()),
-        Err(_) => Err(Fail::new("a stale turn")),
     }
 }
 

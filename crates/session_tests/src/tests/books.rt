@@ -1,8 +1,8 @@
 //! A session over a book alone: each of its calls is the book's, and nothing is fetched.
 
-use super::{FixedClock, book, demand};
+use super::{book, demand, served};
 use authority_cache::{LIFE, TimedAnswer, TurnNo};
-use command_server::{BookKeeper, serve};
+use command_server::BookKeeper;
 use counted_io::FailAt;
 use gate_core::{Book, Limits};
 use path_normal::Authority;
@@ -77,13 +77,7 @@ fn check_row(
     let mut reader = FailAt::new(lines.as_bytes().to_vec(alloc)?, 7, None);
     let mut writer = FailAt::new(Vec::new(alloc), 65_536, None);
     let mut keeper = BookKeeper::new(book);
-    let end = serve(
-        alloc,
-        &mut reader,
-        &mut writer,
-        &mut keeper,
-        &FixedClock(110),
-    );
+    let end = served(alloc, &mut reader, &mut writer, &mut keeper);
     demand(writer.bytes(), replies, name)?;
     match end {
         Ok(()) => Ok(()),

@@ -1,11 +1,9 @@
 //! A session at a desk: pages and robots files are fetched for it, and what it leaves out is given back.
 
-use super::{FixedClock, PAGES, book, demand};
-use command_server::{DeskKeeper, serve};
+use super::{book, demand, session_at};
 use counted_io::FailAt;
-use crawl_workers::ScriptedSites;
 use gate_core::Limits;
-use gate_lock::{Gate, GateLock, SettleFault, Settled, Visit, settle, with_gate};
+use gate_lock::{Gate, GateLock, SettleFault, Settled, Visit, with_gate};
 use std::alloc::Global;
 use std::random::RandomSource;
 use std::sync::Wait;
@@ -84,35 +82,14 @@ impl<R: Wait> Visit for SessionRow<'_, R> {
     type Out = Result<(FailAt, Result<Settled, SettleFault>), Fail>;
 
     fn visit<G: Gate>(self, gate: &GateLock<G>) -> Self::Out {
-        session_at(self.rt, self.alloc, gate, self.lines)
-    }
-}
-
-fn session_at<G: Gate, R: Wait>(
-    rt: &R,
-    alloc: Global,
-    gate: &GateLock<G>,
-    lines: &str,
-) -> Result<(FailAt, Result<Settled, SettleFault>), Fail> {
-    let sites = ScriptedSites {
-        alloc,
-        pages: &PAGES,
-    };
-    let mut all = Vec::with_capacity(alloc, 1)?;
-    let mut reader = FailAt::new(lines.as_bytes().to_vec(alloc)?, 65_536, None);
-    let mut writer = FailAt::new(Vec::new(alloc), 65_536, None);
-    let mut keeper = DeskKeeper::open(rt, alloc, gate, &sites)?;
-    let end = serve(
-        alloc,
-        &mut reader,
-        &mut writer,
-        &mut keeper,
-        &FixedClock(110),
-    );
-    all.push_reserved(keeper.close());
-    match end {
-        Ok(()) => Ok((writer, settle(rt, alloc, gate, all.as_slice()))),
-        Err(_) => Err(Fail::new("a session that fails")),
+        let lines = self.lines.as_bytes().to_vec(self.alloc)?;
+        let mut reader = FailAt::new(lines, 65_536, None);
+        let mut writer = FailAt::new(Vec::new(self.alloc), 65_536, None);
+        let (end, settled) = session_at(self.rt, self.alloc, gate, &mut reader, &mut writer)?;
+        match end {
+            Ok(()) => Ok((writer, settled)),
+            Err(_) => Err(Fail::new("a session that fails")),
+        }
     }
 }
 

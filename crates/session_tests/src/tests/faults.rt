@@ -1,11 +1,10 @@
 //! Sessions at a desk whose read or write fails, at each place in turn: nothing stays out.
 
-use super::{FixedClock, PAGES, book};
-use command_server::{DeskKeeper, SessionFault, serve};
+use super::{Ended, book, session_at};
+use command_server::SessionFault;
 use counted_io::FailAt;
-use crawl_workers::ScriptedSites;
 use gate_core::Limits;
-use gate_lock::{Gate, GateLock, SettleFault, Settled, Visit, settle, with_gate};
+use gate_lock::{Gate, GateLock, Visit, with_gate};
 use std::alloc::Global;
 use std::random::RandomSource;
 use std::sync::Wait;
@@ -30,42 +29,15 @@ struct FaultRow<'r, R: Wait> {
     write_fails: Option<u64>,
 }
 
-type Ended = (Result<(), SessionFault>, Result<Settled, SettleFault>);
-
 impl<R: Wait> Visit for FaultRow<'_, R> {
     type Out = Result<Ended, Fail>;
 
     fn visit<G: Gate>(self, gate: &GateLock<G>) -> Self::Out {
         let lines = LINES.as_bytes().to_vec(self.alloc)?;
-        let reader = FailAt::new(lines, 1, self.read_fails);
-        let writer = FailAt::new(Vec::new(self.alloc), 1, self.write_fails);
-        session_at(self.rt, self.alloc, gate, reader, writer)
+        let mut reader = FailAt::new(lines, 1, self.read_fails);
+        let mut writer = FailAt::new(Vec::new(self.alloc), 1, self.write_fails);
+        session_at(self.rt, self.alloc, gate, &mut reader, &mut writer)
     }
-}
-
-fn session_at<G: Gate, R: Wait>(
-    rt: &R,
-    alloc: Global,
-    gate: &GateLock<G>,
-    reader: FailAt,
-    writer: FailAt,
-) -> Result<Ended, Fail> {
-    let sites = ScriptedSites {
-        alloc,
-        pages: &PAGES,
-    };
-    let (mut reader, mut writer) = (reader, writer);
-    let mut all = Vec::with_capacity(alloc, 1)?;
-    let mut keeper = DeskKeeper::open(rt, alloc, gate, &sites)?;
-    let end = serve(
-        alloc,
-        &mut reader,
-        &mut writer,
-        &mut keeper,
-        &FixedClock(110),
-    );
-    all.push_reserved(keeper.close());
-    Ok((end, settle(rt, alloc, gate, all.as_slice())))
 }
 
 fn ended<R: Wait + RandomSource>(

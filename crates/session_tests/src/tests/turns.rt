@@ -2,8 +2,8 @@
 ghost use Rattle.std.specs.Prelude.{◌≡◌, []};
 ghost use Rattle.gate_history.specs.Base.{empty_base};
 
-use super::{FixedClock, PAGES, book, demand};
-use command_server::{DeskKeeper, serve};
+use super::{PAGES, book, demand, served};
+use command_server::DeskKeeper;
 use counted_io::{Counted, DeviceFault, FailAt, Sink, Source};
 use crawl_workers::ScriptedSites;
 use gate_core::{Book, Limits};
@@ -97,13 +97,7 @@ fn session<G: Gate, R: Wait + time::Clock>(
     });
     let mut writer = FailAt::new(Vec::new(alloc), 65_536, None);
     let mut keeper = DeskKeeper::open(rt, alloc, gate, &sites).ok()?;
-    let end = serve(
-        alloc,
-        &mut reader,
-        &mut writer,
-        &mut keeper,
-        &FixedClock(110),
-    );
+    let end = served(alloc, &mut reader, &mut writer, &mut keeper);
     // The farewell comes behind the end of what was out, and the turn passes on with it.
     if reader.into_inner().handed {
         turn.fetch_add(1, Ordering::SeqCst);
