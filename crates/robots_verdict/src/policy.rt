@@ -9,6 +9,7 @@ ghost use Rattle.robots_verdict.specs.Verdict.{IsVerdict, robots_path};
 use crate::decision::{Allowed, Verdict, is_robots_path, verdict_of};
 use crate::index::Index;
 use crate::normal_text::NormalText;
+use memchr::memchr_iter;
 use path_pattern::{Path, Places};
 use robots_text::{RobotsText, Token};
 use std::alloc::{AllocError, Global};
@@ -27,13 +28,13 @@ const SHORT_TEXT: usize = 1_024;
 const FEW_OTHERS: usize = 32;
 
 // To put the places of a path in order takes a few milliseconds, a tenth of one where the path is short. It pays where
-// patterns with signs may take longer: on a path of more octets than these, with a text of more than those, or with
-// so many such patterns.
+// patterns with stars may take longer: on a path of more octets than these, over a text of more than those that has
+// more stars than this, or by an index with as many such patterns.
 const SHORT_PATH: usize = 512;
 
 const LONG_TEXT: usize = 16_384;
 
-const MANY_OTHERS: usize = 64;
+const FEW_STARS: usize = 64;
 
 /// A robots text, and an index of its rules, where one was made. Without it, verdicts walk over the text.
 #[derive(Drop)]
@@ -133,10 +134,10 @@ impl Policy {
     fn wants_places(&self, path: &[u8]) -> bool {
         path.len() > SHORT_PATH
             && match &self.index {
-                Some(index) => index.ranks.other_count() > MANY_OTHERS,
+                Some(index) => index.ranks.other_count() > FEW_STARS,
                 None => {
                     let text = self.text().bytes();
-                    text.len() > LONG_TEXT && text.contains(&b'*')
+                    text.len() > LONG_TEXT && has_many_stars(text)
                 }
             }
     }
@@ -166,4 +167,8 @@ impl Policy {
             .rows
             .verdict(index.ranks.first(&index.rows, groups, path))
     }
+}
+
+fn has_many_stars(text: &[u8]) -> bool {
+    memchr_iter(b'*', text).nth(FEW_STARS).is_some()
 }
