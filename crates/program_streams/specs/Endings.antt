@@ -18,6 +18,7 @@ exit_status endings.ManyLines = 1
 exit_status endings.BadLine = 1
 exit_status endings.DeniedUrl = 1
 exit_status endings.BadUrl = 2
+exit_status endings.NoUrls = 2
 exit_status endings.BadWords = 2
 exit_status endings.NoMemory = 3
 exit_status endings.Device = 3
@@ -30,6 +31,7 @@ message_of endings.ManyLines = Some (codes "too many lines")
 message_of endings.BadLine = None
 message_of endings.DeniedUrl = None
 message_of endings.BadUrl = None
+message_of endings.NoUrls = Some (codes "no URL behind the robots.txt")
 message_of endings.BadWords = None
 message_of endings.NoMemory = Some (codes "no memory")
 message_of endings.Device = Some (codes "device")
@@ -45,6 +47,7 @@ ending_of (Err faults.NoMemory) = endings.NoMemory
 
 -- how the program ends where a check came to this
 abbrev pub ending_of_check : Result Outcome CheckFault → Ending
+ending_of_check (Ok outcomes.NoUrls) = endings.NoUrls
 ending_of_check (Ok outcomes.Allowed) = endings.Done
 ending_of_check (Ok outcomes.Denied) = endings.DeniedUrl
 ending_of_check (Ok outcomes.Unread) = endings.BadUrl

@@ -21,6 +21,8 @@ pub enum Ending {
     DeniedUrl,
     /// A check met a URL that could not be read.
     BadUrl,
+    /// A check found no URL in its input.
+    NoUrls,
     /// The program's words were refused, or asked for help.
     BadWords,
     /// A growth of memory was refused.
@@ -48,6 +50,7 @@ impl Ending {
         ensures { result ≡ ending_of_check end }
     {
         match end {
+            Ok(Outcome::NoUrls) => Ending::NoUrls,
             Ok(Outcome::Allowed) => Ending::Done,
             Ok(Outcome::Denied) => Ending::DeniedUrl,
             Ok(Outcome::Unread) => Ending::BadUrl,
@@ -63,7 +66,7 @@ impl Ending {
         match self {
             Ending::Done => 0,
             Ending::LongLine | Ending::ManyLines | Ending::BadLine | Ending::DeniedUrl => 1,
-            Ending::BadUrl | Ending::BadWords => 2,
+            Ending::BadUrl | Ending::NoUrls | Ending::BadWords => 2,
             Ending::NoMemory | Ending::Device => 3,
         }
     }
@@ -78,6 +81,7 @@ impl Ending {
             | Ending::DeniedUrl
             | Ending::BadUrl
             | Ending::BadWords => None,
+            Ending::NoUrls => Some("no URL behind the robots.txt"),
             Ending::LongLine => Some("line too long"),
             Ending::ManyLines => Some("too many lines"),
             Ending::NoMemory => Some("no memory"),

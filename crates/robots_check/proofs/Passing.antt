@@ -16,7 +16,7 @@ use Rattle.robots_check.specs.Answers.{Answer, allowed_by, allowed_unruled, allo
 use Rattle.robots_check.specs.Told.{Told, AreTold, IsTold, answers_text, told_text}
 use Rattle.robots_check.specs.declared.detail.Detail.{Detail}
 use Rattle.robots_check.specs.Checks.{Answers, AnswersFront}
-use Rattle.robots_check.specs.Outcomes.{is_denied, is_unread, outcome_of, outcome_of_one, worse}
+use Rattle.robots_check.specs.Outcomes.{is_denied, is_unread, outcome_of, outcome_of_one, outcome_of_some, worse}
 use Rattle.robots_check.specs.declared.outcome.Outcome.{Outcome}
 use Rattle.robots_check.specs.declared.outcome.Outcome.TheVariants as outcomes
 
@@ -46,11 +46,24 @@ both_come false false true e = refl
 both_come false false false true = refl
 both_come false false false false = refl
 
-outcome_more : (answers others : List Told) → outcome_of (answers ++ others) ≡ worse (outcome_of answers) (outcome_of others)
-outcome_more answers others =
+some_more : (answers others : List Told) → outcome_of_some (answers ++ others) ≡ worse (outcome_of_some answers) (outcome_of_some others)
+some_more answers others =
     ap (λ b. if b then outcomes.Unread else if list_any (λ told. is_denied told.answer) (answers ++ others) then outcomes.Denied else outcomes.Allowed) (list_any-append (λ (told : Told). is_unread told.answer) answers others)
     ∙ ap (λ b. if (list_any (λ told. is_unread told.answer) answers || list_any (λ told. is_unread told.answer) others) then outcomes.Unread else if b then outcomes.Denied else outcomes.Allowed) (list_any-append (λ (told : Told). is_denied told.answer) answers others)
     ∙ both_come (list_any (λ told. is_unread told.answer) answers) (list_any (λ told. is_denied told.answer) answers) (list_any (λ told. is_unread told.answer) others) (list_any (λ told. is_denied told.answer) others)
+
+-- with no more it stays as it was
+worse_none : (u d : Bool) → worse (if u then outcomes.Unread else if d then outcomes.Denied else outcomes.Allowed) outcomes.NoUrls ≡ (if u then outcomes.Unread else if d then outcomes.Denied else outcomes.Allowed)
+worse_none true d = refl
+worse_none false true = refl
+worse_none false false = refl
+
+outcome_more : (answers others : List Told) → outcome_of (answers ++ others) ≡ worse (outcome_of answers) (outcome_of others)
+outcome_more [] others = refl
+outcome_more (told ∷ answers) [] =
+    ap (λ later. outcome_of (told ∷ later)) (append-nil answers)
+    ∙ sym (worse_none (list_any (λ told. is_unread told.answer) (told ∷ answers)) (list_any (λ told. is_denied told.answer) (told ∷ answers)))
+outcome_more (told ∷ answers) (other ∷ others) = some_more (told ∷ answers) (other ∷ others)
 
 -- more answers pass behind those before
 pub passing_more : (detail : Detail) (lines : List Numbered) (word : List ℕ) (urls more : List (List ℕ)) (a b c : Option (List ℕ)) (pending mid left : List ℕ) (one other outcome : Outcome) →
@@ -77,7 +90,7 @@ passing_cut detail lines word urls more rest a b c pending mid one before next =
 }
 
 -- nothing has passed yet
-pub passing_none : (detail : Detail) (lines : List Numbered) (word : List ℕ) (a : Option (List ℕ)) (pending : List ℕ) → Passing detail lines word [] a a pending pending outcomes.Allowed
+pub passing_none : (detail : Detail) (lines : List Numbered) (word : List ℕ) (a : Option (List ℕ)) (pending : List ℕ) → Passing detail lines word [] a a pending pending outcomes.NoUrls
 passing_none detail lines word a pending = record {
   answers = [];
   are = tt;

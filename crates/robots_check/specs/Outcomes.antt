@@ -1,11 +1,11 @@
 -- What the answers to all URLs come to.
 -- The exit status of `crawlgate check` tells it.
-use Rattle.std.specs.Prelude.{Bool, true, false, List, if◌then◌else◌}
+use Rattle.std.specs.Prelude.{Bool, true, false, List, [], ◌∷◌, if◌then◌else◌}
 use Rattle.std.specs.List.{list_any}
 use Rattle.robots_check.specs.Answers.{Answer, allowed_by, allowed_unruled, allowed_robots, denied_by, unread}
 use Rattle.robots_check.specs.Told.{Told}
 use Rattle.robots_check.specs.declared.outcome.Outcome.{Outcome}
-use Rattle.robots_check.specs.declared.outcome.Outcome.TheVariants.{Allowed, Denied, Unread}
+use Rattle.robots_check.specs.declared.outcome.Outcome.TheVariants.{NoUrls, Allowed, Denied, Unread}
 
 -- the URL is denied
 abbrev pub is_denied : Answer → Bool
@@ -23,10 +23,15 @@ is_unread allowed_robots = false
 is_unread (denied_by ruled) = false
 is_unread (unread fault) = true
 
--- one that could not be read outranks all, and one that is denied those that are allowed
-abbrev pub outcome_of : List Told → Outcome
-outcome_of answers =
+-- of some answers one that could not be read outranks all, and one that is denied those that are allowed
+abbrev pub outcome_of_some : List Told → Outcome
+outcome_of_some answers =
     if list_any (λ told. is_unread told.answer) answers then Unread else if list_any (λ told. is_denied told.answer) answers then Denied else Allowed
+
+-- what the answers come to, if there are any
+abbrev pub outcome_of : List Told → Outcome
+outcome_of [] = NoUrls
+outcome_of (told ∷ later) = outcome_of_some (told ∷ later)
 
 -- what one answer comes to
 abbrev pub outcome_of_one : Answer → Outcome
@@ -38,7 +43,12 @@ outcome_of_one (unread fault) = Unread
 
 -- what two come to together
 abbrev pub worse : Outcome → Outcome → Outcome
-worse Allowed other = other
+worse NoUrls other = other
+worse Allowed NoUrls = Allowed
+worse Allowed Allowed = Allowed
+worse Allowed Denied = Denied
+worse Allowed Unread = Unread
+worse Denied NoUrls = Denied
 worse Denied Allowed = Denied
 worse Denied Denied = Denied
 worse Denied Unread = Unread

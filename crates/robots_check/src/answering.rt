@@ -72,7 +72,7 @@ fn push_answers<W: Sink>(
     ensures faults { IfErr result IsTellFault }
     ensures count { W.failures sink.new ≡ failures_after_writes (W.failures sink.old) result }
 {
-    let mut outcome = Outcome::Allowed;
+    let mut outcome = Outcome::NoUrls;
     for url in urls {
         outcome = outcome.worse(push_answer(alloc, judge, url, output, sink)?);
     }
