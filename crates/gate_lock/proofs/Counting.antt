@@ -1,6 +1,6 @@
 -- The balance of a gate behind one more entry.
 -- Used by the methods of `Round`.
-use Rattle.std.proofs.Common.{◌≡◌, ℕ, ◌+◌, List, [], ◌∷◌, length, sym, ap, ◌∙◌, subst, arith}
+use Rattle.std.proofs.Common.{◌≡◌, ℕ, ◌+◌, ◌≤◌, List, [], ◌∷◌, length, refl, sym, ap, ◌∙◌, subst, arith}
 use Rattle.std.specs.Prelude.{Result, Ok, Err}
 use Rattle.authority_cache.specs.Lists.{is_turn_of}
 use Rattle.permit_book.specs.Outstanding.{is_numbered}
@@ -16,7 +16,8 @@ use Rattle.gate_history.proofs.CallerLemmas.{says-length}
 use Rattle.gate_core.specs.declared.refusal.NoMemory.{NoMemory}
 use Rattle.gate_core.specs.Gate.{Adds, Gate, history}
 use Rattle.gate_core.specs.Sealing.{HandsOut, Seals}
-use Rattle.gate_lock.specs.Balance.{Balance, IsBalanceOf, Loses}
+use Rattle.gate_lock.specs.Balance.{Balance, IsBalanceOf, IsHandedOut, Loses}
+use Rattle.gate_lock.specs.Steps.{handed_by}
 
 -- the history behind one more entry
 pub grown : OneMore → (old new : Gate) (e : Entry) → Adds old e new → history new ≡ history old ▸ e
@@ -73,3 +74,71 @@ sealed old new (Err refusal) b stays is = subst (λ (g : Gate). IsBalanceOf (his
 pub counted : (h : History) (later : List Entry) → entry_count (followed_by h later) ≡ entry_count h + length later
 counted h [] = omega arith
 counted h (e ∷ later) = let more = counted (h ▸ e) later in omega (arith, more)
+
+-- what was handed out is as it was behind one more entry
+pub stays_handed : (old new : Gate) (e : Entry) (b entered left : Balance) → Adds old e new → IsHandedOut old.base b.handed → entered.handed ≡ b.handed →
+    left.handed ≡ entered.handed → IsHandedOut new.base left.handed
+stays_handed old new e b entered left adds is enters loses =
+    let base = ap (λ (g : Gate). g.base) adds.adds in
+    record {
+      handed_are = loses ∙ enters ∙ is.handed_are ∙ sym (ap (λ (b : Base). b.entries) base);
+      from_start = λ none. base ∙ is.from_start (sym (ap (λ (b : Base). b.entries) base) ∙ none);
+    }
+
+-- the balance of a history is the same, whatever was handed out
+pub hands_more : (h : History) (b b2 : Balance) (handed : ℕ) → b2 ≡ record b { handed = handed } → IsBalanceOf h b → IsBalanceOf h b2
+hands_more h b b2 handed same is = record {
+  entries = ap (λ (b : Balance). b.entries) same ∙ is.entries;
+  starts = ap (λ (b : Balance). b.starts) same ∙ is.starts;
+  unspent = ap (λ (b : Balance). b.unspent) same ∙ is.unspent;
+  running = ap (λ (b : Balance). b.running) same ∙ is.running;
+  turns = ap (λ (b : Balance). b.turns) same ∙ is.turns;
+}
+
+-- what is sealed is handed out
+hands_out : (entries : List Entry) (old new : Gate) (s : Sealed) (b : Balance) → HandsOut entries old s new → entries ≡ old.entries → IsHandedOut old.base b.handed →
+    IsHandedOut new.base (b.handed + length s.entries)
+hands_out [] old new s b hands are is =
+    let none = ap (λ (s : Sealed). length s.entries) hands.0 in
+    let same : b.handed ≡ b.handed + length s.entries = omega (arith, none) in
+    subst (λ (g : Gate). IsHandedOut g.base (b.handed + length s.entries)) (sym hands.1) (subst (λ (n : ℕ). IsHandedOut old.base n) same is)
+hands_out (e ∷ later) old new s b hands are is =
+    let count = ap (λ (s : Sealed). length s.entries) hands.0 in
+    let base = hands.1.says.entries in
+    let all = counted (from old.base) old.entries in
+    let some = ap length are in
+    let handed = is.handed_are in
+    record {
+      handed_are = omega (arith, count, base, all, handed);
+      from_start = λ none. absurd (omega (arith, none, base, all, some));
+    }
+
+-- so it is by a seal; one that was refused hands out nothing
+pub seals_out : (old new : Gate) (result : Result Sealed NoMemory) (b : Balance) → Seals old result new → IsHandedOut old.base b.handed →
+    IsHandedOut new.base (b.handed + handed_by result)
+seals_out old new (Ok s) b seals is = hands_out old.entries old new s b seals refl is
+seals_out old new (Err refusal) b stays is =
+    let same : b.handed ≡ b.handed + 0 = omega arith in
+    subst (λ (g : Gate). IsHandedOut g.base (b.handed + 0)) (sym stays) (subst (λ (n : ℕ). IsHandedOut old.base n) same is)
+
+-- no more was handed out by then than there were entries
+pub handed_few : (old new : Gate) (result : Result Sealed NoMemory) (b : Balance) → Seals old result new → IsHandedOut old.base b.handed →
+    b.handed + handed_by result ≤ entry_count (history old)
+handed_few old new (Ok s) b seals is = few old.entries old new s b seals refl is
+  where
+    few : (entries : List Entry) (old new : Gate) (s : Sealed) (b : Balance) → HandsOut entries old s new → entries ≡ old.entries → IsHandedOut old.base b.handed →
+        b.handed + length s.entries ≤ entry_count (history old)
+    few [] old new s b hands are is =
+        let none = ap (λ (s : Sealed). length s.entries) hands.0 in
+        let all = counted (from old.base) old.entries in
+        let handed = is.handed_are in
+        omega (arith, none, all, handed)
+    few (e ∷ later) old new s b hands are is =
+        let count = ap (λ (s : Sealed). length s.entries) hands.0 in
+        let all = counted (from old.base) old.entries in
+        let handed = is.handed_are in
+        omega (arith, count, all, handed)
+handed_few old new (Err refusal) b stays is =
+    let all = counted (from old.base) old.entries in
+    let handed = is.handed_are in
+    omega (arith, all, handed)

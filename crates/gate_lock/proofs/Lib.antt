@@ -5,3 +5,4 @@ pub mod Keeping
 pub mod Merging
 pub mod Replying
 pub mod Starts
+pub mod Whole

@@ -1,17 +1,22 @@
 -- What the book's replies come to where a permit stands.
--- Used by `Round::start` and `Desk::start`, and by `Desk::ask` where memory is refused.
-use Rattle.std.proofs.Common.{◌≡◌, ℕ, Bool, true, false, List, sym}
-use Rattle.std.specs.Prelude.{MatchBool, Err}
+-- Used by `Round::start` and `Desk::start`, and by `Desk::ask_in` and `ask`.
+use Rattle.std.proofs.Common.{◌≡◌, ℕ, Bool, true, false, List, [], ◌∷◌, ◌++◌, sym, ◌∙◌}
+use Rattle.std.specs.Prelude.{MatchBool, Ok, Err}
 use Rattle.std.proofs.lemmas.Bool.{true≢false}
-use Rattle.gate_history.specs.declared.entry.Entry.TheVariants.{StartDenied}
+use Rattle.permit_book.specs.declared.out.Fetch.{Fetch}
+use Rattle.gate_history.specs.declared.entry.Entry.TheVariants.{Granted, StartDenied}
+use Rattle.gate_history.specs.History.{entry_count}
 use Rattle.gate_history.specs.Outstanding.{stands}
 use Rattle.gate_core.specs.declared.refusal.AskRefusal.{AskRefusal}
 use Rattle.gate_core.specs.declared.refusal.AskRefusal.TheVariants as ask
 use Rattle.gate_core.specs.declared.refusal.Denial.{Denial}
 use Rattle.gate_core.specs.Gate.{Adds, Gate, history}
 use Rattle.gate_core.specs.Replies.{Asks, moment_at, Starts}
+use Rattle.gate_lock.specs.declared.mark.Mark.{Mark}
+use Rattle.gate_lock.specs.declared.round.Last.{Last}
 use Rattle.gate_lock.specs.Desks.{DeskView, Looks}
-use Rattle.gate_lock.specs.Results.{is_denial}
+use Rattle.gate_lock.specs.Marks.{mark_at}
+use Rattle.gate_lock.specs.Results.{IsLastEntry, is_denial}
 use Rattle.gate_lock.specs.Steps.{DeskAsks}
 
 -- the arm of a test that holds
@@ -32,3 +37,12 @@ refused d old token url m ask.NoMemory new d2 asks none looks = (asks, looks)
 pub denied : (old new : Gate) (number : ℕ) (token url : List ℕ) (m : ℕ) (d : Denial) → stands (history old) number token url ≡ true →
     Starts old number token url m (Err d) new → Adds old (StartDenied (moment_at old m) number d.cause) new
 denied old new number token url m d out starts = (arm (stands (history old) number token url) _ _ out starts.1).1
+
+-- the mark of a grant, behind the others
+pub granted_mark : (old new : Gate) (token url : List ℕ) (m number : ℕ) (last : Last) (fetch : Fetch) (ms ms2 : List Mark) (mark : Mark) →
+    Asks old token url m (Ok number) new → IsLastEntry new last → fetch ≡ record { token = token; url = url } →
+    mark ≡ mark_at last.place (Granted last.moment number fetch) → ms2 ≡ ms →
+    ms2 ++ mark ∷ [] ≡ ms ++ mark_at (entry_count (history old)) (Granted (moment_at old m) number (record { token = token; url = url })) ∷ []
+granted_mark old new token url m number last fetch ms ms2 mark asks is_last fetched marked same =
+    let at = is_last old _ asks.4 in
+    λ i. same i ++ (marked ∙ (λ j. mark_at (at.0 j) (Granted (at.2 j) number (fetched j)))) i ∷ []

@@ -8,7 +8,7 @@ use Rattle.gate_history.specs.History.{entry_count}
 use Rattle.gate_core.specs.declared.config.Limits.{Limits}
 use Rattle.gate_core.specs.Gate.{Gate, HasLegalHistory, history}
 use Rattle.gate_lock.specs.declared.mark.Mark.{Mark}
-use Rattle.gate_lock.specs.Marks.{AreSealed, Receipt, SealedView, mark_at, nothing_sealed, sealed_with, starts_in}
+use Rattle.gate_lock.specs.Marks.{AreSealed, Receipt, SealedView, mark_at, nothing_sealed, sealed_with, starts_in, with_handed}
 
 -- a permit, or a started fetch that was made: its number, its token and URL, and the desk that must spend it
 pub record Pass : Type 0 where
@@ -28,14 +28,16 @@ pub record Errand : Type 0 where
   pub turn : ℕ
   pub desk : ℕ
 
--- the shares of a desk: its number, how many entries it made, and how many started fetches are among them
+-- the shares of a desk: its number, how many entries it made, how many started fetches are among them, and how many
+-- entries it handed out
 pub record Shares : Type 0 where
   pub no : ℕ
   pub entries : ℕ
   pub starts : ℕ
+  pub handed : ℕ
 
 -- a desk: the limits of its gate; its number; how many entries the history had when it last looked; how many permits, running
--- fetches and turns it must still spend; what it keeps of marks of sealed entries, and the marks behind those
+-- fetches and turns it must still spend; what it keeps of sealed entries, and the marks behind those
 pub record DeskView : Type 0 where
   pub limits : Limits
   pub no : ℕ
@@ -91,6 +93,14 @@ pub record Looks (d : DeskView) (g : Gate) (d2 : DeskView) : Type 0 where
   pub out_is : KeepsOut d d2
   pub marks_are : d2.marks ≡ d.marks
 
+-- the desk handed out so many entries, and all else stays but what it has seen
+abbrev pub HandsOutMore : DeskView → ℕ → DeskView → Type 0
+HandsOutMore d count d2 = d2 ≡ record d { seen = d2.seen; sealed = with_handed d.sealed count }
+
+-- the desk handed out so many entries of a gate, made none, and has seen its history
+abbrev pub Hands : DeskView → Gate → ℕ → DeskView → Type 0
+Hands d g count d2 = HandsOutMore d count d2 × (d2.seen ≡ entry_count (history g))
+
 -- the receipts of a desk, once it is closed
 abbrev pub receipt_of : DeskView → Receipt
 receipt_of d = record { sealed = d.sealed; marks = d.marks }
@@ -99,11 +109,12 @@ receipt_of d = record { sealed = d.sealed; marks = d.marks }
 abbrev pub out_of : DeskView → ℕ
 out_of d = d.permits + d.runs + d.turns
 
--- what is true of every desk: its shares count its marks; it made no more entries than it has seen; and there
+-- what is true of every desk: its shares count its marks, and what it handed out; it made no more entries than it has seen; and there
 -- is room for the marks of what it must still spend, two for each permit and one for each run and turn
 pub record IsDesk (seen permits runs turns : ℕ) (sealed : SealedView) (marks : List Mark) (shares : Shares) (room : ℕ) : Type 0 where
   pub entries_are : shares.entries ≡ length sealed.places + length marks
   pub starts_are : shares.starts ≡ sealed.starts + starts_in marks
+  pub handed_are : shares.handed ≡ sealed.handed
   pub few : length sealed.places + length marks ≤ seen
   pub fits : length marks + (2 * permits + runs + turns) ≤ room
 

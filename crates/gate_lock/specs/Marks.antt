@@ -14,18 +14,24 @@ abbrev pub starts_in : List Mark → ℕ
 starts_in [] = 0
 starts_in (m ∷ ms) = (if is_start m.entry then 1 else 0) + starts_in ms
 
--- what is kept of marks of sealed entries: their places, and how many are started fetches
+-- what a desk keeps of sealed entries: the places of those that it made, how many of these are started fetches, and how
+-- many entries it handed out, of whatever desk
 pub record SealedView : Type 0 where
   pub places : List ℕ
   pub starts : ℕ
+  pub handed : ℕ
 
 -- nothing
 abbrev pub nothing_sealed : SealedView
-nothing_sealed = record { places = []; starts = 0 }
+nothing_sealed = record { places = []; starts = 0; handed = 0 }
 
 -- what is kept with these marks besides
 abbrev pub sealed_with : SealedView → List Mark → SealedView
-sealed_with s ms = record { places = s.places ++ map (λ m. m.place) ms; starts = s.starts + starts_in ms }
+sealed_with s ms = record { places = s.places ++ map (λ m. m.place) ms; starts = s.starts + starts_in ms; handed = s.handed }
+
+-- what is kept once so many entries more were handed out
+abbrev pub with_handed : SealedView → ℕ → SealedView
+with_handed s count = record { places = s.places; starts = s.starts; handed = s.handed + count }
 
 -- the receipts of a desk: what is kept of marks of sealed entries, and the marks behind those
 pub record Receipt : Type 0 where
@@ -44,6 +50,11 @@ starts_of r = r.sealed.starts + starts_in r.marks
 abbrev pub starts_of_all : List Receipt → ℕ
 starts_of_all [] = 0
 starts_of_all (r ∷ rs) = starts_of r + starts_of_all rs
+
+-- how many entries were handed out at all desks
+abbrev pub handed_at_all : List Receipt → ℕ
+handed_at_all [] = 0
+handed_at_all (r ∷ rs) = r.sealed.handed + handed_at_all rs
 
 -- each of the places is one of so many
 abbrev pub AreSealed : ℕ → List ℕ → Type 0

@@ -3,13 +3,15 @@
 use Rattle.std.specs.Prelude.{◌≡◌, ℕ, ◌+◌, ◌-◌, ◌<◌, ◌≤◌, List, [], ◌∷◌, length, map, Ok, Err, Result, Some}
 use Rattle.std.specs.List.{slice_get}
 use Rattle.gate_history.specs.declared.entry.Entry.{Entry}
-use Rattle.gate_history.specs.History.{History, entry_count, started_count}
+use Rattle.gate_history.specs.Base.{empty_base}
+use Rattle.gate_history.specs.History.{History, entry_count, followed_by, from, started_count}
+use Rattle.gate_history.specs.Legal.{IsLegal}
 use Rattle.gate_history.specs.Outstanding.{running, unspent}
 use Rattle.gate_history.specs.Segment.{Sealed}
 use Rattle.gate_history.specs.Standing.{in_flight}
 use Rattle.gate_core.specs.Gate.{Gate, HasLegalHistory, history}
 use Rattle.gate_lock.specs.declared.mark.Mark.{Mark}
-use Rattle.gate_lock.specs.Marks.{AreSealed, Receipt, places_of, starts_of_all}
+use Rattle.gate_lock.specs.Marks.{AreSealed, Receipt, handed_at_all, places_of, starts_of_all}
 use Rattle.gate_lock.specs.Places.{Ascend, EachOnce}
 use Rattle.gate_lock.specs.declared.settlement.Settled.{Settled}
 use Rattle.gate_lock.specs.declared.settlement.SettleFault.{SettleFault}
@@ -42,10 +44,12 @@ pub record MarksFit (sealed : ℕ) (entries : List Entry) (rs : List Receipt) : 
   pub each : EachFits sealed entries rs
   pub once : EachOnce (sealed + length entries) (map places_of rs)
 
--- the receipts are the gate's history: they fit it, and as many of their marks are started fetches as it has
+-- the receipts are the gate's history: they fit it, as many of their marks are started fetches as it has, and what was
+-- sealed was handed out at their desks
 pub record AreHistory (g : Gate) (rs : List Receipt) : Type 0 where
   pub fit : MarksFit g.base.entries g.entries rs
   pub starts : starts_of_all rs ≡ started_count (history g)
+  pub handed : handed_at_all rs ≡ g.base.entries
 
 -- the mark is the entry at its place, where that is one of these, before which so many were sealed
 abbrev pub AgreesFrom : ℕ → List Entry → Mark → Type 0
@@ -79,6 +83,20 @@ IsUnsettled g rs NoMemory = NothingOut (history g)
 abbrev pub Settles : Gate → List Receipt → Result Settled SettleFault → Type 0
 Settles g rs (Ok s) = IsSettled g rs s
 Settles g rs (Err fault) = IsUnsettled g rs fault
+
+-- receipts tell a whole history by themselves: it begins with nothing, is legal and leaves nothing out; each of its
+-- entries is a mark, at its place; and what was settled are its numbers
+pub record IsWhole (rs : List Receipt) (s : Settled) : Type 0 where
+  pub entries : List Entry
+  pub legal : IsLegal (followed_by (from empty_base) entries)
+  pub nothing_out : NothingOut (followed_by (from empty_base) entries)
+  pub fit : MarksFit 0 entries rs
+  pub events_are : s.events ≡ length entries
+  pub starts_are : s.starts ≡ started_count (followed_by (from empty_base) entries)
+
+-- they do, where nothing was handed out
+abbrev pub IsWholeUnlessSealed : List Receipt → Settled → Type 0
+IsWholeUnlessSealed rs s = handed_at_all rs ≡ 0 → IsWhole rs s
 
 -- that of some gate that the lock kept, whose history is legal
 abbrev pub SettlesSome : List Receipt → Result Settled SettleFault → Type 0

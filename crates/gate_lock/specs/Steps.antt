@@ -1,6 +1,6 @@
 -- What each call of a desk does: it makes the book's call of the same name, and what that replies is its
 -- reply; an entry that it makes is the desk's. The contracts of the desk.
-use Rattle.std.specs.Prelude.{◌≡◌, ℕ, true, List, Result, Ok, Err}
+use Rattle.std.specs.Prelude.{◌≡◌, ℕ, true, List, length, Result, Ok, Err}
 use Rattle.authority_cache.specs.Lives.{Timed}
 use Rattle.gate_history.specs.declared.entry.Entry.TheVariants.{Begun, Arrived, Granted, AskDenied, Started, StartDenied, Returned, Finished, Swept}
 use Rattle.gate_history.specs.Outstanding.{stands}
@@ -16,7 +16,7 @@ use Rattle.gate_core.specs.Gate.{Gate, history}
 use Rattle.gate_core.specs.Replies.{Arrives, Asks, Begins, Finishes, moment_at, Returns, Starts, Sweeps}
 use Rattle.gate_core.specs.Sealing.{Seals}
 use Rattle.gate_core.specs.States.{IsState}
-use Rattle.gate_lock.specs.Desks.{DeskView, Errand, IsGateOf, Looks, Makes, Pass, Run}
+use Rattle.gate_lock.specs.Desks.{DeskView, Errand, Hands, IsGateOf, Looks, Makes, Pass, Run}
 
 -- a step of a desk at some gate that its lock kept
 abbrev pub Somewhere : DeskView → (Gate → Gate → Type 0) → Type 0
@@ -72,9 +72,14 @@ abbrev pub DeskSweeps : DeskView → Gate → ℕ → Result ℕ SweepRefusal �
 DeskSweeps d old m (Ok count) new d2 = Sweeps old m (Ok count) new × Makes d old (Swept (moment_at old m) count) d2
 DeskSweeps d old m (Err refusal) new d2 = Sweeps old m (Err refusal) new × Looks d old d2
 
--- seal: the entries since the last seal are handed out with what they follow, and none is made
+-- how many entries a seal hands out
+abbrev pub handed_by : Result Sealed NoMemory → ℕ
+handed_by (Ok sealed) = length sealed.entries
+handed_by (Err refusal) = 0
+
+-- seal: the entries since the last seal are handed out with what they follow, which the desk counts, and none is made
 abbrev pub DeskSeals : DeskView → Gate → Result Sealed NoMemory → Gate → DeskView → Type 0
-DeskSeals d old result new d2 = Seals old result new × Looks d old d2
+DeskSeals d old result new d2 = Seals old result new × Hands d old (handed_by result) d2
 
 -- state: what is known of an authority; nothing changes
 abbrev pub DeskReads : DeskView → Gate → List ℕ → ℕ → State → Gate → DeskView → Type 0

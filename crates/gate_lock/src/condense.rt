@@ -27,7 +27,7 @@ impl<'a, G: Gate> Desk<'a, G> {
         let sealed = {
             let held = self.lend(rt);
             self.seen = held.guard.entry_count();
-            held.book().base().entries()
+            held.sealed_count()
         };
         let count = count_below(self.marks.as_slice(), sealed);
         if count >= self.marks.len().div_ceil(2) {

@@ -1,11 +1,11 @@
-//! The five ledgers of a gate: what each desk and each value that must be spent counts for.
+//! The six ledgers of a gate: what each desk and each value that must be spent counts for.
 //! Each is a type, so that no value of one gate is taken for one of another.
 
 use std::marker::{Brand, Model, PhantomData};
 use std::sync::ledger::{Blank, Ledger};
 
-/// A gate, as a type: it names the ledgers by which its entries, its started fetches, its unspent
-/// permits, its running fetches and its turns in flight are counted.
+/// A gate, as a type: it names the ledgers by which its entries, its started fetches, the entries that were handed out,
+/// its unspent permits, its running fetches and its turns in flight are counted.
 pub trait Gate {
     ghost use Rattle.gate_lock.specs.Balance.{Ledgers};
 
@@ -23,6 +23,7 @@ impl Gate for Brand {
 pub struct Blanks {
     pub(crate) entries: Blank,
     pub(crate) starts: Blank,
+    pub(crate) handed: Blank,
     pub(crate) unspent: Blank,
     pub(crate) running: Blank,
     pub(crate) turns: Blank,
@@ -37,13 +38,15 @@ impl Model for Blanks {
     ghost view = { λ blanks. record {
       entries = blanks.entries.name;
       starts = blanks.starts.name;
+      handed = blanks.handed.name;
       unspent = blanks.unspent.name;
       running = blanks.running.name;
       turns = blanks.turns.name;
     } };
 
     ghost invariant = { λ blanks. (blanks.entries.parts ≡ all_desk_parts)
-        × (blanks.starts.parts ≡ all_desk_parts) × (blanks.unspent.parts ≡ all_out_parts)
+        × (blanks.starts.parts ≡ all_desk_parts) × (blanks.handed.parts ≡ all_desk_parts)
+        × (blanks.unspent.parts ≡ all_out_parts)
         × (blanks.running.parts ≡ all_out_parts) × (blanks.turns.parts ≡ all_out_parts) };
 }
 
@@ -53,6 +56,7 @@ impl Blanks {
         Blanks {
             entries: Blank::new(65_537),
             starts: Blank::new(65_537),
+            handed: Blank::new(65_537),
             unspent: Blank::new(1_099_511_627_776),
             running: Blank::new(1_099_511_627_776),
             turns: Blank::new(1_099_511_627_776),
@@ -82,6 +86,19 @@ impl<G: Gate> Ledger for StartLedger<G> {
     ghost use Rattle.gate_lock.specs.Balance.{all_desk_parts};
 
     ghost name = { G.ledgers.starts };
+
+    ghost parts = { all_desk_parts };
+}
+
+// Counts the entries that were handed out, alike.
+pub(crate) struct HandedLedger<G> {
+    gate: PhantomData<G>,
+}
+
+impl<G: Gate> Ledger for HandedLedger<G> {
+    ghost use Rattle.gate_lock.specs.Balance.{all_desk_parts};
+
+    ghost name = { G.ledgers.handed };
 
     ghost parts = { all_desk_parts };
 }

@@ -54,10 +54,18 @@ impl<'a, G: Gate> Held<'a, G> {
     pub fn book(&self) -> &Book
         ensures value { result.now ≡ self.now }
         ensures legal { HasLegalHistory self.now }
+        ensures start { self.now.base.entries ≡ 0 → self.now.base ≡ empty_base }
     {
         let book = self.guard.book();
         let _legal = book.history();
         book
+    }
+
+    /// How many entries of the gate were sealed.
+    pub fn sealed_count(&self) -> u64
+        ensures { result ≡ self.now.base.entries }
+    {
+        self.book().base().entries()
     }
 }
 

@@ -1,7 +1,7 @@
 //! What a desk keeps of each entry that it made: a mark, and of an entry that was sealed its place alone.
 ghost use Rattle.std.specs.Prelude.{◌≡◌, ◌+◌, ◌^◌, ◌<◌, ◌≤◌, ◌++◌, drop, length, map, OnErr, OnOk, take, vec_capacity};
 ghost use Rattle.gate_history.specs.History.{is_start};
-ghost use Rattle.gate_lock.specs.Marks.{AreSealed, nothing_sealed, sealed_with, starts_in};
+ghost use Rattle.gate_lock.specs.Marks.{AreSealed, nothing_sealed, sealed_with, starts_in, with_handed};
 
 use gate_history::Entry;
 use std::alloc::{AllocError, Global};
@@ -16,11 +16,12 @@ pub struct Mark {
     pub entry: Entry,
 }
 
-/// What is kept of marks whose entries were sealed: eight octets each, and no policy.
+/// What a desk keeps of sealed entries: of its own eight octets each, and no policy; and how many it handed out.
 #[derive(Drop)]
 pub struct SealedMarks {
     places: Vec<u64>,
     starts: u64,
+    handed: u64,
 }
 
 impl Model for SealedMarks {
@@ -32,6 +33,7 @@ impl Model for SealedMarks {
     ghost view = { λ sealed. record {
       places = sealed.places.items;
       starts = sealed.starts;
+      handed = sealed.handed;
     } };
 
     ghost invariant = { λ sealed. sealed.starts ≤ length sealed.places.items };
@@ -45,6 +47,7 @@ impl SealedMarks {
         SealedMarks {
             places: Vec::new(alloc),
             starts: 0,
+            handed: 0,
         }
     }
 
@@ -62,6 +65,21 @@ impl SealedMarks {
     {
         let _few = self.places.len();
         self.starts
+    }
+
+    /// How many entries the desk handed out, of whatever desk.
+    pub fn handed(&self) -> u64
+        ensures { result ≡ self.now.handed }
+    {
+        self.handed
+    }
+
+    // So many entries more were handed out.
+    pub(crate) fn hand(&mut self, count: u64)
+        requires { self.old.handed + count < 2 ^ 64 }
+        ensures { self.new ≡ with_handed self.old count }
+    {
+        self.handed += count;
     }
 
     // Takes in the first of the marks, which end with it. Where memory is refused nothing changes.

@@ -33,7 +33,8 @@ impl<G: Gate> Model for Receipts<G> {
 
     ghost invariant = { λ receipts.
         (receipts.mine.entries ≡ length receipts.sealed.places + length receipts.marks.items)
-        × (receipts.mine.starts ≡ receipts.sealed.starts + starts_in receipts.marks.items) };
+        × (receipts.mine.starts ≡ receipts.sealed.starts + starts_in receipts.marks.items)
+        × (receipts.mine.handed ≡ receipts.sealed.handed) };
 }
 
 impl<G: Gate> Drop for Receipts<G> {
@@ -47,12 +48,13 @@ impl<G: Gate> Drop for Receipts<G> {
             no: _,
             entries: _,
             starts: _,
+            handed: _,
         } = mine;
     }
 }
 
 impl<G: Gate> Receipts<G> {
-    /// What the desk kept of marks of sealed entries, which were before the others.
+    /// What the desk kept of sealed entries, which were before the others.
     pub fn sealed(&self) -> &SealedMarks
         ensures { result.now ≡ self.now.sealed }
     {

@@ -1,6 +1,6 @@
 //! What lies under the lock: the book, and the ledgers that count what is out.
 //! Each change is one call of the book with the shares that it moves; RFC 9309, sections 2.3.1 and 2.4.
-ghost use Rattle.std.specs.Prelude.{◌≡◌, ◌+◌, ◌<◌, [], Err, IfOk, IfSome, length, List, Ok, true, false, ℕ};
+ghost use Rattle.std.specs.Prelude.{◌≡◌, ◌+◌, ◌^◌, ◌<◌, [], Err, IfOk, IfSome, length, List, Ok, OnOk, true, false, ℕ};
 ghost use Rattle.gate_history.specs.Base.{empty_base};
 ghost use Rattle.gate_history.specs.History.{entry_count, moment_of};
 ghost use Rattle.gate_history.specs.declared.entry.Entry.TheVariants.{AskDenied, Granted};
@@ -12,6 +12,7 @@ ghost use Rattle.gate_core.specs.Sealing.{Seals};
 ghost use Rattle.gate_core.specs.Replies.{Arrives, Asks, Begins, Finishes, Returns, Starts, Sweeps};
 ghost use Rattle.gate_lock.specs.Balance.{nothing_counted};
 ghost use Rattle.gate_lock.specs.Marks.{mark_at};
+ghost use Rattle.gate_lock.specs.Steps.{handed_by};
 ghost use Rattle.gate_lock.specs.Results.{IsLastEntry, entries_of_ask, entries_of_ok, is_denial, reply_in};
 
 use crate::ledgers::{Gate, RunningLedger, TurnLedger, UnspentLedger};
@@ -78,13 +79,14 @@ pub(crate) struct Round<G: Gate> {
 
 impl<G: Gate> Model for Round<G> {
     ghost use Rattle.gate_core.specs.Gate.{Gate, history};
-    ghost use Rattle.gate_lock.specs.Balance.{IsBalanceOf};
+    ghost use Rattle.gate_lock.specs.Balance.{IsBalanceOf, IsHandedOut};
 
     ghost Value = { Gate };
 
     ghost view = { λ round. round.book };
 
-    ghost invariant = { λ round. IsBalanceOf (history round.book) round.tally };
+    ghost invariant = { λ round. IsBalanceOf (history round.book) round.tally
+        × IsHandedOut round.book.base round.tally.handed };
 }
 
 impl<G: Gate> Round<G> {
@@ -97,9 +99,10 @@ impl<G: Gate> Round<G> {
         Round { book, tally }
     }
 
-    // The book.
+    // The book. Where nothing was sealed of it, it began with nothing.
     pub fn book(&self) -> &Book
-        ensures { result.now ≡ self.now }
+        ensures value { result.now ≡ self.now }
+        ensures start { self.now.base.entries ≡ 0 → self.now.base ≡ empty_base }
     {
         &self.book
     }
@@ -108,7 +111,7 @@ impl<G: Gate> Round<G> {
     pub fn desk(&mut self) -> Result<Mine<G>, DesksFull>
         ensures same { self.new ≡ self.old }
         ensures share { IfOk result
-            (λ mine. mine ≡ record { no = mine.no; entries = 0; starts = 0 }) }
+            (λ mine. mine ≡ record { no = mine.no; entries = 0; starts = 0; handed = 0 }) }
     {
         self.tally.desk()
     }
@@ -285,11 +288,23 @@ impl<G: Gate> Round<G> {
         }
     }
 
-    // Makes the book's seal.
-    pub fn seal(&mut self) -> Result<Segment, NoMemory>
-        ensures { Seals self.old result self.new }
+    // Makes the book's seal, and counts for the desk what is handed out.
+    pub fn seal(&mut self, mine: &mut Mine<G>) -> Result<Segment, NoMemory>
+        ensures reply { Seals self.old result self.new }
+        ensures share { mine.new ≡ record mine.old {
+          handed = mine.old.handed + handed_by result;
+        } }
+        ensures bound { OnOk result (mine.new.handed < 2 ^ 64) }
     {
-        self.book.seal()
+        no_later_entry_closes();
+        let _count = self.book.entry_count();
+        match self.book.seal() {
+            Ok(segment) => {
+                self.tally.hand(mine, segment.entries().len() as u64);
+                Ok(segment)
+            }
+            Err(refusal) => Err(refusal),
+        }
     }
 
     // The share of a permit shows that a permit is unspent.

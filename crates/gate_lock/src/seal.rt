@@ -1,10 +1,10 @@
 //! `Desk::seal`: the entries since the last seal are handed out.
 //! RFC 9309, sections 2.3.1 and 2.4: what they left open goes on to hold.
-ghost use Rattle.std.specs.Prelude.{◌≡◌, ◌≤◌};
+ghost use Rattle.std.specs.Prelude.{◌≤◌};
 ghost use Rattle.gate_history.specs.History.{entry_count};
 ghost use Rattle.gate_core.specs.Gate.{history};
-ghost use Rattle.gate_lock.specs.Desks.{KeepsOut};
-ghost use Rattle.gate_lock.specs.Steps.{DeskSeals, Somewhere};
+ghost use Rattle.gate_lock.specs.Desks.{HandsOutMore};
+ghost use Rattle.gate_lock.specs.Steps.{DeskSeals, Somewhere, handed_by};
 
 use crate::desk::Desk;
 use crate::ledgers::Gate;
@@ -17,12 +17,12 @@ use std::sync::Wait;
 impl<'a, G: Gate> Desk<'a, G> {
     /// Hands out the entries of the gate since the last seal, of whatever desk, with what they follow. The gate
     /// goes on from what they left open; its places, and what is out, stay as they are. No desk makes an
-    /// entry, and no moment is brought. Where memory is refused nothing changes.
+    /// entry, and no moment is brought. Where memory is refused nothing changes. This desk counts what it
+    /// handed out, so a gate that was sealed is settled only with the receipts of the desks that sealed it.
     pub fn seal<R: Wait>(&mut self, rt: &R) -> Result<Segment, NoMemory>
         ensures step { Somewhere self.old
             (λ old new. DeskSeals self.old old result new self.new) }
-        ensures no { self.new.no ≡ self.old.no }
-        ensures out { KeepsOut self.old self.new }
+        ensures hands { HandsOutMore self.old (handed_by result) self.new }
     {
         let mut held = self.lend(rt);
         self.seal_in(&mut held)
@@ -34,6 +34,8 @@ impl<'a, G: Gate> Desk<'a, G> {
         ensures { DeskSeals self.old held.old result held.new self.new }
     {
         self.seen = held.guard.entry_count();
-        held.guard.seal()
+        let segment = held.guard.seal(&mut self.mine)?;
+        self.sealed.hand(segment.entries().len() as u64);
+        Ok(segment)
     }
 }

@@ -2,13 +2,13 @@
 //! Nothing is out, and the receipts are the whole history; RFC 9309 has none of it.
 ghost use Rattle.std.specs.Prelude.{◌≡◌, IfOk};
 ghost use Rattle.gate_lock.specs.Marks.{starts_of_all};
-ghost use Rattle.gate_lock.specs.Settling.{Settles, SettlesSome};
+ghost use Rattle.gate_lock.specs.Settling.{IsWholeUnlessSealed, Settles, SettlesSome};
 
 use crate::fit::marks_fit;
 use crate::ledgers::Gate;
 use crate::lock::{GateLock, Held};
 use crate::receipts::Receipts;
-use crate::started::has_starts;
+use crate::started::{has_handed, has_starts};
 use std::alloc::{AllocError, Global};
 use std::sync::Wait;
 
@@ -26,7 +26,8 @@ pub struct Settled {
 pub enum SettleFault {
     /// An unspent permit, a running fetch or a turn is out.
     StillOut,
-    /// The receipts are not the history: some are missing, or are those of another gate.
+    /// The receipts are not the history: some are missing, those of a desk that sealed it among them, or are those of
+    /// another gate.
     Mismatch,
     /// A growth of memory was refused.
     NoMemory,
@@ -53,8 +54,10 @@ pub fn settle<G: Gate, R: Wait>(
 ) -> Result<Settled, SettleFault>
     ensures settles { SettlesSome all.now result }
     ensures starts { IfOk result (λ settled. settled.starts ≡ starts_of_all all.now) }
+    ensures whole { IfOk result (IsWholeUnlessSealed all.now) }
 {
     let held = gate.lend(rt);
+    let _book = held.book();
     settle_in(alloc, &held, all)
 }
 
@@ -73,7 +76,11 @@ pub fn settle_in<G: Gate>(
     }
     let events = book.entry_count();
     let starts = book.started_count();
-    if !marks_fit(alloc, book.base().entries(), book.history(), all)? || !has_starts(all, starts) {
+    let sealed = book.base().entries();
+    if !marks_fit(alloc, sealed, book.history(), all)?
+        || !has_starts(all, starts)
+        || !has_handed(all, sealed)
+    {
         return Err(SettleFault::Mismatch);
     }
     Ok(Settled { events, starts })

@@ -1,7 +1,7 @@
 //! Shares of the ledgers as desks and values have them.
 //! They take no memory, and only proofs see what they count.
 
-use crate::ledgers::{EntryLedger, Gate, StartLedger};
+use crate::ledgers::{EntryLedger, Gate, HandedLedger, StartLedger};
 use std::marker::Model;
 use std::sync::ledger::{Ledger, Share};
 
@@ -21,11 +21,13 @@ impl<L: Ledger> Model for One<L> {
 }
 
 // The shares of a desk, with the number that it got with them. A clause sees how many entries and started
-// fetches they count. They have no `Drop`: what is made of a book by a desk must be seen in its marks.
+// fetches they count, and how many entries were handed out. They have no `Drop`: what is made of a book by a
+// desk must be seen in its marks.
 pub(crate) struct Mine<G: Gate> {
     pub no: u64,
     pub entries: Share<EntryLedger<G>>,
     pub starts: Share<StartLedger<G>>,
+    pub handed: Share<HandedLedger<G>>,
 }
 
 impl<G: Gate> Model for Mine<G> {
@@ -38,7 +40,9 @@ impl<G: Gate> Model for Mine<G> {
       no = mine.no;
       entries = mine.entries.amount;
       starts = mine.starts.amount;
+      handed = mine.handed.amount;
     } };
 
-    ghost invariant = { λ mine. (mine.entries.parts ≡ 1) × (mine.starts.parts ≡ 1) };
+    ghost invariant = { λ mine. (mine.entries.parts ≡ 1) × (mine.starts.parts ≡ 1)
+        × (mine.handed.parts ≡ 1) };
 }

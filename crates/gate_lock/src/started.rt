@@ -1,6 +1,6 @@
-//! Whether the marks of receipts have as many started fetches as a history.
+//! Whether receipts have as many started fetches as a history, and handed out what was sealed of it.
 ghost use Rattle.std.specs.Prelude.{◌≡◌, ◌↔◌, IsTrue};
-ghost use Rattle.gate_lock.specs.Marks.{starts_of_all};
+ghost use Rattle.gate_lock.specs.Marks.{handed_at_all, starts_of_all};
 
 use crate::ledgers::Gate;
 use crate::receipts::Receipts;
@@ -17,6 +17,23 @@ pub(crate) fn has_starts<G: Gate>(all: &[Receipts<G>], count: u64) -> bool
             return false;
         }
         left -= starts;
+        rest = after;
+    }
+    left == 0
+}
+
+// Whether so many entries were handed out at all desks.
+pub(crate) fn has_handed<G: Gate>(all: &[Receipts<G>], count: u64) -> bool
+    ensures { IsTrue result ↔ (handed_at_all all.now ≡ count) }
+{
+    let mut left = count;
+    let mut rest = all;
+    while let [receipts, after @ ..] = rest {
+        let handed = receipts.sealed().handed();
+        if left < handed {
+            return false;
+        }
+        left -= handed;
         rest = after;
     }
     left == 0

@@ -1,10 +1,10 @@
 //! The ledgers of a gate with their totals, and what is left of them to hand out.
 //! They take no memory: a share is a value of no octets, and only proofs see its amount.
-ghost use Rattle.std.specs.Prelude.{◌≡◌, ◌+◌, ◌<◌, IfOk, OnErr};
+ghost use Rattle.std.specs.Prelude.{◌≡◌, ◌+◌, ◌<◌, ◌≤◌, IfOk, OnErr};
 ghost use Rattle.gate_lock.specs.Balance.{Loses, all_out_parts, most_desks, nothing_counted};
 
 use crate::ledgers::{
-    Blanks, EntryLedger, Gate, RunningLedger, StartLedger, TurnLedger, UnspentLedger,
+    Blanks, EntryLedger, Gate, HandedLedger, RunningLedger, StartLedger, TurnLedger, UnspentLedger,
 };
 use crate::shares::{Mine, One};
 use std::marker::Model;
@@ -22,11 +22,13 @@ pub struct DesksFull;
 pub(crate) struct Tally<G: Gate> {
     entries: Book<EntryLedger<G>>,
     starts: Book<StartLedger<G>>,
+    handed: Book<HandedLedger<G>>,
     unspent: Book<UnspentLedger<G>>,
     running: Book<RunningLedger<G>>,
     turns: Book<TurnLedger<G>>,
     entry_parts: Share<EntryLedger<G>>,
     start_parts: Share<StartLedger<G>>,
+    handed_parts: Share<HandedLedger<G>>,
     unspent_parts: Share<UnspentLedger<G>>,
     running_parts: Share<RunningLedger<G>>,
     turn_parts: Share<TurnLedger<G>>,
@@ -42,6 +44,7 @@ impl<G: Gate> Model for Tally<G> {
     ghost view = { λ t. record {
       entries = t.entries.total;
       starts = t.starts.total;
+      handed = t.handed.total;
       unspent = t.unspent.total;
       running = t.running.total;
       turns = t.turns.total;
@@ -49,10 +52,11 @@ impl<G: Gate> Model for Tally<G> {
     } };
 
     ghost invariant = { λ t. AreParts t.desks t.entry_parts.parts t.start_parts.parts
-        t.unspent.total t.unspent_parts.parts t.running.total t.running_parts.parts
+        t.handed_parts.parts t.unspent.total t.unspent_parts.parts t.running.total t.running_parts.parts
         t.turns.total t.turn_parts.parts
-        × (t.entry_parts.amount ≡ 0) × (t.start_parts.amount ≡ 0) × (t.unspent_parts.amount ≡ 0)
-        × (t.running_parts.amount ≡ 0) × (t.turn_parts.amount ≡ 0) };
+        × (t.entry_parts.amount ≡ 0) × (t.start_parts.amount ≡ 0) × (t.handed_parts.amount ≡ 0)
+        × (t.unspent_parts.amount ≡ 0) × (t.running_parts.amount ≡ 0)
+        × (t.turn_parts.amount ≡ 0) };
 }
 
 impl<G: Gate> Tally<G> {
@@ -64,23 +68,27 @@ impl<G: Gate> Tally<G> {
         let Blanks {
             entries,
             starts,
+            handed,
             unspent,
             running,
             turns,
         } = blanks;
         let (entries, entry_parts) = entries.open::<EntryLedger<G>>();
         let (starts, start_parts) = starts.open::<StartLedger<G>>();
+        let (handed, handed_parts) = handed.open::<HandedLedger<G>>();
         let (unspent, unspent_parts) = unspent.open::<UnspentLedger<G>>();
         let (running, running_parts) = running.open::<RunningLedger<G>>();
         let (turns, turn_parts) = turns.open::<TurnLedger<G>>();
         Tally {
             entries,
             starts,
+            handed,
             unspent,
             running,
             turns,
             entry_parts,
             start_parts,
+            handed_parts,
             unspent_parts,
             running_parts,
             turn_parts,
@@ -91,7 +99,12 @@ impl<G: Gate> Tally<G> {
     // The shares of one more desk, which is numbered from 1.
     pub fn desk(&mut self) -> Result<Mine<G>, DesksFull>
         ensures ok { IfOk result
-            (λ mine. (mine ≡ record { no = self.old.desks + 1; entries = 0; starts = 0 })
+            (λ mine. (mine ≡ record {
+              no = self.old.desks + 1;
+              entries = 0;
+              starts = 0;
+              handed = 0;
+            })
             × (self.new ≡ record self.old { desks = self.old.desks + 1 })) }
         ensures full { OnErr result ((self.old.desks ≡ most_desks) × (self.new ≡ self.old)) }
     {
@@ -101,10 +114,12 @@ impl<G: Gate> Tally<G> {
         self.desks += 1;
         let entries = self.entry_parts.split_off(1, 0);
         let starts = self.start_parts.split_off(1, 0);
+        let handed = self.handed_parts.split_off(1, 0);
         Ok(Mine {
             no: self.desks,
             entries,
             starts,
+            handed,
         })
     }
 
@@ -114,6 +129,16 @@ impl<G: Gate> Tally<G> {
         ensures share { mine.new ≡ record mine.old { entries = mine.old.entries + 1 } }
     {
         self.entries.add(&mut mine.entries, 1);
+    }
+
+    // So many entries are handed out, by a desk. It has handed out no more than were.
+    pub fn hand(&mut self, mine: &mut Mine<G>, count: u64)
+        ensures total { self.new ≡ record self.old { handed = self.old.handed + count } }
+        ensures share { mine.new ≡ record mine.old { handed = mine.old.handed + count } }
+        ensures bound { mine.new.handed ≤ self.new.handed }
+    {
+        self.handed.add(&mut mine.handed, count);
+        self.handed.audit(&mut mine.handed);
     }
 
     // One more unspent permit, and its share.

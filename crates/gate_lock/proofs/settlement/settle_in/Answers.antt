@@ -10,4 +10,4 @@ pub marks_fit-requires : goal.marks_fit-requires
 marks_fit-requires g c =
     let book = c.book-book.result.now in
     let n = counted (from book.base) book.entries in
-    omega (arith, n, c.entry_count-events.ensures, c.entry_count-events.type_inv, c.entries.ensures, ap (λ (base : Base). base.entries) c.base.ensures, ap length c.history.ensures.entries)
+    omega (arith, n, c.entry_count-events.ensures, c.entry_count-events.type_inv, c.entries-sealed.ensures, ap (λ (base : Base). base.entries) c.base.ensures, ap length c.history.ensures.entries)

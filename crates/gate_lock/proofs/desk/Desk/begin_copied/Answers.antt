@@ -8,6 +8,7 @@ pub invariant_of-self-in-Ok : goal.invariant_of-self-in-Ok
 invariant_of-self-in-Ok g c = record {
   entries_are = grind (arith, common_steps);
   starts_are = grind (arith, common_steps, starts_in_push);
+  handed_are = grind (arith, common_steps);
   few = grind (arith, common_steps);
   fits = grind (arith, common_steps);
 }

@@ -1,17 +1,17 @@
 -- As many marks are kept, one way or the other.
 -- The lemmas of `Condensing` say so.
 use Rattle.std.proofs.Common.{◌≤◌, map, take, refl, ap, sym, ◌∙◌, arith, rules}
-use Rattle.gate_lock.specs.Marks.{AreSealed, sealed_with}
+use Rattle.gate_lock.specs.Marks.{AreSealed, SealedView, sealed_with}
 use Rattle.gate_lock.specs.Desks.{DeskView}
 use Rattle.gate_lock.proofs.Condensing.{keeps_count, taken_in}
 use Rattle.gate_lock.proofs.desk.Desk.condense.Goals as goal
 
 pub invariant_of-self : goal.invariant_of-self
 invariant_of-self g c =
-    let below : AreSealed c.entries-sealed.result (map (λ m. m.place) (take c.count_below-count.result c.self.inside.marks.items)) = search rules in
-    let taken = taken_in c.take_in.result c.entries-sealed.result c.count_below-count.result c.self.inside.sealed c.take_in.new.self
+    let below : AreSealed c.sealed_count-sealed.result (map (λ m. m.place) (take c.count_below-count.result c.self.inside.marks.items)) = search rules in
+    let taken = taken_in c.take_in.result c.sealed_count-sealed.result c.count_below-count.result c.self.inside.sealed c.take_in.new.self
     c.self.inside.marks.items c.take_in.new.marks.items c.take_in.ensures.ok c.take_in.ensures.err below in
-    let keeps = keeps_count c.entries-sealed.result c.self.inside.sealed c.take_in.new.self c.self.inside.marks.items c.take_in.new.marks.items taken in
+    let keeps = keeps_count c.sealed_count-sealed.result c.self.inside.sealed c.take_in.new.self c.self.inside.marks.items c.take_in.new.marks.items taken in
     let count = keeps.0 in
     let starts = keeps.1 in
     let fewer = keeps.2 in
@@ -24,6 +24,7 @@ invariant_of-self g c =
     record {
       entries_are = omega (arith, entries_are, count);
       starts_are = omega (arith, starts_are, starts);
+      handed_are = c.self.invariant.handed_are ∙ sym (ap (λ (s : SealedView). s.handed) taken.sealed_are);
       few = omega (arith, few, seen, count);
       fits = omega (arith, fits, room, fewer);
     }

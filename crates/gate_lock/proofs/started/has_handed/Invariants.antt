@@ -1,0 +1,10 @@
+-- What is left of the count is for what is left of the lists.
+use Rattle.std.proofs.Common.{◌≡◌, ◌+◌, length}
+use Rattle.gate_lock.specs.Marks.{handed_at_all}
+use Rattle.gate_lock.proofs.started.has_handed.Given as goal
+
+abbrev pub invariant-loop-rest : goal.invariant-loop-rest
+invariant-loop-rest g l = l.left + handed_at_all l.all ≡ l.count + handed_at_all l.rest
+
+abbrev pub decreases-loop-rest : goal.decreases-loop-rest
+decreases-loop-rest g l = length l.rest
