@@ -19,8 +19,7 @@ module _ {S T N : Type 0} (name : S → N) (view : S → T) (answers : T → Lis
   lines_seen old (line ∷ lines) text ended new (inl ends) =
       (ends.answered.0, inl (record { answered = ends.answered.1; last = ends.last; ended_is = ends.ended_is }))
   lines_seen old (line ∷ lines) text ended new (inr goes) =
-      let later = lines_seen goes.state lines goes.rest ended new goes.then in
-      (
+      let later = lines_seen goes.state lines goes.rest ended new goes.then in (
         later.0 ∙ goes.answered.0,
         inr (record {
           reply = goes.reply;
@@ -65,8 +64,7 @@ module _ {S T N : Type 0} (name : S → N) (view : S → T) (answers : T → Lis
       Session Lends limit most old new input left written written_new result →
       (name new ≡ name old) × Session answers limit most (view old) (view new) input left written written_new result
   session_seen {old = old} {new = new} {written = written} {written_new = written_new} {result = result} session =
-      let seen = lines_seen old session.lines session.text session.ended new session.answered in
-      (
+      let seen = lines_seen old session.lines session.text session.ended new session.answered in (
         seen.0,
         record {
           lines = session.lines;

@@ -34,11 +34,11 @@ pub trait Answerer<S> {
     ) -> Result<Flow, DeviceFault>
         ensures ok { IfOk result (λ flow. GivesReply
             (λ reply. answers self.now (W.failures sink.old)
-                state.old line.now reply (ends_session flow) state.new)
+            state.old line.now reply (ends_session flow) state.new)
             (W.written sink.old) (W.written sink.new) output.old output.new) }
         ensures err { OnErr result (LosesReply
             (λ reply ended. answers self.now (W.failures sink.old)
-                state.old line.now reply ended state.new)
+            state.old line.now reply ended state.new)
             (W.written sink.old) (W.written sink.new) output.old) }
         ensures count { W.failures sink.new ≡ failures_after (W.failures sink.old) result };
 }

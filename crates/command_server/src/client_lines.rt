@@ -36,8 +36,8 @@ impl<'k, K: Keeper, C: NumberedClock> Answerer<Client<'k, K>> for ClientLines<'_
     ghost answers = { λ lines _ old line text ended new.
         (new.keeper.ghost_name ≡ old.keeper.ghost_name)
         × AnswersClient K.deals (C.reads lines.clock.now)
-            (record { keeper = old.keeper.now; number = old.number }) line text ended
-            (record { keeper = new.keeper.now; number = new.number }) };
+        (record { keeper = old.keeper.now; number = old.number }) line text ended
+        (record { keeper = new.keeper.now; number = new.number }) };
 
     fn answer<W: Sink>(
         &self,

@@ -87,13 +87,7 @@ fn await_rounds<R: time::Clock>(rt: &R, clock: &Counting) {
 fn serve_one<
     G: Gate + Send + Sync,
     R: Threads + Wait + Net<Stream = TcpStream> + time::Clock + Sync,
->(
-    rt: &R,
-    alloc: Global,
-    listener: &Listener,
-    book: Book,
-    blanks: Blanks,
-) -> Result<Vec<u8>, Fail>
+>(rt: &R, alloc: Global, listener: &Listener, book: Book, blanks: Blanks) -> Result<Vec<u8>, Fail>
     requires book { (book.base ≡ empty_base) × (book.entries ≡ []) }
     requires blanks { blanks ≡ G.ledgers }
 {
@@ -117,15 +111,15 @@ fn serve_one<
         connections: 1,
         patience: Duration::from_secs(30),
     };
-    let (served, text) = join(
-        rt,
-        || server.run(&gate),
-        || talk(rt, alloc, port, &clock),
-    );
-    match served {
-        Ok(served) if served.connections == 1 && served.events == 3 => Ok(text?),
-        Ok(served) => Err(Fail::new(format_args!("{} entries", served.events))),
-        Err(fault) => Err(Fail::new(format_args!("{fault:?}"))),
+    let (served, text) = join(rt, || server.run(&gate), || talk(rt, alloc, port, &clock));
+    let served = match served {
+        Ok(served) => served,
+        Err(fault) => return Err(Fail::new(format_args!("{fault:?}"))),
+    };
+    if served.connections == 1 && served.events == 3 {
+        Ok(text?)
+    } else {
+        Err(Fail::new(format_args!("{} entries", served.events)))
     }
 }
 
