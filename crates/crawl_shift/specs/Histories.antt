@@ -1,11 +1,33 @@
--- The history of a shift's gate, written as a text.
+-- The history of a shift, written as a text: the one that the receipts of its workers tell.
 -- The contract of `Shift::history`; docs/FORMATS.md has the lines.
-use Rattle.std.specs.Prelude.{ℕ, List, Option}
+use Rattle.std.specs.Prelude.{◌≡◌, ℕ, List, Option}
 use Rattle.std.specs.Io.KnownBytes.{Appends}
 use Rattle.gate_core.specs.Gate.{Gate, HasLegalHistory}
+use Rattle.gate_lock.specs.Marks.{Receipt}
+use Rattle.gate_lock.specs.Settling.{AreHistory}
 use Rattle.crawl_audit.specs.Exports.{present_segment}
 use Rattle.crawl_audit.specs.SpellBase.{spell_segment}
+use Rattle.crawl_job.specs.declared.job.Job.{Job}
+use Rattle.crawl_workers.specs.Shifts.{IsShift, ReportView}
+use Rattle.crawl_workers.specs.World.{World}
+use Rattle.crawl_shift.specs.JobLists.{AreAllJobs}
 
--- the text of a gate's history, which is legal, was written behind what was written before
-abbrev pub WritesHistory : Option (List ℕ) → Option (List ℕ) → Type 0
-WritesHistory old new = (gate : Gate) × (HasLegalHistory gate × Appends old new (spell_segment (present_segment gate)))
+-- the receipts are the whole history of the gate, before which nothing was sealed
+pub record AreWholeHistory (gate : Gate) (receipts : List Receipt) : Type 0 where
+  pub from_start : gate.base.entries ≡ 0
+  pub are : AreHistory gate receipts
+
+-- the text of the history that the receipts tell, which is legal, was written behind what was written before
+pub record WritesReceipts (receipts : List Receipt) (old new : Option (List ℕ)) : Type 0 where
+  pub gate : Gate
+  pub legal : HasLegalHistory gate
+  pub are : AreWholeHistory gate receipts
+  pub wrote : Appends old new (spell_segment (present_segment gate))
+
+-- a shift of so many workers did the jobs of the input, and the history that its receipts tell was written
+pub record WritesShift (world : World) (workers : ℕ) (input left old new : Option (List ℕ)) : Type 0 where
+  pub jobs : List Job
+  pub report : ReportView
+  pub read : AreAllJobs input left jobs
+  pub shift : IsShift world jobs workers report
+  pub wrote : WritesReceipts report.receipts old new

@@ -1,8 +1,10 @@
 //! A shift: jobs, a line for each, done by several workers, and what is told of them.
 //! `crawlgate shift` runs it over standard input and output.
-ghost use Rattle.std.specs.Prelude.{◌≤◌, OnOk, length};
+ghost use Rattle.std.specs.Prelude.{◌≡◌, ◌≤◌, [], IfOk, OnOk, length};
+ghost use Rattle.crawl_workers.specs.Shifts.{IsShift};
+ghost use Rattle.crawl_workers.specs.World.{world_of};
 ghost use Rattle.job_line.specs.Limits.{IsCrew, max_jobs};
-ghost use Rattle.crawl_shift.specs.Histories.{WritesHistory};
+ghost use Rattle.crawl_shift.specs.Histories.{AreWholeHistory, WritesReceipts, WritesShift};
 
 use crate::both::Both;
 use crate::job_list::read_jobs;
@@ -14,7 +16,7 @@ use counted_io::{Output, Sink, Source};
 use crawl_audit::export;
 use crawl_job::Job;
 use crawl_workers::{Clock, Fetcher, Report, ShiftFault, Watcher, run_shift};
-use gate_lock::{Gate, GateLock};
+use gate_lock::{Gate, GateLock, Held, Receipts, SettleFault, settle_in};
 use std::alloc::Global;
 use std::sync::Wait;
 use std::thread::Threads;
@@ -71,8 +73,8 @@ impl<
     }
 
     /// Reads the jobs to the end of the input, has the workers do them over the gate, and writes the
-    /// history of the gate, which an audit takes: that each page was allowed when its fetch began.
-    /// Nothing is written where the jobs were not all done.
+    /// history of the gate, which an audit takes: that each page was allowed when its fetch began. It is
+    /// the one that the workers' receipts tell. Nothing is written where the jobs were not all done.
     pub fn history<G: Gate + Send + Sync, S: Source, W: Sink>(
         &self,
         reader: &mut S,
@@ -80,13 +82,16 @@ impl<
         gate: &GateLock<G>,
     ) -> Result<(), NotShifted>
         requires { IsCrew self.now.workers }
-        ensures { OnOk result (WritesHistory (W.written writer.old) (W.written writer.new)) }
+        ensures { OnOk result (WritesShift
+            (world_of (F.gives self.now.fetcher.now) (C.reads self.now.clock.now))
+            self.now.workers (S.left reader.old) (S.left reader.new)
+            (W.written writer.old) (W.written writer.new)) }
     {
         let jobs = read_jobs(self.alloc, reader)?;
         let mut output = Output::new(self.alloc)?;
-        self.run_told(jobs.as_slice(), gate, &())?;
-        export(gate.lend(self.rt).book(), &mut output, writer)?;
-        Ok(())
+        let report = self.run_told(jobs.as_slice(), gate, &())?;
+        let held = gate.lend(self.rt);
+        write_receipts(self.alloc, &held, &report.receipts, &mut output, writer)
     }
 
     // Does the jobs, and has the watcher and the status line told of them.
@@ -98,6 +103,9 @@ impl<
     ) -> Result<Report<G>, ShiftFault>
         requires jobs { length jobs.now ≤ max_jobs }
         requires workers { IsCrew self.now.workers }
+        ensures { IfOk result (IsShift
+            (world_of (F.gives self.now.fetcher.now) (C.reads self.now.clock.now))
+            jobs.now self.now.workers) }
     {
         self.status.expect(jobs.len() as u64);
         let both = Both {
@@ -116,4 +124,36 @@ impl<
         self.status.erase();
         report
     }
+}
+
+// Writes the history of the gate whose lock is held, where it is the one that the receipts tell.
+fn write_receipts<G: Gate, W: Sink>(
+    alloc: Global,
+    held: &Held<'_, G>,
+    receipts: &[Receipts<G>],
+    output: &mut Output,
+    writer: &mut W,
+) -> Result<(), NotShifted>
+    requires { output.old ≡ [] }
+    ensures { OnOk result (WritesReceipts receipts.now (W.written writer.old) (W.written writer.new)) }
+{
+    compare(alloc, held, receipts)?;
+    export(held.book(), output, writer)?;
+    Ok(())
+}
+
+// Whether the receipts are the whole history of the gate. For those of a shift that was settled they are; a
+// contract knows it only because they are compared under the lock under which the history is written.
+fn compare<G: Gate>(
+    alloc: Global,
+    held: &Held<'_, G>,
+    receipts: &[Receipts<G>],
+) -> Result<(), ShiftFault>
+    ensures { OnOk result (AreWholeHistory held.now receipts.now) }
+{
+    settle_in(alloc, held, receipts)?;
+    if held.book().base().entries() > 0 {
+        return Err(ShiftFault::Unsettled(SettleFault::Mismatch));
+    }
+    Ok(())
 }

@@ -3,3 +3,4 @@ pub mod Endings
 pub mod Found
 pub mod ServerLines
 pub mod Ready
+pub mod Told

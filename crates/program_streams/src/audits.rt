@@ -1,10 +1,14 @@
 //! `audit` over the standard streams.
 //! docs/FORMATS.md has what it reads and writes.
+ghost use Rattle.std.specs.Prelude.{◌≡◌, List, Some, ℕ};
+ghost use Rattle.program_streams.specs.Told.{BlamesDevice, TellsAudit};
+
 use crate::ending::Ending;
 use crate::found::Found;
-use crate::telling::tell;
-use counted_io::Counted;
+use crate::telling::tell_to;
+use counted_io::{Counted, Sink, Source};
 use crawl_audit::{AuditFault, Audited, audit};
+use std::alloc::Global;
 use std::hash::RandomState;
 
 /// Audits standard input. The keys of the audit's tables are drawn anew.
@@ -12,13 +16,36 @@ pub(crate) fn audit_streams(rt: &HostRuntime) -> Ending {
     let Ok(keys) = RandomState::new(rt) else {
         return Ending::Device;
     };
-    match audit(rt.alloc(), keys, &mut Counted::new(rt.stdin())) {
-        Ok(Audited { events, starts }) => tell(
-            rt,
-            Found::Right { events, starts }.pieces(),
-            Ending::Done,
-        ),
-        Err(AuditFault::BadLine(line)) => tell(rt, Found::BadLine(line).pieces(), Ending::BadLine),
+    let mut reader = Counted::new(rt.stdin());
+    let mut writer = Counted::new(rt.stdout());
+    audit_over(rt.alloc(), keys, &mut reader, &mut writer)
+}
+
+// Audits a source, and tells what was found.
+fn audit_over<R: Source, W: Sink>(
+    alloc: Global,
+    keys: RandomState,
+    reader: &mut R,
+    writer: &mut W,
+) -> Ending
+    ensures tells { (text : List ℕ) → R.left reader.old ≡ Some text
+        → TellsAudit text (W.written writer.old) (W.written writer.new) result }
+    ensures blames { BlamesDevice (R.failures reader.old) (R.failures reader.new)
+        (W.failures writer.old) (W.failures writer.new) result }
+{
+    match audit(alloc, keys, reader) {
+        Ok(Audited { events, starts }) => {
+            let found = Found::Right { events, starts };
+            tell_to(alloc, writer, found.pieces(), Ending::Done)
+        }
+        Err(AuditFault::BadLine(line)) => {
+            tell_to(
+                alloc,
+                writer,
+                Found::BadLine(line).pieces(),
+                Ending::BadLine,
+            )
+        }
         Err(AuditFault::Read) => Ending::Device,
         Err(AuditFault::NoMemory) => Ending::NoMemory,
     }

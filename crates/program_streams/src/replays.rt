@@ -1,14 +1,17 @@
 //! `replay`, `replay --export` and `lines` over the standard streams.
 //! docs/FORMATS.md has what they read and write.
+ghost use Rattle.std.specs.Prelude.{◌≡◌, []};
 ghost use Rattle.gate_core.specs.Limits.{AreLimits};
+ghost use Rattle.program_streams.specs.Told.{BlamesDevice, CountsWrite, TellsExport, TellsReplay, WritesBehind, WritesPresent};
 
 use crate::books::new_book;
 use crate::ending::Ending;
 use command_server::replay;
-use counted_io::{Counted, Output, Sink};
+use counted_io::{Counted, Output, Sink, Source};
 use crawl_audit::export;
 use gate_core::{Book, Limits};
 use robots_lines::lines;
+use std::alloc::Global;
 use std::io;
 
 /// Replays standard input to standard output.
@@ -16,15 +19,30 @@ pub(crate) fn replay_streams(rt: &HostRuntime, limits: Limits) -> Ending
     requires { AreLimits limits }
 {
     match new_book(rt, limits) {
-        Ok(mut book) => replay_over(rt, &mut book, &mut Counted::new(rt.stdout())),
+        Ok(mut book) => replay_from(rt, &mut book),
         Err(ending) => ending,
     }
 }
 
-// Replays standard input over a book, and writes the replies.
-fn replay_over<W: Sink>(rt: &HostRuntime, book: &mut Book, replies: &mut W) -> Ending {
+fn replay_from(rt: &HostRuntime, book: &mut Book) -> Ending {
     let mut reader = Counted::new(rt.stdin());
-    Ending::of(replay(rt.alloc(), &mut reader, replies, book))
+    let mut writer = Counted::new(rt.stdout());
+    replay_over(rt.alloc(), &mut reader, &mut writer, book)
+}
+
+// Replays a source over a book, and writes the replies.
+fn replay_over<R: Source, W: Sink>(
+    alloc: Global,
+    reader: &mut R,
+    replies: &mut W,
+    book: &mut Book,
+) -> Ending
+    ensures tells { TellsReplay book.old book.new (R.left reader.old) (R.left reader.new)
+        (W.written replies.old) (W.written replies.new) result }
+    ensures blames { BlamesDevice (R.failures reader.old) (R.failures reader.new)
+        (W.failures replies.old) (W.failures replies.new) result }
+{
+    Ending::of(replay(alloc, reader, replies, book))
 }
 
 /// Replays standard input, and writes the history at the end to standard output, where no device
@@ -33,27 +51,67 @@ pub(crate) fn export_streams(rt: &HostRuntime, limits: Limits) -> Ending
     requires { AreLimits limits }
 {
     match new_book(rt, limits) {
-        Ok(mut book) => export_over(rt, &mut book),
+        Ok(mut book) => export_from(rt, &mut book),
         Err(ending) => ending,
     }
 }
 
 // The room of the export's output is taken before a line is.
-fn export_over(rt: &HostRuntime, book: &mut Book) -> Ending {
+fn export_from(rt: &HostRuntime, book: &mut Book) -> Ending {
     match Output::new(rt.alloc()) {
         Ok(mut output) => export_through(rt, book, &mut output),
         Err(_) => Ending::NoMemory,
     }
 }
 
-fn export_through(rt: &HostRuntime, book: &mut Book, output: &mut Output) -> Ending {
-    let ending = replay_over(rt, book, &mut Counted::new(io::sink()));
-    match ending {
-        Ending::NoMemory | Ending::Device => ending,
-        _ => match export(book, output, &mut Counted::new(rt.stdout())) {
-            Ok(()) => ending,
-            Err(_) => Ending::Device,
-        },
+fn export_through(rt: &HostRuntime, book: &mut Book, output: &mut Output) -> Ending
+    requires { output.old ≡ [] }
+{
+    let mut reader = Counted::new(rt.stdin());
+    let mut nowhere = Counted::new(io::sink());
+    let mut writer = Counted::new(rt.stdout());
+    let alloc = rt.alloc();
+    export_over(alloc, &mut reader, &mut nowhere, &mut writer, book, output)
+}
+
+// Replays a source over a book, and writes the history at the end.
+fn export_over<R: Source, N: Sink, W: Sink>(
+    alloc: Global,
+    reader: &mut R,
+    replies: &mut N,
+    writer: &mut W,
+    book: &mut Book,
+    output: &mut Output,
+) -> Ending
+    requires { output.old ≡ [] }
+    ensures { TellsExport book.old book.new (R.left reader.old) (R.left reader.new)
+        (N.written replies.old) (N.written replies.new)
+        (W.written writer.old) (W.written writer.new) result }
+{
+    let ended = replay_over(alloc, reader, replies, book);
+    write_behind(book, output, writer, ended)
+}
+
+// Writes the history of a book behind a session that ended so.
+fn write_behind<W: Sink>(book: &Book, output: &mut Output, writer: &mut W, ended: Ending) -> Ending
+    requires { output.old ≡ [] }
+    ensures { WritesBehind book.now (W.written writer.old) (W.written writer.new) ended result }
+{
+    match ended {
+        Ending::NoMemory | Ending::Device => ended,
+        _ => write_present(book, output, writer, ended),
+    }
+}
+
+fn write_present<W: Sink>(book: &Book, output: &mut Output, writer: &mut W, ended: Ending) -> Ending
+    requires { output.old ≡ [] }
+    ensures text { WritesPresent book.now (W.written writer.old) (W.written writer.new)
+        ended result }
+    ensures count { CountsWrite ended (W.failures writer.old) (W.failures writer.new) result }
+{
+    match export(book, output, writer) {
+        Ok(()) => ended,
+        Err(_) => Ending::Device,
     }
 }
 

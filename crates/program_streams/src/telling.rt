@@ -4,12 +4,14 @@ ghost use Rattle.std.specs.Prelude.{◌≡◌, [], OnOk};
 ghost use Rattle.std.specs.Io.KnownBytes.{Appends};
 ghost use Rattle.counted_io.specs.Device.{failures_after};
 ghost use Rattle.line_text.specs.Pieces.{pieces_text};
+ghost use Rattle.program_streams.specs.Told.{CountsWrite, Tells};
 
 use crate::ending::Ending;
 use crate::found::Found;
 use crate::server_line::ServerLine;
 use counted_io::{Counted, DeviceFault, Output, Sink};
 use line_text::Pieces;
+use std::alloc::Global;
 
 /// Tells how the program ended, where that isn't told already.
 pub fn tell_ending(rt: &HostRuntime, ending: Ending) {
@@ -43,23 +45,40 @@ pub fn tell_full_log(rt: &HostRuntime) {
     let _ = eprintln!(rt; "crawlgate: the log is full");
 }
 
-/// Writes a line to standard output, with which the program ends so.
-pub(crate) fn tell(rt: &HostRuntime, line: Pieces<'static>, ending: Ending) -> Ending {
-    match Output::new(rt.alloc()) {
-        Ok(mut output) => tell_through(rt, &mut output, line, ending),
+// Writes a line to standard output, with which the program ends so.
+fn tell(rt: &HostRuntime, line: Pieces<'static>, ending: Ending) -> Ending {
+    tell_to(rt.alloc(), &mut Counted::new(rt.stdout()), line, ending)
+}
+
+/// Writes a line to a sink, with which the program ends so.
+pub(crate) fn tell_to<W: Sink>(
+    alloc: Global,
+    writer: &mut W,
+    line: Pieces<'static>,
+    ending: Ending,
+) -> Ending
+    ensures tells { Tells (pieces_text line.entry) ending (W.written writer.old)
+        (W.written writer.new) result }
+    ensures count { CountsWrite ending (W.failures writer.old) (W.failures writer.new) result }
+{
+    match Output::new(alloc) {
+        Ok(mut output) => tell_through(&mut output, writer, line, ending),
         Err(_) => Ending::NoMemory,
     }
 }
 
-fn tell_through(
-    rt: &HostRuntime,
+fn tell_through<W: Sink>(
     output: &mut Output,
+    writer: &mut W,
     line: Pieces<'static>,
     ending: Ending,
 ) -> Ending
     requires { output.old ≡ [] }
+    ensures tells { Tells (pieces_text line.entry) ending (W.written writer.old)
+        (W.written writer.new) result }
+    ensures count { CountsWrite ending (W.failures writer.old) (W.failures writer.new) result }
 {
-    match write_line(line, output, &mut Counted::new(rt.stdout())) {
+    match write_line(line, output, writer) {
         Ok(()) => ending,
         Err(_) => Ending::Device,
     }

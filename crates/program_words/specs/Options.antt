@@ -1,5 +1,9 @@
--- What the program's words may ask for: where they are taken, each option is a number in its range.
--- The contract of `options`; docs/crawlgate.1.md has the ranges.
+-- What the program's words may ask for: where they are taken, each option is a number in its range, and
+-- the one that was matched under its own name. docs/crawlgate.1.md has the ranges.
+use Rattle.std.specs.Prelude.{◌≡◌, ℕ, List, Some, codes}
+use Rattle.std.specs.Str.Parse.{digits_value, without_leading_plus}
+use Rattle.clap.specs.Words.{one_text}
+use Rattle.clap.specs.declared.parser.matches.Found.{Found}
 use Rattle.program_words.specs.declared.words.ServeOptions.{ServeOptions}
 use Rattle.program_words.specs.declared.words.ShiftOptions.{ShiftOptions}
 use Rattle.program_words.specs.declared.words.Subcommand.{Subcommand}
@@ -10,7 +14,9 @@ use Rattle.client_wire.specs.Accepts.{AreServed}
 use Rattle.client_wire.specs.Waiting.{IsPatience}
 use Rattle.gate_core.specs.Limits.{AreLimits}
 use Rattle.job_line.specs.Limits.{IsCrew}
-use Rattle.tcp_wire.specs.TimeLimits.{AreWithin}
+use Rattle.gate_core.specs.declared.config.Limits.{Limits}
+use Rattle.tcp_wire.specs.TimeLimits.{AreOfSeconds, AreWithin}
+use Rattle.tcp_wire.specs.declared.time_limits.TimeLimits.{TimeLimits}
 
 -- a shift has as many workers as may share it, its book's limits are in their ranges, and its fetches take no
 -- longer than those of crawlers
@@ -42,3 +48,55 @@ IsInRange (Serve options) = AreForServe options
 abbrev pub IsChosen : Chosen → Type 0
 IsChosen (Taken subcommand) = IsInRange subcommand
 IsChosen (Refused reason) = Unit {0}
+
+-- the number is the one whose digits were matched under this name
+abbrev pub IsNumberOf : Found → List ℕ → ℕ → Type 0
+IsNumberOf words name number =
+    (text : List ℕ) × ((one_text words name ≡ Some text) × (number ≡ digits_value 10 (without_leading_plus text)))
+
+-- the limits of a book but for its first generation are those that were matched, each under its own name
+pub record AreLimitsOf (words : Found) (limits : Limits) : Type 0 where
+  pub slots : IsNumberOf words (codes "slots") limits.slots
+  pub log : IsNumberOf words (codes "log") limits.log_limit
+  pub authorities : IsNumberOf words (codes "authorities") limits.authority_limit
+  pub places : IsNumberOf words (codes "places") limits.places
+
+-- the limits of time are the seconds that were matched, each under its own name
+pub record AreTimesOf (words : Found) (times : TimeLimits) : Type 0 where
+  pub connect : ℕ
+  pub step : ℕ
+  pub whole : ℕ
+  pub connect_is : IsNumberOf words (codes "connect-timeout") connect
+  pub step_is : IsNumberOf words (codes "read-timeout") step
+  pub whole_is : IsNumberOf words (codes "fetch-timeout") whole
+  pub are : AreOfSeconds connect step whole times
+
+-- the options of a shift are those that were matched
+pub record AreShiftOf (words : Found) (options : ShiftOptions) : Type 0 where
+  pub workers : IsNumberOf words (codes "workers") options.workers
+  pub limits : AreLimitsOf words options.limits
+  pub times : AreTimesOf words options.times
+
+-- the options of a server are those that were matched
+pub record AreServeOf (words : Found) (options : ServeOptions) : Type 0 where
+  pub port : IsNumberOf words (codes "port") options.port
+  pub workers : IsNumberOf words (codes "workers") options.workers
+  pub connections : IsNumberOf words (codes "connections") options.connections
+  pub limits : AreLimitsOf words options.limits
+  pub times : AreTimesOf words options.times
+  pub patience : IsNumberOf words (codes "patience") options.patience
+
+-- the limits of a replay are those that were matched
+pub record AreReplayOf (words : Found) (limits : Limits) : Type 0 where
+  pub limits_are : AreLimitsOf words limits
+  pub generation : IsNumberOf words (codes "generation") limits.first_generation
+
+-- the numbers of the subcommand are those that were matched, each under its own name
+abbrev pub IsSetBy : Found → Subcommand → Type 0
+IsSetBy words (Replay limits) = AreReplayOf words limits
+IsSetBy words (Export limits) = AreReplayOf words limits
+IsSetBy words Lines = Unit {0}
+IsSetBy words (Check options) = Unit {0}
+IsSetBy words Audit = Unit {0}
+IsSetBy words (Shift options) = AreShiftOf words options
+IsSetBy words (Serve options) = AreServeOf words options

@@ -1,5 +1,7 @@
 //! The words that `clap` takes, with their ranges and their help.
 //! docs/crawlgate.1.md has them all.
+ghost use Rattle.std.specs.Prelude.{◌≡◌, Some};
+
 use crate::defaults::{Defaults, NumberOption};
 use crate::help;
 use clap::{Arg, ArgAction, Command};
@@ -134,8 +136,11 @@ fn limit_words<'a>(
         .arg(number(alloc, "places", &defaults.book.places))
 }
 
-// An option with a number in its range.
-fn number<'a>(alloc: Global, name: &'static str, option: &'a NumberOption) -> Arg<'a> {
+// An option with a number in its range, which is matched under the name that it has in the words.
+fn number<'a>(alloc: Global, name: &'static str, option: &'a NumberOption) -> Arg<'a>
+    ensures id { result.id.now ≡ name.entry.now }
+    ensures long { result.long ≡ Some name.entry }
+{
     Arg::new(alloc, name)
         .long(name)
         .value_name("N")

@@ -1,9 +1,10 @@
 //! The words of the program's command line, read by `clap`.
 //! Nothing below sees `clap`.
-ghost use Rattle.std.specs.Prelude.{IfOk, IfSome, ◌≤◌};
+ghost use Rattle.std.specs.Prelude.{◌≡◌, codes, IfOk, IfSome, ◌≤◌};
 ghost use Rattle.permit_book.specs.Numbers.{last_generation};
 ghost use Rattle.gate_core.specs.Limits.{AreLimits};
-ghost use Rattle.program_words.specs.Options.{IsChosen, IsInRange};
+ghost use Rattle.clap.specs.Words.{found_of};
+ghost use Rattle.program_words.specs.Options.{AreLimitsOf, AreTimesOf, IsChosen, IsInRange, IsNumberOf, IsSetBy};
 ghost use Rattle.tcp_wire.specs.TimeLimits.{AreWithin};
 
 use crate::command::program;
@@ -223,7 +224,8 @@ fn urls_of(alloc: Global, matches: &ArgMatches<'_>) -> Result<CheckedUrls, Alloc
 }
 
 fn replay_of(matches: &ArgMatches<'_>) -> Option<Subcommand>
-    ensures { IfSome result IsInRange }
+    ensures range { IfSome result IsInRange }
+    ensures words { IfSome result (IsSetBy (found_of matches.now)) }
 {
     let first_generation = number_of(matches, "generation", LAST_GENERATION)?;
     let limits = limits_of(matches, first_generation)?;
@@ -235,7 +237,8 @@ fn replay_of(matches: &ArgMatches<'_>) -> Option<Subcommand>
 }
 
 fn shift_of(matches: &ArgMatches<'_>) -> Option<Subcommand>
-    ensures { IfSome result IsInRange }
+    ensures range { IfSome result IsInRange }
+    ensures words { IfSome result (IsSetBy (found_of matches.now)) }
 {
     Some(Subcommand::Shift(ShiftOptions {
         workers: number_of(matches, "workers", MAX_WORKERS)?,
@@ -246,7 +249,8 @@ fn shift_of(matches: &ArgMatches<'_>) -> Option<Subcommand>
 }
 
 fn serve_of(matches: &ArgMatches<'_>) -> Option<Subcommand>
-    ensures { IfSome result IsInRange }
+    ensures range { IfSome result IsInRange }
+    ensures words { IfSome result (IsSetBy (found_of matches.now)) }
 {
     Some(Subcommand::Serve(ServeOptions {
         port: port_of(matches)?,
@@ -259,14 +263,17 @@ fn serve_of(matches: &ArgMatches<'_>) -> Option<Subcommand>
 }
 
 // The port, which may be 0.
-fn port_of(matches: &ArgMatches<'_>) -> Option<u16> {
-    let number = matches.get_one::<u64>("port")?;
+fn port_of(matches: &ArgMatches<'_>) -> Option<u16>
+    ensures { IfSome result (IsNumberOf (found_of matches.now) (codes "port")) }
+{
+    let number = read_number(matches, "port")?;
     u16::try_from(number).ok()
 }
 
 // The limits of time that the options set, where each is in its range.
 fn times_of(matches: &ArgMatches<'_>) -> Option<TimeLimits>
-    ensures { IfSome result AreWithin }
+    ensures within { IfSome result AreWithin }
+    ensures words { IfSome result (AreTimesOf (found_of matches.now)) }
 {
     let connect = number_of(matches, "connect-timeout", CONNECT_SECONDS)?;
     let step = number_of(matches, "read-timeout", STEP_SECONDS)?;
@@ -287,7 +294,9 @@ fn told_by(matches: &ArgMatches<'_>) -> Told {
 // The limits that the options set, where each is in its range.
 fn limits_of(matches: &ArgMatches<'_>, first_generation: u64) -> Option<Limits>
     requires { (1 ≤ first_generation) × (first_generation ≤ last_generation) }
-    ensures { IfSome result AreLimits }
+    ensures range { IfSome result AreLimits }
+    ensures first { IfSome result (λ limits. limits.first_generation ≡ first_generation) }
+    ensures words { IfSome result (AreLimitsOf (found_of matches.now)) }
 {
     Some(Limits {
         slots: number_of(matches, "slots", MAX_SLOTS)?,
@@ -302,8 +311,19 @@ fn limits_of(matches: &ArgMatches<'_>, first_generation: u64) -> Option<Limits>
 fn number_of(matches: &ArgMatches<'_>, name: &str, most: u64) -> Option<u64>
     ensures least { IfSome result (λ number. 1 ≤ number) }
     ensures most { IfSome result (λ number. number ≤ most) }
+    ensures word { IfSome result (IsNumberOf (found_of matches.now) name.now) }
 {
-    matches
-        .get_one::<u64>(name)
-        .filter(|number| 1 <= *number && *number <= most)
+    let number = read_number(matches, name)?;
+    if 1 <= number && number <= most {
+        Some(number)
+    } else {
+        None
+    }
+}
+
+// The number that was matched under the option's name.
+fn read_number(matches: &ArgMatches<'_>, name: &str) -> Option<u64>
+    ensures { IfSome result (IsNumberOf (found_of matches.now) name.now) }
+{
+    matches.get_one::<u64>(name)
 }
