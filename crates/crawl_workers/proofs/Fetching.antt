@@ -11,7 +11,8 @@ use Rattle.robots_fetch.specs.declared.walk.Walk.{Walk}
 use Rattle.robots_fetch.specs.Redirects.{most_redirects}
 use Rattle.robots_fetch.specs.Steps.{IsBegun, Steps}
 use Rattle.robots_fetch.specs.Walk.{EndsWalk, Leads, LeadsOver}
-use Rattle.crawl_workers.specs.Refreshes.{AreLed, IsFetched, robots_reply_of}
+use Rattle.fetchers.specs.Walks.{AreLed, robots_reply_of}
+use Rattle.crawl_workers.specs.Refreshes.{IsFetched}
 
 -- one redirect more
 led_more : (gives : List ℕ → Result HttpReply WireFault → Type 0) (url mid end : List ℕ)

@@ -26,7 +26,8 @@ use Rattle.crawl_job.specs.declared.hop.Refusal.{Refusal}
 use Rattle.crawl_workers.specs.declared.way_on.WayOn.{WayOn}
 use Rattle.crawl_workers.specs.declared.way_on.WayOn.TheVariants as ways
 use Rattle.crawl_workers.specs.Outcomes.{AfterRefresh, IsFetch, IsLastHop, IsRedirect, MayRefresh, body_given, hop_of, location_given}
-use Rattle.crawl_workers.specs.Limits.{page_limit, robots_limit}
+use Rattle.fetchers.specs.Limits.{robots_limit}
+use Rattle.crawl_workers.specs.Limits.{page_limit}
 use Rattle.crawl_workers.specs.Refreshes.{BeginsStale, Brings, DoesNothing, IsBrought, entries_of}
 use Rattle.crawl_workers.specs.WaysOn.{AddsEntries, GoesOn, TellsWay, ask_hop}
 use Rattle.crawl_workers.specs.World.{IsSinceRead, World}

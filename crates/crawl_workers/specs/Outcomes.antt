@@ -20,7 +20,8 @@ use Rattle.crawl_job.specs.declared.hop.Hop.TheVariants as hops
 use Rattle.crawl_job.specs.declared.hop.Refusal.TheVariants as refusals
 use Rattle.crawl_job.specs.declared.job.Job.{Job}
 use Rattle.crawl_job.specs.declared.job.Outcome.{Outcome}
-use Rattle.crawl_workers.specs.Limits.{page_limit, robots_limit}
+use Rattle.fetchers.specs.Limits.{robots_limit}
+use Rattle.crawl_workers.specs.Limits.{page_limit}
 use Rattle.crawl_workers.specs.Refreshes.{BeganStale, IsBrought, entries_of}
 use Rattle.crawl_workers.specs.World.{IsSinceRead, World}
 

@@ -9,7 +9,6 @@ use Rattle.authority_cache.specs.Lives.{greatest_life, Timed}
 use Rattle.gate_history.specs.History.{begins}
 use Rattle.gate_core.specs.declared.refusal.BeginRefusal.{BeginRefusal}
 use Rattle.gate_core.specs.declared.state.Standing.{Standing}
-use Rattle.gate_core.specs.declared.state.Standing.TheVariants as standings
 use Rattle.gate_core.specs.declared.state.State.{State}
 use Rattle.gate_core.specs.Gate.{Gate, HasLegalHistory, history}
 use Rattle.gate_core.specs.States.{IsState, standing_as}
@@ -19,33 +18,16 @@ use Rattle.gate_history.specs.declared.entry.Entry.{Entry}
 use Rattle.gate_history.specs.declared.entry.Entry.TheVariants as entries
 use Rattle.gate_lock.specs.declared.mark.Mark.{Mark}
 use Rattle.http_wire.specs.declared.fault.WireFault.{WireFault}
-use Rattle.http_wire.specs.declared.fault.WireFault.TheVariants as faults
 use Rattle.http_wire.specs.declared.response.HttpReply.{HttpReply}
-use Rattle.robots_fetch.specs.declared.reply.RobotsReply.{RobotsReply}
-use Rattle.robots_fetch.specs.declared.reply.RobotsReply.TheVariants.{Status, CodingFault, NetworkFault}
-use Rattle.robots_fetch.specs.Walk.{AnswerOf, Leads}
-use Rattle.crawl_workers.specs.Limits.{robots_limit}
+use Rattle.robots_fetch.specs.Walk.{AnswerOf}
+use Rattle.fetchers.specs.Limits.{robots_limit}
+use Rattle.fetchers.specs.Walks.{AreLed, robots_reply_of}
+use Rattle.crawl_workers.specs.Stale.{IsNoAnswer}
 use Rattle.crawl_workers.specs.World.{IsSinceRead, World}
 
 -- what the marks of a desk say
 abbrev pub entries_of : List Mark → List Entry
 entries_of ms = map (λ m. m.entry) ms
-
--- what came of a fetch of a robots file, as a walk reads it
-abbrev pub robots_reply_of : Result HttpReply WireFault → RobotsReply
-robots_reply_of (Ok reply) = Status reply.status reply.location reply.body reply.max_age
-robots_reply_of (Err faults.Coding) = CodingFault
-robots_reply_of (Err fault) = NetworkFault
-
--- the results are redirects from the one URL to the other, each given for the URL to which the one before it led
-abbrev pub AreLed : (List ℕ → Result HttpReply WireFault → Type 0) → List ℕ → List (Result HttpReply WireFault) → List ℕ → Type 0
-AreLed gives url [] end = url ≡ end
-AreLed gives url (given ∷ later) end =
-    gives url given × ((next : List ℕ) × (Leads url (robots_reply_of given) next × AreLed gives next later end))
-
--- fetches led to this URL from that of the authority's robots file
-abbrev pub IsOnWalk : (List ℕ → Result HttpReply WireFault → Type 0) → List ℕ → List ℕ → Type 0
-IsOnWalk gives authority url = (way : List (Result HttpReply WireFault)) × AreLed gives (robots_url_of authority) way url
 
 -- fetches decide the answer for the authority, and its life: each was made of the URL to which the one
 -- before it led, the first of the authority's robots file
@@ -66,10 +48,6 @@ IsUndecided says life = (says ≡ Closed closures.Other) × (life ≡ greatest_l
 -- the answer that arrives is one or the other
 abbrev pub IsBrought : (List ℕ → Result HttpReply WireFault → Type 0) → List ℕ → Said → ℕ → Type 0
 IsBrought gives authority says life = IsFetched gives authority says life ⊎ IsUndecided says life
-
--- what stands is no answer in force
-abbrev pub IsNoAnswer : Standing → Type 0
-IsNoAnswer standing = (standing ≡ standings.Unknown) ⊎ (standing ≡ standings.Expired)
 
 -- the turn of this number began at a moment at which no answer of the authority was in force, by the history
 -- before it

@@ -3,7 +3,7 @@
 -- The contract of `run_shift`; RFC 9309 has none of it.
 use Rattle.std.specs.Prelude.{◌≡◌, ℕ, ◌+◌, ◌++◌, List, [], ◌∷◌, length, map, Ok, Some}
 use Rattle.std.specs.List.{AllZip, slice_get}
-use Rattle.gate_lock.specs.Settling.{SettlesSome}
+use Rattle.gate_lock.specs.Settling.{IsWhole, SettlesSome}
 use Rattle.gate_history.specs.declared.entry.Entry.{Entry}
 use Rattle.gate_lock.specs.Marks.{Receipt, nothing_sealed}
 use Rattle.gate_lock.specs.declared.settlement.Settled.{Settled}
@@ -67,12 +67,13 @@ pub record ReportView : Type 0 where
   pub settled : Settled
 
 -- the report of a shift: as many workers drew the numbers of all jobs, each number once; each job has an
--- outcome, and they tell what the workers' desks did; and by their receipts the gate is settled, with as
--- many started fetches as the outcomes have
+-- outcome, and they tell what the workers' desks did; by their receipts the gate is settled, and these are a
+-- whole legal history, with as many started fetches as the outcomes have
 pub record IsShift (world : World) (jobs : List Job) (workers : ℕ) (report : ReportView) : Type 0 where
   pub one_each : length report.outcomes ≡ length jobs
   pub all_workers : length report.drawn ≡ workers
   pub each_once : (weight : ℕ → ℕ) → weigh_all weight report.drawn ≡ weigh_below weight (length jobs)
   pub worked : AllZip (Worked world jobs report.outcomes) report.drawn report.receipts
   pub settled : SettlesSome report.receipts (Ok report.settled)
+  pub whole : IsWhole report.receipts report.settled
   pub starts : report.settled.starts ≡ all_fetches report.outcomes

@@ -9,12 +9,12 @@ ghost use Rattle.crawl_workers.specs.World.{world_of};
 
 use crate::clock::Clock;
 use crate::event::Event;
-use crate::fetcher::Fetcher;
 use crate::frontier::Frontier;
 use crate::report::{Crawled, ShiftFault, Watcher};
 use crate::worker::{Notes, Worker};
 use crate::working::work_by;
 use crawl_job::{Job, Outcome};
+use fetchers::Fetcher;
 use gate_lock::{Desk, Gate, GateLock, Receipts};
 use std::alloc::{AllocError, Global};
 use std::marker::Model;

@@ -6,9 +6,9 @@ ghost use Rattle.crawl_workers.specs.OutcomeLaws.{FetchesAreCounted, FetchesAreS
 ghost use Rattle.crawl_workers.specs.World.{world_of};
 
 use crate::clock::Clock;
-use crate::fetcher::Fetcher;
 use crate::worker::PAGE_LIMIT;
 use crate::working::MAX_HOPS;
+use fetchers::Fetcher;
 
 /// The limits of jobs are those that the definitions name.
 pub fn limits_are()

@@ -2,15 +2,16 @@
 //! RFC 9309, sections 2.3.1 and 2.4.
 ghost use Rattle.std.specs.Prelude.{◌≡◌};
 ghost use Rattle.gate_lock.specs.Desks.{HasOut, KeepsOut};
-ghost use Rattle.crawl_workers.specs.Limits.{robots_limit};
-ghost use Rattle.crawl_workers.specs.Refreshes.{Brings, IsBrought, IsUndecided, Refreshes, robots_reply_of};
+ghost use Rattle.fetchers.specs.Limits.{robots_limit};
+ghost use Rattle.fetchers.specs.Walks.{robots_reply_of};
+ghost use Rattle.crawl_workers.specs.Refreshes.{Brings, IsBrought, IsUndecided, Refreshes};
 ghost use Rattle.crawl_workers.specs.World.{world_of};
 
 use crate::clock::Clock;
 use crate::event::{ClosedBy, Event};
-use crate::fetcher::Fetcher;
 use crate::worker::Notes;
 use authority_cache::{LIFE, TimedAnswer};
+use fetchers::Fetcher;
 use gate_core::{BeginRefusal, Standing};
 use gate_lock::{Desk, Gate, RobotsTurn};
 use http_wire::{HttpReply, WireFault};

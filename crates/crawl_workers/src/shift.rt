@@ -8,13 +8,13 @@ ghost use Rattle.crawl_workers.specs.World.{world_of};
 
 use crate::clock::Clock;
 use crate::crew::{Crew, Member};
-use crate::fetcher::Fetcher;
 use crate::frontier::Frontier;
 use crate::handover::Handover;
 use crate::once::are_all_once;
 use crate::places::place_all;
 use crate::report::{Crawled, Report, ShiftFault, Watcher};
 use crawl_job::Job;
+use fetchers::Fetcher;
 use gate_lock::{Gate, GateLock, SettleFault, settle};
 use job_line::MAX_WORKERS;
 use std::alloc::{AllocError, Global};

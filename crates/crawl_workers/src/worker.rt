@@ -12,13 +12,14 @@ ghost use Rattle.crawl_workers.specs.World.{IsSinceRead, world_of};
 
 use crate::clock::Clock;
 use crate::event::Event;
-use crate::fetcher::Fetcher;
 use crate::refreshing::bring_answer;
+use crate::stale::begin_if_stale;
 use crate::way_on::{WayOn, way_on};
 use crawl_job::{Hop, Outcome, Refusal};
-use gate_core::{AskRefusal, BeginRefusal, Standing};
+use fetchers::Fetcher;
+use gate_core::{AskRefusal, BeginRefusal};
 use gate_lock::{Desk, Gate, Permit, RobotsTurn};
-use path_normal::{Authority, PageUrl};
+use path_normal::PageUrl;
 use robots_text::Token;
 use std::alloc::Global;
 use std::sync::Wait;
@@ -154,8 +155,7 @@ impl<F: Fetcher, C: Clock, N: Notes, R: Wait> Worker<'_, F, C, N, R> {
         }
     }
 
-    // Begins a turn of a page's authority where no answer of it is in force. That is read and the turn
-    // begun under one hold of the lock, so no two desks fetch one file.
+    // Begins a turn of a page's authority where no answer of it is in force.
     fn begin_stale<G: Gate>(
         &self,
         url: &PageUrl,
@@ -169,19 +169,7 @@ impl<F: Fetcher, C: Clock, N: Notes, R: Wait> Worker<'_, F, C, N, R> {
         ensures no { desk.new.no ≡ desk.old.no }
     {
         let mut held = desk.lend(self.rt);
-        let state = desk.state_in(&mut held, url.authority(), moment);
-        match state.standing {
-            Standing::Closed | Standing::Open | Standing::Rules => return Ok(None),
-            Standing::Unknown | Standing::Expired => {}
-        }
-        // No name is copied for who only waits.
-        if state.fetching {
-            return Err(BeginRefusal::InFlight);
-        }
-        let Ok(authority) = Authority::of(url) else {
-            return Err(BeginRefusal::NoMemory);
-        };
-        Ok(Some(desk.begin_in(&mut held, &authority, moment)?))
+        begin_if_stale(url, desk, &mut held, moment)
     }
 
     // Asks for a page, and fetches it where that is granted.

@@ -7,9 +7,9 @@ ghost use Rattle.crawl_workers.specs.Outcomes.{Works, fetches_in};
 ghost use Rattle.crawl_workers.specs.World.{world_of};
 
 use crate::clock::Clock;
-use crate::fetcher::Fetcher;
 use crate::worker::{Notes, Worker};
 use crawl_job::{Job, Outcome};
+use fetchers::Fetcher;
 use gate_lock::{Desk, Gate};
 use std::alloc::{AllocError, Global};
 use std::sync::Wait;

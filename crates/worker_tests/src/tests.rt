@@ -7,6 +7,7 @@ mod jobs;
 mod leaves;
 mod overlap;
 mod pages;
+mod readings;
 mod refreshes;
 mod scripts;
 mod shift;

@@ -31,10 +31,11 @@ impl Fetcher for Changing<'_> {
 
     fn load_page(
         &self,
-        _leave: &PageLeave<'_>,
+        leave: PageLeave<'_>,
         limit: usize,
         _failure: &mut Option<Failure>,
     ) -> Result<HttpReply, WireFault> {
+        leave.spend();
         self.now.fetch_add(self.after_page, Ordering::SeqCst);
         let response: &[u8] = b"HTTP/1.1 200 OK\r\n\r\nhello";
         read_response(self.alloc, &mut Counted::new(response), limit)
@@ -42,10 +43,11 @@ impl Fetcher for Changing<'_> {
 
     fn load_robots(
         &self,
-        _leave: &RobotsLeave<'_>,
+        leave: RobotsLeave<'_>,
         _time: Option<Deadline>,
         _failure: &mut Option<Failure>,
     ) -> Result<HttpReply, WireFault> {
+        leave.spend();
         let response: &[u8] = match self.robots_fetches.fetch_add(1, Ordering::SeqCst) {
             0 => b"HTTP/1.1 404 No\r\n\r\n",
             _ => b"HTTP/1.1 200 OK\r\n\r\nUser-agent: *\nDisallow: /\n",

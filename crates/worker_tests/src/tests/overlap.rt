@@ -15,7 +15,8 @@ use std::thread::Threads;
 use std::time::Duration;
 use std::{thread, time};
 
-fn reply(alloc: Global, status: u16) -> HttpReply {
+/// A response of this status, with no body.
+pub(super) fn reply(alloc: Global, status: u16) -> HttpReply {
     HttpReply {
         status,
         location: None,
@@ -38,10 +39,11 @@ impl<R: time::Clock> Fetcher for Together<'_, R> {
 
     fn load_page(
         &self,
-        _leave: &PageLeave<'_>,
+        leave: PageLeave<'_>,
         _limit: usize,
         _failure: &mut Option<Failure>,
     ) -> Result<HttpReply, WireFault> {
+        leave.spend();
         self.begun.fetch_add(1, Ordering::SeqCst);
         for _ in 0..10_000 {
             if self.begun.load(Ordering::SeqCst) >= 2 {
@@ -54,10 +56,11 @@ impl<R: time::Clock> Fetcher for Together<'_, R> {
 
     fn load_robots(
         &self,
-        _leave: &RobotsLeave<'_>,
+        leave: RobotsLeave<'_>,
         _time: Option<Deadline>,
         _failure: &mut Option<Failure>,
     ) -> Result<HttpReply, WireFault> {
+        leave.spend();
         Ok(reply(self.alloc, 404))
     }
 }
@@ -120,23 +123,25 @@ impl Fetcher for Counting {
 
     fn load_page(
         &self,
-        _leave: &PageLeave<'_>,
+        leave: PageLeave<'_>,
         _limit: usize,
         _failure: &mut Option<Failure>,
     ) -> Result<HttpReply, WireFault> {
+        leave.spend();
         self.pages.fetch_add(1, Ordering::SeqCst);
         Ok(reply(self.alloc, 200))
     }
 
     fn load_robots(
         &self,
-        leave: &RobotsLeave<'_>,
+        leave: RobotsLeave<'_>,
         _time: Option<Deadline>,
         _failure: &mut Option<Failure>,
     ) -> Result<HttpReply, WireFault> {
         if let Some(count) = self.robots.get(site_of(leave.url())) {
             count.fetch_add(1, Ordering::SeqCst);
         }
+        leave.spend();
         Ok(reply(self.alloc, 404))
     }
 }

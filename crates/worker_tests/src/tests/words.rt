@@ -80,6 +80,35 @@ pub(super) fn push_entries(text: &mut String, marks: &[Mark]) -> Result<(), Allo
     Ok(())
 }
 
+/// Adds the same, one behind another, each with its moment where it has one.
+pub(super) fn push_moments(
+    alloc: Global,
+    text: &mut String,
+    marks: &[Mark],
+) -> Result<(), AllocError> {
+    let mut between = "";
+    for mark in marks {
+        text.push_str(between)?;
+        text.push_str(entry_letter(&mark.entry))?;
+        push_moment(alloc, text, &mark.entry)?;
+        between = " ";
+    }
+    Ok(())
+}
+
+fn push_moment(alloc: Global, text: &mut String, entry: &Entry) -> Result<(), AllocError> {
+    match entry {
+        Entry::Begun { moment, .. }
+        | Entry::Arrived { moment, .. }
+        | Entry::Granted { moment, .. }
+        | Entry::AskDenied { moment, .. }
+        | Entry::Started { moment, .. }
+        | Entry::StartDenied { moment, .. }
+        | Entry::Swept { moment, .. } => push_words(text, format!(in alloc; "{moment}")),
+        Entry::Returned { .. } | Entry::Finished { .. } => Ok(()),
+    }
+}
+
 fn entry_letter(entry: &Entry) -> &'static str {
     match entry {
         Entry::Begun { .. } => "B",

@@ -4,8 +4,8 @@ use Rattle.path_normal.specs.PageText.{robots_url_of}
 use Rattle.robots_fetch.specs.declared.reply.RobotsReply.{RobotsReply}
 use Rattle.robots_fetch.specs.declared.walk.Step.TheVariants.{Go, Done}
 use Rattle.robots_fetch.specs.Steps.{Steps}
-use Rattle.crawl_workers.specs.Limits.{robots_limit}
-use Rattle.crawl_workers.specs.Refreshes.{AreLed}
+use Rattle.fetchers.specs.Limits.{robots_limit}
+use Rattle.fetchers.specs.Walks.{AreLed}
 use Rattle.crawl_workers.proofs.Fetching.{fetched, go_on}
 use Rattle.crawl_workers.proofs.refreshing.fetch_answer.Goals as goal
 

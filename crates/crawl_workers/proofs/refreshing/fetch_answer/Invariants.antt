@@ -1,7 +1,7 @@
 -- The walk has followed redirects, each given for the URL then asked.
 use Rattle.std.proofs.Common.{◌-◌}
 use Rattle.robots_fetch.specs.Redirects.{most_redirects}
-use Rattle.crawl_workers.specs.Limits.{robots_limit}
+use Rattle.fetchers.specs.Limits.{robots_limit}
 use Rattle.crawl_workers.proofs.Fetching.{IsUnderWay}
 use Rattle.crawl_workers.proofs.refreshing.fetch_answer.Given as goal
 

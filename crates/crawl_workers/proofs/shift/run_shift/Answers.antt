@@ -37,4 +37,4 @@ returns g c =
     is_shift world jobs c.args.workers drawn lists receipts c.deref.result.now _ c.place_all.new.outcomes c.in_ok-settled.settled
     all.all_workers each all.have_done
     (lent_whole _ c.place_all.new.outcomes _ (c.place_all.ensures.len ∙ c.deref_mut-2.ensures.len)) (c.place_all.ensures.len ∙ len) c.place_all.ensures.placed
-    c.deref.ensures.value c.in_ok-settled.ensures.settles c.in_ok-settled.ensures.starts
+    c.deref.ensures.value c.in_ok-settled.ensures.settles c.in_ok-settled.ensures.whole c.in_ok-settled.ensures.starts

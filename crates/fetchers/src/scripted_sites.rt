@@ -1,7 +1,7 @@
 //! Sites in memory, whose responses are written down. They stand in for a network in tests.
 ghost use Rattle.std.specs.Prelude.{◌≡◌};
 ghost use Rattle.std.specs.Option.{option_map};
-ghost use Rattle.crawl_workers.specs.ScriptedSites.{IsScripted, scripted_response};
+ghost use Rattle.fetchers.specs.ScriptedSites.{IsScripted, scripted_response};
 
 use crate::fetcher::{Fetcher, PageLeave, RobotsLeave};
 use crate::tcp_fetcher::ROBOTS_LIMIT;
@@ -52,25 +52,29 @@ impl<'a> ScriptedSites<'a> {
 }
 
 impl<'a> Fetcher for ScriptedSites<'a> {
-    ghost use Rattle.crawl_workers.specs.ScriptedSites.{GivesScripted};
+    ghost use Rattle.fetchers.specs.ScriptedSites.{GivesScripted};
 
     ghost gives = { λ sites. GivesScripted sites.pages.now };
 
     fn load_page(
         &self,
-        leave: &PageLeave<'_>,
+        leave: PageLeave<'_>,
         limit: usize,
         _failure: &mut Option<Failure>,
     ) -> Result<HttpReply, WireFault> {
-        self.answer(leave.url(), limit)
+        let given = self.answer(leave.url(), limit);
+        leave.spend();
+        given
     }
 
     fn load_robots(
         &self,
-        leave: &RobotsLeave<'_>,
+        leave: RobotsLeave<'_>,
         _time: Option<Deadline>,
         _failure: &mut Option<Failure>,
     ) -> Result<HttpReply, WireFault> {
-        self.answer(leave.url(), ROBOTS_LIMIT)
+        let given = self.answer(leave.url(), ROBOTS_LIMIT);
+        leave.spend();
+        given
     }
 }

@@ -1,8 +1,8 @@
 -- What a leave to fetch is for.
 -- The contracts of `Fetcher` cite it.
 use Rattle.std.specs.Prelude.{ℕ, List}
-use Rattle.crawl_workers.specs.declared.fetcher.PageLeave.{PageLeave}
-use Rattle.crawl_workers.specs.declared.fetcher.RobotsLeave.{RobotsLeave}
+use Rattle.fetchers.specs.declared.fetcher.PageLeave.{PageLeave}
+use Rattle.fetchers.specs.declared.fetcher.RobotsLeave.{RobotsLeave}
 
 -- the page
 abbrev pub page_of : PageLeave → List ℕ

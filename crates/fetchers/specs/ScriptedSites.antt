@@ -5,7 +5,7 @@ use Rattle.http_wire.specs.declared.fault.WireFault.{WireFault}
 use Rattle.http_wire.specs.declared.fault.WireFault.TheVariants.{Device}
 use Rattle.http_wire.specs.declared.response.HttpReply.{HttpReply}
 use Rattle.http_wire.specs.Response.{Tells}
-use Rattle.crawl_workers.specs.declared.scripted_sites.ScriptedPage.{ScriptedPage}
+use Rattle.fetchers.specs.declared.scripted_sites.ScriptedPage.{ScriptedPage}
 
 -- the response of the first page with the URL
 abbrev pub scripted_response : List ScriptedPage → List ℕ → Option (List ℕ)

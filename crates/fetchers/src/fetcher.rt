@@ -1,8 +1,8 @@
 //! What workers fetch by, and the leaves without which nothing is fetched.
 ghost use Rattle.std.specs.Prelude.{◌≡◌};
-ghost use Rattle.crawl_workers.specs.Leaves.{page_of, robots_page_of, token_of_leave};
-ghost use Rattle.crawl_workers.specs.Limits.{robots_limit};
-ghost use Rattle.crawl_workers.specs.Refreshes.{IsOnWalk};
+ghost use Rattle.fetchers.specs.Leaves.{page_of, robots_page_of, token_of_leave};
+ghost use Rattle.fetchers.specs.Limits.{robots_limit};
+ghost use Rattle.fetchers.specs.Walks.{IsOnWalk};
 
 use gate_lock::{Fetched, Gate, RobotsTurn, Running};
 use http_wire::{HttpReply, WireFault};
@@ -11,11 +11,11 @@ use robots_text::Token;
 use tcp_wire::{Deadline, Failure};
 
 /// Leave to fetch a page once. `Fetcher::fetch_page` has it of a started permit, and nothing else
-/// makes one.
-#[derive(Drop)]
+/// makes one. It has no `Drop`: `spend` uses it up.
+#[must_use]
 pub struct PageLeave<'a> {
-    pub(crate) token: &'a Token,
-    pub(crate) url: &'a PageUrl,
+    token: &'a Token,
+    url: &'a PageUrl,
 }
 
 impl PageLeave<'_> {
@@ -32,13 +32,19 @@ impl PageLeave<'_> {
     {
         self.url
     }
+
+    /// The fetch is made.
+    pub fn spend(self) {
+        let PageLeave { token: _, url: _ } = self;
+    }
 }
 
 /// Leave to fetch a robots file, or what a redirect led to from one, once.
-/// `Fetcher::fetch_robots` has it of a turn in flight, and nothing else makes one.
-#[derive(Drop)]
+/// `Fetcher::fetch_robots` has it of a turn in flight, and nothing else makes one. It has no `Drop`: `spend`
+/// uses it up.
+#[must_use]
 pub struct RobotsLeave<'a> {
-    pub(crate) url: &'a PageUrl,
+    url: &'a PageUrl,
 }
 
 impl RobotsLeave<'_> {
@@ -47,6 +53,11 @@ impl RobotsLeave<'_> {
         ensures { result.now ≡ robots_page_of self.now }
     {
         self.url
+    }
+
+    /// The fetch is made.
+    pub fn spend(self) {
+        let RobotsLeave { url: _ } = self;
     }
 }
 
@@ -74,21 +85,21 @@ pub trait Fetcher {
     /// Fetches a page, and gives at most `limit` octets of its body.
     fn load_page(
         &self,
-        leave: &PageLeave<'_>,
+        leave: PageLeave<'_>,
         limit: usize,
         failure: &mut Option<Failure>,
     ) -> Result<HttpReply, WireFault>
-        ensures { gives self.now limit (page_of leave.now) result };
+        ensures { gives self.now limit (page_of leave.entry) result };
 
     /// Fetches a robots file, and gives at most 512,001 octets of its body: those that are kept, and
     /// one that tells that there are more.
     fn load_robots(
         &self,
-        leave: &RobotsLeave<'_>,
+        leave: RobotsLeave<'_>,
         time: Option<Deadline>,
         failure: &mut Option<Failure>,
     ) -> Result<HttpReply, WireFault>
-        ensures { gives self.now robots_limit (robots_page_of leave.now) result };
+        ensures { gives self.now robots_limit (robots_page_of leave.entry) result };
 
     /// Makes a fetch that may be made, under its token, with at most `limit` octets of the page's
     /// body. Whatever comes of it, the fetch was made.
@@ -105,7 +116,7 @@ pub trait Fetcher {
             token: running.token(),
             url: running.url(),
         };
-        let reply = self.load_page(&leave, limit, failure);
+        let reply = self.load_page(leave, limit, failure);
         (running.spend(), reply)
     }
 
@@ -121,6 +132,6 @@ pub trait Fetcher {
         requires { IsOnWalk (gives self.now robots_limit) _turn.now.authority url.now }
         ensures { gives self.now robots_limit url.now result }
     {
-        self.load_robots(&RobotsLeave { url }, time, failure)
+        self.load_robots(RobotsLeave { url }, time, failure)
     }
 }

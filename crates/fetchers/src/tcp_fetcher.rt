@@ -4,7 +4,7 @@ ghost use Rattle.std.specs.Prelude.{◌≡◌, IfOk, IfSome, None};
 ghost use Rattle.http_wire.specs.Response.{Tells};
 ghost use Rattle.tcp_wire.specs.Agent.{IsAgent};
 ghost use Rattle.tcp_wire.specs.TimeLimits.{AreStandard};
-ghost use Rattle.crawl_workers.specs.Limits.{robots_limit};
+ghost use Rattle.fetchers.specs.Limits.{robots_limit};
 
 use crate::fetcher::{Fetcher, PageLeave, RobotsLeave};
 use http_wire::{HttpReply, WireFault};
@@ -30,7 +30,7 @@ pub struct TcpFetcher<R: Net<Stream = TcpStream> + time::Clock> {
 
 impl<R: Net<Stream = TcpStream> + time::Clock> Model for TcpFetcher<R> {
     ghost use Rattle.tcp_wire.specs.Agent.{IsAgent};
-    ghost use Rattle.crawl_workers.specs.Network.{TcpView};
+    ghost use Rattle.fetchers.specs.Network.{TcpView};
 
     ghost Value = { TcpView };
 
@@ -77,7 +77,7 @@ impl<R: Net<Stream = TcpStream> + time::Clock> TcpFetcher<R> {
 
 /// Nothing is known of a network, so each fetch gives what some octets give as a response.
 impl<R: Net<Stream = TcpStream> + time::Clock> Fetcher for TcpFetcher<R> {
-    ghost use Rattle.crawl_workers.specs.Network.{GivesAny};
+    ghost use Rattle.fetchers.specs.Network.{GivesAny};
 
     ghost gives = { λ _. GivesAny };
 
@@ -94,31 +94,38 @@ impl<R: Net<Stream = TcpStream> + time::Clock> Fetcher for TcpFetcher<R> {
 
     fn load_page(
         &self,
-        leave: &PageLeave<'_>,
+        leave: PageLeave<'_>,
         limit: usize,
         failure: &mut Option<Failure>,
     ) -> Result<HttpReply, WireFault>
         ensures { Tells None limit result }
     {
         let agent = leave.token().text().as_bytes();
-        self.client
-            .fetch(self.allocator(), leave.url(), agent, limit, failure)
+        let given = self
+            .client
+            .fetch(self.allocator(), leave.url(), agent, limit, failure);
+        leave.spend();
+        given
     }
 
     fn load_robots(
         &self,
-        leave: &RobotsLeave<'_>,
+        leave: RobotsLeave<'_>,
         time: Option<Deadline>,
         failure: &mut Option<Failure>,
     ) -> Result<HttpReply, WireFault>
         ensures { Tells None robots_limit result }
     {
         let Some(deadline) = time else {
+            leave.spend();
             return Err(WireFault::Device);
         };
         let agent = self.agent.as_slice();
         let alloc = self.allocator();
-        self.client
-            .fetch_by(alloc, leave.url(), agent, ROBOTS_LIMIT, deadline, failure)
+        let given = self
+            .client
+            .fetch_by(alloc, leave.url(), agent, ROBOTS_LIMIT, deadline, failure);
+        leave.spend();
+        given
     }
 }
