@@ -2,6 +2,7 @@
 pub mod PlainText
 pub mod Giving
 pub mod Serving
+pub mod Lent
 pub mod Walking
 pub mod ReplyTexts
 pub mod SealTexts

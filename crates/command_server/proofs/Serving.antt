@@ -256,6 +256,25 @@ line_stops {answers = answers} {limit = limit} {count = count} most {old = old} 
     (Answers-more answers old s.lines s.text mid line replies.reply ended new s.answered replies.answered)
     (Passes-push a b c s.text pending replies.reply pending_new s.passed replies.passed) stopped results wrote bound
 
+-- a reply that was given while so many writes had failed
+pub given_at : {S : Type 0} (answers : ℕ → S → List ℕ → List ℕ → Bool → S → Type 0) {failed failed_now : ℕ} {old new : S} {line : List ℕ} {ended : Bool} {a b : Option (List ℕ)} {pending left : List ℕ}
+    → failed_now ≡ failed → GivesReply (λ reply. answers failed_now old line reply ended new) a b pending left → GivesReply (λ reply. answers failed old line reply ended new) a b pending left
+given_at answers {old = old} {new = new} {line = line} {ended = ended} same given = record {
+  reply = given.reply;
+  answered = subst (λ n. answers n old line given.reply ended new) same given.answered;
+  passed = given.passed;
+}
+
+-- one that was lost then
+pub lost_at : {S : Type 0} (answers : ℕ → S → List ℕ → List ℕ → Bool → S → Type 0) {failed failed_now : ℕ} {old new : S} {line : List ℕ} {a b : Option (List ℕ)} {pending : List ℕ}
+    → failed_now ≡ failed → LosesReply (λ reply ended. answers failed_now old line reply ended new) a b pending → LosesReply (λ reply ended. answers failed old line reply ended new) a b pending
+lost_at answers {old = old} {new = new} {line = line} same lost = record {
+  reply = lost.reply;
+  ended = lost.ended;
+  answered = subst (λ n. answers n old line lost.reply lost.ended new) same lost.answered;
+  cut = lost.cut;
+}
+
 -- a write failed while one more line was answered
 pub line_lost : {S : Type 0} {answers : S → List ℕ → List ℕ → Bool → S → Type 0} {limit count : ℕ} (most : ℕ) {old mid : S} {input after behind a b c : Option (List ℕ)} {pending line : List ℕ} (new : S) (unread : List ℕ) (left : Option (List ℕ))
     → (s : Served answers limit count old mid input behind a b pending) → TakesLines limit input after (s.lines ++ line ∷ []) → count + 1 ≤ most → LosesReply (λ reply ended. answers mid line reply ended new) b c pending

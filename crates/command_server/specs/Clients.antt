@@ -13,6 +13,7 @@ use Rattle.crawl_job.specs.declared.job.Outcome.{Outcome}
 use Rattle.keepers.specs.Deals.{Deals}
 use Rattle.command_server.specs.CallOf.{command_of}
 use Rattle.command_server.specs.Limits.{max_client_line, max_lines}
+use Rattle.command_server.specs.Readings.{next_reading}
 use Rattle.command_server.specs.Session.{Session}
 use Rattle.command_server.specs.ToldText.{told_text}
 use Rattle.command_server.specs.declared.command.Command.{Command}
@@ -39,6 +40,11 @@ fetched None = tolds.Fault faults.Verb
 abbrev pub is_farewell : Told → Bool
 is_farewell tolds.Bye = true
 is_farewell _ = false
+
+-- a client's session between two lines: its keeper, and the number of the clock's next reading
+pub record ClientState (S : Type 0) : Type 0 where
+  pub keeper : S
+  pub number : ℕ
 
 module _ {S : Type 0} (deals : Deals S) where
   -- a fault is told, and nothing is done
@@ -72,22 +78,23 @@ module _ {S : Type 0} (deals : Deals S) where
   DoesCommand reads old (Ok commands.Quit) told new = deals.ends old new × (told ≡ tolds.Bye)
   DoesCommand reads old (Err fault) told new = TellsFault old fault told new
 
-  -- a line is what it means at a reading of the clock, with enough capacity; or, with too little, the fault of
-  -- the word that needs more
-  abbrev pub DoesRequest : (ℕ → Type 0) → S → List ℕ → Told → S → Type 0
-  DoesRequest reads old line told new =
-      (m : ℕ) × (reads m
-      × (DoesCommand reads old (command_of (Client m (deals.can_fetch old)) line Enough) told new
-      ⊎ DoesCommand reads old (command_of (Client m (deals.can_fetch old)) line Overflows) told new
-      ⊎ DoesCommand reads old (command_of (Client m (deals.can_fetch old)) line Refused) told new))
+  -- a line is what it means at the clock's reading of this number, with enough capacity; or, with too little, the
+  -- fault of the word that needs more. What it fetches reads the clock anew, under the next number
+  abbrev pub DoesRequest : (ℕ → ℕ → Type 0) → ℕ → S → List ℕ → Told → S → Type 0
+  DoesRequest reads number old line told new =
+      (m : ℕ) × (reads number m
+      × (DoesCommand (reads (next_reading number)) old (command_of (Client m (deals.can_fetch old)) line Enough) told new
+      ⊎ DoesCommand (reads (next_reading number)) old (command_of (Client m (deals.can_fetch old)) line Overflows) told new
+      ⊎ DoesCommand (reads (next_reading number)) old (command_of (Client m (deals.can_fetch old)) line Refused) told new))
 
-  -- what a line of a client is answered: the text of what it is told
-  abbrev pub AnswersClient : (ℕ → Type 0) → S → List ℕ → List ℕ → Bool → S → Type 0
+  -- what a line of a client is answered: the text of what it is told. The next line has readings of its own
+  abbrev pub AnswersClient : (ℕ → ℕ → Type 0) → ClientState S → List ℕ → List ℕ → Bool → ClientState S → Type 0
   AnswersClient reads old line text ended new =
-      (told : Told) × (DoesRequest reads old line told new × ((text ≡ told_text told) × (ended ≡ is_farewell told)))
+      (told : Told) × (DoesRequest reads old.number old.keeper line told new.keeper
+      × ((text ≡ told_text told) × (ended ≡ is_farewell told) × (new.number ≡ next_reading (next_reading old.number))))
 
   -- a session of a client, and its end, which comes whatever the session met
-  pub record Serves (reads : ℕ → Type 0) (old new : S) (input left written written_new : Option (List ℕ)) (result : Result (Unit {0}) SessionFault) : Type 0 where
-    pub last : S
-    pub session : Session (AnswersClient reads) max_client_line max_lines old last input left written written_new result
-    pub ends : deals.ends last new
+  pub record Serves (reads : ℕ → ℕ → Type 0) (old new : S) (input left written written_new : Option (List ℕ)) (result : Result (Unit {0}) SessionFault) : Type 0 where
+    pub last : ClientState S
+    pub session : Session (AnswersClient reads) max_client_line max_lines (record { keeper = old; number = 0 }) last input left written written_new result
+    pub ends : deals.ends last.keeper new

@@ -15,5 +15,6 @@ pub mod Steps
 pub mod Replay
 pub mod HopText
 pub mod ToldText
+pub mod Readings
 pub mod Clients
 pub mod JobWords

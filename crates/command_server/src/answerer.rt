@@ -18,8 +18,9 @@ pub enum Flow {
 
 /// What answers one line after the other from a state, which is lent to it.
 pub trait Answerer<S> {
-    /// From a state, a line may get this reply, which ends the session or not, and lead to a state.
-    ghost answers: { Self → S → List ℕ → List ℕ → Bool → S → Type 0 };
+    /// From a state, a line may get this reply, which ends the session or not, and lead to a state. The
+    /// number is that of the writes that had failed by then.
+    ghost answers: { Self → ℕ → S → List ℕ → List ℕ → Bool → S → Type 0 };
 
     /// Answers a line, which has no line end, with a reply pushed to `output`, and says whether the
     /// session goes on. After a fault the line has had its effect all the same.
@@ -32,10 +33,12 @@ pub trait Answerer<S> {
         sink: &mut W,
     ) -> Result<Flow, DeviceFault>
         ensures ok { IfOk result (λ flow. GivesReply
-            (λ reply. answers self.now state.old line.now reply (ends_session flow) state.new)
+            (λ reply. answers self.now (W.failures sink.old)
+                state.old line.now reply (ends_session flow) state.new)
             (W.written sink.old) (W.written sink.new) output.old output.new) }
         ensures err { OnErr result (LosesReply
-            (λ reply ended. answers self.now state.old line.now reply ended state.new)
+            (λ reply ended. answers self.now (W.failures sink.old)
+                state.old line.now reply ended state.new)
             (W.written sink.old) (W.written sink.new) output.old) }
         ensures count { W.failures sink.new ≡ failures_after (W.failures sink.old) result };
 }

@@ -29,7 +29,7 @@ struct BookLines;
 impl Answerer<Book> for BookLines {
     ghost use Rattle.command_server.specs.Replay.{AnswersLine};
 
-    ghost answers = { λ _. AnswersLine };
+    ghost answers = { λ _ _. AnswersLine };
 
     fn answer<W: Sink>(
         &self,

@@ -84,10 +84,12 @@ impl Buffers {
         writer: &mut W,
     ) -> Result<Flow, DeviceFault>
         ensures ok { IfOk result (λ flow. GivesReply
-            (λ reply. A.answers answerer.now state.old self.old.line.items reply (ends_session flow) state.new)
+            (λ reply. A.answers answerer.now (W.failures writer.old)
+                state.old self.old.line.items reply (ends_session flow) state.new)
             (W.written writer.old) (W.written writer.new) self.old.output self.new.output) }
         ensures err { OnErr result (LosesReply
-            (λ reply ended. A.answers answerer.now state.old self.old.line.items reply ended state.new)
+            (λ reply ended. A.answers answerer.now (W.failures writer.old)
+                state.old self.old.line.items reply ended state.new)
             (W.written writer.old) (W.written writer.new) self.old.output) }
         ensures reader { self.new.reader ≡ self.old.reader }
         ensures count { W.failures writer.new ≡ failures_after (W.failures writer.old) result }

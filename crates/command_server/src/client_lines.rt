@@ -6,48 +6,71 @@ ghost use Rattle.command_server.specs.Clients.{DoesCall, DoesRequest};
 use crate::answerer::{Answerer, Flow};
 use crate::command::{Command, read_command};
 use crate::fault::LineFault;
+use crate::numbered_clock::{FetchClock, NumberedClock, next_reading};
 use crate::told::Told;
 use crate::verbs::Dialogue;
 use counted_io::{DeviceFault, Output, Sink};
 use crawl_job::Job;
-use crawl_workers::Clock;
 use gate_core::Call;
 use keepers::Keeper;
 use path_normal::Authority;
 use std::alloc::Global;
 
-/// A keeper is lent, and a line answered by the call that it makes at the moment that the clock tells.
+/// What a client's session has between two lines: its keeper, which is lent, and the number of the clock's
+/// next reading.
 #[derive(Drop)]
-pub(crate) struct ClientLines<'c, C: Clock> {
+pub(crate) struct Client<'k, K: Keeper> {
+    pub(crate) keeper: &'k mut K,
+    pub(crate) number: u64,
+}
+
+/// A line is answered by the call that the keeper makes at the moment that the clock tells.
+#[derive(Drop)]
+pub(crate) struct ClientLines<'c, C: NumberedClock> {
     pub(crate) clock: &'c C,
 }
 
-impl<K: Keeper, C: Clock> Answerer<K> for ClientLines<'_, C> {
+impl<'k, K: Keeper, C: NumberedClock> Answerer<Client<'k, K>> for ClientLines<'_, C> {
     ghost use Rattle.command_server.specs.Clients.{AnswersClient};
 
-    ghost answers = { λ lines. AnswersClient K.deals (C.reads lines.clock.now) };
+    ghost answers = { λ lines _ old line text ended new.
+        (new.keeper.ghost_name ≡ old.keeper.ghost_name)
+        × AnswersClient K.deals (C.reads lines.clock.now)
+            (record { keeper = old.keeper.now; number = old.number }) line text ended
+            (record { keeper = new.keeper.now; number = new.number }) };
 
     fn answer<W: Sink>(
         &self,
         alloc: Global,
-        keeper: &mut K,
+        client: &mut Client<'k, K>,
         line: &[u8],
         output: &mut Output,
         sink: &mut W,
     ) -> Result<Flow, DeviceFault> {
-        let told = told_of(alloc, self.clock, keeper, line);
+        let told = told_of(alloc, self.clock, client.number, client.keeper, line);
+        client.number = next_reading(next_reading(client.number));
         told.push(output, sink)?;
         Ok(told.flow())
     }
 }
 
-// Makes the call of a line.
-fn told_of<K: Keeper, C: Clock>(alloc: Global, clock: &C, keeper: &mut K, line: &[u8]) -> Told
-    ensures { DoesRequest K.deals (C.reads clock.now) keeper.old line.now result keeper.new }
+// Makes the call of a line at the reading of this number. What it fetches has the next number.
+fn told_of<K: Keeper, C: NumberedClock>(
+    alloc: Global,
+    clock: &C,
+    number: u64,
+    keeper: &mut K,
+    line: &[u8],
+) -> Told
+    ensures { DoesRequest K.deals (C.reads clock.now) number keeper.old line.now result keeper.new }
 {
     let dialogue = Dialogue::Client {
-        moment: clock.now(),
+        moment: clock.read(number),
         fetches: keeper.can_fetch(),
+    };
+    let clock = &FetchClock {
+        clock,
+        number: next_reading(number),
     };
     match read_command(alloc, dialogue, line) {
         Ok(Command::Call(call)) => told_of_call(keeper, call),

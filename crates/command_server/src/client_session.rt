@@ -1,15 +1,16 @@
 //! `serve`: a session of a client over a keeper.
 //! `crawlgate serve` runs one for each connection.
 ghost use Rattle.std.specs.Prelude.{◌≡◌};
-ghost use Rattle.command_server.specs.Clients.{Serves};
-ghost use Rattle.command_server.specs.Session.{failures_after_reads, failures_after_writes};
+ghost use Rattle.command_server.specs.Clients.{AnswersClient, Serves};
+ghost use Rattle.command_server.specs.Limits.{max_client_line, max_lines};
+ghost use Rattle.command_server.specs.Session.{Session, failures_after_reads, failures_after_writes};
 
 use crate::book_lines::MAX_LINES;
-use crate::client_lines::ClientLines;
+use crate::client_lines::{Client, ClientLines};
+use crate::numbered_clock::NumberedClock;
 use crate::session::run_session;
 use crate::session_fault::SessionFault;
 use counted_io::{Sink, Source};
-use crawl_workers::Clock;
 use keepers::Keeper;
 use std::alloc::Global;
 
@@ -17,9 +18,9 @@ use std::alloc::Global;
 pub const MAX_CLIENT_LINE: usize = 8192;
 
 /// Reads a client's lines, has the keeper make their calls, and writes the replies, before each read that
-/// may wait and at the end. The clock is read once for each line, and by what fetches; moments are in
+/// may wait and at the end. The clock is read anew for each line, and again by what fetches; moments are in
 /// seconds. At QUIT, and once more behind whatever ended the session, all that it has out is given back.
-pub fn serve<R: Source, W: Sink, K: Keeper, C: Clock>(
+pub fn serve<R: Source, W: Sink, K: Keeper, C: NumberedClock>(
     alloc: Global,
     reader: &mut R,
     writer: &mut W,
@@ -34,15 +35,38 @@ pub fn serve<R: Source, W: Sink, K: Keeper, C: Clock>(
         ≡ failures_after_writes (W.failures writer.old) result }
 {
     let lines = ClientLines { clock };
-    let end = run_session(
+    let mut client = Client { keeper, number: 0 };
+    let end = run_lines(alloc, reader, writer, &lines, &mut client);
+    client.keeper.end();
+    end
+}
+
+// Has the lines answered. The client's keeper stays the one that is lent.
+fn run_lines<'k, R: Source, W: Sink, K: Keeper, C: NumberedClock>(
+    alloc: Global,
+    reader: &mut R,
+    writer: &mut W,
+    lines: &ClientLines<'_, C>,
+    client: &mut Client<'k, K>,
+) -> Result<(), SessionFault>
+    ensures keeper { client.new.keeper.ghost_name ≡ client.old.keeper.ghost_name }
+    ensures session { Session (AnswersClient K.deals (C.reads lines.now.clock.now))
+        max_client_line max_lines
+        (record { keeper = client.old.keeper.now; number = client.old.number })
+        (record { keeper = client.new.keeper.now; number = client.new.number })
+        (R.left reader.old) (R.left reader.new)
+        (W.written writer.old) (W.written writer.new) result }
+    ensures reads { R.failures reader.new ≡ failures_after_reads (R.failures reader.old) result }
+    ensures writes { W.failures writer.new
+        ≡ failures_after_writes (W.failures writer.old) result }
+{
+    run_session(
         alloc,
         reader,
         writer,
-        &lines,
-        keeper,
+        lines,
+        client,
         MAX_CLIENT_LINE,
         MAX_LINES,
-    );
-    keeper.end();
-    end
+    )
 }

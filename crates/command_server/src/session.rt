@@ -11,7 +11,8 @@ use std::alloc::Global;
 
 /// Reads lines of at most `limit` octets, has each answered in its turn from the state, and writes the replies,
 /// before each read that may wait and at the end. It stops at the end of the input, at a line that
-/// ends the session, at a line over the limit, behind `most` lines, and at a fault.
+/// ends the session, at a line over the limit, behind `most` lines, and at a fault. Each line is answered while
+/// no write of the session has failed.
 pub fn run_session<R: Source, W: Sink, S, A: Answerer<S>>(
     alloc: Global,
     reader: &mut R,
@@ -21,7 +22,8 @@ pub fn run_session<R: Source, W: Sink, S, A: Answerer<S>>(
     limit: usize,
     most: u64,
 ) -> Result<(), SessionFault>
-    ensures session { Session (A.answers answerer.now) limit most state.old state.new
+    ensures session { Session (A.answers answerer.now (W.failures writer.old))
+        limit most state.old state.new
         (R.left reader.old) (R.left reader.new)
         (W.written writer.old) (W.written writer.new) result }
     ensures reads { R.failures reader.new ≡ failures_after_reads (R.failures reader.old) result }

@@ -67,7 +67,7 @@ struct JobLines;
 impl Answerer<JobList> for JobLines {
     ghost use Rattle.crawl_shift.specs.JobLists.{TakesJob};
 
-    ghost answers = { λ _. TakesJob };
+    ghost answers = { λ _ _. TakesJob };
 
     fn answer<W: Sink>(
         &self,

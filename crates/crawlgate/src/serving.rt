@@ -96,7 +96,7 @@ fn run_over<
     C: crawl_workers::Clock + Sync,
     A: Alarm + Sync,
     R: Threads + Wait + time::Clock + Sync,
->(server: &Server<'_, F, C, A, R>, book: Book, blanks: Blanks) -> Result<Served, ServeFault>
+>(server: &Server<'_, F, C, A, R>, book: Book, blanks: Blanks) -> Result<Served<G>, ServeFault>
     requires workers { IsCrew server.now.workers }
     requires book { (book.base ≡ empty_base) × (book.entries ≡ []) }
     requires blanks { blanks ≡ G.ledgers }
@@ -106,12 +106,13 @@ fn run_over<
 }
 
 // Tells what a server has done.
-fn ending(rt: &HostRuntime, end: Result<Served, ServeFault>) -> Ending {
+fn ending<G: Gate>(rt: &HostRuntime, end: Result<Served<G>, ServeFault>) -> Ending {
     match end {
         Ok(
             Served {
                 connections,
                 events,
+                receipts: _,
             },
         ) => tell_served(rt, connections, events),
         Err(ServeFault::NoMemory | ServeFault::Unsettled(SettleFault::NoMemory)) => {

@@ -9,7 +9,7 @@ use Rattle.gate_core.specs.declared.refusal.NoMemory.{NoMemory}
 use Rattle.gate_core.specs.declared.state.Standing.{Standing}
 use Rattle.gate_core.specs.declared.state.State.{State}
 use Rattle.gate_lock.specs.Bags.{BagView, Clears, GainsPermit, HoldsSame, IsCleared}
-use Rattle.gate_lock.specs.Desks.{Condenses, DeskView, Pass, receipt_of}
+use Rattle.gate_lock.specs.Desks.{Condenses, DeskView, KeepsOut, Pass, receipt_of}
 use Rattle.gate_lock.specs.Marks.{Receipt}
 use Rattle.gate_lock.specs.Steps.{DeskAsks, DeskReads, DeskSeals, Somewhere}
 use Rattle.crawl_job.specs.declared.job.Job.{Job}
@@ -41,7 +41,7 @@ abbrev pub KeeperReads : DeskView → BagView → List ℕ → ℕ → State →
 KeeperReads d b authority m state d2 b2 =
     Somewhere d (λ old new. DeskReads d old authority m state new d2) × (b2 ≡ b)
 
--- seal: a look of the desk, which leaves no mark
+-- seal: a step of the desk, which counts just what is told as handed out, and leaves no mark
 abbrev pub KeeperSeals : DeskView → BagView → Result Sealed NoMemory → DeskView → BagView → Type 0
 KeeperSeals d b result d2 b2 = Somewhere d (λ old new. DeskSeals d old result new d2) × (b2 ≡ b)
 
@@ -50,9 +50,10 @@ abbrev pub KeeperRefreshes : World → DeskView → BagView → List ℕ → Opt
 KeeperRefreshes world d b authority (Some told) d2 b2 = Refreshes world authority told d d2 × (b2 ≡ b)
 KeeperRefreshes world d b authority None d2 b2 = ⊥
 
--- fetch: the work of the desk on a job, or nothing where there is no memory for its hops
+-- fetch: the work of the desk on a job, by which nothing is handed out and nothing left to be spent; or nothing where
+-- there is no memory for its hops
 abbrev pub KeeperFetches : World → DeskView → BagView → Job → Option (Result Outcome NoMemory) → DeskView → BagView → Type 0
-KeeperFetches world d b job (Some (Ok outcome)) d2 b2 = Works world job outcome d d2 × (b2 ≡ b)
+KeeperFetches world d b job (Some (Ok outcome)) d2 b2 = Works world job outcome d d2 × KeepsOut d d2 × (b2 ≡ b)
 KeeperFetches world d b job (Some (Err _)) d2 b2 = (d2 ≡ d) × (b2 ≡ b)
 KeeperFetches world d b job None d2 b2 = ⊥
 

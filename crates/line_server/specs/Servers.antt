@@ -1,11 +1,11 @@
 -- How a server ends.
-use Rattle.std.specs.Prelude.{ℕ, List, Ok}
+-- The contract of `Server::run`.
+use Rattle.std.specs.Prelude.{◌≡◌, ℕ, List, Ok}
 use Rattle.gate_lock.specs.Marks.{Receipt}
-use Rattle.gate_lock.specs.Settling.{SettlesSome}
-use Rattle.line_server.specs.declared.server.Served.{Served}
+use Rattle.gate_lock.specs.Settling.{IsWholeUnlessSealed, SettlesSome}
+use Rattle.gate_lock.specs.declared.settlement.Settled.{Settled}
 
--- the gate was settled by the receipts of its desks, and as many entries as it told were made
-abbrev pub IsServed : Served → Type 0
-IsServed served =
-    (receipts : List Receipt) × ((starts : ℕ)
-    × SettlesSome receipts (Ok (record { events = served.events; starts = starts })))
+-- by these receipts a gate was settled, with so many entries; where nothing was handed out they are a whole history
+abbrev pub IsServed : List Receipt → ℕ → Type 0
+IsServed receipts events =
+    (settled : Settled) × ((settled.events ≡ events) × SettlesSome receipts (Ok settled) × IsWholeUnlessSealed receipts settled)

@@ -1,5 +1,10 @@
--- When a server sweeps its gate. RFC 9309, section 2.4, says how long an answer lasts.
-use Rattle.std.specs.Prelude.{ℕ, ◌-◌, Bool, nat_le, nat_lt, ◌||◌, if◌then◌else◌}
+-- When a server sweeps its gate, and at which moment. RFC 9309, section 2.4, says how long an answer lasts.
+-- The contracts of what sees to the gate.
+use Rattle.std.specs.Prelude.{◌≡◌, ◌⊎◌, ℕ, zero, suc, ◌-◌, Bool, nat_le, nat_lt, ◌||◌, if◌then◌else◌, Result}
+use Rattle.gate_core.specs.declared.refusal.SweepRefusal.{SweepRefusal}
+use Rattle.gate_lock.specs.Desks.{DeskView}
+use Rattle.gate_lock.specs.Steps.{DeskSweeps, Somewhere}
+use Rattle.command_server.specs.Readings.{reading_after}
 
 -- the most seconds between two sweeps
 abbrev pub sweep_seconds : ℕ
@@ -13,3 +18,20 @@ full_seconds = 60
 -- be; and where the clock was set back behind it
 abbrev pub is_due : ℕ → ℕ → Bool → Bool
 is_due swept now is_full = nat_lt now swept || nat_le (if is_full then full_seconds else sweep_seconds) (now - swept)
+
+-- one sweep at such a moment is a step of the desk, or nothing is done. What it ended is marked with that moment, or
+-- with a later one of an entry that was there
+abbrev pub MaySweep : (ℕ → Type 0) → DeskView → DeskView → Type 0
+MaySweep reads d d2 =
+    (d2 ≡ d)
+    ⊎ ((m : ℕ) × (reads m × ((result : Result ℕ SweepRefusal) × Somewhere d (λ old new. DeskSweeps d old m result new d2))))
+
+-- so many rounds, each at the clock's reading behind that of the round before
+abbrev pub GoesRoundsTo : (ℕ → ℕ → Type 0) → ℕ → DeskView → DeskView → Type 0
+GoesRoundsTo reads zero d d2 = d2 ≡ d
+GoesRoundsTo reads (suc rounds) d d2 =
+    (between : DeskView) × (GoesRoundsTo reads rounds d between × MaySweep (reads (reading_after (suc rounds))) between d2)
+
+-- some rounds
+abbrev pub GoesRounds : (ℕ → ℕ → Type 0) → DeskView → DeskView → Type 0
+GoesRounds reads d d2 = (rounds : ℕ) × GoesRoundsTo reads rounds d d2

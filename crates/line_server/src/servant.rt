@@ -5,9 +5,9 @@ use crate::fault::ServeFault;
 use crate::server::{Counters, Server};
 use crate::warden::Alarm;
 use client_wire::{AcceptFault, ClientStream, Waiting, close};
-use command_server::serve;
+use command_server::{NumberedClock, serve};
 use counted_io::{Counted, DeviceFault};
-use crawl_workers::{Clock, Fetcher};
+use crawl_workers::Fetcher;
 use gate_lock::{Gate, GateLock, Receipts};
 use keepers::DeskKeeper;
 use std::cell::Cell;
@@ -24,7 +24,7 @@ pub(crate) struct Servant<G: Gate> {
     pub(crate) end: Option<Result<Receipts<G>, ServeFault>>,
 }
 
-impl<F: Fetcher, C: Clock, A: Alarm, R: Wait + time::Clock> Server<'_, F, C, A, R> {
+impl<F: Fetcher, C: NumberedClock, A: Alarm, R: Wait + time::Clock> Server<'_, F, C, A, R> {
     /// Lets a worker serve until no connection is left to be taken.
     pub(crate) fn employ<G: Gate>(
         &self,

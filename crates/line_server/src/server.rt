@@ -7,7 +7,8 @@ use crate::fault::ServeFault;
 use crate::servant::Servant;
 use crate::warden::Alarm;
 use client_wire::Listener;
-use crawl_workers::{Clock, Fetcher};
+use command_server::NumberedClock;
+use crawl_workers::Fetcher;
 use gate_lock::{Gate, GateLock, Receipts, settle};
 use job_line::MAX_WORKERS;
 use std::alloc::{AllocError, Global};
@@ -43,26 +44,28 @@ pub(crate) struct Counters {
 }
 
 /// What a server has done.
-#[derive(Clone, Copy, Debug, PartialEq, Eq)]
-pub struct Served {
+#[derive(Drop)]
+pub struct Served<G: Gate> {
     /// How many connections were accepted.
     pub connections: u64,
     /// How many entries the history has.
     pub events: u64,
+    /// The receipts of its desks, by which the gate was settled.
+    pub receipts: Vec<Receipts<G>>,
 }
 
 impl<
     F: Fetcher + Sync,
-    C: Clock + Sync,
+    C: NumberedClock + Sync,
     A: Alarm + Sync,
     R: Threads + Wait + time::Clock + Sync,
 > Server<'_, F, C, A, R> {
     /// Serves clients over a gate that has made no entry, and settles it. Each worker has a thread of its
     /// own, as far as threads can be had. What a session left out is given back at its end, whatever ended
     /// it, so the faults of clients are none of the gate.
-    pub fn run<G: Gate + Send + Sync>(&self, gate: &GateLock<G>) -> Result<Served, ServeFault>
+    pub fn run<G: Gate + Send + Sync>(&self, gate: &GateLock<G>) -> Result<Served<G>, ServeFault>
         requires { IsCrew self.now.workers }
-        ensures { IfOk result IsServed }
+        ensures { IfOk result (λ served. IsServed served.receipts.items served.events) }
     {
         let mut servants = hire(self.alloc, self.workers)?;
         let mut receipts = Vec::new(self.alloc);
@@ -73,6 +76,7 @@ impl<
         Ok(Served {
             connections,
             events: settled.events,
+            receipts,
         })
     }
 

@@ -2,11 +2,13 @@
 //! RFC 9309, section 2.4.
 ghost use Rattle.std.specs.Prelude.{◌≡◌};
 ghost use Rattle.gate_lock.specs.Desks.{KeepsOut};
-ghost use Rattle.line_server.specs.Sweeping.{is_due};
+ghost use Rattle.command_server.specs.Readings.{next_reading};
+ghost use Rattle.line_server.specs.Sweeping.{GoesRounds, MaySweep, is_due};
 
 use crate::fault::ServeFault;
 use crate::server::{Counters, Server};
-use crawl_workers::{Clock, Fetcher};
+use command_server::{NumberedClock, next_reading};
+use crawl_workers::Fetcher;
 use gate_lock::{Desk, Gate, GateLock, Receipts};
 use std::sync::Wait;
 use std::sync::atomic::Ordering;
@@ -28,14 +30,16 @@ pub trait Alarm {
     fn log_is_full(&self);
 }
 
-/// When a gate was swept last, and whether it was told that its history is full.
+/// When a gate was swept last, the number of the clock's next reading, and whether it was told that the
+/// history is full.
 #[derive(Clone, Copy)]
 struct Rounds {
     swept: u64,
+    number: u64,
     told: bool,
 }
 
-impl<F: Fetcher, C: Clock, A: Alarm, R: Wait + time::Clock> Server<'_, F, C, A, R> {
+impl<F: Fetcher, C: NumberedClock, A: Alarm, R: Wait + time::Clock> Server<'_, F, C, A, R> {
     /// Sees to the gate at a desk of its own, until no worker is left.
     pub(crate) fn watch<G: Gate>(
         &self,
@@ -47,13 +51,15 @@ impl<F: Fetcher, C: Clock, A: Alarm, R: Wait + time::Clock> Server<'_, F, C, A, 
         Ok(desk.close())
     }
 
-    // Looks after the gate until no worker is left.
+    // Looks after the gate until no worker is left, each time at a reading of its own.
     fn go_round<G: Gate>(&self, counters: &Counters, desk: &mut Desk<'_, G>)
         ensures no { desk.new.no ≡ desk.old.no }
         ensures out { KeepsOut desk.old desk.new }
+        ensures rounds { GoesRounds (C.reads self.now.clock.now) desk.old desk.new }
     {
         let mut rounds = Rounds {
-            swept: self.clock.now(),
+            swept: self.clock.read(0),
+            number: next_reading(0),
             told: false,
         };
         for _ in self.rt.forever() {
@@ -65,12 +71,15 @@ impl<F: Fetcher, C: Clock, A: Alarm, R: Wait + time::Clock> Server<'_, F, C, A, 
         }
     }
 
-    // Sweeps where that is due, and tells once that the history is full.
+    // Sweeps where that is due, at the clock's next reading, and tells once that the history is full.
     fn see_to<G: Gate>(&self, desk: &mut Desk<'_, G>, rounds: &mut Rounds)
         ensures no { desk.new.no ≡ desk.old.no }
         ensures out { KeepsOut desk.old desk.new }
+        ensures sweeps { MaySweep (C.reads self.now.clock.now rounds.old.number) desk.old desk.new }
+        ensures number { rounds.new.number ≡ next_reading rounds.old.number }
     {
-        let now = self.clock.now();
+        let now = self.clock.read(rounds.number);
+        rounds.number = next_reading(rounds.number);
         let (has_room, is_full) = {
             let held = desk.lend(self.rt);
             let book = held.book();

@@ -1,11 +1,13 @@
-//! Sessions of clients over memory, at a clock that stands.
+//! Sessions of clients: over memory, at a clock that stands or that the row moves; and at a server.
 ghost use Rattle.std.specs.Prelude.{◌≡◌, [], IfOk};
 ghost use Rattle.gate_history.specs.Base.{empty_base};
 ghost use Rattle.gate_core.specs.Limits.{AreLimits};
 
 mod books;
+mod clocks;
 mod desks;
 mod faults;
+mod sweeps;
 mod turns;
 
 use command_server::{DeskKeeper, Keeper, SessionFault, serve};

@@ -1,8 +1,9 @@
 //! A session over a book alone: each of its calls is the book's, and nothing is fetched.
+ghost use Rattle.std.specs.Prelude.{◌<◌};
 
 use super::{book, demand, served};
 use authority_cache::{LIFE, TimedAnswer, TurnNo};
-use command_server::BookKeeper;
+use command_server::{BookKeeper, SessionFault};
 use counted_io::FailAt;
 use gate_core::{Book, Limits};
 use path_normal::Authority;
@@ -59,7 +60,7 @@ fn sessions_over_a_book(rt: HostRuntime) -> Result<(), Fail> {
 }
 
 // Brings the answer that a.example is open.
-fn open_site(alloc: Global, book: &mut Book) -> Result<(), Fail> {
+pub(super) fn open_site(alloc: Global, book: &mut Book) -> Result<(), Fail> {
     let site = Authority::new(alloc, "a.example")?;
     let turn: TurnNo = book.begin(&site, 100)?;
     let open = TimedAnswer::new(Answer::Open(Opening::Unavailable), LIFE);
@@ -82,5 +83,30 @@ fn check_row(
     match end {
         Ok(()) => Ok(()),
         Err(_) => Err(Fail::new(format_args!("{name}: its end"))),
+    }
+}
+
+// Octets without an LF, however many a read brings, are read no further than is said.
+#[test]
+fn a_line_without_an_end(rt: HostRuntime) -> Result<(), Fail> {
+    let mut book = book(&rt, rt.alloc(), Limits::usual())?;
+    check_long(rt.alloc(), &mut book, 1)?;
+    check_long(rt.alloc(), &mut book, 4_096)?;
+    check_long(rt.alloc(), &mut book, 65_536)
+}
+
+fn check_long(alloc: Global, book: &mut Book, per_read: usize) -> Result<(), Fail>
+    requires { 0 < per_read }
+{
+    let mut reader = FailAt::new(vec![in alloc; b'a'; 200_000]?, per_read, None);
+    let mut writer = FailAt::new(Vec::new(alloc), 65_536, None);
+    let mut keeper = BookKeeper::new(book);
+    let end = served(alloc, &mut reader, &mut writer, &mut keeper);
+    demand(writer.bytes(), "ERR long\n", "a line without an end")?;
+    // The limit, and 65,537 octets past it.
+    if end == Err(SessionFault::LongLine) && reader.unread().len() + 73_729 >= 200_000 {
+        Ok(())
+    } else {
+        Err(Fail::new(format_args!("a line without an end, {per_read} octets a read")))
     }
 }

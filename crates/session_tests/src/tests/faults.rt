@@ -1,10 +1,11 @@
-//! Sessions at a desk whose read or write fails, at each place in turn: nothing stays out.
+//! Sessions at a desk whose read or write fails, at each place in turn: nothing stays out, and behind a write that
+//! failed no line is answered.
 
 use super::{Ended, book, session_at};
 use command_server::SessionFault;
 use counted_io::FailAt;
 use gate_core::Limits;
-use gate_lock::{Gate, GateLock, Visit, with_gate};
+use gate_lock::{Gate, GateLock, Settled, Visit, with_gate};
 use std::alloc::Global;
 use std::random::RandomSource;
 use std::sync::Wait;
@@ -77,14 +78,32 @@ fn reads_that_fail(rt: HostRuntime) -> Result<(), Fail> {
     Ok(())
 }
 
+// What the gate is settled to where the write of the octet behind so many fails. The line behind a reply is read
+// once the reply is written, so the lines answered are those up to the one whose reply has that octet; what
+// they left out is given back.
+fn settled_to(written: u64) -> Settled {
+    let (events, starts) = match written {
+        // The answer.
+        0..=20 => (2, 0),
+        // A permit, which is given back.
+        21..=33 => (4, 0),
+        // Another one.
+        34..=46 => (6, 0),
+        // A fetch is started, and ended.
+        _ => (7, 1),
+    };
+    Settled { events, starts }
+}
+
 #[test]
 fn writes_that_fail(rt: HostRuntime) -> Result<(), Fail> {
     for at in 0..REPLIES {
-        check(
-            ended(&rt, rt.alloc(), None, Some(at))?,
-            SessionFault::Write,
-            at,
-        )?;
+        let ended = ended(&rt, rt.alloc(), None, Some(at))?;
+        let (_, settled) = ended;
+        if settled != Ok(settled_to(at)) {
+            return Err(Fail::new(format_args!("at {at}: {settled:?}")));
+        }
+        check(ended, SessionFault::Write, at)?;
     }
     Ok(())
 }

@@ -1,18 +1,18 @@
 -- Each way out of the loop is an end of the session.
 -- The lemmas of `Serving` say so for each.
-use Rattle.std.proofs.Common.{[], refl, inl, inr, arith, rules, Ok, Err}
+use Rattle.std.proofs.Common.{◌≡◌, [], refl, inl, inr, arith, rules, Ok, Err}
 use Rattle.std.proofs.lemmas.Result.{err_from_is_err_and}
 use Rattle.std.proofs.KnownBytes.{Appends-nil, Consumes-nil}
 use Rattle.std.specs.Io.KnownBytes.{prepend_known}
 use Rattle.command_server.specs.Input.{FindsLine}
 use Rattle.command_server.specs.declared.session_fault.SessionFault.TheVariants.{LongLine, Lines, NoMemory}
-use Rattle.command_server.proofs.Serving.{finds_none, served_start, served_further, served_line, served_stops, line_stops, line_lost, fails_stops, took_line, took_last}
+use Rattle.command_server.proofs.Serving.{finds_none, served_start, served_further, served_line, given_at, lost_at, served_stops, line_stops, line_lost, fails_stops, took_line, took_last}
 use Rattle.command_server.proofs.session.run_session.Goals as goal
 
 pub returns-in_err-buffers-clause-session : goal.returns-in_err-buffers-clause-session
 returns-in_err-buffers-clause-session g c =
     let p = err_from_is_err_and c.from_residual.result c.from_residual.ensures.1 in
-    let s = served_start (g.A.Answerer.answers c.args.answerer.now) c.args.limit c.args.state.now (g.R.Source.left c.args.reader.now) [] (g.W.Sink.written c.args.writer.now) [] refl refl in
+    let s = served_start (g.A.Answerer.answers c.args.answerer.now (g.W.Sink.failures c.args.writer.now)) c.args.limit c.args.state.now (g.R.Source.left c.args.reader.now) [] (g.W.Sink.written c.args.writer.now) [] refl refl in
     rw (p.1, p.2) (served_stops c.args.most [] _ _ (Err NoMemory) (Err NoMemory) s (omega arith) (refl, finds_none [] _) (inl refl) (Appends-nil _) (omega arith))
 
 pub loop-taken-init : goal.loop-taken-init
@@ -29,31 +29,35 @@ returns-in_err-next-clause-session g c =
 
 pub returns-in_err-answer-in-Line-clause-session : goal.returns-in_err-answer-in-Line-clause-session
 returns-in_err-answer-in-Line-clause-session g c =
+    let same : g.W.Sink.failures c.next.new.writer ≡ g.W.Sink.failures c.args.writer.now = search rules in
     let p = err_from_is_err_and c.from_residual-in_err-answer-in-Line.result c.from_residual-in_err-answer-in-Line.ensures.1 in
     let s = served_further c.loop-taken.invariant.served c.in_ok-next.ensures.passed in
     let line = rw c.in-Line.is at c.in_ok-next.ensures.takes in
-    rw (p.1, p.2) (line_lost c.args.most _ _ _ s (took_line s.whole line) (omega arith) c.in_err-answer-in-Line.ensures.err (finds_none _ _) c.in_ok-next.ensures.few.1)
+    rw (p.1, p.2) (line_lost c.args.most _ _ _ s (took_line s.whole line) (omega arith) (lost_at (g.A.Answerer.answers c.args.answerer.now) same c.in_err-answer-in-Line.ensures.err) (finds_none _ _) c.in_ok-next.ensures.few.1)
 
 pub returns-in-Ends-clause-session : goal.returns-in-Ends-clause-session
 returns-in-Ends-clause-session g c =
     let s = served_further c.loop-taken.invariant.served c.in_ok-next.ensures.passed in
     let line = rw c.in-Line.is at c.in_ok-next.ensures.takes in
-    let replies = rw c.in-Ends.is at c.in_ok-answer-in-Line.ensures.ok in
+    let same : g.W.Sink.failures c.next.new.writer ≡ g.W.Sink.failures c.args.writer.now = search rules in
+    let replies = given_at (g.A.Answerer.answers c.args.answerer.now) same (rw c.in-Ends.is at c.in_ok-answer-in-Line.ensures.ok) in
     line_stops c.args.most _ _ _ _ _ (Ok tt) _ s (took_line s.whole line) (omega arith) replies
     (record { kept = Consumes-nil _; none = inl refl }) c.close.ensures.results c.close.ensures.wrote c.close.ensures.few
 
 pub returns-in_err-answer-in-Last-clause-session : goal.returns-in_err-answer-in-Last-clause-session
 returns-in_err-answer-in-Last-clause-session g c =
+    let same : g.W.Sink.failures c.next.new.writer ≡ g.W.Sink.failures c.args.writer.now = search rules in
     let p = err_from_is_err_and c.from_residual-in_err-answer-in-Last.result c.from_residual-in_err-answer-in-Last.ensures.1 in
     let s = served_further c.loop-taken.invariant.served c.in_ok-next.ensures.passed in
     let last = rw c.in-Last.is at c.in_ok-next.ensures.takes in
-    rw (p.1, p.2) (line_lost c.args.most _ _ _ s (took_last s.whole last) (omega arith) c.in_err-answer-in-Last.ensures.err (finds_none _ _) c.in_ok-next.ensures.few.1)
+    rw (p.1, p.2) (line_lost c.args.most _ _ _ s (took_last s.whole last) (omega arith) (lost_at (g.A.Answerer.answers c.args.answerer.now) same c.in_err-answer-in-Last.ensures.err) (finds_none _ _) c.in_ok-next.ensures.few.1)
 
 pub returns-in-Last-clause-session : goal.returns-in-Last-clause-session
 returns-in-Last-clause-session g c =
+    let same : g.W.Sink.failures c.next.new.writer ≡ g.W.Sink.failures c.args.writer.now = search rules in
     let s = served_further c.loop-taken.invariant.served c.in_ok-next.ensures.passed in
     let last = rw c.in-Last.is at c.in_ok-next.ensures.takes in
-    line_stops c.args.most _ _ _ _ _ (Ok tt) _ s (took_last s.whole last) (omega arith) c.in_ok-answer-in-Last.ensures.ok
+    line_stops c.args.most _ _ _ _ _ (Ok tt) _ s (took_last s.whole last) (omega arith) (given_at (g.A.Answerer.answers c.args.answerer.now) same c.in_ok-answer-in-Last.ensures.ok)
     (record { kept = Consumes-nil _; none = inr last.drained }) c.close-in-Last.ensures.results c.close-in-Last.ensures.wrote c.close-in-Last.ensures.few
 
 pub returns-in-End-clause-session : goal.returns-in-End-clause-session
@@ -72,7 +76,8 @@ pub loop-taken-preserved : goal.loop-taken-preserved
 loop-taken-preserved g c =
     let s = served_further c.loop-taken.invariant.served c.in_ok-next.ensures.passed in
     let line = rw c.in-Line.is at c.in_ok-next.ensures.takes in
-    let replies = rw c.in-Goes.is at c.in_ok-answer-in-Line.ensures.ok in
+    let same : g.W.Sink.failures c.next.new.writer ≡ g.W.Sink.failures c.args.writer.now = search rules in
+    let replies = given_at (g.A.Answerer.answers c.args.answerer.now) same (rw c.in-Goes.is at c.in_ok-answer-in-Line.ensures.ok) in
     record {
       served = rw c.answer.ensures.reader (served_line _ s line replies);
       reads = search rules;

@@ -1,7 +1,8 @@
--- The desk keeps its number, and has out what it had.
+-- The desk keeps its number, has out what it had, and has swept at readings of the clock.
 -- The proof of `Server::go_round` rests on it.
 use Rattle.std.proofs.Common.{◌≡◌}
 use Rattle.gate_lock.specs.Desks.{KeepsOut}
+use Rattle.line_server.proofs.Rounds.{HasGone}
 use Rattle.line_server.proofs.server.Server.go_round.Given as goal
 
 abbrev pub invariant-loop : goal.invariant-loop
@@ -10,4 +11,5 @@ invariant-loop g l = record {
   ends : (goal.iterator-loop g).is_finite l.iterator';
   no : l.desk.no ≡ l.fn.desk.no;
   out : KeepsOut l.fn.desk l.desk;
+  gone : HasGone (g.C.NumberedClock.reads l.self.clock.now) l.fn.desk l.desk l.rounds.number;
 }

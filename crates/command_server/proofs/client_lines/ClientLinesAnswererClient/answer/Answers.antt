@@ -1,22 +1,23 @@
 -- What the client is told passes to the output, or is cut there.
-use Rattle.std.proofs.Common.{refl}
+-- The next line has the readings behind those of this one.
+use Rattle.std.proofs.Common.{refl, rules}
 use Rattle.counted_io.proofs.CallerLemmas.{on_err}
 use Rattle.command_server.specs.Clients.{is_farewell}
 use Rattle.command_server.specs.ToldText.{told_text}
-use Rattle.command_server.proofs.client_lines.ClientLinesAnswerer.answer.Goals as goal
+use Rattle.command_server.proofs.client_lines.ClientLinesAnswererClient.answer.Goals as goal
 
 pub returns-in_err-push-clause-err : goal.returns-in_err-push-clause-err
 returns-in_err-push-clause-err g c =
     on_err c.from_residual.result (record {
       reply = told_text c.told_of-told.result;
       ended = is_farewell c.told_of-told.result;
-      answered = (c.told_of-told.result, (c.told_of-told.ensures, (refl, refl)));
+      answered = (refl, (c.told_of-told.result, (c.told_of-told.ensures, (refl, refl, search rules))));
       cut = c.in_err-push.ensures.err;
     })
 
 pub returns-clause-ok : goal.returns-clause-ok
 returns-clause-ok g c = record {
   reply = told_text c.told_of-told.result;
-  answered = (c.told_of-told.result, (c.told_of-told.ensures, (refl, c.flow.ensures)));
+  answered = (refl, (c.told_of-told.result, (c.told_of-told.ensures, (refl, c.flow.ensures, search rules))));
   passed = c.in_ok-push.ensures.ok;
 }

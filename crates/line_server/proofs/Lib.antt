@@ -1,0 +1,2 @@
+-- Lemmas that proofs of a server cite.
+pub mod Rounds
