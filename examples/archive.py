@@ -138,9 +138,10 @@ def name_of_record():
 
 
 def keep(folder, name, octets):
-    """Writes a file under a hidden name, brings it to the disk, and names it then. None is written over."""
-    hidden = f"{folder}/.{name}"
-    with open(hidden, "wb") as file:
+    """Writes a file under a hidden name that nobody else has, brings it to the disk, and names it then. None is written
+    over, nor is a link followed."""
+    hidden = f"{folder}/.{name}.{uuid.uuid4().hex}"
+    with open(os.open(hidden, os.O_WRONLY | os.O_CREAT | os.O_EXCL | os.O_NOFOLLOW, 0o644), "wb") as file:
         file.write(octets)
         file.flush()
         os.fsync(file.fileno())
