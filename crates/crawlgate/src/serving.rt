@@ -82,27 +82,26 @@ fn serve_clients<R: Threads + Wait + time::Clock + Sync>(
                 connections: options.connections,
                 patience: Duration::from_secs(options.patience),
             };
-            let end = run_over::<Brand, _, _, _, _>(&server, book, Blanks::new());
-            ending(host, end)
+            run_over::<Brand, _, _, _, _>(host, &server, book, Blanks::new())
         }
         Err(_) => Ending::NoMemory,
     }
 }
 
-// Runs a server over a new gate.
+// Runs a server over a new gate, and tells what it has done.
 fn run_over<
     G: Gate + Send + Sync,
     F: crawl_workers::Fetcher + Sync,
     C: crawl_workers::Clock + Sync,
     A: Alarm + Sync,
     R: Threads + Wait + time::Clock + Sync,
->(server: &Server<'_, F, C, A, R>, book: Book, blanks: Blanks) -> Result<Served<G>, ServeFault>
+>(host: &HostRuntime, server: &Server<'_, F, C, A, R>, book: Book, blanks: Blanks) -> Ending
     requires workers { IsCrew server.now.workers }
     requires book { (book.base ≡ empty_base) × (book.entries ≡ []) }
     requires blanks { blanks ≡ G.ledgers }
 {
     let gate: GateLock<G> = GateLock::new(book, blanks);
-    server.run(&gate)
+    ending(host, server.run(&gate))
 }
 
 // Tells what a server has done.
