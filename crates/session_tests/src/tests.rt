@@ -1,4 +1,4 @@
-//! Sessions of clients: over memory, at a clock that stands or that the row moves; and at a server.
+//! Sessions of clients: over memory, at a clock that stands or that the row moves.
 ghost use Rattle.std.specs.Prelude.{◌≡◌, [], IfOk};
 ghost use Rattle.gate_history.specs.Base.{empty_base};
 ghost use Rattle.gate_core.specs.Limits.{AreLimits};
@@ -7,7 +7,6 @@ mod books;
 mod clocks;
 mod desks;
 mod faults;
-mod sweeps;
 mod turns;
 
 use command_server::{DeskKeeper, Keeper, SessionFault, serve};
