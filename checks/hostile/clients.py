@@ -209,7 +209,7 @@ def try_clients(tried, play, dice, last):
 def try_all(tried, seconds, only=None):
     """Clients of one server for so long. Its memory is told for each tenth of the time."""
     line_server.Server.program = tried.program
-    with line_server.Server("--workers", "4", "--connections", "100000000", "--slots", "1024", "--log", "1000000") as server:
+    with line_server.Server("--workers", "4", "--endless", "--slots", "1024", "--log", "1000000") as server:
         play, last, began, tenth, first = Play(server), [], time.monotonic(), 1, None
         with Session(server) as it:
             for authority, kind in play.kinds.items():

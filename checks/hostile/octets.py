@@ -105,7 +105,7 @@ def try_clients(tried, seconds, seed):
     """Octets that clients send. Behind each of them the server has to answer another one."""
     line_server.Server.program = tried.program
     until = time.monotonic() + seconds
-    with line_server.Server("--patience", "5", "--workers", "2", "--connections", "1000000") as server:
+    with line_server.Server("--patience", "5", "--workers", "2", "--endless") as server:
         for tried.case in range(1_000_000):
             if time.monotonic() > until and tried.case:
                 return

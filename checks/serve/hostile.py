@@ -42,7 +42,7 @@ def killed_clients():
     """Behind a thousand clients that were killed, one client gets as many permits as there are slots."""
     slots, parts, site = 16, 8, open_site()
     x = site.url("/x")
-    with Server("--workers", "16", "--slots", str(slots), "--connections", "1000000") as server:
+    with Server("--workers", "16", "--slots", str(slots), "--endless") as server:
         with Session(server) as it:
             same(it.say(f"REFRESH {site.authority}"), f"TAKEN {site.authority} open")
         words = [sys.executable, f"{HERE}/victims.py", str(server.port), x, str(1000 // parts)]

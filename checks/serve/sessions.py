@@ -37,6 +37,16 @@ def connections_are_counted():
         same(server.end(), (b"SERVED connections 1 events 5\n", 0, b""))
 
 
+def without_end():
+    """A client that connects anew each time is served more often than connections can be counted."""
+    with Server("--endless", "--workers", "2") as server:
+        for _ in range(5000):
+            with Session(server) as it:
+                it.send(b"QUIT\n")
+                same(it.rest(), b"BYE\n")
+        same(server.process.poll(), None)
+
+
 def two_sessions():
     site = open_site()
     a, x = site.authority, site.url("/x")
@@ -311,7 +321,7 @@ def port_that_is_taken():
 
 
 CASES = [
-    quits, connections_are_counted, two_sessions, segments_are_what_was_served, fetches, faults_of_lines, site_is_down, one_robots_fetch_at_a_time,
+    quits, connections_are_counted, without_end, two_sessions, segments_are_what_was_served, fetches, faults_of_lines, site_is_down, one_robots_fetch_at_a_time,
     client_in_python, client_in_bash, clients_wait_for_a_robots_fetch, thousand_lines_at_once, million_lines, line_by_octets, ends_of_lines, loopback_alone,
     port_that_is_taken,
 ]

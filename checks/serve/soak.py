@@ -53,7 +53,7 @@ def play_on(server, url, seed, until, pause, count):
 def main(seconds):
     site, count, began = open_site(), Count(), time.monotonic()
     pause = 3 * CLIENTS * seconds / ENTRIES
-    with Server("--workers", str(CLIENTS), "--connections", "1000000") as server:
+    with Server("--workers", str(CLIENTS), "--endless") as server:
         with Session(server) as it:
             same(it.say(f"REFRESH {site.authority}"), f"TAKEN {site.authority} open")
         words = [(server, site.url("/x"), seed, began + seconds, pause, count) for seed in range(CLIENTS)]

@@ -3,14 +3,17 @@
 use Rattle.std.specs.Prelude.{ℕ, ◌≤◌, ℤ, pos, int_lt, unsigned_abs, List, [], ◌∷◌, Option, Some, None, if◌then◌else◌, ◌==◌, nat_lt, ◌*◌}
 use Rattle.client_wire.specs.declared.accept_fault.AcceptFault.{AcceptFault}
 use Rattle.client_wire.specs.declared.accept_fault.AcceptFault.TheVariants.{Client, Want, Device}
+use Rattle.client_wire.specs.declared.connections.Connections.{Connections}
+use Rattle.client_wire.specs.declared.connections.Connections.TheVariants.{AtMost, Endless}
 
--- the most connections that a server takes, before it ends
+-- the most connections that a server counts, before it ends
 abbrev pub max_connections : ℕ
-max_connections = 1_000_000_000_000
+max_connections = 4096
 
 -- a server may take so many connections
-abbrev pub AreServed : ℕ → Type 0
-AreServed connections = (1 ≤ connections) × (connections ≤ max_connections)
+abbrev pub AreServed : Connections → Type 0
+AreServed (AtMost connections) = (1 ≤ connections) × (connections ≤ max_connections)
+AreServed Endless = Unit {0}
 
 -- how often in a row no connection is accepted, before the device has failed
 abbrev pub max_accept_faults : ℕ

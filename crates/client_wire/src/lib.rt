@@ -5,11 +5,13 @@
 mod accept_fault;
 mod client_stream;
 mod closing;
+mod connections;
 mod listener;
 mod waiting;
 
 pub use accept_fault::{AcceptFault, MAX_ACCEPT_FAULTS};
 pub use client_stream::ClientStream;
 pub use closing::{CLOSING_OCTETS, CLOSING_SECONDS, Closes, close, read_out};
-pub use listener::{Listener, MAX_CONNECTIONS, accept_from};
+pub use connections::{Connections, MAX_CONNECTIONS};
+pub use listener::{Listener, accept_from};
 pub use waiting::{PATIENCE_SECONDS, Waiting};

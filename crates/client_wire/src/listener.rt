@@ -4,9 +4,6 @@ use crate::accept_fault::{AcceptFault, MAX_ACCEPT_FAULTS};
 use std::net::{Ipv4Addr, Net, OpenListener, SocketAddr, TcpListener, TcpStream};
 use std::{io, thread, time};
 
-/// The most connections that a server takes, before it ends.
-pub const MAX_CONNECTIONS: u64 = 1_000_000_000_000;
-
 /// A port of the loopback, to which clients of this machine connect.
 #[derive(Drop)]
 pub struct Listener(TcpListener);

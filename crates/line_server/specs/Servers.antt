@@ -1,9 +1,18 @@
--- How a server ends.
--- The contract of `Server::run`.
-use Rattle.std.specs.Prelude.{◌≡◌, ℕ, List, Ok}
+-- How many numbers a server has for its connections, and how it ends.
+-- The contracts of `count_of` and of `Server::run`.
+use Rattle.std.specs.Prelude.{◌≡◌, ◌≤◌, ℕ, List, Ok}
+use Rattle.client_wire.specs.Accepts.{max_connections}
+use Rattle.client_wire.specs.declared.connections.Connections.{Connections}
+use Rattle.client_wire.specs.declared.connections.Connections.TheVariants.{AtMost, Endless}
 use Rattle.gate_lock.specs.Marks.{Receipt}
 use Rattle.gate_lock.specs.Settling.{IsWholeUnlessSealed, SettlesSome}
 use Rattle.gate_lock.specs.declared.settlement.Settled.{Settled}
+use Rattle.job_line.specs.Limits.{max_workers}
+
+-- a number for each connection, as far as so many may be asked for; where there is no end, one for each worker
+abbrev pub AreNumbered : Connections → ℕ → Type 0
+AreNumbered (AtMost count) numbers = count ≤ max_connections → numbers ≡ count
+AreNumbered Endless numbers = numbers ≡ max_workers
 
 -- by these receipts a gate was settled, with so many entries; where nothing was handed out they are a whole history
 abbrev pub IsServed : List Receipt → ℕ → Type 0

@@ -3,6 +3,7 @@
 #![tactic(auto)]
 
 mod fault;
+mod numbers;
 mod servant;
 mod server;
 mod warden;

@@ -2,7 +2,8 @@
 ghost use Rattle.std.specs.Prelude.{◌≡◌};
 
 use crate::fault::ServeFault;
-use crate::server::{Counters, Server};
+use crate::numbers::{Numbers, share_of};
+use crate::server::Server;
 use crate::warden::Alarm;
 use client_wire::{AcceptFault, ClientStream, Waiting, close};
 use command_server::{NumberedClock, serve};
@@ -13,59 +14,73 @@ use keepers::DeskKeeper;
 use std::cell::Cell;
 use std::net::TcpStream;
 use std::sync::Wait;
-use std::sync::atomic::Ordering;
+use std::sync::atomic::{AtomicU64, Ordering};
 use std::time;
 
-/// A worker: how many connections it took, and, once it has ended, the receipts of its desk or why it
-/// has none.
+/// A worker: its numbers, how many connections it took, and, once it has ended, the receipts of its desk or
+/// why it has none.
 #[derive(Drop)]
-pub(crate) struct Servant<G: Gate> {
+pub(crate) struct Servant<'l, G: Gate> {
+    pub(crate) numbers: Numbers<'l>,
     pub(crate) taken: u64,
     pub(crate) end: Option<Result<Receipts<G>, ServeFault>>,
 }
 
 impl<F: Fetcher, C: NumberedClock, A: Alarm, R: Wait + time::Clock> Server<'_, F, C, A, R> {
-    /// Lets a worker serve until no connection is left to be taken.
+    /// Lets a worker serve until no number is left to be drawn.
     pub(crate) fn employ<G: Gate>(
         &self,
         gate: &GateLock<G>,
-        counters: &Counters,
-        servant: &mut Servant<G>,
+        left: &AtomicU64,
+        servant: &mut Servant<'_, G>,
     ) {
-        servant.end = Some(self.man_desk(gate, counters, &mut servant.taken));
-        counters.left.fetch_sub(1, Ordering::SeqCst);
+        let end = self.man_desk(gate, &mut servant.numbers, &mut servant.taken);
+        servant.end = Some(end);
+        left.fetch_sub(1, Ordering::SeqCst);
     }
 
     // Opens a desk, takes clients at it, and closes it, whatever came of them.
     fn man_desk<G: Gate>(
         &self,
         gate: &GateLock<G>,
-        counters: &Counters,
+        numbers: &mut Numbers<'_>,
         taken: &mut u64,
     ) -> Result<Receipts<G>, ServeFault> {
         let mut keeper = DeskKeeper::open(self.rt, self.alloc, gate, self.fetcher)?;
-        let ended = self.take_all(counters, &mut keeper, taken);
+        let ended = self.take_all(numbers, &mut keeper, taken);
         let receipts = keeper.close();
         ended?;
         Ok(receipts)
     }
 
-    // Takes clients until no connection is left, or none can be accepted.
+    // Takes clients until no number is left, or none can be accepted.
     fn take_all<G: Gate>(
         &self,
-        counters: &Counters,
+        numbers: &mut Numbers<'_>,
         keeper: &mut DeskKeeper<'_, '_, G, F, R>,
         taken: &mut u64,
     ) -> Result<(), DeviceFault> {
         for _ in self.rt.forever() {
-            if counters.drawn.fetch_add(1, Ordering::SeqCst) >= self.connections {
+            if !numbers.draw() {
                 return Ok(());
             }
+            self.take_share(keeper, taken)?;
+        }
+        unreachable!()
+    }
+
+    // Takes the clients of one number, one after the other.
+    fn take_share<G: Gate>(
+        &self,
+        keeper: &mut DeskKeeper<'_, '_, G, F, R>,
+        taken: &mut u64,
+    ) -> Result<(), DeviceFault> {
+        for _ in 0..share_of(self.connections) {
             let stream = self.accept()?;
             *taken = taken.saturating_add(1);
             self.serve_client(stream, keeper);
         }
-        unreachable!()
+        Ok(())
     }
 
     // Waits for a client, for as long as descriptors and memory are wanted.

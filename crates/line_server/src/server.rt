@@ -1,16 +1,17 @@
 //! A server from its first client to the settlement of its gate.
-ghost use Rattle.std.specs.Prelude.{IfOk};
+ghost use Rattle.std.specs.Prelude.{◌≡◌, All, IfOk};
 ghost use Rattle.job_line.specs.Limits.{IsCrew};
 ghost use Rattle.line_server.specs.Servers.{IsServed};
 
 use crate::fault::ServeFault;
+use crate::numbers::{Numbers, count_of};
 use crate::servant::Servant;
 use crate::warden::Alarm;
-use client_wire::Listener;
+use client_wire::{Connections, Listener};
 use command_server::NumberedClock;
 use crawl_workers::Fetcher;
 use gate_lock::{Gate, GateLock, Receipts, settle};
-use job_line::MAX_WORKERS;
+use job_line::{JobLine, JobSeat, MAX_WORKERS};
 use std::alloc::{AllocError, Global};
 use std::sync::Wait;
 use std::sync::atomic::AtomicU64;
@@ -31,16 +32,9 @@ pub struct Server<'a, F, C, A, R> {
     /// How many clients are served at a time, from 1 to 16.
     pub workers: u64,
     /// After how many connections it ends.
-    pub connections: u64,
+    pub connections: Connections,
     /// How long a client is waited for.
     pub patience: Duration,
-}
-
-/// How many numbers of connections were drawn, and how many workers are left.
-#[derive(Drop)]
-pub(crate) struct Counters {
-    pub(crate) drawn: AtomicU64,
-    pub(crate) left: AtomicU64,
 }
 
 /// What a server has done.
@@ -67,7 +61,8 @@ impl<
         requires { IsCrew self.now.workers }
         ensures { IfOk result (λ served. IsServed served.receipts.items served.events) }
     {
-        let mut servants = hire(self.alloc, self.workers)?;
+        let (line, seats) = JobLine::new(self.alloc, count_of(self.connections), self.workers)?;
+        let mut servants = hire(self.alloc, &line, seats)?;
         let mut receipts = Vec::new(self.alloc);
         let own = self.serve_all(gate, &mut servants)?;
         let connections = take_in(servants, &mut receipts)?;
@@ -86,16 +81,13 @@ impl<
     fn serve_all<G: Gate + Send + Sync>(
         &self,
         gate: &GateLock<G>,
-        servants: &mut [Servant<G>],
+        servants: &mut [Servant<'_, G>],
     ) -> Result<Receipts<G>, ServeFault> {
-        let counters = Counters {
-            drawn: AtomicU64::new(0),
-            left: AtomicU64::new(self.workers),
-        };
+        let left = AtomicU64::new(self.workers);
         let (receipts, _) = thread::join(
             self.rt,
-            || self.watch(gate, &counters),
-            || self.employ_all(gate, &counters, servants),
+            || self.watch(gate, &left),
+            || self.employ_all(gate, &left, servants),
         );
         receipts
     }
@@ -104,23 +96,30 @@ impl<
     fn employ_all<G: Gate + Send + Sync>(
         &self,
         gate: &GateLock<G>,
-        counters: &Counters,
-        servants: &mut [Servant<G>],
+        left: &AtomicU64,
+        servants: &mut [Servant<'_, G>],
     ) {
         thread::for_each_mut(
             self.rt,
             servants,
             MAX_WORKERS as usize,
-            &|_: usize, servant: &mut Servant<G>| self.employ(gate, counters, servant),
+            &|_: usize, servant: &mut Servant<'_, G>| self.employ(gate, left, servant),
         );
     }
 }
 
-// So many workers, who have taken nobody.
-fn hire<G: Gate>(alloc: Global, workers: u64) -> Result<Vec<Servant<G>>, AllocError> {
+// A worker for each seat, who has taken nobody.
+fn hire<'l, G: Gate>(
+    alloc: Global,
+    line: &'l JobLine,
+    seats: Vec<JobSeat>,
+) -> Result<Vec<Servant<'l, G>>, AllocError>
+    requires own { All (λ seat. seat.line ≡ line.now) seats.items }
+{
     let mut servants = Vec::new(alloc);
-    for _ in 0..workers {
+    for seat in seats {
         let servant = Servant {
+            numbers: Numbers { line, seat },
             taken: 0,
             end: None,
         };
@@ -132,12 +131,12 @@ fn hire<G: Gate>(alloc: Global, workers: u64) -> Result<Vec<Servant<G>>, AllocEr
 // How many connections the workers took, whose receipts come to the others. The first that has none tells
 // why.
 fn take_in<G: Gate>(
-    servants: Vec<Servant<G>>,
+    servants: Vec<Servant<'_, G>>,
     receipts: &mut Vec<Receipts<G>>,
 ) -> Result<u64, ServeFault> {
     let mut all: u64 = 0;
     for servant in servants {
-        let Servant { taken, end } = servant;
+        let Servant { taken, end, .. } = servant;
         let Some(end) = end else {
             continue;
         };

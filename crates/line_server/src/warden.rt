@@ -6,12 +6,12 @@ ghost use Rattle.command_server.specs.Readings.{next_reading};
 ghost use Rattle.line_server.specs.Sweeping.{GoesRounds, MaySweep, is_due};
 
 use crate::fault::ServeFault;
-use crate::server::{Counters, Server};
+use crate::server::Server;
 use command_server::{NumberedClock, next_reading};
 use crawl_workers::Fetcher;
 use gate_lock::{Desk, Gate, GateLock, Receipts};
 use std::sync::Wait;
-use std::sync::atomic::Ordering;
+use std::sync::atomic::{AtomicU64, Ordering};
 use std::time::Duration;
 use std::{thread, time};
 
@@ -44,15 +44,15 @@ impl<F: Fetcher, C: NumberedClock, A: Alarm, R: Wait + time::Clock> Server<'_, F
     pub(crate) fn watch<G: Gate>(
         &self,
         gate: &GateLock<G>,
-        counters: &Counters,
+        left: &AtomicU64,
     ) -> Result<Receipts<G>, ServeFault> {
         let mut desk = gate.desk(self.rt, self.alloc)?;
-        self.go_round(counters, &mut desk);
+        self.go_round(left, &mut desk);
         Ok(desk.close())
     }
 
     // Looks after the gate until no worker is left, each time at a reading of its own.
-    fn go_round<G: Gate>(&self, counters: &Counters, desk: &mut Desk<'_, G>)
+    fn go_round<G: Gate>(&self, left: &AtomicU64, desk: &mut Desk<'_, G>)
         ensures no { desk.new.no ≡ desk.old.no }
         ensures out { KeepsOut desk.old desk.new }
         ensures rounds { GoesRounds (C.reads self.now.clock.now) desk.old desk.new }
@@ -63,7 +63,7 @@ impl<F: Fetcher, C: NumberedClock, A: Alarm, R: Wait + time::Clock> Server<'_, F
             told: false,
         };
         for _ in self.rt.forever() {
-            if counters.left.load(Ordering::SeqCst) == 0 {
+            if left.load(Ordering::SeqCst) == 0 {
                 return;
             }
             self.see_to(desk, &mut rounds);

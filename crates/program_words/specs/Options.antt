@@ -12,6 +12,8 @@ use Rattle.program_words.specs.declared.words.Chosen.{Chosen}
 use Rattle.program_words.specs.declared.words.Chosen.TheVariants.{Taken, Refused}
 use Rattle.client_wire.specs.Accepts.{AreServed}
 use Rattle.client_wire.specs.Waiting.{IsPatience}
+use Rattle.client_wire.specs.declared.connections.Connections.{Connections}
+use Rattle.client_wire.specs.declared.connections.Connections.TheVariants.{AtMost, Endless}
 use Rattle.gate_core.specs.Limits.{AreLimits}
 use Rattle.job_line.specs.Limits.{IsCrew}
 use Rattle.gate_core.specs.declared.config.Limits.{Limits}
@@ -77,11 +79,21 @@ pub record AreShiftOf (words : Found) (options : ShiftOptions) : Type 0 where
   pub limits : AreLimitsOf words options.limits
   pub times : AreTimesOf words options.times
 
+-- a number that was matched under its own name, and no end
+abbrev pub AreCounted : Found → Connections → Type 0
+AreCounted words (AtMost count) = IsNumberOf words (codes "connections") count
+AreCounted words Endless = ⊥
+
+-- the connections have no end where the flag says so, and else are as many as were matched
+pub record AreConnectionsOf (words : Found) (connections : Connections) : Type 0 where
+  pub endless : one_text words (codes "endless") ≡ Some (codes "true") → connections ≡ Endless
+  pub counted : one_text words (codes "endless") ≡ Some (codes "false") → AreCounted words connections
+
 -- the options of a server are those that were matched
 pub record AreServeOf (words : Found) (options : ServeOptions) : Type 0 where
   pub port : IsNumberOf words (codes "port") options.port
   pub workers : IsNumberOf words (codes "workers") options.workers
-  pub connections : IsNumberOf words (codes "connections") options.connections
+  pub connections : AreConnectionsOf words options.connections
   pub limits : AreLimitsOf words options.limits
   pub times : AreTimesOf words options.times
   pub patience : IsNumberOf words (codes "patience") options.patience

@@ -4,14 +4,15 @@ ghost use Rattle.std.specs.Prelude.{◌≡◌, codes, IfOk, IfSome, ◌≤◌};
 ghost use Rattle.permit_book.specs.Numbers.{last_generation};
 ghost use Rattle.gate_core.specs.Limits.{AreLimits};
 ghost use Rattle.clap.specs.Words.{found_of};
-ghost use Rattle.program_words.specs.Options.{AreLimitsOf, AreTimesOf, IsChosen, IsInRange, IsNumberOf, IsSetBy};
+ghost use Rattle.client_wire.specs.Accepts.{AreServed};
+ghost use Rattle.program_words.specs.Options.{AreConnectionsOf, AreLimitsOf, AreTimesOf, IsChosen, IsInRange, IsNumberOf, IsSetBy};
 ghost use Rattle.tcp_wire.specs.TimeLimits.{AreWithin};
 
 use crate::command::program;
 use crate::defaults::Defaults;
 use clap::error::ErrorKind;
 use clap::{ArgMatches, Command, Error};
-use client_wire::{MAX_CONNECTIONS, PATIENCE_SECONDS};
+use client_wire::{Connections, MAX_CONNECTIONS, PATIENCE_SECONDS};
 use gate_core::{Limits, MAX_AUTHORITIES, MAX_LOG, MAX_PLACES};
 use job_line::MAX_WORKERS;
 use permit_book::{LAST_GENERATION, MAX_SLOTS};
@@ -65,7 +66,7 @@ pub struct ServeOptions {
     /// How many are served at a time.
     pub workers: u64,
     /// How many connections are taken in all.
-    pub connections: u64,
+    pub connections: Connections,
     /// The limits of the book.
     pub limits: Limits,
     /// The limits of time of fetches.
@@ -255,11 +256,24 @@ fn serve_of(matches: &ArgMatches<'_>) -> Option<Subcommand>
     Some(Subcommand::Serve(ServeOptions {
         port: port_of(matches)?,
         workers: number_of(matches, "workers", MAX_WORKERS)?,
-        connections: number_of(matches, "connections", MAX_CONNECTIONS)?,
+        connections: connections_of(matches)?,
         limits: limits_of(matches, Limits::usual().first_generation)?,
         times: times_of(matches)?,
         patience: number_of(matches, "patience", PATIENCE_SECONDS)?,
     }))
+}
+
+// So many connections as the option says, or no end of them.
+fn connections_of(matches: &ArgMatches<'_>) -> Option<Connections>
+    ensures range { IfSome result AreServed }
+    ensures words { IfSome result (AreConnectionsOf (found_of matches.now)) }
+{
+    let count = number_of(matches, "connections", MAX_CONNECTIONS)?;
+    if matches.get_flag("endless") {
+        Some(Connections::Endless)
+    } else {
+        Some(Connections::AtMost(count))
+    }
 }
 
 // The port, which may be 0.

@@ -7,6 +7,7 @@ mod books;
 mod clocks;
 mod desks;
 mod faults;
+mod sweeps;
 mod turns;
 
 use command_server::{DeskKeeper, Keeper, SessionFault, serve};

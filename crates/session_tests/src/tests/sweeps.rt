@@ -1,0 +1,114 @@
+//! A server at a clock of the test's own, each reading of which is later by more than a day: what sees to the gate
+//! sweeps it at the clock's moments, and at no later one. RFC 9309, section 2.4.
+ghost use Rattle.std.specs.Prelude.{◌≡◌, []};
+ghost use Rattle.gate_history.specs.Base.{empty_base};
+
+use super::{PAGES, book, demand};
+use client_wire::{Connections, Listener};
+use crawl_workers::{Clock, ScriptedSites};
+use gate_core::{Book, Limits};
+use gate_lock::{Blanks, Gate, GateLock};
+use line_server::{Alarm, Server};
+use std::alloc::Global;
+use std::io::{Read, Write};
+use std::marker::Brand;
+use std::net::{Ipv4Addr, Net, SocketAddr, TcpStream};
+use std::sync::Wait;
+use std::sync::atomic::{AtomicU64, Ordering};
+use std::test::Fail;
+use std::thread::Threads;
+use std::time;
+use std::time::Duration;
+
+// How many seconds lie between two readings: more than an answer lasts.
+const STEP: u64 = 90_000;
+
+// How long the server waits for the client that says nothing, in milliseconds. It looks after its gate ten times a second.
+const PATIENCE: u64 = 600;
+
+// What the client behind that one sends, and what it is told: the answer expires between two readings. It would
+// not where the gate had been swept at a moment that no reading passes.
+const LINES: &[u8] = b"REFRESH a.example\nASK foobot http://a.example/x\nQUIT\n";
+
+const REPLIES: &str = "TAKEN a.example open\nNO a.example expired\nBYE\n";
+
+// The entries of these lines: the begin, the arrival, and the denial. More than these are sweeps.
+const ENTRIES: u64 = 3;
+
+#[derive(Drop)]
+struct Rushing {
+    readings: AtomicU64,
+}
+
+impl Clock for Rushing {
+    fn now(&self) -> u64 {
+        self.readings
+            .fetch_add(1, Ordering::SeqCst)
+            .saturating_mul(STEP)
+    }
+}
+
+#[derive(Drop)]
+struct Unheard;
+
+impl Alarm for Unheard {
+    fn log_is_full(&self) {}
+}
+
+// Serves the two clients that have connected, and tells how many entries the history has.
+fn serve_two<G: Gate + Send + Sync, R: Threads + Wait + time::Clock + Sync>(
+    rt: &R,
+    alloc: Global,
+    listener: &Listener,
+    book: Book,
+    blanks: Blanks,
+) -> Result<u64, Fail>
+    requires book { (book.base ≡ empty_base) × (book.entries ≡ []) }
+    requires blanks { blanks ≡ G.ledgers }
+{
+    let gate: GateLock<G> = GateLock::new(book, blanks);
+    let sites = ScriptedSites {
+        alloc,
+        pages: &PAGES,
+    };
+    let clock = Rushing {
+        readings: AtomicU64::new(0),
+    };
+    let server = Server {
+        rt,
+        alloc,
+        listener,
+        fetcher: &sites,
+        clock: &clock,
+        alarm: &Unheard,
+        workers: 1,
+        connections: Connections::AtMost(2),
+        patience: Duration::from_millis(PATIENCE),
+    };
+    match server.run(&gate) {
+        Ok(served) => Ok(served.events),
+        Err(fault) => Err(Fail::new(format_args!("{fault:?}"))),
+    }
+}
+
+fn connect<R: Net<Stream = TcpStream>>(rt: &R, port: u16) -> Result<TcpStream, Fail> {
+    let stream = TcpStream::connect(rt, SocketAddr::from((Ipv4Addr::LOCALHOST, port)))?;
+    stream.set_read_timeout(Some(Duration::from_secs(10)))?;
+    Ok(stream)
+}
+
+#[test]
+fn a_sweep_in_time(rt: HostRuntime) -> Result<(), Fail> {
+    let listener = Listener::bind(&rt, 0)?;
+    let port = listener.port()?;
+    let _silent = connect(&rt, port)?;
+    let mut client = connect(&rt, port)?;
+    client.write_all(LINES)?;
+    let book = book(&rt, rt.alloc(), Limits::usual())?;
+    let events = serve_two::<Brand, HostRuntime>(&rt, rt.alloc(), &listener, book, Blanks::new())?;
+    let mut replies = Vec::new(rt.alloc());
+    client.read_to_end(&mut replies)?;
+    demand(replies.as_slice(), REPLIES, "replies")?;
+    assert!(rt; events > ENTRIES, "sweeps");
+    Ok(())
+}
