@@ -45,7 +45,7 @@ fn shift<R: Threads + Wait + time::Clock + Sync>(
 ) -> Ending
     requires { AreForShift options }
 {
-    match TcpFetcher::with_limits(host.alloc(), *host, AGENT, options.times) {
+    match TcpFetcher::with_limits(host.alloc(), *host, AGENT, options.times, options.reach) {
         Ok(fetcher) => {
             let clock = SystemClock::new(*host);
             let end = shift_by(rt, host, options, &fetcher, &clock);

@@ -69,7 +69,7 @@ fn serve_clients<R: Threads + Wait + time::Clock + Sync>(
     requires options { AreForServe options }
     requires book { (book.base ≡ empty_base) × (book.entries ≡ []) }
 {
-    match TcpFetcher::with_limits(host.alloc(), *host, AGENT, options.times) {
+    match TcpFetcher::with_limits(host.alloc(), *host, AGENT, options.times, options.reach) {
         Ok(fetcher) => {
             let server = Server {
                 rt,

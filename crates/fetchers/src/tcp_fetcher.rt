@@ -13,7 +13,7 @@ use std::alloc::{AllocError, Global};
 use std::marker::Model;
 use std::net::{Net, TcpStream};
 use std::time;
-use tcp_wire::{Deadline, Failure, TcpClient, TimeLimits};
+use tcp_wire::{Deadline, Failure, Reach, TcpClient, TimeLimits};
 
 /// The most octets that are taken of a robots file: those that are kept, and one that tells that
 /// there are more.
@@ -48,15 +48,16 @@ impl<R: Net<Stream = TcpStream> + time::Clock> TcpFetcher<R> {
         ensures agent { IfOk result (λ fetcher. fetcher.agent ≡ agent.now) }
         ensures limits { IfOk result (λ fetcher. AreStandard fetcher.limits) }
     {
-        TcpFetcher::with_limits(alloc, rt, agent, TimeLimits::standard())
+        TcpFetcher::with_limits(alloc, rt, agent, TimeLimits::standard(), Reach::Anywhere)
     }
 
-    /// A fetcher whose fetches take no longer than these limits.
+    /// A fetcher whose fetches take no longer than these limits, and connect to addresses within this reach.
     pub fn with_limits(
         alloc: Global,
         rt: R,
         agent: &[u8],
         limits: TimeLimits,
+        reach: Reach,
     ) -> Result<TcpFetcher<R>, AllocError>
     where
         R: Drop,
@@ -66,7 +67,7 @@ impl<R: Net<Stream = TcpStream> + time::Clock> TcpFetcher<R> {
     {
         Ok(TcpFetcher {
             agent: Vec::from_slice(alloc, agent)?,
-            client: TcpClient::new(rt, limits),
+            client: TcpClient::reaching(rt, limits, reach),
         })
     }
 

@@ -18,6 +18,8 @@ use Rattle.gate_core.specs.Limits.{AreLimits}
 use Rattle.job_line.specs.Limits.{IsCrew}
 use Rattle.gate_core.specs.declared.config.Limits.{Limits}
 use Rattle.tcp_wire.specs.TimeLimits.{AreOfSeconds, AreWithin}
+use Rattle.tcp_wire.specs.declared.reach.Reach.{Reach}
+use Rattle.tcp_wire.specs.declared.reach.Reach.TheVariants.{Anywhere, PublicOnly}
 use Rattle.tcp_wire.specs.declared.time_limits.TimeLimits.{TimeLimits}
 
 -- a shift has as many workers as may share it, its book's limits are in their ranges, and its fetches take no
@@ -73,8 +75,14 @@ pub record AreTimesOf (words : Found) (times : TimeLimits) : Type 0 where
   pub whole_is : IsNumberOf words (codes "fetch-timeout") whole
   pub are : AreOfSeconds connect step whole times
 
+-- fetches connect to addresses of the public internet alone where the flag says so, and else to each
+pub record IsReachOf (words : Found) (reach : Reach) : Type 0 where
+  pub public : one_text words (codes "public") ≡ Some (codes "true") → reach ≡ PublicOnly
+  pub anywhere : one_text words (codes "public") ≡ Some (codes "false") → reach ≡ Anywhere
+
 -- the options of a shift are those that were matched
 pub record AreShiftOf (words : Found) (options : ShiftOptions) : Type 0 where
+  pub reach : IsReachOf words options.reach
   pub workers : IsNumberOf words (codes "workers") options.workers
   pub limits : AreLimitsOf words options.limits
   pub times : AreTimesOf words options.times
@@ -91,6 +99,7 @@ pub record AreConnectionsOf (words : Found) (connections : Connections) : Type 0
 
 -- the options of a server are those that were matched
 pub record AreServeOf (words : Found) (options : ServeOptions) : Type 0 where
+  pub reach : IsReachOf words options.reach
   pub port : IsNumberOf words (codes "port") options.port
   pub workers : IsNumberOf words (codes "workers") options.workers
   pub connections : AreConnectionsOf words options.connections

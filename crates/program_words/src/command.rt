@@ -120,7 +120,7 @@ fn check_words<'a>(alloc: Global) -> Result<Command<'a>, AllocError> {
         ))
 }
 
-// The limits of time of fetches, in seconds.
+// The limits of time of fetches, in seconds, and where they lead.
 fn time_words<'a>(
     alloc: Global,
     defaults: &'a Defaults,
@@ -129,7 +129,12 @@ fn time_words<'a>(
     command
         .arg(number(alloc, "connect-timeout", &defaults.times.connect))?
         .arg(number(alloc, "read-timeout", &defaults.times.read))?
-        .arg(number(alloc, "fetch-timeout", &defaults.times.fetch))
+        .arg(number(alloc, "fetch-timeout", &defaults.times.fetch))?
+        .arg(flag(
+            alloc,
+            "public",
+            "Connects to addresses of the public internet alone",
+        ))
 }
 
 // The limits of the gate.

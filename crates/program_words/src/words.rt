@@ -5,7 +5,7 @@ ghost use Rattle.permit_book.specs.Numbers.{last_generation};
 ghost use Rattle.gate_core.specs.Limits.{AreLimits};
 ghost use Rattle.clap.specs.Words.{found_of};
 ghost use Rattle.client_wire.specs.Accepts.{AreServed};
-ghost use Rattle.program_words.specs.Options.{AreConnectionsOf, AreLimitsOf, AreTimesOf, IsChosen, IsInRange, IsNumberOf, IsSetBy};
+ghost use Rattle.program_words.specs.Options.{AreConnectionsOf, AreLimitsOf, AreTimesOf, IsChosen, IsInRange, IsNumberOf, IsReachOf, IsSetBy};
 ghost use Rattle.tcp_wire.specs.TimeLimits.{AreWithin};
 
 use crate::command::program;
@@ -19,7 +19,7 @@ use permit_book::{LAST_GENERATION, MAX_SLOTS};
 use robots_check::Detail;
 use robots_text::{Token, TokenFault};
 use std::alloc::{AllocError, Global};
-use tcp_wire::{CONNECT_SECONDS, STEP_SECONDS, TimeLimits, WHOLE_SECONDS};
+use tcp_wire::{CONNECT_SECONDS, Reach, STEP_SECONDS, TimeLimits, WHOLE_SECONDS};
 
 // Why words that `clap` takes are refused.
 const BAD_NUMBER: &str = "a number is written in digits alone";
@@ -55,6 +55,8 @@ pub struct ShiftOptions {
     pub limits: Limits,
     /// The limits of time of its fetches.
     pub times: TimeLimits,
+    /// To which addresses they connect.
+    pub reach: Reach,
     pub told: Told,
 }
 
@@ -71,6 +73,8 @@ pub struct ServeOptions {
     pub limits: Limits,
     /// The limits of time of fetches.
     pub times: TimeLimits,
+    /// To which addresses they connect.
+    pub reach: Reach,
     /// The seconds that a client is waited for between two ends of lines.
     pub patience: u64,
 }
@@ -245,6 +249,7 @@ fn shift_of(matches: &ArgMatches<'_>) -> Option<Subcommand>
         workers: number_of(matches, "workers", MAX_WORKERS)?,
         limits: limits_of(matches, Limits::usual().first_generation)?,
         times: times_of(matches)?,
+        reach: reach_of(matches),
         told: told_by(matches),
     }))
 }
@@ -259,6 +264,7 @@ fn serve_of(matches: &ArgMatches<'_>) -> Option<Subcommand>
         connections: connections_of(matches)?,
         limits: limits_of(matches, Limits::usual().first_generation)?,
         times: times_of(matches)?,
+        reach: reach_of(matches),
         patience: number_of(matches, "patience", PATIENCE_SECONDS)?,
     }))
 }
@@ -293,6 +299,17 @@ fn times_of(matches: &ArgMatches<'_>) -> Option<TimeLimits>
     let step = number_of(matches, "read-timeout", STEP_SECONDS)?;
     let whole = number_of(matches, "fetch-timeout", WHOLE_SECONDS)?;
     Some(TimeLimits::of_seconds(connect, step, whole))
+}
+
+// To which addresses fetches connect.
+fn reach_of(matches: &ArgMatches<'_>) -> Reach
+    ensures { IsReachOf (found_of matches.now) result }
+{
+    if matches.get_flag("public") {
+        Reach::PublicOnly
+    } else {
+        Reach::Anywhere
+    }
 }
 
 fn told_by(matches: &ArgMatches<'_>) -> Told {

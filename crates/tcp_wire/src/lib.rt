@@ -5,6 +5,7 @@
 mod deadline;
 mod failure;
 mod http_exchange;
+mod reach;
 mod server;
 mod tcp_client;
 mod time_limits;
@@ -13,6 +14,7 @@ mod timed_stream;
 pub use deadline::Deadline;
 pub use failure::Failure;
 pub use http_exchange::exchange;
+pub use reach::Reach;
 pub use server::{Server, server_of};
 pub use tcp_client::TcpClient;
 pub use time_limits::{CONNECT_SECONDS, STEP_SECONDS, TimeLimits, WHOLE_SECONDS};

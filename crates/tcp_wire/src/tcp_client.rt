@@ -6,6 +6,7 @@ ghost use Rattle.tcp_wire.specs.Agent.{IsAgent};
 use crate::deadline::Deadline;
 use crate::failure::Failure;
 use crate::http_exchange::exchange;
+use crate::reach::{Reach, Way};
 use crate::server::server_of;
 use crate::time_limits::TimeLimits;
 use crate::timed_stream::TimedStream;
@@ -14,7 +15,7 @@ use http_wire::{HttpReply, WireFault};
 use path_normal::PageUrl;
 use std::alloc::Global;
 use std::marker::Model;
-use std::net::{Net, SocketAddr, TcpStream, ToSocketAddrs};
+use std::net::{Net, TcpStream, ToSocketAddrs};
 use std::sync::atomic::{AtomicBool, Ordering};
 use std::{io, time};
 
@@ -23,6 +24,7 @@ use std::{io, time};
 pub struct TcpClient<R: Net<Stream = TcpStream> + time::Clock> {
     rt: R,
     limits: TimeLimits,
+    reach: Reach,
     stopped: AtomicBool,
 }
 
@@ -35,13 +37,22 @@ impl<R: Net<Stream = TcpStream> + time::Clock> Model for TcpClient<R> {
 }
 
 impl<R: Net<Stream = TcpStream> + time::Clock> TcpClient<R> {
-    /// A client whose fetches take no longer than these limits.
+    /// A client that connects to any address, and whose fetches take no longer than these limits.
     pub fn new(rt: R, limits: TimeLimits) -> TcpClient<R>
+        ensures { result ≡ limits }
+    {
+        TcpClient::reaching(rt, limits, Reach::Anywhere)
+    }
+
+    /// A client that connects to addresses within this reach, and whose fetches take no longer than these
+    /// limits.
+    pub fn reaching(rt: R, limits: TimeLimits, reach: Reach) -> TcpClient<R>
         ensures { result ≡ limits }
     {
         TcpClient {
             rt,
             limits,
+            reach,
             stopped: AtomicBool::new(false),
         }
     }
@@ -62,7 +73,7 @@ impl<R: Net<Stream = TcpStream> + time::Clock> TcpClient<R> {
     /// Fetches a page, and gives at most `limit` octets of its body. `agent` is the value of
     /// User-Agent.
     ///
-    /// `Device` where the host has no address, no address takes a connection, a read or a write fails,
+    /// `Device` where the host has no address, none is within reach or takes a connection, a read or a write fails,
     /// a limit of time is passed or the client was told to stop; `failure` has then which of them. The
     /// addresses of a name are looked up by the system, whose own limits of time hold there, and are
     /// tried one after the other.
@@ -112,7 +123,8 @@ impl<R: Net<Stream = TcpStream> + time::Clock> TcpClient<R> {
         given
     }
 
-    // Connects to the first address of the page's server that takes a connection.
+    // Connects to the first address of the page's server that is within reach and takes a connection. The
+    // address that is judged is the one that is connected to, whatever the name has at another time.
     fn connect(&self, url: &PageUrl, deadline: &Deadline) -> Result<TcpStream, Failure> {
         let server = server_of(url);
         let Ok(addresses) = (server.host, server.port).to_socket_addrs(&self.rt) else {
@@ -120,7 +132,11 @@ impl<R: Net<Stream = TcpStream> + time::Clock> TcpClient<R> {
         };
         let mut last = Failure::NoName;
         for address in addresses {
-            match self.connect_to(&address, deadline) {
+            let Some(way) = Way::to(self.reach, address) else {
+                last = Failure::Unreachable;
+                continue;
+            };
+            match self.connect_to(&way, deadline) {
                 Ok(stream) => return Ok(stream),
                 Err(why) => last = why,
             }
@@ -128,7 +144,7 @@ impl<R: Net<Stream = TcpStream> + time::Clock> TcpClient<R> {
         Err(last)
     }
 
-    fn connect_to(&self, address: &SocketAddr, deadline: &Deadline) -> Result<TcpStream, Failure> {
+    fn connect_to(&self, way: &Way, deadline: &Deadline) -> Result<TcpStream, Failure> {
         if self.stopped.load(Ordering::SeqCst) {
             return Err(Failure::Stopped);
         }
@@ -141,7 +157,7 @@ impl<R: Net<Stream = TcpStream> + time::Clock> TcpClient<R> {
         } else {
             Failure::NotConnected(most)
         };
-        match TcpStream::connect_timeout(&self.rt, address, left) {
+        match TcpStream::connect_timeout(&self.rt, &way.address, left) {
             Ok(stream) => Ok(stream),
             Err(error) => Err(Failure::of(error.kind(), past)),
         }
