@@ -1,20 +1,21 @@
 -- The steps as the table asks for them: whatever it is when a step is made, the rule is kept.
 -- Used by the answers of `JobLine`.
-use Rattle.std.proofs.Common.{◌≡◌, ℕ, zero, suc, ◌+◌, ◌%◌, ◌^◌, ◌<◌, ◌≤◌, Bool, true, false, List, [], ◌∷◌, ◌++◌, sym, refl, ap, ◌∙◌, subst, arith}
-use Rattle.std.specs.Prelude.{◌||◌, nat_lt, slice_set, slice_index}
+use Rattle.std.proofs.Common.{◌≡◌, ℕ, zero, suc, ◌+◌, ◌%◌, ◌^◌, ◌<◌, ◌≤◌, Bool, true, false, List, [], ◌∷◌, ◌++◌, length, replicate, sym, refl, ap, ◌∙◌, subst, arith}
+use Rattle.std.specs.Prelude.{nat_lt, slice_set, slice_index}
 use Rattle.std.proofs.lemmas.Bool.{cond-false, cond-true, ltb-true, ltb-false}
 use Rattle.std.proofs.lemmas.List.Elements.{All-set, All-weaker, All-append, All-cons, All-nil}
-use Rattle.std.proofs.lemmas.List.{set-get_or}
+use Rattle.std.proofs.lemmas.List.{length-replicate, set-get_or}
 use Rattle.std.proofs.Math.Nat.{mod-eq_of_lt}
 use mathlib.Core.Option.{some, none, some-ne-none}
 use lib.ListN.{get_elem?}
 use Rattle.atomic_table.specs.Table.{State, Me, Act, opening, keeps, Valid, carried_after, stepped, Allows, Splits, Joins, step}
 use Rattle.atomic_table.proofs.Lists.{set_else, set_again}
 use Rattle.job_line.specs.declared.rule.Hand.{Hand}
-use Rattle.job_line.specs.Sums.{weigh, weigh_below}
-use Rattle.job_line.specs.Rule.{total, smaller, Fits, Holds, Draws, IsAll, Learns, first_hand, hand_after, hand_left, hand_dealt, hand_of_both, spent_hand}
+use Rattle.job_line.specs.Sums.{begin_of, jobs_in, weigh, weigh_firsts}
+use Rattle.job_line.specs.Rule.{at_most, ends_at, is_site, total, Fits, Holds, Draws, IsAll, Learns, first_hand, hand_after, hand_left, hand_dealt, hand_of_both, spent_hand}
 use Rattle.job_line.proofs.SumLemmas.{total-put, total-push, total-owner, weigh-append}
-use Rattle.job_line.proofs.Steps.{All-at, apart, after_draw, drawn_fit, drew, found_end, hand_drew, hand_ended, small, smaller-left, smaller-most, smaller-right}
+use Rattle.job_line.proofs.SiteLemmas.{at_most-all, at_most-whole, at_most-within, firsts-none, firsts-whole, word-none}
+use Rattle.job_line.proofs.Steps.{All-at, after_draw, drawn_fit, drew, found_end, hand_drew, hand_ended, small}
 
 -- a hand that is put in is there
 put_here : (hands : List Hand) (id : ℕ) (old new : Hand) → get_elem? hands id ≡ some old → get_elem? (slice_set hands id new) id ≡ some new
@@ -23,165 +24,163 @@ put_here (first ∷ hands) zero old new at = refl
 put_here (first ∷ hands) (suc id) old new at = put_here hands id old new at
 
 -- the state after a step that brings this word
-abbrev after_word : State (Unit {0}) Hand → ℕ → ℕ → Hand → State (Unit {0}) Hand
-after_word s word id hand = record { words = slice_set s.words 0 word; homes = s.homes; views = slice_set s.views id hand }
+abbrev after_word : State (Unit {0}) Hand → ℕ → ℕ → ℕ → Hand → State (Unit {0}) Hand
+after_word s site word id hand = record { words = slice_set s.words site word; homes = s.homes; views = slice_set s.views id hand }
 
--- a draw keeps the rule
-pub allows_draw : (jobs slots id : ℕ) (me : Me (Unit {0}) Hand) → 0 < me.0.parts → me.0.ended ≡ false
-    → Allows (Holds jobs) slots id me 0 (λ n. (n + 1) % 2 ^ 64) (Draws (step slots 0 1 0 none) me)
-allows_draw jobs slots id me some_part goes s holds homes at bound = cases (nat_lt (slice_index s.words 0) me.0.jobs) refl
+-- a draw at a site keeps the rule
+pub allows_draw : (counts : List ℕ) (slots id site : ℕ) (me : Me (Unit {0}) Hand) → 0 < me.0.parts → site < length me.0.counts → ends_at site me.0 ≡ 0
+    → Allows (Holds counts) slots id me site (λ n. (n + 1) % 2 ^ 64) (Draws (step slots site 1 0 none) me)
+allows_draw counts slots id site me some_part inside goes s holds homes at bound = cases (nat_lt (slice_index s.words site) (slice_index me.0.counts site)) refl
   where
-    found : ℕ
-    found = slice_index s.words 0
+    whole : (slice_index s.words site + 1) % 2 ^ 64 ≡ slice_index s.words site + 1
+    whole = let most = small counts s site holds in mod-eq_of_lt (omega (arith, most))
 
-    whole : (slice_index s.words 0 + 1) % 2 ^ 64 ≡ slice_index s.words 0 + 1
-    whole = let most = small jobs s holds in mod-eq_of_lt (omega (arith, most))
+    same : me.0.counts ≡ counts
+    same = (All-at counts s.words s.views id me.0 at holds.each).same some_part
 
-    same_jobs : me.0.jobs ≡ jobs
-    same_jobs = (All-at jobs (slice_index s.words 0) s.views id me.0 at holds.each).same some_part
+    same_count : slice_index me.0.counts site ≡ slice_index counts site
+    same_count = ap (λ counts. slice_index counts site) same
 
-    done : (new : Hand) → new ≡ hand_after me.0 (slice_index s.words 0) → Holds jobs (after_draw s id new)
-        → (w : Hand) × (a : Act (Unit {0})) × Valid s.homes me.1 a × Holds jobs (stepped s 0 ((slice_index s.words 0 + 1) % 2 ^ 64) id me.1 w a) × Draws (step slots 0 1 0 none) me (slice_index s.words 0) (w, carried_after me.1 a)
+    there : site < length s.words
+    there = let many = ap length same in omega (arith, inside, holds.words, many)
+
+    done : (new : Hand) → new ≡ hand_after me.0 site (slice_index s.words site) → Holds counts (after_draw s site id new)
+        → (w : Hand) × (a : Act (Unit {0})) × Valid s.homes me.1 a × Holds counts (stepped s site ((slice_index s.words site + 1) % 2 ^ 64) id me.1 w a) × Draws (step slots site 1 0 none) me (slice_index s.words site) (w, carried_after me.1 a)
     done new is kept =
-        let fit = drawn_fit jobs (after_draw s id new) id new kept (put_here s.views id me.0 new at) in
-        (new, keeps, tt, subst (λ word. Holds jobs (after_word s word id new)) (sym whole) kept, (is, refl, omega (arith, fit, same_jobs)))
+        let fit = drawn_fit counts (after_draw s site id new) id new kept (put_here s.views id me.0 new at) in
+        (new, keeps, tt, subst (λ word. Holds counts (after_word s site word id new)) (sym whole) kept, (is, refl, let all = ap jobs_in same in omega (arith, fit, all)))
 
-    cases : (b : Bool) → nat_lt (slice_index s.words 0) me.0.jobs ≡ b
-        → (w : Hand) × (a : Act (Unit {0})) × Valid s.homes me.1 a × Holds jobs (stepped s 0 ((slice_index s.words 0 + 1) % 2 ^ 64) id me.1 w a) × Draws (step slots 0 1 0 none) me (slice_index s.words 0) (w, carried_after me.1 a)
+    cases : (b : Bool) → nat_lt (slice_index s.words site) (slice_index me.0.counts site) ≡ b
+        → (w : Hand) × (a : Act (Unit {0})) × Valid s.homes me.1 a × Holds counts (stepped s site ((slice_index s.words site + 1) % 2 ^ 64) id me.1 w a) × Draws (step slots site 1 0 none) me (slice_index s.words site) (w, carried_after me.1 a)
     cases true is =
-        let less = ltb-true (slice_index s.words 0) me.0.jobs is in
-        done (hand_drew me.0 (slice_index s.words 0)) (sym (cond-true (nat_lt (slice_index s.words 0) me.0.jobs) _ _ is)) (drew jobs s id me.0 holds at some_part goes (omega (arith, less, same_jobs)))
+        let less = ltb-true (slice_index s.words site) (slice_index me.0.counts site) is in
+        done (hand_drew me.0 (begin_of counts site + slice_index s.words site))
+        (ap (λ counts. hand_drew me.0 (begin_of counts site + slice_index s.words site)) (sym same) ∙ sym (cond-true (nat_lt (slice_index s.words site) (slice_index me.0.counts site)) _ _ is))
+        (drew counts s site id me.0 holds at some_part there (omega (arith, less, same_count)))
     cases false is =
-        let most = ltb-false (slice_index s.words 0) me.0.jobs is in
-        done (hand_ended me.0) (sym (cond-false (nat_lt (slice_index s.words 0) me.0.jobs) _ _ is)) (found_end jobs s id me.0 holds at some_part goes (omega (arith, most, same_jobs)))
+        let most = ltb-false (slice_index s.words site) (slice_index me.0.counts site) is in
+        done (hand_ended me.0 site) (sym (cond-false (nat_lt (slice_index s.words site) (slice_index me.0.counts site)) _ _ is)) (found_end counts s site id me.0 holds at some_part goes (omega (arith, most, same_count)))
 
--- a split keeps the rule, of a seat that has drawn on
-pub splits_deal : (jobs id : ℕ) (hand : Hand) → 1 < hand.parts → hand.ended ≡ false → Splits (Holds jobs) id hand (hand_left hand) (hand_dealt hand)
-splits_deal jobs id hand more goes s holds at =
-    let word = slice_index s.words 0 in
-    let own = All-at jobs word s.views id hand at holds.each in
+-- a split keeps the rule, of a seat that has found no end
+pub splits_deal : (counts : List ℕ) (id : ℕ) (hand : Hand) → 1 < hand.parts → ((site : ℕ) → ends_at site hand ≡ 0) → Splits (Holds counts) id hand (hand_left hand) (hand_dealt hand)
+splits_deal counts id hand more goes s holds at =
+    let own = All-at counts s.words s.views id hand at holds.each in
     let same = own.same (omega (arith, more)) in
-    let unended = own.begins goes in
     let left = slice_set s.views id (hand_left hand) in
     record {
       limit = holds.limit;
-      one_word = holds.one_word;
+      words = holds.words;
       parts = omega (arith, total-put (λ hand. hand.parts) s.views id hand (hand_left hand) at, total-push (λ hand. hand.parts) left (hand_dealt hand), holds.parts, more);
-      drawn = λ weight. drawn_same weight (total-put (λ hand. weigh weight hand.drawn) s.views id hand (hand_left hand) at) (total-push (λ hand. weigh weight hand.drawn) left (hand_dealt hand)) ∙ holds.drawn weight;
-      over = omega (arith, total-put (λ hand. hand.over) s.views id hand (hand_left hand) at, total-push (λ hand. hand.over) left (hand_dealt hand), holds.over);
-      each = All-append (Fits jobs word) left (hand_dealt hand ∷ []) (All-set (Fits jobs word) s.views id (hand_left hand) (fits_left own unended) holds.each) (All-cons (Fits jobs word) (hand_dealt hand) [] (fits_dealt same) (All-nil (Fits jobs word)));
+      drawn = λ weight. sum_same (λ hand. weigh weight hand.drawn) refl refl ∙ holds.drawn weight;
+      over = λ site. let sums = sum_same (ends_at site) refl refl in omega (arith, sums, holds.over site);
+      each = All-append (Fits counts s.words) left (hand_dealt hand ∷ []) (All-set (Fits counts s.words) s.views id (hand_left hand) (fits_left own) holds.each) (All-cons (Fits counts s.words) (hand_dealt hand) [] (fits_dealt same) (All-nil (Fits counts s.words)));
     }
   where
-    fits_left : Fits jobs (slice_index s.words 0) hand → hand.over ≡ 0 → Fits jobs (slice_index s.words 0) (hand_left hand)
-    fits_left own unended = record {
+    fits_left : Fits counts s.words hand → Fits counts s.words (hand_left hand)
+    fits_left own = record {
       same = λ some_part. own.same (omega (arith, more));
       ends = own.ends;
-      few = omega (arith, unended, more);
-      begins = own.begins;
+      few = λ site. let none = goes site in omega (arith, none, more);
       idle = λ no_part. absurd (omega (arith, no_part, more));
     }
 
-    fits_dealt : hand.jobs ≡ jobs → Fits jobs (slice_index s.words 0) (hand_dealt hand)
+    fits_dealt : hand.counts ≡ counts → Fits counts s.words (hand_dealt hand)
     fits_dealt same = record {
       same = λ _. same;
-      ends = λ ended. absurd (apart ended);
-      few = omega arith;
-      begins = λ _. refl;
+      ends = λ site found. absurd (omega (arith, found));
+      few = λ site. omega arith;
       idle = λ _. refl;
     }
 
-    drawn_same : (weight : ℕ → ℕ) → total (λ hand. weigh weight hand.drawn) (slice_set s.views id (hand_left hand)) + weigh weight hand.drawn ≡ total (λ hand. weigh weight hand.drawn) s.views + weigh weight hand.drawn
-        → total (λ hand. weigh weight hand.drawn) (slice_set s.views id (hand_left hand) ++ hand_dealt hand ∷ []) ≡ total (λ hand. weigh weight hand.drawn) (slice_set s.views id (hand_left hand)) + weigh weight []
-        → total (λ hand. weigh weight hand.drawn) (slice_set s.views id (hand_left hand) ++ hand_dealt hand ∷ []) ≡ total (λ hand. weigh weight hand.drawn) s.views
-    drawn_same weight put push = omega (arith, put, push)
+    sum_same : (f : Hand → ℕ) → f (hand_left hand) ≡ f hand → f (hand_dealt hand) ≡ 0 → total f (slice_set s.views id (hand_left hand) ++ hand_dealt hand ∷ []) ≡ total f s.views
+    sum_same f left dealt = let put = total-put f s.views id hand (hand_left hand) at in let push = total-push f (slice_set s.views id (hand_left hand)) (hand_dealt hand) in omega (arith, put, push, left, dealt)
 
-either_false : (a b : Bool) → (a || b) ≡ false → (a ≡ false) × (b ≡ false)
-either_false true b e = absurd (apart (sym e))
-either_false false b e = (refl, e)
-
-either_true : (a b : Bool) (P : Type 0) → (a || b) ≡ true → (a ≡ true → P) → (b ≡ true → P) → P
-either_true true b P e one other = one refl
-either_true false b P e one other = other e
+-- of two numbers one is some
+pub one_of : (n m : ℕ) (P : Type 0) → 0 < n + m → (0 < n → P) → (0 < m → P) → P
+one_of zero m P some_of one other = other (omega (arith, some_of))
+one_of (suc n) m P some_of one other = one (omega arith)
 
 -- a join keeps the rule
-pub joins_take_in : (jobs id other : ℕ) (one taken : Hand) → 0 < one.parts → Joins (Holds jobs) id one other taken (hand_of_both one taken) spent_hand
-joins_take_in jobs id other one taken some_part s holds at apart_from there =
-    let word = slice_index s.words 0 in
+pub joins_take_in : (counts : List ℕ) (id other : ℕ) (one taken : Hand) → 0 < one.parts → Joins (Holds counts) id one other taken (hand_of_both one taken) spent_hand
+joins_take_in counts id other one taken some_part s holds at apart_from there =
     let both = hand_of_both one taken in
-    let own = All-at jobs word s.views id one at holds.each in
+    let own = All-at counts s.words s.views id one at holds.each in
     let before = sym (set_else s.views id other both apart_from) ∙ there in
-    let theirs = All-at jobs word s.views other taken before holds.each in
+    let theirs = All-at counts s.words s.views other taken before holds.each in
     let middle = slice_set s.views id both in
     record {
       limit = holds.limit;
-      one_word = holds.one_word;
-      parts = omega (arith, total-put (λ hand. hand.parts) s.views id one both at, total-put (λ hand. hand.parts) middle other taken spent_hand there, holds.parts);
-      drawn = λ weight. drawn_same weight (total-put (λ hand. weigh weight hand.drawn) s.views id one both at) (total-put (λ hand. weigh weight hand.drawn) middle other taken spent_hand there) ∙ holds.drawn weight;
-      over = omega (arith, total-put (λ hand. hand.over) s.views id one both at, total-put (λ hand. hand.over) middle other taken spent_hand there, holds.over);
-      each = All-set (Fits jobs word) middle other spent_hand fits_spent (All-set (Fits jobs word) s.views id both (fits_both own theirs) holds.each);
+      words = holds.words;
+      parts = sum_same (λ hand. hand.parts) refl refl ∙ holds.parts;
+      drawn = λ weight. sum_same (λ hand. weigh weight hand.drawn) (weigh-append weight one.drawn taken.drawn) refl ∙ holds.drawn weight;
+      over = λ site. let sums = sum_same (ends_at site) (weigh-append (is_site site) one.ends taken.ends) refl in omega (arith, sums, holds.over site);
+      each = All-set (Fits counts s.words) middle other spent_hand fits_spent (All-set (Fits counts s.words) s.views id both (fits_both own theirs) holds.each);
     }
   where
-    fits_spent : Fits jobs (slice_index s.words 0) spent_hand
+    fits_spent : Fits counts s.words spent_hand
     fits_spent = record {
       same = λ some_of_none. absurd (omega (arith, some_of_none));
-      ends = λ ended. absurd (apart ended);
-      few = omega arith;
-      begins = λ _. refl;
+      ends = λ site found. absurd (omega (arith, found));
+      few = λ site. omega arith;
       idle = λ _. refl;
     }
 
-    fits_both : Fits jobs (slice_index s.words 0) one → Fits jobs (slice_index s.words 0) taken → Fits jobs (slice_index s.words 0) (hand_of_both one taken)
+    fits_both : Fits counts s.words one → Fits counts s.words taken → Fits counts s.words (hand_of_both one taken)
     fits_both own theirs = record {
       same = λ _. own.same some_part;
-      ends = λ ended. either_true one.ended taken.ended (jobs ≤ slice_index s.words 0) ended own.ends theirs.ends;
-      few = omega (arith, own.few, theirs.few);
-      begins = λ still. let neither = either_false one.ended taken.ended still in let a = own.begins neither.0 in let b = theirs.begins neither.1 in omega (arith, a, b);
+      ends = λ site found. one_of (ends_at site one) (ends_at site taken) (slice_index counts site ≤ slice_index s.words site) (let all = weigh-append (is_site site) one.ends taken.ends in omega (arith, found, all)) (own.ends site) (theirs.ends site);
+      few = λ site. let all = weigh-append (is_site site) one.ends taken.ends in omega (arith, all, own.few site, theirs.few site);
       idle = λ no_part. absurd (omega (arith, no_part, some_part));
     }
 
-    drawn_same : (weight : ℕ → ℕ) → total (λ hand. weigh weight hand.drawn) (slice_set s.views id (hand_of_both one taken)) + weigh weight one.drawn ≡ total (λ hand. weigh weight hand.drawn) s.views + weigh weight (one.drawn ++ taken.drawn)
-        → total (λ hand. weigh weight hand.drawn) (slice_set (slice_set s.views id (hand_of_both one taken)) other spent_hand) + weigh weight taken.drawn ≡ total (λ hand. weigh weight hand.drawn) (slice_set s.views id (hand_of_both one taken)) + weigh weight []
-        → total (λ hand. weigh weight hand.drawn) (slice_set (slice_set s.views id (hand_of_both one taken)) other spent_hand) ≡ total (λ hand. weigh weight hand.drawn) s.views
-    drawn_same weight put taken_out = omega (arith, put, taken_out, weigh-append weight one.drawn taken.drawn)
+    sum_same : (f : Hand → ℕ) → f (hand_of_both one taken) ≡ f one + f taken → f spent_hand ≡ 0 → total f (slice_set (slice_set s.views id (hand_of_both one taken)) other spent_hand) ≡ total f s.views
+    sum_same f sums spent =
+        let put = total-put f s.views id one (hand_of_both one taken) at in
+        let taken_out = total-put f (slice_set s.views id (hand_of_both one taken)) other taken spent_hand there in
+        omega (arith, put, taken_out, sums, spent)
 
 -- what who has all parts learns
-is_all : (jobs : ℕ) (s : State (Unit {0}) Hand) (id : ℕ) (hand : Hand) → Holds jobs s → get_elem? s.views id ≡ some hand → hand.parts ≡ 16 → IsAll hand
-is_all jobs s id hand holds at all_parts =
-    let word = slice_index s.words 0 in
-    let own = All-at jobs word s.views id hand at holds.each in
-    let same = own.same (omega (arith, all_parts)) in
-    let most = smaller-most word jobs in
-    record {
-      count = smaller word jobs;
-      within = omega (arith, most, same);
-      each = λ weight. sym (total-owner (λ hand. hand.parts) (λ hand. weigh weight hand.drawn) s.views id hand at (All-weaker (Fits jobs word) (λ hand. hand.parts ≡ 0 → weigh weight hand.drawn ≡ 0) (λ hand fits no_part. ap (weigh weight) (fits.idle no_part)) s.views holds.each) (holds.parts ∙ sym all_parts)) ∙ holds.drawn weight;
-      all = λ ended. smaller-right word jobs (own.ends ended) ∙ sym same;
+is_all : (counts : List ℕ) (s : State (Unit {0}) Hand) (id : ℕ) (hand : Hand) → Holds counts s → get_elem? s.views id ≡ some hand → hand.parts ≡ 16 → hand.counts ≡ counts → IsAll hand
+is_all counts s id hand holds at all_parts same = subst IsAllOf (sym same) all_of
+  where
+    IsAllOf : List ℕ → Type 0
+    IsAllOf counts = IsAll (record hand { counts = counts })
+
+    own : Fits counts s.words hand
+    own = All-at counts s.words s.views id hand at holds.each
+
+    each_one : (weight : ℕ → ℕ) → weigh weight hand.drawn ≡ weigh_firsts weight counts (at_most counts s.words)
+    each_one weight = sym (total-owner (λ hand. hand.parts) (λ hand. weigh weight hand.drawn) s.views id hand at (All-weaker (Fits counts s.words) (λ hand. hand.parts ≡ 0 → weigh weight hand.drawn ≡ 0) (λ hand fits no_part. ap (weigh weight) (fits.idle no_part)) s.views holds.each) (holds.parts ∙ sym all_parts)) ∙ holds.drawn weight
+
+    all_of : IsAll (record hand { counts = counts })
+    all_of = record {
+      firsts = at_most counts s.words;
+      within = at_most-within counts s.words;
+      each = each_one;
+      all = λ site found. at_most-all counts s.words site (own.ends site found);
+      all_sites = λ found weight. each_one weight ∙ ap (weigh_firsts weight counts) (at_most-whole counts s.words (λ site there. own.ends site (found site there))) ∙ firsts-whole weight counts;
     }
 
 -- a look changes nothing
-pub allows_learn : (jobs slots id : ℕ) (me : Me (Unit {0}) Hand) → Allows (Holds jobs) slots id me 0 (λ n. n) (Learns (step slots 0 0 0 none) me)
-allows_learn jobs slots id me s holds homes at bound = (me.0, keeps, tt, kept, (refl, λ all_parts. is_all jobs s id me.0 holds at all_parts))
+pub allows_learn : (counts : List ℕ) (slots id : ℕ) (me : Me (Unit {0}) Hand) → Allows (Holds counts) slots id me 0 (λ n. n) (Learns (step slots 0 0 0 none) me)
+allows_learn counts slots id me s holds homes at bound =
+    (me.0, keeps, tt, kept, (refl, λ all_parts. is_all counts s id me.0 holds at all_parts ((All-at counts s.words s.views id me.0 at holds.each).same (omega (arith, all_parts)))))
   where
-    kept : Holds jobs (after_word s (slice_index s.words 0) id me.0)
-    kept = subst (λ (t : State (Unit {0}) Hand). Holds jobs t) (λ i. record { words = sym (set-get_or s.words 0 0) i; homes = s.homes; views = sym (set_again s.views id me.0 at) i }) holds
+    kept : Holds counts (after_word s 0 (slice_index s.words 0) id me.0)
+    kept = subst (λ (t : State (Unit {0}) Hand). Holds counts t) (λ i. record { words = sym (set-get_or s.words 0 0) i; homes = s.homes; views = sym (set_again s.views id me.0 at) i }) holds
 
 -- a new line keeps the rule
-pub opens : (jobs : ℕ) → jobs ≤ 4096 → Holds jobs (opening (0 ∷ []) [] (first_hand jobs))
-opens jobs limit = record {
+pub opens : (counts : List ℕ) (n : ℕ) → jobs_in counts ≤ 4096 → length counts ≤ n → Holds counts (opening (replicate n 0) [] (first_hand counts))
+opens counts n limit many = record {
   limit = limit;
-  one_word = refl;
+  words = let words = length-replicate {A = ℕ} n 0 in omega (arith, many, words);
   parts = refl;
-  drawn = λ weight. sym (ap (weigh_below weight) (smaller-none jobs));
-  over = omega arith;
-  each = All-cons (Fits jobs 0) (first_hand jobs) [] (record {
+  drawn = λ weight. sym (firsts-none weight counts n);
+  over = λ site. let none = word-none n site in omega (arith, none);
+  each = All-cons (Fits counts (replicate n 0)) (first_hand counts) [] (record {
     same = λ _. refl;
-    ends = λ ended. absurd (apart ended);
-    few = omega arith;
-    begins = λ _. refl;
+    ends = λ site found. absurd (omega (arith, found));
+    few = λ site. omega arith;
     idle = λ _. refl;
-  }) (All-nil (Fits jobs 0));
+  }) (All-nil (Fits counts (replicate n 0)));
 }
-  where
-    smaller-none : (n : ℕ) → smaller 0 n ≡ 0
-    smaller-none zero = refl
-    smaller-none (suc n) = smaller-left 0 (suc n) (omega arith)

@@ -1,158 +1,142 @@
 -- Each kind of step keeps the rule.
 -- Used by the answers of `JobLine`.
-use Rattle.std.proofs.Common.{◌≡◌, ℕ, zero, suc, ◌+◌, ◌<◌, ◌≤◌, Bool, true, false, List, [], ◌∷◌, ◌++◌, length, sym, refl, ap, ◌∙◌, subst, arith, rules}
-use Rattle.std.specs.Prelude.{All, nat_lt, slice_set, slice_index}
+use Rattle.std.proofs.Common.{◌≡◌, ℕ, zero, suc, ◌+◌, ◌<◌, ◌≤◌, false, true, List, [], ◌∷◌, ◌++◌, length, ◌≢◌, ◌⊎◌, inl, inr, eqb, sym, ap, ◌∙◌, subst, arith, rules}
+use Rattle.std.specs.Prelude.{All, slice_set, slice_index}
 use Rattle.std.proofs.lemmas.Bool.{cond-false, cond-true}
+use Rattle.std.proofs.lemmas.Bool.Decides.{eqb_tells}
+use Rattle.std.proofs.lemmas.List.{length-set}
 use Rattle.std.proofs.lemmas.List.Elements.{All-head, All-tail, All-set, All-weaker}
-use Rattle.std.proofs.lemmas.Bool.{lt-ltb, le-ltb, ltb-true, ltb-false}
 use mathlib.Core.Option.{some, some-injective, some-ne-none}
 use lib.ListN.{get_elem?}
 use Rattle.atomic_table.specs.Table.{State}
 use Rattle.job_line.specs.declared.rule.Hand.{Hand}
-use Rattle.job_line.specs.Sums.{weigh, weigh_below}
-use Rattle.job_line.specs.Rule.{total, smaller, Fits, Holds}
-use Rattle.job_line.proofs.SumLemmas.{total-put, total-at, total-le, weigh-append, weigh-one, weigh_below-one}
-
--- a list of one word, with another in its place
-record IsOne (words : List ℕ) (word : ℕ) : Type 0 where
-  one : length words ≡ 1
-  is : slice_index words 0 ≡ word
-
-put_word : (words : List ℕ) (word : ℕ) → length words ≡ 1 → IsOne (slice_set words 0 word) word
-put_word [] word one = absurd (omega (arith, one))
-put_word (first ∷ []) word one = record { one = refl; is = refl }
-put_word (first ∷ second ∷ words) word one = absurd (omega (arith, one))
-
--- the word never wraps
-pub small : (jobs : ℕ) (s : State (Unit {0}) Hand) → Holds jobs s → slice_index s.words 0 ≤ 4112
-small jobs s holds =
-    let few = total-le (λ hand. hand.over) (λ hand. hand.parts) s.views (All-weaker (Fits jobs (slice_index s.words 0)) (λ hand. hand.over ≤ hand.parts) (λ hand fits. fits.few) s.views holds.each) in
-    omega (arith, few, holds.over, holds.parts, holds.limit)
+use Rattle.job_line.specs.Sums.{begin_of, jobs_in, weigh, weigh_firsts}
+use Rattle.job_line.specs.Rule.{at_most, ends_at, is_site, total, Fits, Holds}
+use Rattle.job_line.proofs.SumLemmas.{total-put, total-at, total-le, weigh-append, weigh-one}
+use Rattle.job_line.proofs.SiteLemmas.{at_most-same, begin-fits, firsts-next, firsts-one, next_words, word_drew, word_grows, word_next}
 
 -- true is not false
 pub apart : false ≡ true → ⊥
 apart e = search rules
 
 -- what is true of all hands is true of one
-pub All-at : (jobs word : ℕ) (hands : List Hand) (id : ℕ) (hand : Hand) → get_elem? hands id ≡ some hand → All (Fits jobs word) hands → Fits jobs word hand
-All-at jobs word [] id hand at each = absurd (some-ne-none hand (sym at))
-All-at jobs word (first ∷ hands) zero hand at each = subst (Fits jobs word) (some-injective first hand at) (All-head (Fits jobs word) first hands each)
-All-at jobs word (first ∷ hands) (suc id) hand at each = All-at jobs word hands id hand at (All-tail (Fits jobs word) first hands each)
+pub All-at : (counts words : List ℕ) (hands : List Hand) (id : ℕ) (hand : Hand) → get_elem? hands id ≡ some hand → All (Fits counts words) hands → Fits counts words hand
+All-at counts words [] id hand at each = absurd (some-ne-none hand (sym at))
+All-at counts words (first ∷ hands) zero hand at each = subst (Fits counts words) (some-injective first hand at) (All-head (Fits counts words) first hands each)
+All-at counts words (first ∷ hands) (suc id) hand at each = All-at counts words hands id hand at (All-tail (Fits counts words) first hands each)
 
--- what fits a word fits the next
-fits_later : (jobs word : ℕ) (hand : Hand) → Fits jobs word hand → Fits jobs (word + 1) hand
-fits_later jobs word hand fits = record {
+-- no word ever wraps
+pub small : (counts : List ℕ) (s : State (Unit {0}) Hand) (site : ℕ) → Holds counts s → slice_index s.words site ≤ 4112
+small counts s site holds =
+    let few = total-le (ends_at site) (λ hand. hand.parts) s.views (All-weaker (Fits counts s.words) (λ hand. ends_at site hand ≤ hand.parts) (λ hand fits. fits.few site) s.views holds.each) in
+    omega (arith, few, holds.over site, holds.parts, holds.limit, begin-fits counts site)
+
+-- what fits the words fits the next
+fits_later : (counts words : List ℕ) (site : ℕ) (hand : Hand) → Fits counts words hand → Fits counts (next_words words site) hand
+fits_later counts words site hand fits = record {
   same = fits.same;
-  ends = λ ended. let at = fits.ends ended in omega (arith, at);
+  ends = λ other found. let at = fits.ends other found in let grows = word_grows words site other in omega (arith, at, grows);
   few = fits.few;
-  begins = fits.begins;
   idle = fits.idle;
 }
 
--- the smaller of two numbers
-pub smaller-left : (n m : ℕ) → n < m → smaller n m ≡ n
-smaller-left n m less = cond-true (nat_lt n m) n m (lt-ltb n m less)
-
-pub smaller-right : (n m : ℕ) → m ≤ n → smaller n m ≡ m
-smaller-right n m not_less = cond-false (nat_lt n m) n m (le-ltb n m not_less)
-
--- one number more was drawn
-below-next : (weight : ℕ → ℕ) (word jobs : ℕ) → word < jobs → weigh_below weight (smaller (word + 1) jobs) ≡ weigh_below weight (smaller word jobs) + weight word
-below-next weight word jobs less =
-    let next : smaller (word + 1) jobs ≡ suc word = step (nat_lt (word + 1) jobs) refl in
-    ap (weigh_below weight) next ∙ sym (ap (λ n. weigh_below weight n + weight word) (smaller-left word jobs less))
-  where
-    step : (b : Bool) → nat_lt (word + 1) jobs ≡ b → smaller (word + 1) jobs ≡ suc word
-    step true is = cond-true (nat_lt (word + 1) jobs) (word + 1) jobs is ∙ omega arith
-    step false is = let at = ltb-false (word + 1) jobs is in cond-false (nat_lt (word + 1) jobs) (word + 1) jobs is ∙ omega (arith, at, less)
-
--- what a hand is after a draw that found a job
+-- what a hand is after a draw that found a job, and after one that found the end
 abbrev pub hand_drew : Hand → ℕ → Hand
-hand_drew hand found = record hand { drawn = hand.drawn ++ found ∷ [] }
+hand_drew hand index = record hand { drawn = hand.drawn ++ index ∷ [] }
 
-abbrev pub hand_ended : Hand → Hand
-hand_ended hand = record hand { over = hand.over + 1; ended = true }
+abbrev pub hand_ended : Hand → ℕ → Hand
+hand_ended hand site = record hand { ends = site ∷ hand.ends }
 
 -- the state after a draw
-abbrev pub after_draw : State (Unit {0}) Hand → ℕ → Hand → State (Unit {0}) Hand
-after_draw s id hand = record { words = slice_set s.words 0 (slice_index s.words 0 + 1); homes = s.homes; views = slice_set s.views id hand }
+abbrev pub after_draw : State (Unit {0}) Hand → ℕ → ℕ → Hand → State (Unit {0}) Hand
+after_draw s site id hand = record { words = next_words s.words site; homes = s.homes; views = slice_set s.views id hand }
 
 -- a draw that finds a job keeps the rule
-pub drew : (jobs : ℕ) (s : State (Unit {0}) Hand) (id : ℕ) (hand : Hand) → Holds jobs s → get_elem? s.views id ≡ some hand → 0 < hand.parts → hand.ended ≡ false
-    → slice_index s.words 0 < jobs → Holds jobs (after_draw s id (hand_drew hand (slice_index s.words 0)))
-drew jobs s id hand holds at some_part goes job =
-    let found = slice_index s.words 0 in
-    let new = hand_drew hand found in
-    let word = put_word s.words (found + 1) holds.one_word in
-    let own = All-at jobs found s.views id hand at holds.each in
+pub drew : (counts : List ℕ) (s : State (Unit {0}) Hand) (site id : ℕ) (hand : Hand) → Holds counts s → get_elem? s.views id ≡ some hand → 0 < hand.parts
+    → site < length s.words → slice_index s.words site < slice_index counts site → Holds counts (after_draw s site id (hand_drew hand (begin_of counts site + slice_index s.words site)))
+drew counts s site id hand holds at some_part there job =
+    let new = hand_drew hand (begin_of counts site + slice_index s.words site) in
+    let own = All-at counts s.words s.views id hand at holds.each in
     record {
       limit = holds.limit;
-      one_word = word.one;
+      words = omega (arith, holds.words, length-set s.words site (slice_index s.words site + 1));
       parts = omega (arith, total-put (λ hand. hand.parts) s.views id hand new at, holds.parts);
-      drawn = λ weight. drawn_more weight (total-put (λ hand. weigh weight hand.drawn) s.views id hand new at) ∙ sym (ap (λ n. weigh_below weight (smaller n jobs)) word.is);
-      over = subst (λ n. n ≤ jobs + total (λ hand. hand.over) (slice_set s.views id new)) (sym word.is) (omega (arith, total-put (λ hand. hand.over) s.views id hand new at, job));
-      each = subst (λ n. All (Fits jobs n) (slice_set s.views id new)) (sym word.is) (All-set (Fits jobs (found + 1)) s.views id new (fits own) (All-weaker (Fits jobs found) (Fits jobs (found + 1)) (fits_later jobs found) s.views holds.each));
+      drawn = λ weight. drawn_more weight (total-put (λ hand. weigh weight hand.drawn) s.views id hand new at);
+      over = λ other. over_same other (total-put (ends_at other) s.views id hand new at);
+      each = All-set (Fits counts (next_words s.words site)) s.views id new (fits own) (All-weaker (Fits counts s.words) (Fits counts (next_words s.words site)) (fits_later counts s.words site) s.views holds.each);
     }
   where
-    fits : Fits jobs (slice_index s.words 0) hand → Fits jobs (slice_index s.words 0 + 1) (hand_drew hand (slice_index s.words 0))
-    fits own = record {
-      same = own.same;
-      ends = λ ended. absurd (apart (sym goes ∙ ended));
-      few = own.few;
-      begins = own.begins;
+    fits : Fits counts s.words hand → Fits counts (next_words s.words site) (hand_drew hand (begin_of counts site + slice_index s.words site))
+    fits own = let later = fits_later counts s.words site hand own in record {
+      same = later.same;
+      ends = later.ends;
+      few = later.few;
       idle = λ none. absurd (omega (arith, none, some_part));
     }
 
-    drawn_more : (weight : ℕ → ℕ) → total (λ hand. weigh weight hand.drawn) (slice_set s.views id (hand_drew hand (slice_index s.words 0))) + weigh weight hand.drawn ≡ total (λ hand. weigh weight hand.drawn) s.views + weigh weight (hand.drawn ++ slice_index s.words 0 ∷ [])
-        → total (λ hand. weigh weight hand.drawn) (slice_set s.views id (hand_drew hand (slice_index s.words 0))) ≡ weigh_below weight (smaller (slice_index s.words 0 + 1) jobs)
+    over_same : (other : ℕ) → total (ends_at other) (slice_set s.views id (hand_drew hand (begin_of counts site + slice_index s.words site))) + ends_at other hand ≡ total (ends_at other) s.views + ends_at other hand
+        → slice_index (next_words s.words site) other ≤ slice_index counts other + total (ends_at other) (slice_set s.views id (hand_drew hand (begin_of counts site + slice_index s.words site)))
+    over_same other put =
+        let most = word_drew counts s.words site other (total (ends_at other) s.views) job (holds.over other) in
+        omega (arith, put, most)
+
+    drawn_more : (weight : ℕ → ℕ) → total (λ hand. weigh weight hand.drawn) (slice_set s.views id (hand_drew hand (begin_of counts site + slice_index s.words site))) + weigh weight hand.drawn ≡ total (λ hand. weigh weight hand.drawn) s.views + weigh weight (hand.drawn ++ (begin_of counts site + slice_index s.words site) ∷ [])
+        → total (λ hand. weigh weight hand.drawn) (slice_set s.views id (hand_drew hand (begin_of counts site + slice_index s.words site))) ≡ weigh_firsts weight counts (at_most counts (next_words s.words site))
     drawn_more weight put =
-        omega (arith, put, weigh-append weight hand.drawn (slice_index s.words 0 ∷ []), holds.drawn weight, below-next weight (slice_index s.words 0) jobs job)
+        omega (arith, put, weigh-append weight hand.drawn ((begin_of counts site + slice_index s.words site) ∷ []), holds.drawn weight, firsts-next weight counts s.words site there job)
 
 -- a draw that finds the end keeps the rule
-pub found_end : (jobs : ℕ) (s : State (Unit {0}) Hand) (id : ℕ) (hand : Hand) → Holds jobs s → get_elem? s.views id ≡ some hand → 0 < hand.parts → hand.ended ≡ false
-    → jobs ≤ slice_index s.words 0 → Holds jobs (after_draw s id (hand_ended hand))
-found_end jobs s id hand holds at some_part goes end =
-    let found = slice_index s.words 0 in
-    let new = hand_ended hand in
-    let word = put_word s.words (found + 1) holds.one_word in
-    let own = All-at jobs found s.views id hand at holds.each in
+pub found_end : (counts : List ℕ) (s : State (Unit {0}) Hand) (site id : ℕ) (hand : Hand) → Holds counts s → get_elem? s.views id ≡ some hand → 0 < hand.parts → ends_at site hand ≡ 0
+    → slice_index counts site ≤ slice_index s.words site → Holds counts (after_draw s site id (hand_ended hand site))
+found_end counts s site id hand holds at some_part goes end =
+    let new = hand_ended hand site in
+    let own = All-at counts s.words s.views id hand at holds.each in
     record {
       limit = holds.limit;
-      one_word = word.one;
+      words = omega (arith, holds.words, length-set s.words site (slice_index s.words site + 1));
       parts = omega (arith, total-put (λ hand. hand.parts) s.views id hand new at, holds.parts);
-      drawn = λ weight. drawn_same weight (total-put (λ hand. weigh weight hand.drawn) s.views id hand new at) ∙ sym (ap (λ n. weigh_below weight (smaller n jobs)) word.is);
-      over = subst (λ n. n ≤ jobs + total (λ hand. hand.over) (slice_set s.views id new)) (sym word.is) (omega (arith, total-put (λ hand. hand.over) s.views id hand new at, holds.over));
-      each = subst (λ n. All (Fits jobs n) (slice_set s.views id new)) (sym word.is) (All-set (Fits jobs (found + 1)) s.views id new (fits own) (All-weaker (Fits jobs found) (Fits jobs (found + 1)) (fits_later jobs found) s.views holds.each));
+      drawn = λ weight. drawn_same weight (total-put (λ hand. weigh weight hand.drawn) s.views id hand new at);
+      over = λ other. over_more other (total-put (ends_at other) s.views id hand new at);
+      each = All-set (Fits counts (next_words s.words site)) s.views id new (fits own) (All-weaker (Fits counts s.words) (Fits counts (next_words s.words site)) (fits_later counts s.words site) s.views holds.each);
     }
   where
-    fits : Fits jobs (slice_index s.words 0) hand → Fits jobs (slice_index s.words 0 + 1) (hand_ended hand)
-    fits own =
-        let none = own.begins goes in
-        record {
-          same = own.same;
-          ends = λ ended. omega (arith, end);
-          few = omega (arith, none, some_part);
-          begins = λ still. absurd (apart (sym still));
-          idle = λ none. absurd (omega (arith, none, some_part));
-        }
+    ended : (other : ℕ) → is_site other site ≡ 0 ⊎ (slice_index counts other ≤ slice_index s.words other) × (is_site other site ≡ 1) × (ends_at other hand ≡ 0)
+    ended other = tells (eqb_tells other site)
+      where
+        tells : ((eqb other site ≡ true) × (other ≡ site)) ⊎ ((eqb other site ≡ false) × (other ≢ site)) → is_site other site ≡ 0 ⊎ (slice_index counts other ≤ slice_index s.words other) × (is_site other site ≡ 1) × (ends_at other hand ≡ 0)
+        tells (inl is) = inr (subst (λ n. slice_index counts n ≤ slice_index s.words n) (sym is.1) end, cond-true (eqb other site) 1 0 is.0, ap (λ n. ends_at n hand) is.1 ∙ goes)
+        tells (inr is) = inl (cond-false (eqb other site) 1 0 is.0)
 
-    drawn_same : (weight : ℕ → ℕ) → total (λ hand. weigh weight hand.drawn) (slice_set s.views id (hand_ended hand)) + weigh weight hand.drawn ≡ total (λ hand. weigh weight hand.drawn) s.views + weigh weight hand.drawn
-        → total (λ hand. weigh weight hand.drawn) (slice_set s.views id (hand_ended hand)) ≡ weigh_below weight (smaller (slice_index s.words 0 + 1) jobs)
+    fits : Fits counts s.words hand → Fits counts (next_words s.words site) (hand_ended hand site)
+    fits own = let later = fits_later counts s.words site hand own in record {
+      same = later.same;
+      ends = λ other found. ends_here other found (ended other);
+      few = λ other. few_here other (own.few other) (ended other);
+      idle = λ none. absurd (omega (arith, none, some_part));
+    }
+      where
+        ends_here : (other : ℕ) → 0 < is_site other site + ends_at other hand → is_site other site ≡ 0 ⊎ (slice_index counts other ≤ slice_index s.words other) × (is_site other site ≡ 1) × (ends_at other hand ≡ 0)
+            → slice_index counts other ≤ slice_index (next_words s.words site) other
+        ends_here other found (inl none) = (fits_later counts s.words site hand own).ends other (omega (arith, found, none))
+        ends_here other found (inr is) = let grows = word_grows s.words site other in omega (arith, is.0, grows)
+
+        few_here : (other : ℕ) → ends_at other hand ≤ hand.parts → is_site other site ≡ 0 ⊎ (slice_index counts other ≤ slice_index s.words other) × (is_site other site ≡ 1) × (ends_at other hand ≡ 0)
+            → is_site other site + ends_at other hand ≤ hand.parts
+        few_here other few (inl none) = omega (arith, few, none)
+        few_here other few (inr is) = omega (arith, is.1, is.2, some_part)
+
+    over_more : (other : ℕ) → total (ends_at other) (slice_set s.views id (hand_ended hand site)) + ends_at other hand ≡ total (ends_at other) s.views + (is_site other site + ends_at other hand)
+        → slice_index (next_words s.words site) other ≤ slice_index counts other + total (ends_at other) (slice_set s.views id (hand_ended hand site))
+    over_more other put = let next = word_next s.words site other in omega (arith, put, next, holds.over other)
+
+    drawn_same : (weight : ℕ → ℕ) → total (λ hand. weigh weight hand.drawn) (slice_set s.views id (hand_ended hand site)) + weigh weight hand.drawn ≡ total (λ hand. weigh weight hand.drawn) s.views + weigh weight hand.drawn
+        → total (λ hand. weigh weight hand.drawn) (slice_set s.views id (hand_ended hand site)) ≡ weigh_firsts weight counts (at_most counts (next_words s.words site))
     drawn_same weight put =
-        let same : total (λ hand. weigh weight hand.drawn) (slice_set s.views id (hand_ended hand)) ≡ total (λ hand. weigh weight hand.drawn) s.views = omega (arith, put) in
-        same ∙ holds.drawn weight ∙ ap (weigh_below weight) (smaller-right (slice_index s.words 0) jobs end ∙ sym (smaller-right (slice_index s.words 0 + 1) jobs (omega (arith, end))))
-
--- the smaller is at most the second
-pub smaller-most : (n m : ℕ) → smaller n m ≤ m
-smaller-most n m = step (nat_lt n m) refl
-  where
-    step : (b : Bool) → nat_lt n m ≡ b → smaller n m ≤ m
-    step true is = let less = ltb-true n m is in let same = cond-true (nat_lt n m) n m is in omega (arith, less, same)
-    step false is = let same = cond-false (nat_lt n m) n m is in omega (arith, same)
+        let same : total (λ hand. weigh weight hand.drawn) (slice_set s.views id (hand_ended hand site)) ≡ total (λ hand. weigh weight hand.drawn) s.views = omega (arith, put) in
+        same ∙ holds.drawn weight ∙ sym (ap (weigh_firsts weight counts) (at_most-same counts s.words site end))
 
 -- no hand has drawn more numbers than there are jobs
-pub drawn_fit : (jobs : ℕ) (s : State (Unit {0}) Hand) (id : ℕ) (hand : Hand) → Holds jobs s → get_elem? s.views id ≡ some hand → length hand.drawn ≤ jobs
-drawn_fit jobs s id hand holds at =
+pub drawn_fit : (counts : List ℕ) (s : State (Unit {0}) Hand) (id : ℕ) (hand : Hand) → Holds counts s → get_elem? s.views id ≡ some hand → length hand.drawn ≤ jobs_in counts
+drawn_fit counts s id hand holds at =
     let most = total-at (λ hand. weigh (λ _. 1) hand.drawn) s.views id hand at in
-    let all = holds.drawn (λ _. 1) ∙ weigh_below-one (smaller (slice_index s.words 0) jobs) in
-    omega (arith, most, all, weigh-one hand.drawn, smaller-most (slice_index s.words 0) jobs)
+    omega (arith, most, holds.drawn (λ _. 1), weigh-one hand.drawn, firsts-one counts s.words)

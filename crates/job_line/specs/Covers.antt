@@ -1,17 +1,27 @@
 -- What contracts see of a line of jobs and of its seats.
-use Rattle.std.specs.Prelude.{◌≡◌, ℕ, ◌+◌, ◌<◌, ◌≤◌, Bool, true, false, List, [], ◌∷◌, map}
-use Rattle.std.specs.List.{list_any}
+use Rattle.std.specs.Prelude.{◌≡◌, ℕ, ◌+◌, ◌<◌, ◌≤◌, Bool, true, false, List, [], ◌∷◌, length, map, replicate, slice_index, slice_index_or}
+use Rattle.std.specs.List.{list_all, list_any}
 use Rattle.atomic_table.specs.Seated.{TableId}
 use Rattle.job_line.specs.declared.line.Drawn.{Drawn}
-use Rattle.job_line.specs.Sums.{weigh_all, weigh_below}
+use Rattle.job_line.specs.Sums.{begin_of, jobs_in, weigh_all, weigh_below, weigh_firsts}
 
--- a seat: the line that made it, its parts of the line, what it drew, and whether it found the end
+-- a seat: the line that made it, the jobs of each site, its parts of the line, of which sites it found
+-- the end, and what it drew
 pub record SeatView : Type 0 where
   pub line : TableId
-  pub jobs : ℕ
+  pub counts : List ℕ
   pub parts : ℕ
-  pub ended : Bool
+  pub ended : List Bool
   pub drawn : List ℕ
+
+-- how many jobs the seat's line has
+abbrev pub jobs_of : SeatView → ℕ
+jobs_of seat = jobs_in seat.counts
+
+-- the index is one of the site's: behind those of the sites before it, and before those of the next
+pub record IsIndexOf (counts : List ℕ) (site : ℕ) (index : ℕ) : Type 0 where
+  pub from : begin_of counts site ≤ index
+  pub to : index < begin_of counts site + slice_index counts site
 
 -- how many parts the seats have together: 16 where they are all seats of the line
 abbrev pub parts_of : List SeatView → ℕ
@@ -22,24 +32,39 @@ parts_of (seat ∷ seats) = seat.parts + parts_of seats
 abbrev pub lists_of : List SeatView → List (List ℕ)
 lists_of seats = map (λ seat. seat.drawn) seats
 
--- some seat found the end
-abbrev pub has_ended : List SeatView → Bool
-has_ended seats = list_any (λ seat. seat.ended) seats
+-- the seat found the end of the site
+abbrev pub ended_at : ℕ → SeatView → Bool
+ended_at site seat = slice_index_or seat.ended site false
 
--- the lists together are the indexes drawn, each once: all below some number up to the jobs; and where
--- some seat found the end, all jobs
-pub record Covers (jobs : ℕ) (seats : List SeatView) : Type 0 where
-  pub count : ℕ
-  pub within : count ≤ jobs
-  pub each : (weight : ℕ → ℕ) → weigh_all weight (lists_of seats) ≡ weigh_below weight count
-  pub all : has_ended seats ≡ true → count ≡ jobs
+-- the seat found the end of each site
+abbrev pub has_ended : SeatView → Bool
+has_ended seat = list_all (λ ended. ended) seat.ended
 
--- the seat is one of the line's, which has so many jobs, and has drawn nothing
-pub record IsNew (line : TableId) (jobs : ℕ) (seat : SeatView) : Type 0 where
+-- some seat found the end of the site
+abbrev pub end_found : ℕ → List SeatView → Bool
+end_found site seats = list_any (ended_at site) seats
+
+-- the lists together are all numbers below a number, each once
+abbrev pub AreAllOnce : ℕ → List SeatView → Type 0
+AreAllOnce jobs seats = (weight : ℕ → ℕ) → weigh_all weight (lists_of seats) ≡ weigh_below weight jobs
+
+-- the lists together are the indexes drawn, each once: of each site the first ones, up to its jobs; and
+-- where some seat found the end of a site, all of that site. So they are all jobs, each once, where the
+-- end of each site was found by some seat, and where one seat found them all
+pub record Covers (counts : List ℕ) (seats : List SeatView) : Type 0 where
+  pub firsts : List ℕ
+  pub within : (site : ℕ) → slice_index firsts site ≤ slice_index counts site
+  pub each : (weight : ℕ → ℕ) → weigh_all weight (lists_of seats) ≡ weigh_firsts weight counts firsts
+  pub all : (site : ℕ) → end_found site seats ≡ true → slice_index firsts site ≡ slice_index counts site
+  pub all_sites : ((site : ℕ) → site < length counts → end_found site seats ≡ true) → AreAllOnce (jobs_in counts) seats
+  pub one_ended : list_any has_ended seats ≡ true → AreAllOnce (jobs_in counts) seats
+
+-- the seat is one of the line's, whose sites have so many jobs, and has drawn nothing
+pub record IsNew (line : TableId) (counts : List ℕ) (seat : SeatView) : Type 0 where
   pub its_line : seat.line ≡ line
-  pub its_jobs : seat.jobs ≡ jobs
+  pub its_counts : seat.counts ≡ counts
   pub some_part : 0 < seat.parts
-  pub goes : seat.ended ≡ false
+  pub goes : seat.ended ≡ replicate (length counts) false
   pub nothing : seat.drawn ≡ []
 
 -- the lists that were gathered
@@ -48,4 +73,8 @@ drawn_lists drawn = map (λ list. list.items) drawn.lists.items
 
 -- a seat that gets one part of another's, and has drawn nothing
 abbrev pub dealt_seat : SeatView → SeatView
-dealt_seat seat = record { line = seat.line; jobs = seat.jobs; parts = 1; ended = false; drawn = [] }
+dealt_seat seat = record { line = seat.line; counts = seat.counts; parts = 1; ended = seat.ended; drawn = [] }
+
+-- the first seat of a line, which has all parts
+abbrev pub first_seat : TableId → List ℕ → SeatView
+first_seat line counts = record { line = line; counts = counts; parts = 16; ended = replicate (length counts) false; drawn = [] }

@@ -1,80 +1,95 @@
--- The rule of the shared word, and its kinds of step. All lists together are the numbers below the
--- smaller of word and jobs, each once; the word is at most the jobs and as many as have found the end;
--- and where a seat has found it, the word is at least the jobs.
-use Rattle.std.specs.Prelude.{◌≡◌, ℕ, ◌+◌, ◌-◌, ◌<◌, ◌≤◌, true, false, ◌||◌, nat_lt, All, List, [], ◌∷◌, ◌++◌, length, slice_index, if◌then◌else◌}
+-- The rule of the shared words, one for each site, and their kinds of step. A word counts the draws at
+-- its site. All lists together are the first indexes of each site, each once: as many as the smaller of
+-- its word and its jobs. A word is at most the site's jobs and as often as its end was found; and where
+-- a seat has found the end of a site, the word is at least the site's jobs.
+use Rattle.std.specs.Prelude.{◌≡◌, ℕ, ◌+◌, ◌-◌, ◌<◌, ◌≤◌, nat_eq, nat_lt, All, List, [], ◌∷◌, ◌++◌, length, slice_index, if◌then◌else◌}
 use Rattle.atomic_table.specs.Table.{State, Step, Me}
 use Rattle.job_line.specs.declared.rule.Hand.{Hand}
 use Rattle.job_line.specs.Limits.{max_jobs, max_workers}
-use Rattle.job_line.specs.Sums.{weigh, weigh_below}
+use Rattle.job_line.specs.Sums.{begin_of, jobs_in, weigh, weigh_below, weigh_firsts}
 
 -- the sum over all hands
 abbrev pub total : (Hand → ℕ) → List Hand → ℕ
 total f [] = 0
 total f (hand ∷ hands) = f hand + total f hands
 
--- what a hand knows is so: of the number of jobs, and of the end
-pub record Fits (jobs word : ℕ) (hand : Hand) : Type 0 where
-  pub same : 0 < hand.parts → hand.jobs ≡ jobs
-  pub ends : hand.ended ≡ true → jobs ≤ word
-  pub few : hand.over ≤ hand.parts
-  pub begins : hand.ended ≡ false → hand.over ≡ 0
+-- one, where two sites are the same
+abbrev pub is_site : ℕ → ℕ → ℕ
+is_site site other = if nat_eq site other then 1 else 0
+
+-- how often a hand found the end of a site
+abbrev pub ends_at : ℕ → Hand → ℕ
+ends_at site hand = weigh (is_site site) hand.ends
+
+-- what a hand knows is so: of the numbers of jobs, and of the ends that it found
+pub record Fits (counts words : List ℕ) (hand : Hand) : Type 0 where
+  pub same : 0 < hand.parts → hand.counts ≡ counts
+  pub ends : (site : ℕ) → 0 < ends_at site hand → slice_index counts site ≤ slice_index words site
+  pub few : (site : ℕ) → ends_at site hand ≤ hand.parts
   pub idle : hand.parts ≡ 0 → hand.drawn ≡ []
 
 -- the smaller of two numbers
 abbrev pub smaller : ℕ → ℕ → ℕ
 smaller n m = if nat_lt n m then n else m
 
--- the rule, of the number of jobs, one word and all hands
-pub record Holds (jobs : ℕ) (s : State (Unit {0}) Hand) : Type 0 where
-  pub limit : jobs ≤ max_jobs
-  pub one_word : length s.words ≡ 1
+-- of each site as many as its word has, but at most its jobs
+abbrev pub at_most : List ℕ → List ℕ → List ℕ
+at_most [] words = []
+at_most (count ∷ counts) [] = 0 ∷ at_most counts []
+at_most (count ∷ counts) (word ∷ words) = smaller word count ∷ at_most counts words
+
+-- the rule, of the number of jobs of each site, the words and all hands
+pub record Holds (counts : List ℕ) (s : State (Unit {0}) Hand) : Type 0 where
+  pub limit : jobs_in counts ≤ max_jobs
+  pub words : length counts ≤ length s.words
   pub parts : total (λ hand. hand.parts) s.views ≡ max_workers
-  pub drawn : (weight : ℕ → ℕ) → total (λ hand. weigh weight hand.drawn) s.views ≡ weigh_below weight (smaller (slice_index s.words 0) jobs)
-  pub over : slice_index s.words 0 ≤ jobs + total (λ hand. hand.over) s.views
-  pub each : All (Fits jobs (slice_index s.words 0)) s.views
+  pub drawn : (weight : ℕ → ℕ) → total (λ hand. weigh weight hand.drawn) s.views ≡ weigh_firsts weight counts (at_most counts s.words)
+  pub over : (site : ℕ) → slice_index s.words site ≤ slice_index counts site + total (ends_at site) s.views
+  pub each : All (Fits counts s.words) s.views
 
 -- the making: the first seat has all parts, and has drawn nothing
-abbrev pub first_hand : ℕ → Hand
-first_hand jobs = record { jobs = jobs; parts = 16; over = 0; ended = false; drawn = [] }
+abbrev pub first_hand : List ℕ → Hand
+first_hand counts = record { counts = counts; parts = 16; ends = []; drawn = [] }
 
--- a split: the new seat has one part of the other's, and an empty list
+-- a split: the new seat has one part of the other's, and empty lists
 abbrev pub hand_left : Hand → Hand
 hand_left hand = record hand { parts = hand.parts - 1 }
 
 -- the new seat
 abbrev pub hand_dealt : Hand → Hand
-hand_dealt hand = record { jobs = hand.jobs; parts = 1; over = 0; ended = false; drawn = [] }
+hand_dealt hand = record { counts = hand.counts; parts = 1; ends = []; drawn = [] }
 
--- the hand after a draw that found this word
-abbrev pub hand_after : Hand → ℕ → Hand
-hand_after hand found =
-    if nat_lt found hand.jobs then record hand { drawn = hand.drawn ++ found ∷ [] }
-    else record hand { over = hand.over + 1; ended = true }
+-- the hand after a draw that found this word of a site
+abbrev pub hand_after : Hand → ℕ → ℕ → Hand
+hand_after hand site found =
+    if nat_lt found (slice_index hand.counts site) then record hand { drawn = hand.drawn ++ (begin_of hand.counts site + found) ∷ [] }
+    else record hand { ends = site ∷ hand.ends }
 
--- a draw: the list gains the word that was found, where that is a job; else the seat has ended
+-- a draw: the list gains the index that the word stands for, where the site has it; else its end was found
 abbrev pub Draws : Step (Unit {0}) → Me (Unit {0}) Hand → ℕ → Me (Unit {0}) Hand → Type 0
-Draws s old found new = (new.0 ≡ hand_after old.0 found) × (new.1 ≡ old.1) × (length new.0.drawn ≤ old.0.jobs)
+Draws s old found new = (new.0 ≡ hand_after old.0 s.word found) × (new.1 ≡ old.1) × (length new.0.drawn ≤ jobs_in old.0.counts)
 
--- a join: the joining seat takes over a list, and the parts
+-- a join: the joining seat takes over the lists, and the parts
 abbrev pub hand_of_both : Hand → Hand → Hand
 hand_of_both one other = record {
-  jobs = one.jobs;
+  counts = one.counts;
   parts = one.parts + other.parts;
-  over = one.over + other.over;
-  ended = one.ended || other.ended;
+  ends = one.ends ++ other.ends;
   drawn = one.drawn ++ other.drawn;
 }
 
 -- the joined seat is spent
 abbrev pub spent_hand : Hand
-spent_hand = record { jobs = 0; parts = 0; over = 0; ended = false; drawn = [] }
+spent_hand = record { counts = []; parts = 0; ends = []; drawn = [] }
 
--- these are all numbers below some number up to the jobs, each once; up to all jobs, where the end was found
+-- what was drawn are the first indexes of each site, each once; and all of a site, where its end was found
 pub record IsAll (hand : Hand) : Type 0 where
-  pub count : ℕ
-  pub within : count ≤ hand.jobs
-  pub each : (weight : ℕ → ℕ) → weigh weight hand.drawn ≡ weigh_below weight count
-  pub all : hand.ended ≡ true → count ≡ hand.jobs
+  pub firsts : List ℕ
+  pub within : (site : ℕ) → slice_index firsts site ≤ slice_index hand.counts site
+  pub each : (weight : ℕ → ℕ) → weigh weight hand.drawn ≡ weigh_firsts weight hand.counts firsts
+  pub all : (site : ℕ) → 0 < ends_at site hand → slice_index firsts site ≡ slice_index hand.counts site
+  pub all_sites : ((site : ℕ) → site < length hand.counts → 0 < ends_at site hand)
+      → (weight : ℕ → ℕ) → weigh weight hand.drawn ≡ weigh_below weight (jobs_in hand.counts)
 
 -- a look: who has all parts learns that its list is all that was drawn
 abbrev pub Learns : Step (Unit {0}) → Me (Unit {0}) Hand → ℕ → Me (Unit {0}) Hand → Type 0

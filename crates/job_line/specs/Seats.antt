@@ -1,35 +1,42 @@
 -- What is true of every line and of every seat: a seat knows what its holder drew.
 -- The invariants of `JobLine` and `JobSeat`.
-use Rattle.std.specs.Prelude.{◌≡◌, ℕ, ◌<◌, ◌≤◌, All, List, [], vec_capacity}
+use Rattle.std.specs.Prelude.{◌≡◌, ℕ, ◌<◌, ◌≤◌, true, false, All, List, [], length, slice_index_or, vec_capacity}
+use Rattle.std.specs.List.{list_any}
 use Rattle.job_line.specs.declared.rule.Hand.{Hand}
 use Rattle.job_line.specs.declared.seat.JobSeat.TheInside.{Inside}
 use Rattle.job_line.specs.declared.line.JobLine.TheInside.{Inside as InsideLine}
 use Rattle.atomic_table.specs.Seated.{TableId}
-use Rattle.job_line.specs.Limits.{max_workers}
+use Rattle.job_line.specs.Limits.{max_jobs, max_workers}
 use Rattle.atomic_table.specs.Table.{Me}
-use Rattle.job_line.specs.Sums.{weigh, weigh_all}
-use Rattle.job_line.specs.Covers.{SeatView, has_ended, lists_of, parts_of}
+use Rattle.job_line.specs.Sums.{begins_from, jobs_in, weigh, weigh_all}
+use Rattle.job_line.specs.Rule.{ends_at}
+use Rattle.job_line.specs.Covers.{SeatView, end_found, has_ended, lists_of, parts_of}
 
 -- what callers see of a seat
 abbrev pub seat_view : Inside → SeatView
-seat_view s = record { line = s.seat.table_id; jobs = s.jobs; parts = s.seat.me.0.parts; ended = s.ended; drawn = s.drawn.items }
+seat_view s = record { line = s.seat.table_id; counts = s.counts.items; parts = s.seat.me.0.parts; ended = s.ended.items; drawn = s.drawn.items }
 
 -- what the seat knows is what its holder has, and there is room for every job
 pub record IsSeated (s : Inside) : Type 0 where
-  pub jobs : s.seat.me.0.jobs ≡ s.jobs
-  pub ended : s.seat.me.0.ended ≡ s.ended
+  pub counts : s.seat.me.0.counts ≡ s.counts.items
+  pub limit : jobs_in s.counts.items ≤ max_jobs
+  pub words : length s.counts.items ≤ s.seat.table_id.words
+  pub begins : s.begins.items ≡ begins_from 0 s.counts.items
+  pub sites : length s.ended.items ≡ length s.counts.items
+  pub goes : (site : ℕ) → slice_index_or s.ended.items site false ≡ false → ends_at site s.seat.me.0 ≡ 0
+  pub ends : (site : ℕ) → slice_index_or s.ended.items site false ≡ true → 0 < ends_at site s.seat.me.0
   pub drawn : s.seat.me.0.drawn ≡ s.drawn.items
   pub some : 0 < s.seat.me.0.parts
   pub bare : s.seat.me.1 ≡ []
-  pub room : s.jobs ≤ vec_capacity s.drawn
+  pub room : jobs_in s.counts.items ≤ vec_capacity s.drawn
 
 -- what callers see of a line: which one it is
 abbrev pub line_id : InsideLine → TableId
 line_id line = line.table.shared.table_id
 
--- a line has one word, no slot, and room for the lists of all seats
+-- a line has a word, no slot, and room for the lists of all seats
 pub record IsLine (line : InsideLine) : Type 0 where
-  pub one_word : line.table.shared.table_id.words ≡ 1
+  pub some_word : 0 < line.table.shared.table_id.words
   pub empty : line.lists.items ≡ []
   pub room : max_workers ≤ vec_capacity line.lists
 
@@ -39,6 +46,8 @@ pub record HasTaken (line id : TableId) (me : Me (Unit {0}) Hand) (taken : List 
   pub bare : me.1 ≡ []
   pub some : 0 < me.0.parts
   pub parts : me.0.parts ≡ parts_of taken
-  pub ended : me.0.ended ≡ has_ended taken
+  pub ends : (site : ℕ) → end_found site taken ≡ true → 0 < ends_at site me.0
+  pub one_ended : (counts : List ℕ) → All (λ seat. seat.counts ≡ counts) taken → list_any has_ended taken ≡ true
+      → (site : ℕ) → site < length counts → 0 < ends_at site me.0
   pub drawn : (weight : ℕ → ℕ) → weigh weight me.0.drawn ≡ weigh_all weight (lists_of taken)
-  pub jobs : (jobs : ℕ) → All (λ seat. seat.jobs ≡ jobs) taken → me.0.jobs ≡ jobs
+  pub counts : (counts : List ℕ) → All (λ seat. seat.counts ≡ counts) taken → me.0.counts ≡ counts

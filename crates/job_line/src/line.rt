@@ -1,7 +1,8 @@
-//! The line of jobs: a word that holds the next number, and the seats that draw from it.
-ghost use Rattle.std.specs.Prelude.{◌≡◌, ℕ, ◌≤◌, ◌<◌, ◌-◌, ◌++◌, ◌∷◌, [], true, false, All, IfNone, IfOk, IfSome, OnOk, vec_len};
+//! The line of jobs: a word for each site, which counts the draws there, and the seats that draw.
+ghost use Rattle.std.specs.Prelude.{◌≡◌, ℕ, ◌≤◌, ◌<◌, ◌-◌, ◌++◌, ◌∷◌, [], true, false, All, IfNone, IfOk, IfSome, List, OnOk, length, replicate, set, vec_len};
 ghost use Rattle.job_line.specs.Limits.{max_jobs, max_workers};
-ghost use Rattle.job_line.specs.Covers.{Covers, IsNew, dealt_seat, drawn_lists, lists_of, parts_of};
+ghost use Rattle.job_line.specs.Sums.{begins_from, jobs_in};
+ghost use Rattle.job_line.specs.Covers.{Covers, IsIndexOf, IsNew, dealt_seat, drawn_lists, first_seat, jobs_of, lists_of, parts_of};
 
 use crate::rule::{Deal, Draw, DrawnOnce, Hand, Learn, TakeIn};
 use crate::seat::JobSeat;
@@ -15,11 +16,11 @@ pub const MAX_JOBS: u64 = 4096;
 /// The most workers that draw from it.
 pub const MAX_WORKERS: u64 = 16;
 
-/// A line of jobs, numbered from 0. Any number of threads may draw from it at a time, each at its
-/// own seat.
+/// A line of the jobs of one site or of several, numbered from 0. Any number of threads may draw from
+/// it at a time, each at its own seat.
 #[derive(Drop)]
 pub struct JobLine {
-    table: Table<(), Hand, u64, DrawnOnce, Global>,
+    table: Table<(), Hand, Vec<u64>, DrawnOnce, Global>,
     // Room for the lists of all seats.
     lists: Vec<Vec<u64>>,
 }
@@ -43,8 +44,7 @@ pub struct Drawn {
 }
 
 impl JobLine {
-    /// A line of as many jobs, and a seat for each worker. The room of all lists is taken here, so that
-    /// no later call takes memory.
+    /// A line of as many jobs, all of one site, and a seat for each worker.
     pub fn new(
         alloc: Global,
         jobs: u64,
@@ -53,20 +53,26 @@ impl JobLine {
         requires jobs { jobs ≤ max_jobs }
         requires workers { (1 ≤ workers) × (workers ≤ max_workers) }
         ensures count { IfOk result (λ made. vec_len made.1 ≡ workers) }
-        ensures seats { IfOk result (λ made. All (IsNew made.0 jobs) made.1.items) }
+        ensures seats { IfOk result (λ made. All (IsNew made.0 (jobs ∷ [])) made.1.items) }
         ensures parts { IfOk result (λ made. parts_of made.1.items ≡ max_workers) }
     {
-        let (table, first) = Table::of_words(alloc, &[0], &jobs)?;
-        let line = JobLine {
-            table,
-            lists: Vec::with_capacity(alloc, MAX_WORKERS as usize)?,
-        };
-        let mut last = JobSeat {
-            seat: first,
-            jobs,
-            drawn: Vec::with_capacity(alloc, jobs as usize)?,
-            ended: false,
-        };
+        JobLine::of_sites(alloc, &[jobs], workers)
+    }
+
+    /// A line of the jobs of several sites, those of the first site first, and a seat for each worker.
+    /// The room of all lists is taken here, so that no later call takes memory.
+    pub fn of_sites(
+        alloc: Global,
+        counts: &[u64],
+        workers: u64,
+    ) -> Result<(JobLine, Vec<JobSeat>), AllocError>
+        requires jobs { jobs_in counts.now ≤ max_jobs }
+        requires workers { (1 ≤ workers) × (workers ≤ max_workers) }
+        ensures count { IfOk result (λ made. vec_len made.1 ≡ workers) }
+        ensures seats { IfOk result (λ made. All (IsNew made.0 counts.now) made.1.items) }
+        ensures parts { IfOk result (λ made. parts_of made.1.items ≡ max_workers) }
+    {
+        let (line, mut last) = JobLine::start(alloc, counts)?;
         let mut seats = Vec::with_capacity(alloc, workers as usize)?;
         for _ in 1..workers {
             seats.push_reserved(line.deal(alloc, &mut last)?);
@@ -75,42 +81,84 @@ impl JobLine {
         Ok((line, seats))
     }
 
-    // A new seat, which gets one part of another's.
+    // A line, and a seat that has all its parts.
+    fn start(alloc: Global, counts: &[u64]) -> Result<(JobLine, JobSeat), AllocError>
+        requires { jobs_in counts.now ≤ max_jobs }
+        ensures { IfOk result (λ made. made.1 ≡ first_seat made.0 counts.now) }
+    {
+        let counts = counts.to_vec(alloc)?;
+        // A line of no sites has a word too, by which `gather` learns that nothing was drawn.
+        let words = vec![in alloc; 0; counts.len().max(1)]?;
+        let ended = vec![in alloc; false; counts.len()]?;
+        let (begins, jobs) = begins(alloc, counts.as_slice())?;
+        let (table, seat) = Table::of_words(alloc, words.as_slice(), &counts)?;
+        let line = JobLine {
+            table,
+            lists: Vec::with_capacity(alloc, MAX_WORKERS as usize)?,
+        };
+        let first = JobSeat {
+            seat,
+            counts,
+            begins,
+            ended,
+            drawn: Vec::with_capacity(alloc, jobs as usize)?,
+        };
+        Ok((line, first))
+    }
+
+    // A new seat, which gets one part of another's. Its list has as much room.
     fn deal(&self, alloc: Global, seat: &mut JobSeat) -> Result<JobSeat, AllocError>
         requires line { seat.old.line ≡ self.now }
         requires parts { 1 < seat.old.parts }
-        requires goes { seat.old.ended ≡ false }
+        requires goes { seat.old.ended ≡ replicate (length seat.old.counts) false }
         ensures dealt { IfOk result (λ dealt. dealt ≡ dealt_seat seat.old) }
         ensures left { OnOk result (seat.new ≡ record seat.old { parts = seat.old.parts - 1 }) }
     {
-        let drawn = Vec::with_capacity(alloc, seat.jobs as usize)?;
-        let dealt = self.table.shared.split_seat::<Deal>(&mut seat.seat);
+        let counts = seat.counts.to_vec(alloc)?;
+        let begins = seat.begins.to_vec(alloc)?;
+        let ended = seat.ended.to_vec(alloc)?;
+        let drawn = Vec::with_capacity(alloc, seat.drawn.capacity())?;
         Ok(JobSeat {
-            seat: dealt,
-            jobs: seat.jobs,
+            seat: self.table.shared.split_seat::<Deal>(&mut seat.seat),
+            counts,
+            begins,
+            ended,
             drawn,
-            ended: false,
         })
     }
 
-    /// The next number of the line, which no other draw gives, and none at the end. At the end the seat
-    /// takes no step more. It takes neither memory nor a lock.
+    /// The next index of the first site, which has all jobs of a line that `new` made.
     pub fn draw(&self, seat: &mut JobSeat) -> Option<u64>
         requires { seat.old.line ≡ self.now }
-        ensures some { IfSome result (λ n. (n < seat.old.jobs)
+        ensures some { IfSome result (λ n. (n < jobs_of seat.old)
             × (seat.new ≡ record seat.old { drawn = seat.old.drawn ++ n ∷ [] })) }
-        ensures none { IfNone result (seat.new ≡ record seat.old { ended = true }) }
+        ensures none { IfNone result (seat.new ≡ record seat.old { ended = set seat.old.ended 0 true }) }
         ensures same { (seat.new.line ≡ seat.old.line) × (seat.new.parts ≡ seat.old.parts) }
     {
-        if seat.ended {
+        self.draw_at(seat, 0)
+    }
+
+    /// The next index of a site's jobs, which no other draw gives, and none at the site's end. There the
+    /// seat takes no step more, nor at a site that is none. It takes neither memory nor a lock.
+    pub fn draw_at(&self, seat: &mut JobSeat, site: usize) -> Option<u64>
+        requires { seat.old.line ≡ self.now }
+        ensures some { IfSome result (λ n. (n < jobs_of seat.old)
+            × (seat.new ≡ record seat.old { drawn = seat.old.drawn ++ n ∷ [] })) }
+        ensures site { IfSome result (IsIndexOf seat.old.counts site) }
+        ensures none { IfNone result
+            (seat.new ≡ record seat.old { ended = set seat.old.ended site true }) }
+        ensures same { (seat.new.line ≡ seat.old.line) × (seat.new.parts ≡ seat.old.parts) }
+    {
+        if site >= seat.counts.len() || seat.ended[site] {
             return None;
         }
-        let number = self.table.shared.fetch_add::<Draw>(&mut seat.seat, 0, 1);
-        if number < seat.jobs {
-            seat.drawn.push_reserved(number);
-            Some(number)
+        let number = self.table.shared.fetch_add::<Draw>(&mut seat.seat, site, 1);
+        if number < seat.counts[site] {
+            let index = seat.begins[site] + number;
+            seat.drawn.push_reserved(index);
+            Some(index)
         } else {
-            seat.ended = true;
+            seat.ended[site] = true;
             None
         }
     }
@@ -120,8 +168,8 @@ impl JobLine {
         requires few { vec_len seats ≤ max_workers }
         requires own { All (λ seat. seat.line ≡ self) seats.items }
         ensures lists { drawn_lists result ≡ lists_of seats.items }
-        ensures covers { (jobs : ℕ) → All (λ seat. seat.jobs ≡ jobs) seats.items
-            → parts_of seats.items ≡ max_workers → Covers jobs seats.items }
+        ensures covers { (counts : List ℕ) → All (λ seat. seat.counts ≡ counts) seats.items
+            → parts_of seats.items ≡ max_workers → Covers counts seats.items }
     {
         let JobLine { table, mut lists } = self;
         let mut seats = seats.into_iter();
@@ -146,6 +194,21 @@ impl JobLine {
         table.shared.load::<Learn>(&mut hand, 0);
         Drawn { lists }
     }
+}
+
+// At which index the jobs of each site begin, and how many jobs there are.
+fn begins(alloc: Global, counts: &[u64]) -> Result<(Vec<u64>, u64), AllocError>
+    requires { jobs_in counts.now ≤ max_jobs }
+    ensures { IfOk result (λ found. (found.0.items ≡ begins_from 0 counts.now)
+        × (found.1 ≡ jobs_in counts.now)) }
+{
+    let mut begins = Vec::with_capacity(alloc, counts.len())?;
+    let mut jobs = 0;
+    for count in counts {
+        begins.push_reserved(jobs);
+        jobs += *count;
+    }
+    Ok((begins, jobs))
 }
 
 /// The constants are the numbers that the definitions have.

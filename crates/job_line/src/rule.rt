@@ -1,31 +1,29 @@
-//! The rule that the shared word keeps, and its kinds of atomic step. These types are for proofs alone.
-//! `specs/Rule.antt` has what each says.
+//! The rule that the shared words keep, and their kinds of atomic step. These types are for proofs
+//! alone. `specs/Rule.antt` has what each says.
 use atomic_table::{Join, Play, Split, TableRule};
 use std::collections::LinkedList;
 
 /// What a seat knows. No value of it is made.
 pub struct Hand {
-    /// How many jobs the line has.
-    pub jobs: u64,
+    /// How many jobs each site has.
+    pub counts: LinkedList<u64>,
     /// How many of the line's 16 parts the seat has.
     pub parts: u64,
-    /// How often it found the end.
-    pub over: u64,
-    /// Whether it found the end.
-    pub ended: bool,
+    /// The sites whose end it found.
+    pub ends: LinkedList<u64>,
     /// What it drew.
     pub drawn: LinkedList<u64>,
 }
 
-/// All that was drawn are the numbers below the word, each once.
+/// All that was drawn are the first indexes of each site, as many as its word has, each once.
 pub struct DrawnOnce;
 
-impl TableRule<(), Hand, u64> for DrawnOnce {
+impl TableRule<(), Hand, Vec<u64>> for DrawnOnce {
     ghost use Rattle.job_line.specs.Rule.{first_hand, Holds};
 
-    ghost holds = { Holds };
+    ghost holds = { λ counts. Holds counts.items };
 
-    ghost first = { first_hand };
+    ghost first = { λ counts. first_hand counts.items };
 }
 
 /// A new seat gets one of another's parts.
@@ -39,7 +37,7 @@ impl Split<Hand> for Deal {
     ghost right = { hand_dealt };
 }
 
-/// A number is drawn, or the end is found.
+/// An index is drawn, or the end of a site is found.
 pub struct Draw;
 
 impl Play<(), Hand> for Draw {
@@ -59,7 +57,7 @@ impl Join<Hand> for TakeIn {
     ghost spent = { spent_hand };
 }
 
-/// Who has all parts learns that all numbers below some number were drawn, each once.
+/// Who has all parts learns that of each site the first indexes were drawn, each once.
 pub struct Learn;
 
 impl Play<(), Hand> for Learn {

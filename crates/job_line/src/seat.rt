@@ -1,6 +1,7 @@
 //! A worker's seat at a line of jobs.
-//! Made by `JobLine::new`, used by `JobLine::draw` and spent by `JobLine::gather`.
-ghost use Rattle.std.specs.Prelude.{◌≡◌};
+//! Made by `JobLine::of_sites`, used by `JobLine::draw_at` and spent by `JobLine::gather`.
+ghost use Rattle.std.specs.Prelude.{◌≡◌, length};
+ghost use Rattle.job_line.specs.Covers.{has_ended};
 
 use crate::rule::Hand;
 use atomic_table::Seat;
@@ -10,9 +11,12 @@ use std::marker::Model;
 #[derive(Drop)]
 pub struct JobSeat {
     pub(crate) seat: Seat<(), Hand>,
-    pub(crate) jobs: u64,
+    // How many jobs each site has, and at which index they begin.
+    pub(crate) counts: Vec<u64>,
+    pub(crate) begins: Vec<u64>,
+    // For each site whether its end was found here.
+    pub(crate) ended: Vec<bool>,
     pub(crate) drawn: Vec<u64>,
-    pub(crate) ended: bool,
 }
 
 impl Model for JobSeat {
@@ -33,5 +37,19 @@ impl JobSeat {
         ensures { result.now ≡ self.now.drawn }
     {
         self.drawn.as_slice()
+    }
+
+    /// How many sites the line has.
+    pub fn sites(&self) -> usize
+        ensures { result ≡ length self.now.counts }
+    {
+        self.counts.len()
+    }
+
+    /// Whether the end of each site was found at this seat.
+    pub fn has_ended(&self) -> bool
+        ensures { result ≡ has_ended self.now }
+    {
+        self.ended.iter().all(|ended| *ended)
     }
 }

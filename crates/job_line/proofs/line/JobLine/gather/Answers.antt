@@ -28,14 +28,14 @@ join_seat-requires c =
       so_far.has.its_line,
       ap (λ (seat : SeatView). seat.line) c.seat.view_is ∙ its_line ∙ sym c.self.view_is,
       c.seat.invariant.bare,
-      omega (arith, c.self.invariant.one_word),
+      c.self.invariant.some_word,
       joins_take_in _ _ _ _ _ so_far.has.some,
     )
 
 pub load-requires : goal.load-requires
 load-requires c = (
   c.loop-seat.invariant.has.its_line,
-  omega (arith, c.self.invariant.one_word),
+  c.self.invariant.some_word,
   allows_learn _ _ _ c.loop-seat.hand.me,
 )
 
@@ -90,8 +90,8 @@ returns-clause-lists c =
     so_far.lists ∙ ap lists_of (whole c.args.seats.items so_far.taken c.loop-seat.seat-iterator.rest.items so_far.all (no_more c.loop-seat.seat-iterator.rest.items (omega (arith, c.in-None.ensures.steps.0, c.loop-seat.seat-iterator.rest.ok))))
 
 pub returns-clause-covers : goal.returns-clause-covers
-returns-clause-covers c jobs same all_parts =
+returns-clause-covers c counts same all_parts =
     let so_far = c.loop-seat.invariant in
     let taken = whole c.args.seats.items so_far.taken c.loop-seat.seat-iterator.rest.items so_far.all (no_more c.loop-seat.seat-iterator.rest.items (omega (arith, c.in-None.ensures.steps.0, c.loop-seat.seat-iterator.rest.ok))) in
     let has = subst (HasTaken c.self.inside.table.shared.table_id c.loop-seat.hand.table_id c.loop-seat.hand.me) taken so_far.has in
-    covers_all c.self.inside.table.shared.table_id c.loop-seat.hand.table_id c.loop-seat.hand.me c.args.seats.items jobs has c.load.ensures.2.1 same all_parts
+    covers_all c.self.inside.table.shared.table_id c.loop-seat.hand.table_id c.loop-seat.hand.me c.args.seats.items counts has c.load.ensures.2.1 same all_parts
