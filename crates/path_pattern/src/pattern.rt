@@ -52,7 +52,14 @@ impl Pattern {
     }
 
     /// Whether the pattern matches the path, which is to be in normal form. Takes no memory.
-    pub fn matches(&self, path: &Path<'_>) -> bool
+    pub fn matches(&self, path: &[u8]) -> bool
+        ensures { IsTrue result ↔ Matches self.now path.now }
+    {
+        self.matches_path(&Path::new(path))
+    }
+
+    /// The same of a path that many patterns are tried on.
+    pub fn matches_path(&self, path: &Path<'_>) -> bool
         ensures { IsTrue result ↔ Matches self.now path.now }
     {
         if self.text.is_empty() {

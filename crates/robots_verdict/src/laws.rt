@@ -9,6 +9,7 @@ ghost use Rattle.robots_verdict.specs.Verdict.{IsVerdict};
 
 use crate::answer::Answer;
 use crate::decision::{Allowed, Verdict, is_robots_path, verdict_of};
+use crate::policy::Policy;
 use crate::weight::{Weight, stronger};
 use path_pattern::{Path, Pattern};
 use robots_text::{RobotsText, Token};
@@ -27,8 +28,19 @@ pub fn are_equal(one: &Answer, other: &Answer) -> bool
     one == other
 }
 
-/// The verdict by the rules for the token, one after another. It makes a pattern of each.
-pub fn verdict_plain(
+/// The verdict of a policy by a walk over the rules for the token, one after another, whether it has an index or not.
+/// It takes no memory.
+pub fn verdict_plain(policy: &Policy, token: &Token, path: &[u8]) -> Verdict
+    ensures { IsVerdict (numbered_records policy.now) token.now path.now result }
+{
+    if is_robots_path(path) {
+        return Verdict::Allow(Allowed::RobotsPath);
+    }
+    verdict_of(policy.strongest_by_text(token, &Path::new(path)))
+}
+
+/// The verdict of a text by the rules for the token, one after another. It makes a pattern of each.
+pub fn verdict_by_patterns(
     alloc: Global,
     text: &RobotsText,
     token: &Token,
@@ -40,7 +52,7 @@ pub fn verdict_plain(
     if is_robots_path(path) {
         return Ok(Verdict::Allow(Allowed::RobotsPath));
     }
-    let best = strongest(alloc, text, token, &Path::new(path))?;
+    let best = strongest(alloc, text, token, path)?;
     Ok(verdict_of(best))
 }
 
@@ -49,7 +61,7 @@ fn strongest(
     alloc: Global,
     text: &RobotsText,
     token: &Token,
-    path: &Path<'_>,
+    path: &[u8],
 ) -> Result<Option<Weight>, AllocError>
     ensures { IfOk result (IsBest (numbered_records text.now) token.now path.now) }
 {

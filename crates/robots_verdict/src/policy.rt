@@ -4,11 +4,13 @@ ghost use Rattle.std.specs.Prelude.{◌≡◌, ◌≢◌, IfOk};
 ghost use Rattle.std.specs.Arc.{arc_value};
 ghost use Rattle.robots_text.specs.Records.{numbered_records};
 ghost use Rattle.robots_verdict.specs.Index.{IsIndexOf};
+ghost use Rattle.robots_verdict.specs.Strongest.{IsBest};
 ghost use Rattle.robots_verdict.specs.Verdict.{IsVerdict, robots_path};
 
 use crate::decision::{Allowed, Verdict, is_robots_path, verdict_of};
 use crate::index::Index;
 use crate::normal_text::NormalText;
+use crate::weight::Weight;
 use memchr::memchr_iter;
 use path_pattern::{Path, Places};
 use robots_text::{RobotsText, Token};
@@ -166,6 +168,13 @@ impl Policy {
         index
             .rows
             .verdict(index.ranks.first(&index.rows, groups, path))
+    }
+
+    /// The weight of the strongest line that applies, by a walk over the text.
+    pub(crate) fn strongest_by_text(&self, token: &Token, path: &Path<'_>) -> Option<Weight>
+        ensures { IsBest (numbered_records self.now) token.now path.now result }
+    {
+        self.text.strongest(token, path)
     }
 }
 

@@ -6,5 +6,6 @@ mod devices;
 mod failures;
 mod http;
 mod line_ends;
+mod octets;
 mod policies;
 mod ratios;
