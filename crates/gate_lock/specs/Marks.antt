@@ -38,6 +38,10 @@ pub record Receipt : Type 0 where
   pub sealed : SealedView
   pub marks : List Mark
 
+-- marks without any of sealed entries
+abbrev pub alone : List Mark → Receipt
+alone ms = record { sealed = nothing_sealed; marks = ms }
+
 -- the places of the marks of a desk, in its order
 abbrev pub places_of : Receipt → List ℕ
 places_of r = r.sealed.places ++ map (λ m. m.place) r.marks

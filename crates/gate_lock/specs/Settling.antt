@@ -1,5 +1,5 @@
 -- When a gate is settled: nothing is out, and the receipts of its desks are its history.
--- The contracts of `marks_fit` and `settle`.
+-- The contracts of `marks_fit`, `receipts_fit` and `settle`.
 use Rattle.std.specs.Prelude.{◌≡◌, ℕ, ◌+◌, ◌-◌, ◌<◌, ◌≤◌, List, [], ◌∷◌, length, map, Ok, Err, Result, Some}
 use Rattle.std.specs.List.{slice_get}
 use Rattle.gate_history.specs.declared.entry.Entry.{Entry}

@@ -104,7 +104,7 @@ impl<G: Gate> Bag<G> {
         let permits = Store::new(alloc)?;
         match Store::new(alloc) {
             Ok(runs) => Ok(Bag {
-                desk: desk.no(),
+                desk: desk.desk_no(),
                 permits,
                 runs,
             }),

@@ -76,7 +76,7 @@ impl<G: Gate> GateLock<G> {
 
 impl<'a, G: Gate> Desk<'a, G> {
     /// The number of the desk, from 1.
-    pub fn no(&self) -> u64
+    pub fn desk_no(&self) -> u64
         ensures { result ≡ self.now.no }
     {
         self.mine.no

@@ -1,20 +1,59 @@
-//! `marks_fit`: whether the marks of receipts are a history.
+//! `marks_fit` and `receipts_fit`: whether marks, or those of receipts, are a history.
 //! Each mark is compared with its entry, and each place is found once.
-ghost use Rattle.std.specs.Prelude.{◌+◌, ◌^◌, ◌<◌, ◌↔◌, IfOk, IsTrue, length};
-ghost use Rattle.gate_lock.specs.Marks.{AreSealed};
+ghost use Rattle.std.specs.Prelude.{◌+◌, ◌^◌, ◌<◌, ◌↔◌, IfOk, IsTrue, length, map};
+ghost use Rattle.gate_lock.specs.Marks.{AreSealed, alone};
 ghost use Rattle.gate_lock.specs.Settling.{AreEntries, EachFits, Fits, IsEntryAt, MarksFit};
 
 use crate::ledgers::Gate;
 use crate::mark::Mark;
-use crate::places::{ascend, each_once};
+use crate::places::{ascend, each_listed_once, each_once, marks_ascend};
 use crate::receipts::{Receipts, agrees_at};
 use gate_history::Entry;
 use std::alloc::{AllocError, Global};
 
-/// Whether the places of the marks are all places of the history, each once and ascending in each list, and each
-/// mark is its entry. `sealed` counts the entries before the history, whose marks have places and are not compared.
-/// It takes a few words for each of the lists, and nothing for an entry.
-pub fn marks_fit<G: Gate>(
+/// Whether the places of all lists are all places of the history, each once and ascending in each list, and each mark is
+/// its entry. `sealed` counts the entries before the history, whose marks have places and are not compared. It takes a
+/// few words for each of the lists, and nothing for an entry.
+pub fn marks_fit(
+    alloc: Global,
+    sealed: u64,
+    history: &[Entry],
+    all: &[&[Mark]],
+) -> Result<bool, AllocError>
+    requires { sealed + length history.now < 2 ^ 64 }
+    ensures { IfOk result (λ fit. IsTrue fit
+        ↔ MarksFit sealed history.now (map (λ marks. alone marks.now) all.now)) }
+{
+    if !each_list_fits(sealed, history, all) {
+        return Ok(false);
+    }
+    each_listed_once(alloc, sealed + history.len() as u64, all)
+}
+
+// Whether the marks of each list fit.
+fn each_list_fits(sealed: u64, history: &[Entry], all: &[&[Mark]]) -> bool
+    ensures { IsTrue result
+        ↔ EachFits sealed history.now (map (λ marks. alone marks.now) all.now) }
+{
+    let mut rest = all;
+    while let [marks, after @ ..] = rest {
+        if !list_fits(sealed, history, marks) {
+            return false;
+        }
+        rest = after;
+    }
+    true
+}
+
+// Whether the places of a list ascend, and each mark is its entry.
+fn list_fits(sealed: u64, history: &[Entry], marks: &[Mark]) -> bool
+    ensures { IsTrue result ↔ Fits sealed history.now (alone marks.now) }
+{
+    marks_ascend(marks) && are_entries(sealed, history, marks)
+}
+
+/// The same of the receipts of desks, which may have places of sealed entries alone.
+pub fn receipts_fit<G: Gate>(
     alloc: Global,
     sealed: u64,
     history: &[Entry],

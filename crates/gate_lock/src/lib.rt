@@ -30,7 +30,7 @@ mod visit;
 pub use bag::Bag;
 pub use desk::Desk;
 pub use desk_ask::DeskAsk;
-pub use fit::marks_fit;
+pub use fit::{marks_fit, receipts_fit};
 pub use ledgers::{Blanks, Gate};
 pub use lock::{GateLock, Held, vouch};
 pub use mark::{Mark, SealedMarks};

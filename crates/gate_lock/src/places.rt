@@ -1,7 +1,7 @@
-//! The places of all receipts, merged: whether each is found once.
+//! The places of all receipts, or of all lists of marks, merged: whether each is found once.
 //! In each list they ascend, so that the next one is the first of some list.
 ghost use Rattle.std.specs.Prelude.{◌≡◌, ◌∷◌, ◌↔◌, [], IfOk, IfNone, IfSome, IsTrue, false, map, true};
-ghost use Rattle.gate_lock.specs.Marks.{places_of};
+ghost use Rattle.gate_lock.specs.Marks.{alone, places_of};
 ghost use Rattle.gate_lock.specs.Places.{AllAscend, AllEmpty, Ascend, EachOnce, IsBefore, IsNext, IsNextOfNone, Passes};
 
 use crate::ledgers::Gate;
@@ -34,6 +34,13 @@ impl<'a> Places<'a> {
             sealed: receipts.sealed().places(),
             marks: receipts.marks(),
         }
+    }
+
+    // Those of marks alone.
+    fn of_marks(marks: &'a [Mark]) -> Places<'a>
+        ensures { result ≡ places_of (alone marks.now) }
+    {
+        Places { sealed: &[], marks }
     }
 
     // The next one, and those behind it.
@@ -96,7 +103,20 @@ impl<'a> Places<'a> {
 pub(crate) fn ascend<G: Gate>(receipts: &Receipts<G>) -> bool
     ensures { IsTrue result ↔ Ascend (places_of receipts.now) }
 {
-    let mut rest = Places::of(receipts);
+    all_ascend(Places::of(receipts))
+}
+
+// The same of marks alone.
+pub(crate) fn marks_ascend(marks: &[Mark]) -> bool
+    ensures { IsTrue result ↔ Ascend (places_of (alone marks.now)) }
+{
+    all_ascend(Places::of_marks(marks))
+}
+
+fn all_ascend(places: Places<'_>) -> bool
+    ensures { IsTrue result ↔ Ascend places.entry }
+{
+    let mut rest = places;
     while let Some((place, after)) = rest.split() {
         if !after.are_behind(place) {
             return false;
@@ -117,6 +137,34 @@ pub(crate) fn each_once<G: Gate>(
 {
     let mut left = places_of_all(alloc, all)?;
     Ok(merge(&mut left, count))
+}
+
+// The same of lists of marks alone.
+pub(crate) fn each_listed_once(
+    alloc: Global,
+    count: u64,
+    all: &[&[Mark]],
+) -> Result<bool, AllocError>
+    requires { AllAscend (map places_of (map (λ marks. alone marks.now) all.now)) }
+    ensures { IfOk result (λ once. IsTrue once
+        ↔ EachOnce count (map places_of (map (λ marks. alone marks.now) all.now))) }
+{
+    let mut left = places_of_lists(alloc, all)?;
+    Ok(merge(&mut left, count))
+}
+
+// The places of all lists of marks.
+fn places_of_lists<'a>(alloc: Global, all: &'a [&'a [Mark]]) -> Result<Vec<Places<'a>>, AllocError>
+    ensures { IfOk result (λ left.
+        left.items ≡ map places_of (map (λ marks. alone marks.now) all.now)) }
+{
+    let mut left = Vec::with_capacity(alloc, all.len())?;
+    let mut rest = all;
+    while let [marks, after @ ..] = rest {
+        left.push_reserved(Places::of_marks(marks));
+        rest = after;
+    }
+    Ok(left)
 }
 
 // The places of all receipts.

@@ -4,7 +4,7 @@ ghost use Rattle.std.specs.Prelude.{◌≡◌, IfOk};
 ghost use Rattle.gate_lock.specs.Marks.{starts_of_all};
 ghost use Rattle.gate_lock.specs.Settling.{IsWholeUnlessSealed, Settles, SettlesSome};
 
-use crate::fit::marks_fit;
+use crate::fit::receipts_fit;
 use crate::ledgers::Gate;
 use crate::lock::{GateLock, Held};
 use crate::receipts::Receipts;
@@ -77,7 +77,7 @@ pub fn settle_in<G: Gate>(
     let events = book.entry_count();
     let starts = book.started_count();
     let sealed = book.base().entries();
-    if !marks_fit(alloc, sealed, book.history(), all)?
+    if !receipts_fit(alloc, sealed, book.history(), all)?
         || !has_starts(all, starts)
         || !has_handed(all, sealed)
     {

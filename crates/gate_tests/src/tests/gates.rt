@@ -8,7 +8,8 @@ use authority_cache::{LIFE, TurnNo};
 use gate_core::{Book, Config, Limits, NoMemory};
 use gate_history::{Entry, FetchText};
 use gate_lock::{
-    Gate, GateLock, Receipts, SettleFault, Settled, Visit, marks_fit, settle, with_gate,
+    Gate, GateLock, Receipts, SettleFault, Settled, Visit, marks_fit, receipts_fit, settle,
+    with_gate,
 };
 use path_normal::{Authority, PageUrl};
 use permit_book::PermitNo;
@@ -127,30 +128,37 @@ pub(super) fn add_entries(
     Ok(())
 }
 
-// Whether the receipts are those of a gate at which the page was asked for.
-fn is_fit<G: Gate>(alloc: Global, page: &str, all: &[Receipts<G>]) -> Result<bool, Fail> {
+// Whether the marks of two desks are the entries of a gate at which the page was asked for; then the same of the
+// receipts that have them.
+fn are_fit<G: Gate>(alloc: Global, all: &[Receipts<G>]) -> Result<[bool; 2], Fail> {
     let mut entries = Vec::new(alloc);
-    is_fit_with(alloc, page, &mut entries, all)
+    are_fit_with(alloc, &mut entries, all)
 }
 
-fn is_fit_with<G: Gate>(
+fn are_fit_with<G: Gate>(
     alloc: Global,
-    page: &str,
     entries: &mut Vec<Entry>,
     all: &[Receipts<G>],
-) -> Result<bool, Fail> {
-    add_entries(alloc, page, 65_536, entries)?;
+) -> Result<[bool; 2], Fail> {
+    add_entries(alloc, PAGE, 65_536, entries)?;
     if entries.len() != 4 {
         return Err(Fail::new("four entries"));
     }
-    Ok(marks_fit(alloc, 0, entries.as_slice(), all)?)
+    let [one, other] = all else {
+        return Err(Fail::new("the receipts of two desks"));
+    };
+    let history = entries.as_slice();
+    let of_marks = marks_fit(alloc, 0, history, &[one.marks(), other.marks()])?;
+    let of_receipts = receipts_fit(alloc, 0, history, all)?;
+    Ok([of_marks, of_receipts])
 }
 
-// Whether the receipts of a gate fit its own entries, and those of another gate.
+// What a gate's own entries are compared with: marks of this gate, at which this page was asked for.
 #[derive(Drop)]
 struct FitRow<'r, R: Wait> {
     rt: &'r R,
     alloc: Global,
+    page: &'r str,
 }
 
 impl<R: Wait> Visit for FitRow<'_, R> {
@@ -158,21 +166,20 @@ impl<R: Wait> Visit for FitRow<'_, R> {
 
     fn visit<G: Gate>(self, gate: &GateLock<G>) -> Self::Out {
         let mut all = Vec::new(self.alloc);
-        fit_own(self.rt, self.alloc, gate, &mut all)
+        fit_those(self.rt, self.alloc, gate, self.page, &mut all)
     }
 }
 
-fn fit_own<G: Gate, R: Wait>(
+fn fit_those<G: Gate, R: Wait>(
     rt: &R,
     alloc: Global,
     gate: &GateLock<G>,
+    page: &str,
     all: &mut Vec<Receipts<G>>,
 ) -> Result<[bool; 2], Fail> {
     bring(rt, alloc, gate, Form::Plain, all)?;
-    let _early = give_back(rt, alloc, gate, Form::Plain, PAGE, all)?;
-    let own = is_fit(alloc, PAGE, all.as_slice())?;
-    let other = is_fit(alloc, OTHER_PAGE, all.as_slice())?;
-    Ok([own, other])
+    let _early = give_back(rt, alloc, gate, Form::Plain, page, all)?;
+    are_fit(alloc, all.as_slice())
 }
 
 #[test]
@@ -201,11 +208,18 @@ fn a_gate_is_settled_by_all_receipts(rt: HostRuntime) -> Result<(), Fail> {
 #[test]
 fn marks_fit_the_entries_of_their_own_gate(rt: HostRuntime) -> Result<(), Fail> {
     let keys = RandomState::new(&rt)?;
-    let row = FitRow {
-        rt: &rt,
-        alloc: rt.alloc(),
-    };
-    let got = with_gate(book(rt.alloc(), keys, 1_024, 65_536)?, row)?;
-    assert_eq!(rt; got, [true, false], "own, and another's");
+    for (page, want) in [(PAGE, true), (OTHER_PAGE, false)] {
+        let row = FitRow {
+            rt: &rt,
+            alloc: rt.alloc(),
+            page,
+        };
+        let got = with_gate(book(rt.alloc(), keys, 1_024, 65_536)?, row)?;
+        assert_eq!(rt;
+            got,
+            [want, want],
+            "marks of a gate where the page was asked for"
+        );
+    }
     Ok(())
 }

@@ -34,7 +34,7 @@ fn last_desk<G: Gate, R: Wait>(rt: &R, alloc: Global, gate: &GateLock<G>) -> u64
         let Ok(desk) = gate.desk(rt, alloc) else {
             break;
         };
-        made = desk.no();
+        made = desk.desk_no();
         desk.close();
     }
     made
