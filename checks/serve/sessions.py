@@ -2,12 +2,22 @@
 import importlib.util
 import socket
 import subprocess
+import sys
 import threading
 import time
 
 from line_server import HOST, OCTETS, ROOT, SECONDS, Server, Session, open_site, response, same, side_by_side, site_with_rules
 
 CLIENTS = f"{ROOT}/examples/clients"
+
+# A command that fetches the URL of its first word, and follows nothing.
+FETCH = """
+import http.client, sys, urllib.parse
+url = urllib.parse.urlsplit(sys.argv[1])
+connection = http.client.HTTPConnection(url.netloc)
+connection.request("GET", url.path)
+connection.getresponse().read()
+"""
 
 
 def quits():
@@ -190,8 +200,9 @@ def client_in_python():
         with client.Gate(HOST, server.port, SECONDS) as gate:
             same(gate.state(a), ("unknown", False))
             same(refusal_of(client.Denied, gate.ask, "foobot", x), f"{a}: unknown")
-            with gate.permit("foobot", x) as reason:
-                same(reason, "open")
+            with gate.permit("foobot", x) as permit:
+                same((permit.token, permit.url, permit.reason), ("foobot", x, "open"))
+                same(permit.open(SECONDS).read(), b"hello")
                 same(refusal_of(client.Refused, gate.ask, "foobot", x), "permits")
             gate.back(gate.ask("foobot", x))
             number = gate.ask("foobot", x)
@@ -224,6 +235,8 @@ def client_in_bash():
             (["fetch", "foobot", private], (b"", f"NO {ruled.authority} line 2\n".encode(), 1)),
             (["fetch", "foobot", "https://a.example/"], (b"", b"crawlgate.sh: ERR url scheme\n", 1)),
             (["run", "foobot", x, "echo", "page"], (b"page\n", b"", 0)),
+            (["run", "foobot", x, "echo", "{}", x, "-{}"], (f"{x} {x} -{{}}\n".encode(), b"", 0)),
+            (["run", "foobot", site.url("/y/../x#z"), "sh", "-c", 'echo "$CRAWLGATE_URL"'], (f"{x}\n".encode(), b"", 0)),
             (["run", "foobot", x, "sh", "-c", "exit 7"], (b"", b"", 7)),
             (["run", "foobot", private, "echo", "page"], (b"", f"crawlgate.sh: NO {ruled.authority} line 2\n".encode(), 1)),
             (["run", "foobot", f"{x}\nQUIT", "echo"], (b"", f"crawlgate.sh: no URL: {x}\nQUIT\n".encode(), 2)),
@@ -237,6 +250,44 @@ def client_in_bash():
         same(client_of("sh", server, "seal"), (b"", b"", 0))
 
 
+def urls_as_written():
+    """A client is told how the gate writes a URL."""
+    rows = [
+        ("http://A.example:80/a/../%7Eb?c#d", "URL http://a.example/%7Eb?c"),
+        ("http://a.example\\@b.example/x", "URL http://a.example/@b.example/x"),
+        ("http://a.example", "URL http://a.example/"),
+        ("https://a.example/", "ERR url scheme"),
+        ("http://u@a.example/", "ERR url user"),
+        ("http://", "ERR url bad"),
+        ("", "ERR words"),
+        ("http://a.example/ http://a.example/", "ERR words"),
+    ]
+    with Server() as server, Session(server) as it:
+        same([it.say(f"URL {url}".rstrip(" ")) for url, _ in rows], [reply for _, reply in rows])
+
+
+def fetches_what_was_decided():
+    """The clients fetch the URL that the gate has decided, whatever text they were given, and follow nothing."""
+
+    def play(kind):
+        ruled = site_with_rules()
+        site = open_site({"/moved": response(302, b"", f"Location: {ruled.url('/private')}")})
+        authority = site.authority
+        texts = [f"http://{authority}\\@{ruled.authority}/private", site.url("/y/%2e%2e/x"), site.url("/moved")]
+        with Server() as server:
+            for text in texts:
+                if kind == "sh":
+                    client_of("sh", server, "run", "foobot", text, sys.executable, "-c", FETCH, "{}")
+                else:
+                    with python_client().Gate(HOST, server.port, SECONDS) as gate, gate.permit("foobot", text) as permit:
+                        permit.open(SECONDS).read()
+        asked = [f"/@{ruled.authority}/private", "/x", "/moved"]
+        same([it for it in site.asked if it != "/robots.txt"], asked)
+        same(ruled.asked, [])
+
+    side_by_side(play, ["sh", "py"])
+
+
 def clients_wait_for_a_robots_fetch():
     """A client that has no answer while another session has the robots file fetched does without a fetch of its own."""
 
@@ -248,8 +299,8 @@ def clients_wait_for_a_robots_fetch():
             if kind == "sh":
                 same(client_of("sh", server, "run", "foobot", site.url("/x"), "echo", "page"), (b"page\n", b"", 0))
             else:
-                with python_client().Gate(HOST, server.port, SECONDS) as gate, gate.permit("foobot", site.url("/x")) as reason:
-                    same(reason, "open")
+                with python_client().Gate(HOST, server.port, SECONDS) as gate, gate.permit("foobot", site.url("/x")) as permit:
+                    same(permit.reason, "open")
             same(other.lines(1), [f"TAKEN {site.authority} open"])
         same(site.asked.count("/robots.txt"), 1)
 
@@ -322,6 +373,6 @@ def port_that_is_taken():
 
 CASES = [
     quits, connections_are_counted, without_end, two_sessions, segments_are_what_was_served, fetches, faults_of_lines, site_is_down, one_robots_fetch_at_a_time,
-    client_in_python, client_in_bash, clients_wait_for_a_robots_fetch, thousand_lines_at_once, million_lines, line_by_octets, ends_of_lines, loopback_alone,
+    client_in_python, client_in_bash, urls_as_written, fetches_what_was_decided, clients_wait_for_a_robots_fetch, thousand_lines_at_once, million_lines, line_by_octets, ends_of_lines, loopback_alone,
     port_that_is_taken,
 ]

@@ -2,9 +2,13 @@
 """A client of `crawlgate serve`: permits and pages over one connection.
 
     with Gate("127.0.0.1", 8300) as gate:
-        with gate.permit("foobot", url):
-            page = urllib.request.urlopen(url).read()
+        with gate.permit("foobot", url) as permit:
+            page = permit.open(timeout=30).read()
         print(gate.fetch("foobot", url).body)
+
+A permit is good for the one URL that `permit.url` has, as the gate writes it: who fetches by something else than
+`permit.open` fetches that text and no other, follows no redirect without a permit of its own, and sends the product token
+as User-Agent.
 
 A Gate is one session: what it was granted is its own, and goes back when it ends. Use one for each thread. The server ends
 a session that sends no line for 300 seconds, or what its --patience says; one that has more to do between two lines may
@@ -16,6 +20,7 @@ import contextlib
 import socket
 import sys
 import time
+import urllib.request
 from dataclasses import dataclass
 from typing import List
 
@@ -48,6 +53,32 @@ class Fetched:
         return self.hops[-1].startswith("PAGE ")
 
 
+class _AsItCame(urllib.request.HTTPErrorProcessor):
+    """Gives each response as it came: a redirect is not followed, and no status is an error."""
+
+    def http_response(self, request, response):
+        return response
+
+
+_OPENER = urllib.request.build_opener(_AsItCame)
+
+
+@dataclass
+class Permit:
+    """A fetch that was started: the product token, the URL as the gate writes it, and the reason: 'open', 'line <n>',
+    'norule' or 'robots'."""
+
+    token: str
+    url: str
+    reason: str
+
+    def open(self, timeout):
+        """Fetches the page, and returns the response of whatever status, as urllib.request has it. What a redirect names
+        wants a permit of its own."""
+        request = urllib.request.Request(self.url, headers={"User-Agent": self.token})
+        return _OPENER.open(request, timeout=timeout)
+
+
 class Gate:
     """A session of a line server. It raises an OSError where the connection ends or nothing comes for `timeout` seconds;
     without a timeout it waits as long as the server does: a fetch may take an hour."""
@@ -72,6 +103,11 @@ class Gate:
         """Closes the connection. The server gives the session's permits back once it sees that."""
         self._replies.close()
         self._peer.close()
+
+    def written(self, url):
+        """Returns a URL as the gate writes it: the one that it decides, and that is to be fetched. It is Refused as
+        'url bad' and so on."""
+        return self._say("URL", "URL", url)
 
     def ask(self, token, url):
         """Asks for a permit to fetch a page, and returns its number."""
@@ -129,8 +165,9 @@ class Gate:
 
     @contextlib.contextmanager
     def permit(self, token, url):
-        """Starts the fetch of a page, which the caller makes itself, and ends it on the way out. It gives the reason. The
+        """Starts the fetch of a page, which the caller makes itself, and ends it on the way out. It gives a Permit. The
         robots file is fetched first, where none is in force."""
+        url = self.written(url)
         number = self._ask_informed(token, url)
         try:
             reason = self.start(number, token, url)
@@ -138,7 +175,7 @@ class Gate:
             self.back(number)
             raise
         try:
-            yield reason
+            yield Permit(token, url, reason)
         finally:
             self.done(number)
 

@@ -9,7 +9,11 @@
 # robots file fetched where none is in force, starts the fetch, runs the command, which fetches the page, and ends the
 # fetch:
 #
-#   crawlgate.sh 8300 run foobot http://a.example/ curl --silent --user-agent foobot http://a.example/
+#   crawlgate.sh 8300 run foobot http://a.example/ curl --silent --user-agent foobot '{}'
+#
+# Each word of the command that is {}, or the URL as it was given, becomes the URL as the gate writes it, which is what it
+# has decided; CRAWLGATE_URL has it too. The command fetches that and nothing else: it follows no redirect (curl does
+# so only with --location), and sends the token as User-Agent.
 #
 # `seal` writes the history since the last seal, which nobody else keeps; nothing, where there is none:
 #
@@ -76,20 +80,26 @@ fetch() {
 
 # The command fetches the page.
 run() {
-    local status
-    say ASK "$token" "$url"
+    local status word written command=()
+    expect URL URL "$url"
+    written=${reply#URL }
+    for word; do
+        case $word in '{}' | "$url") word=$written ;; esac
+        command+=("$word")
+    done
+    say ASK "$token" "$written"
     case $reply in
     'NO '*' unknown' | 'NO '*' expired')
         reply=${reply#NO }
         inform "${reply% *}"
-        say ASK "$token" "$url"
+        say ASK "$token" "$written"
         ;;
     esac
     [ "${reply%% *}" = PERMIT ] || fail "$reply"
     number=${reply#PERMIT }
-    expect GO START "$number" "$token" "$url"
+    expect GO START "$number" "$token" "$written"
     # (the command has no part in the connection: it ends with this script)
-    "$@" 3>&-
+    CRAWLGATE_URL=$written "${command[@]}" 3>&-
     status=$?
     expect DONE DONE "$number"
     return "$status"

@@ -72,6 +72,11 @@ back_of words = read_on (permit_alone words) (λ n. Ok (calls.Back n))
 abbrev pub done_of : List (List ℕ) → Result Call LineFault
 done_of words = read_on (permit_alone words) (λ n. Ok (calls.Finish n))
 
+-- one word, which is the URL of a page: `URL <url>`
+abbrev pub page_alone : List (List ℕ) → Capacity → Result (List ℕ) LineFault
+page_alone (url ∷ []) capacity = page_word url capacity
+page_alone _ capacity = Err faults.Words
+
 -- the command that makes a call
 abbrev pub calling : Result Call LineFault → Result Command LineFault
 calling call = read_on call (λ c. Ok (commands.Call c))
@@ -97,6 +102,7 @@ arguments_of verbs.Seal moment words capacity = Ok commands.Seal
 arguments_of verbs.Refresh moment words capacity =
     read_on (authority_alone words capacity) (λ authority. Ok (commands.Refresh authority))
 arguments_of verbs.Fetch moment words capacity = read_on (job_words_of words capacity) (λ job. Ok (commands.Fetch job))
+arguments_of verbs.Url moment words capacity = read_on (page_alone words capacity) (λ url. Ok (commands.Url url))
 arguments_of verbs.Quit moment words capacity = Ok commands.Quit
 
 -- the verb takes so many words

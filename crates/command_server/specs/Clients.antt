@@ -75,6 +75,7 @@ module _ {S : Type 0} (deals : Deals S) where
       (result : Option (Result Standing BeginRefusal)) × (deals.refreshes reads old authority result new × (told ≡ refreshed authority result))
   DoesCommand reads old (Ok (commands.Fetch job)) told new =
       (result : Option (Result Outcome NoMemory)) × (deals.fetches reads old job result new × (told ≡ fetched result))
+  DoesCommand reads old (Ok (commands.Url url)) told new = (told ≡ tolds.Written url) × (new ≡ old)
   DoesCommand reads old (Ok commands.Quit) told new = deals.ends old new × (told ≡ tolds.Bye)
   DoesCommand reads old (Err fault) told new = TellsFault old fault told new
 

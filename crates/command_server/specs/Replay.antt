@@ -70,6 +70,7 @@ AnswersCommand old (Ok (commands.State authority m)) text ended new = AnswersSta
 AnswersCommand old (Ok commands.Seal) text ended new = AnswersSeal old text new × (ended ≡ false)
 AnswersCommand old (Ok (commands.Refresh authority)) text ended new = AnswersNoVerb old text ended new
 AnswersCommand old (Ok (commands.Fetch job)) text ended new = AnswersNoVerb old text ended new
+AnswersCommand old (Ok (commands.Url url)) text ended new = AnswersNoVerb old text ended new
 AnswersCommand old (Ok commands.Quit) text ended new = (text ≡ bye_text) × (ended ≡ true) × Stays old new
 AnswersCommand old (Err fault) text ended new = (text ≡ line_fault_text fault) × (ended ≡ false) × Stays old new
 

@@ -92,6 +92,10 @@ abbrev pub state_text : List ℕ → State → List ℕ
 state_text authority state =
     line_of (codes "STATE" ∷ authority ∷ standing_word state.standing ∷ fetching_word state.fetching ∷ [])
 
+-- the reply to URL: a page's URL as it is written
+abbrev pub url_text : List ℕ → List ℕ
+url_text url = line_of (codes "URL" ∷ url ∷ [])
+
 -- the reply to QUIT
 abbrev pub bye_text : List ℕ
 bye_text = line_of (codes "BYE" ∷ [])

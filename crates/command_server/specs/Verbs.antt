@@ -1,6 +1,6 @@
 -- The table of the verbs: the name of each, and the least and the most words that follow it.
 -- Cited by the contracts of `verbs` and `command`; docs/FORMATS.md prints the same table.
-use Rattle.std.specs.Prelude.{ℕ, ◌^◌, ◌-◌, Bool, true, false, ◌&&◌, List, [], ◌∷◌, Option, codes}
+use Rattle.std.specs.Prelude.{ℕ, ◌^◌, ◌-◌, Bool, true, false, not, ◌&&◌, List, [], ◌∷◌, Option, codes}
 use Rattle.std.specs.List.{find}
 use Rattle.std.specs.Str.{bytes_eq}
 use Rattle.command_server.specs.declared.verbs.Dialogue.{Dialogue}
@@ -35,13 +35,14 @@ row_of verbs.Sweep = row (codes "SWEEP") 0 0
 row_of verbs.Seal = row (codes "SEAL") 0 0
 row_of verbs.Refresh = row (codes "REFRESH") 1 1
 row_of verbs.Fetch = row (codes "FETCH") 2 2
+row_of verbs.Url = row (codes "URL") 1 1
 row_of verbs.Quit = row (codes "QUIT") 0 0
 
 -- all verbs
 abbrev pub all_verbs : List Verb
 all_verbs =
     verbs.Begin ∷ verbs.Arrive ∷ verbs.Ask ∷ verbs.Start ∷ verbs.Back ∷ verbs.Done
-    ∷ verbs.State ∷ verbs.Sweep ∷ verbs.Seal ∷ verbs.Refresh ∷ verbs.Fetch ∷ verbs.Quit ∷ []
+    ∷ verbs.State ∷ verbs.Sweep ∷ verbs.Seal ∷ verbs.Refresh ∷ verbs.Fetch ∷ verbs.Url ∷ verbs.Quit ∷ []
 
 -- whether the dialogue is that of a replay
 abbrev pub is_replay : Dialogue → Bool
@@ -53,13 +54,15 @@ abbrev pub has_fetches : Dialogue → Bool
 has_fetches Replay = false
 has_fetches (Client moment fetches) = fetches
 
--- whether the dialogue has the verb: a replay brings robots answers, and for a client they are fetched
+-- whether the dialogue has the verb: a replay brings robots answers, and for a client they are fetched; a client is told
+-- how a URL is written, since it may fetch the page itself
 abbrev pub is_in : Dialogue → Verb → Bool
 is_in dialogue verbs.Begin = is_replay dialogue
 is_in dialogue verbs.Arrive = is_replay dialogue
 is_in dialogue verbs.Sweep = is_replay dialogue
 is_in dialogue verbs.Refresh = has_fetches dialogue
 is_in dialogue verbs.Fetch = has_fetches dialogue
+is_in dialogue verbs.Url = not (is_replay dialogue)
 is_in dialogue _ = true
 
 -- the verb of this name, if the dialogue has one

@@ -57,7 +57,7 @@ impl Answerer<Book> for BookLines {
                 answer_seal(book, output, sink)?;
                 Ok(Flow::Goes)
             }
-            Ok(Command::Refresh { .. } | Command::Fetch(_)) => {
+            Ok(Command::Refresh { .. } | Command::Fetch(_) | Command::Url(_)) => {
                 fault_pieces(LineFault::Verb).push(output, sink)?;
                 Ok(Flow::Goes)
             }

@@ -4,7 +4,7 @@ ghost use Rattle.std.specs.Prelude.{◌≡◌, IfOk, IsTrue};
 ghost use Rattle.gate_core.specs.Calls.{HasSpare};
 ghost use Rattle.path_normal.specs.Capacity.{IsRead};
 ghost use Rattle.command_server.specs.CallOf.{arrive_of, authority_alone, job_words_of, permit_alone};
-ghost use Rattle.command_server.specs.CallOf.{start_of, takes};
+ghost use Rattle.command_server.specs.CallOf.{page_alone, start_of, takes};
 ghost use Rattle.line_text.specs.Words.{words_left};
 
 use crate::arguments::{read_authority, read_number, read_page, read_token};
@@ -16,7 +16,7 @@ use authority_cache::TurnNo;
 use crawl_job::Job;
 use gate_core::Call;
 use line_text::Words;
-use path_normal::Authority;
+use path_normal::{Authority, PageUrl};
 use permit_book::PermitNo;
 use std::alloc::Global;
 
@@ -79,6 +79,17 @@ pub fn read_start(alloc: Global, moment: u64, words: Words<'_>) -> Result<Call, 
         url,
         moment,
     })
+}
+
+/// Reads the word behind `URL`: `<url>`.
+pub fn read_page_alone(alloc: Global, words: Words<'_>) -> Result<PageUrl, LineFault>
+    requires { IsTrue (takes Verb.Url (words_left words)) }
+    ensures { IsRead result (page_alone (words_left words.entry)) }
+{
+    let mut words = words;
+    let url = words.first();
+    let url = read_page(alloc, url)?;
+    Ok(url)
 }
 
 /// Reads the word behind `BACK` and `DONE`: `<n>`.

@@ -90,6 +90,8 @@ fn told_of<K: Keeper, C: NumberedClock>(
             Some(Err(_)) => Told::NoMemory,
             None => Told::Fault(LineFault::Verb),
         },
+        // The keeper has no part in it.
+        Ok(Command::Url(url)) => Told::Written(url),
         Ok(Command::Quit) => {
             keeper.end();
             Told::Bye

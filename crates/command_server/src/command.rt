@@ -9,14 +9,15 @@ ghost use Rattle.line_text.specs.Words.{words_left};
 
 use crate::arrival::Arrival;
 use crate::calls::{
-    read_arrive, read_authority_alone, read_job_words, read_permit_alone, read_start,
+    read_arrive, read_authority_alone, read_job_words, read_page_alone, read_permit_alone,
+    read_start,
 };
 use crate::fault::LineFault;
 use crate::verbs::{Dialogue, Verb};
 use crawl_job::Job;
 use gate_core::Call;
 use line_text::{Words, number_of};
-use path_normal::Authority;
+use path_normal::{Authority, PageUrl};
 use std::alloc::Global;
 
 /// What a command line asks of a session.
@@ -34,6 +35,8 @@ pub enum Command<'a> {
     Refresh { authority: Authority },
     /// The fetch of a page, and where redirects lead from it.
     Fetch(Job),
+    /// How the URL of a page is written.
+    Url(PageUrl),
     /// The end of the session.
     Quit,
 }
@@ -159,6 +162,7 @@ fn read_arguments(
             return Ok(Command::Refresh { authority });
         }
         Verb::Fetch => return Ok(Command::Fetch(read_job_words(alloc, words)?)),
+        Verb::Url => return Ok(Command::Url(read_page_alone(alloc, words)?)),
         Verb::Quit => return Ok(Command::Quit),
     }))
 }

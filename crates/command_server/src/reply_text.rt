@@ -6,7 +6,7 @@ ghost use Rattle.command_server.specs.FaultText.{line_fault_text};
 ghost use Rattle.line_text.specs.Pieces.{line_of, piece_text, pieces_text};
 ghost use Rattle.command_server.specs.ReplyText.{arrive_text, ask_text, back_text, begin_text};
 ghost use Rattle.command_server.specs.ReplyText.{bye_text, denial_text, finish_text, reply_text};
-ghost use Rattle.command_server.specs.ReplyText.{go_text, standing_word, start_text, state_text, sweep_text};
+ghost use Rattle.command_server.specs.ReplyText.{go_text, standing_word, start_text, state_text, sweep_text, url_text};
 
 use crate::fault::LineFault;
 use crate::refusal_text::{error_pieces, refusal_pieces};
@@ -15,7 +15,7 @@ use crawl_job::Refusal;
 use gate_core::{AskRefusal, BeginRefusal, Denial, Reply, Standing, Started, State, SweepRefusal};
 use gate_history::{Reason, Wording};
 use line_text::{Piece, Pieces};
-use path_normal::Authority;
+use path_normal::{Authority, PageUrl};
 use permit_book::{NotOut, PermitNo};
 
 /// The line of a reply.
@@ -142,6 +142,13 @@ pub(crate) fn state_pieces(authority: &Authority, state: State) -> Pieces<'_>
     let standing = Piece::Text(standing_word(state.standing));
     let fetching = Piece::Text(if state.fetching { "fetching" } else { "idle" });
     Pieces::four_words("STATE", Piece::Text(authority.text()), standing, fetching)
+}
+
+/// The reply to URL.
+pub(crate) fn url_pieces(url: &PageUrl) -> Pieces<'_>
+    ensures { pieces_text result ≡ url_text url.now }
+{
+    Pieces::two_words("URL", Piece::Text(url.text()))
 }
 
 /// The reply to QUIT.

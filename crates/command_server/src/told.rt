@@ -13,7 +13,7 @@ use crate::hop_lines::push_hops;
 use crate::refusal_text::refusal_pieces;
 use crate::reply_text::{
     arrive_pieces, ask_pieces, back_pieces, begin_pieces, bye_pieces, denial_pieces, fault_pieces,
-    finish_pieces, go_pieces, state_pieces,
+    finish_pieces, go_pieces, state_pieces, url_pieces,
 };
 use crate::seal_text::push_sealed;
 use counted_io::{DeviceFault, Output, Sink};
@@ -21,7 +21,7 @@ use crawl_job::{Outcome, Refusal};
 use gate_core::{AskRefusal, BeginRefusal, Denial, NoMemory, Standing, State};
 use gate_history::{Reason, Segment};
 use line_text::{Piece, Pieces};
-use path_normal::Authority;
+use path_normal::{Authority, PageUrl};
 use permit_book::{NotOut, PermitNo};
 
 /// What a client is told.
@@ -53,6 +53,8 @@ pub(crate) enum Told {
     },
     Fetched(Outcome),
     Sealed(Result<Segment, NoMemory>),
+    /// How the URL of a page is written.
+    Written(PageUrl),
     /// There was no memory to fetch.
     NoMemory,
     /// The session ends.
@@ -88,6 +90,7 @@ impl Told {
             Told::Refreshed { authority, result } => {
                 refreshed_pieces(authority, result).push(output, sink)
             }
+            Told::Written(url) => url_pieces(url).push(output, sink),
             Told::NoMemory => refusal_pieces(Refusal::NoMemory).push(output, sink),
             Told::Bye => bye_pieces().push(output, sink),
         }

@@ -17,10 +17,11 @@ pub enum Verb {
     Seal,
     Refresh,
     Fetch,
+    Url,
     Quit,
 }
 
-const VERBS: [Verb; 12] = [
+const VERBS: [Verb; 13] = [
     Verb::Begin,
     Verb::Arrive,
     Verb::Ask,
@@ -32,6 +33,7 @@ const VERBS: [Verb; 12] = [
     Verb::Seal,
     Verb::Refresh,
     Verb::Fetch,
+    Verb::Url,
     Verb::Quit,
 ];
 
@@ -80,6 +82,7 @@ impl Verb {
             | Verb::Seal
             | Verb::Quit => true,
             Verb::Begin | Verb::Arrive | Verb::Sweep => dialogue == Dialogue::Replay,
+            Verb::Url => dialogue != Dialogue::Replay,
             Verb::Refresh | Verb::Fetch => match dialogue {
                 Dialogue::Replay => false,
                 Dialogue::Client { fetches, .. } => fetches,
@@ -105,6 +108,7 @@ impl Verb {
             Verb::Seal => row("SEAL", 0, 0),
             Verb::Refresh => row("REFRESH", 1, 1),
             Verb::Fetch => row("FETCH", 2, 2),
+            Verb::Url => row("URL", 1, 1),
             Verb::Quit => row("QUIT", 0, 0),
         }
     }
