@@ -1,7 +1,7 @@
 -- An ask that is refused, of a desk and then of its keeper.
 -- Used by the `ask` of `DeskKeeper`.
-use Rattle.std.proofs.Common.{◌≡◌, ℕ, List, inl, inr, subst, sym}
-use Rattle.std.specs.Prelude.{Err, Result}
+use Rattle.std.proofs.Common.{ℕ, List, inr}
+use Rattle.std.specs.Prelude.{Err}
 use Rattle.gate_core.specs.declared.refusal.AskRefusal.{AskRefusal}
 use Rattle.gate_core.specs.declared.refusal.AskRefusal.TheVariants as ask
 use Rattle.gate_lock.specs.Bags.{BagView, HoldsSame}

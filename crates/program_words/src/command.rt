@@ -81,14 +81,12 @@ fn serve_words<'a>(alloc: Global, defaults: &'a Defaults) -> Result<Command<'a>,
     let serve = limit_words(alloc, defaults, serve)?;
     time_words(alloc, defaults, serve)?
         .arg(number(alloc, "patience", &defaults.clients.patience))?
-        .arg(
-            flag(
-                alloc,
-                "endless",
-                "Takes connections without end, until the process is ended",
-            )
-            .conflicts_with("connections")?,
+        .arg(flag(
+            alloc,
+            "endless",
+            "Takes connections without end, until the process is ended",
         )
+        .conflicts_with("connections")?)
 }
 
 // The words of `check`.
