@@ -152,6 +152,22 @@ def gone_during_a_fetch():
     in_time(took, 4)
 
 
+def fetches_for_nobody():
+    """Of what a client has sent ahead, two pages at most are fetched after it has gone: replies are written after each."""
+    site = open_site()
+    with Server("--workers", "1") as server:
+        with Session(server) as it:
+            same(it.say(f"REFRESH {site.authority}"), f"TAKEN {site.authority} open")
+            it.send(f"FETCH foobot {site.url('/x')}\n".encode() * 2000)
+        with Session(server) as it:
+            # (the one worker is here now)
+            same(it.say("STATE a.example"), "STATE a.example unknown idle")
+    # (some are fetched while it still sends)
+    fetched = site.asked.count("/x")
+    assert fetched <= 10, fetched
+    return f"{fetched} of 2,000 pages were fetched"
+
+
 def patience_with_good_clients():
     """A patience of two seconds is no limit of a session, and a fetch takes as long as it takes."""
     site = open_site({"/slow": (3.5, response(200, b"hello"))})
@@ -262,6 +278,6 @@ def memory():
 
 
 CASES = [
-    numbers_of_others, killed_clients, unread_behind_the_end, nobody_holds_a_worker, gone_during_a_fetch,
+    numbers_of_others, killed_clients, unread_behind_the_end, nobody_holds_a_worker, gone_during_a_fetch, fetches_for_nobody,
     patience_with_good_clients, few_descriptors, full_history, closed_streams, memory,
 ]

@@ -49,7 +49,7 @@ impl<'k, K: Keeper, C: NumberedClock> Answerer<Client<'k, K>> for ClientLines<'_
     ) -> Result<Flow, DeviceFault> {
         let told = told_of(alloc, self.clock, client.number, client.keeper, line);
         client.number = next_reading(next_reading(client.number));
-        told.push(output, sink)?;
+        told.tell(output, sink)?;
         Ok(told.flow())
     }
 }

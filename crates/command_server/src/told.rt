@@ -72,8 +72,27 @@ impl Told {
         }
     }
 
-    /// Pushes the reply.
-    pub(crate) fn push<W: Sink>(&self, output: &mut Output, sink: &mut W) -> Result<(), DeviceFault>
+    /// Pushes the reply. Where the gate fetched for it, all that is pending is written, too: that a client is gone
+    /// is noticed before the gate fetches for it again.
+    pub(crate) fn tell<W: Sink>(&self, output: &mut Output, sink: &mut W) -> Result<(), DeviceFault>
+        ensures { Pushes (W.written sink.old) (W.written sink.new)
+            (W.failures sink.old) (W.failures sink.new) output.old output.new
+            (told_text self.now) result }
+    {
+        self.push(output, sink)?;
+        if self.was_fetched() {
+            output.flush(sink)?;
+        }
+        Ok(())
+    }
+
+    // Whether the gate fetched for the reply.
+    fn was_fetched(&self) -> bool {
+        matches!(self, Told::Refreshed { .. } | Told::Fetched(_))
+    }
+
+    // Pushes the reply.
+    fn push<W: Sink>(&self, output: &mut Output, sink: &mut W) -> Result<(), DeviceFault>
         ensures { Pushes (W.written sink.old) (W.written sink.new)
             (W.failures sink.old) (W.failures sink.new) output.old output.new
             (told_text self.now) result }

@@ -6,18 +6,18 @@ use Rattle.command_server.specs.Clients.{is_farewell}
 use Rattle.command_server.specs.ToldText.{told_text}
 use Rattle.command_server.proofs.client_lines.ClientLinesAnswererClient.answer.Goals as goal
 
-pub returns-in_err-push-clause-err : goal.returns-in_err-push-clause-err
-returns-in_err-push-clause-err g c =
+pub returns-in_err-tell-clause-err : goal.returns-in_err-tell-clause-err
+returns-in_err-tell-clause-err g c =
     on_err c.from_residual.result (record {
       reply = told_text c.told_of-told.result;
       ended = is_farewell c.told_of-told.result;
       answered = (refl, (c.told_of-told.result, (c.told_of-told.ensures, (refl, refl, search rules))));
-      cut = c.in_err-push.ensures.err;
+      cut = c.in_err-tell.ensures.err;
     })
 
 pub returns-clause-ok : goal.returns-clause-ok
 returns-clause-ok g c = record {
   reply = told_text c.told_of-told.result;
   answered = (refl, (c.told_of-told.result, (c.told_of-told.ensures, (refl, c.flow.ensures, search rules))));
-  passed = c.in_ok-push.ensures.ok;
+  passed = c.in_ok-tell.ensures.ok;
 }
