@@ -2,11 +2,13 @@
 mod Chains
 mod OwnEntries
 mod Doing
+mod Drawing
 mod Fetching
 mod Handing
 mod Hops
+mod Ordering
 mod Placing
 mod Shifting
 pub mod Starting
 mod StartTotals
-mod Taking
+mod Queuing

@@ -1,15 +1,21 @@
 -- The workers of a shift: what each draws and does at its desk, what they hand over, and where that goes.
 -- The contracts of the functions behind `run_shift`.
-use Rattle.std.specs.Prelude.{◌≡◌, ℕ, suc, ◌+◌, ◌++◌, ◌==◌, nat_lt, Bool, true, false, List, [], ◌∷◌, length, map, Option, None, Some, Ok, Result, IfOk}
+use Rattle.std.specs.Prelude.{◌≡◌, ℕ, ◌++◌, ◌==◌, nat_lt, true, All, List, [], ◌∷◌, length, map, Option, None, Some, Ok, Result, IfOk}
+use Rattle.std.specs.List.{list_any}
 use Rattle.std.specs.Option.{IsSomeAnd}
+use Rattle.atomic_table.specs.Seated.{TableId}
 use Rattle.gate_lock.specs.Desks.{DeskView}
 use Rattle.authority_cache.specs.Calls.{one_if}
 use Rattle.gate_history.specs.declared.entry.Entry.{Entry}
 use Rattle.gate_lock.specs.Marks.{Receipt, nothing_sealed}
+use Rattle.job_line.specs.Covers.{IsNew, SeatView, ended_at, has_ended, lists_of, parts_of}
+use Rattle.job_line.specs.Limits.{max_workers}
+use Rattle.job_line.specs.Sums.{weigh, weigh_all}
 use Rattle.crawl_workers.specs.declared.crew.Done.{Done}
 use Rattle.crawl_job.specs.declared.job.Job.{Job}
 use Rattle.crawl_workers.specs.declared.report.Crawled.{Crawled}
 use Rattle.crawl_workers.specs.declared.report.ShiftFault.{ShiftFault}
+use Rattle.crawl_workers.specs.Orders.{weigh_at}
 use Rattle.crawl_workers.specs.Refreshes.{entries_of}
 use Rattle.crawl_workers.specs.Shifts.{AreDone, ArePlaced, IsDone, numbers_of}
 use Rattle.crawl_workers.specs.World.{World}
@@ -25,42 +31,84 @@ pub record HasDone (world : World) (jobs : List Job) (drawn : List ℕ) (done : 
   pub are_done : AreDone world jobs done (entries_of r.marks)
   pub are_all : r.sealed ≡ nothing_sealed
 
--- a worker: the numbers that it drew, the jobs that it did, and its end, if it has ended
-pub record MemberView : Type 0 where
+-- what a worker draws and does: its seat at the line of jobs, the numbers of the jobs that it drew, and the
+-- jobs that it did
+pub record WorkView : Type 0 where
+  pub seat : SeatView
   pub drawn : List ℕ
   pub done : List Done
+
+-- a worker: its work, and its end, if it has ended
+pub record MemberView : Type 0 where
+  pub work : WorkView
   pub end : Option (Result Receipt ShiftFault)
 
--- a worker that has drawn nothing
-abbrev pub newcomer : MemberView
-newcomer = record { drawn = []; done = []; end = None }
+-- a worker at a seat, who has drawn nothing
+abbrev pub newcomer : SeatView → MemberView
+newcomer seat = record { work = record { seat = seat; drawn = []; done = [] }; end = None }
 
--- a worker has ended; and where it has receipts, it did the jobs that it drew
-abbrev pub HasEnded : World → List Job → MemberView → Type 0
-HasEnded world jobs worker = IsSomeAnd worker.end (λ end. IfOk end (HasDone world jobs worker.drawn worker.done))
+-- the work of a worker at a new seat of the line
+pub record IsNewWork (line : TableId) (counts : List ℕ) (work : WorkView) : Type 0 where
+  pub new_seat : IsNew line counts work.seat
+  pub none_drawn : work.drawn ≡ []
+  pub none_done : work.done ≡ []
 
--- what workers hand over: what they drew, the jobs that they did, and the receipts of their desks
+-- the seat is one of the line, whose sites have so many jobs
+pub record IsAtLine (line : TableId) (counts : List ℕ) (seat : SeatView) : Type 0 where
+  pub its_line : seat.line ≡ line
+  pub its_counts : seat.counts ≡ counts
+  pub its_sites : length seat.ended ≡ length counts
+
+-- the seat is the same one, whatever was drawn at it, and of no site is the end forgotten
+pub record StaysAt (old new : SeatView) : Type 0 where
+  pub same_line : new.line ≡ old.line
+  pub same_counts : new.counts ≡ old.counts
+  pub same_parts : new.parts ≡ old.parts
+  pub same_sites : length new.ended ≡ length old.ended
+  pub ends_kept : (site : ℕ) → ended_at site old ≡ true → ended_at site new ≡ true
+
+-- a worker drew the jobs at the indexes that were drawn at its seat, and a desk with these receipts did them,
+-- and nothing else
+pub record HasWorked (world : World) (jobs : List Job) (order : List ℕ) (work : WorkView) (r : Receipt) : Type 0 where
+  pub has_drawn : (weight : ℕ → ℕ) → weigh weight work.drawn ≡ weigh (weigh_at order weight) work.seat.drawn
+  pub has_done : HasDone world jobs work.drawn work.done r
+
+-- it has, and has found the end of each site
+pub record HasEnded (world : World) (jobs : List Job) (order : List ℕ) (work : WorkView) (r : Receipt) : Type 0 where
+  pub has_worked : HasWorked world jobs order work r
+  pub all_ended : has_ended work.seat ≡ true
+
+-- a worker has ended, at the seat that it had; and where it has receipts, it did the jobs that it drew, and
+-- found the end of each site
+pub record Ends (world : World) (jobs : List Job) (order : List ℕ) (old new : MemberView) : Type 0 where
+  pub stays : StaysAt old.work.seat new.work.seat
+  pub ends : IsSomeAnd new.end (λ end. IfOk end (HasEnded world jobs order new.work))
+
+-- what workers hand over: their seats, what they drew, the jobs that they did, and the receipts of their desks
 pub record HandoverView : Type 0 where
+  pub seats : List SeatView
   pub drawn : List (List ℕ)
   pub done : List (List Done)
   pub receipts : List Receipt
 
 -- nothing yet
 abbrev pub nothing_handed : HandoverView
-nothing_handed = record { drawn = []; done = []; receipts = [] }
+nothing_handed = record { seats = []; drawn = []; done = []; receipts = [] }
 
 -- one worker more, which has receipts, hands them over
 pub record TakesIn (old : HandoverView) (worker : MemberView) (new : HandoverView) : Type 0 where
   pub receipt : Receipt
   pub end_is : worker.end ≡ Some (Ok receipt)
-  pub drawn_are : new.drawn ≡ old.drawn ++ worker.drawn ∷ []
-  pub done_are : new.done ≡ old.done ++ worker.done ∷ []
+  pub seats_are : new.seats ≡ old.seats ++ worker.work.seat ∷ []
+  pub drawn_are : new.drawn ≡ old.drawn ++ worker.work.drawn ∷ []
+  pub done_are : new.done ≡ old.done ++ worker.work.done ∷ []
   pub receipts_are : new.receipts ≡ old.receipts ++ receipt ∷ []
 
 -- these workers, who all have receipts, hand them over
 pub record HandsOver (workers : List MemberView) (h : HandoverView) : Type 0 where
-  pub drawn_are : h.drawn ≡ map (λ worker. worker.drawn) workers
-  pub done_are : h.done ≡ map (λ worker. worker.done) workers
+  pub seats_are : h.seats ≡ map (λ worker. worker.work.seat) workers
+  pub drawn_are : h.drawn ≡ map (λ worker. worker.work.drawn) workers
+  pub done_are : h.done ≡ map (λ worker. worker.work.done) workers
   pub receipts_are : map (λ r. Some (Ok r)) h.receipts ≡ map (λ worker. worker.end) workers
 
 -- each worker did the jobs that it drew
@@ -70,10 +118,17 @@ EachHasDone world jobs (numbers ∷ drawn) (done ∷ more) (r ∷ receipts) =
     HasDone world jobs numbers done r × EachHasDone world jobs drawn more receipts
 EachHasDone world jobs _ _ _ = ⊥
 
--- so many workers did all that they drew, and hand it over
-pub record AreAllDone (world : World) (jobs : List Job) (workers : ℕ) (h : HandoverView) : Type 0 where
+-- the workers at these seats of the line did all that they drew, one of them at least has found the end of
+-- each site, and they hand it over
+pub record AreAllDone (world : World) (jobs : List Job) (order : List ℕ) (line : TableId) (counts : List ℕ) (workers : ℕ) (h : HandoverView) : Type 0 where
   pub all_workers : length h.drawn ≡ workers
   pub have_done : EachHasDone world jobs h.drawn h.done h.receipts
+  pub all_seats : length h.seats ≡ workers
+  pub at_line : All (λ seat. seat.line ≡ line) h.seats
+  pub same_counts : All (λ seat. seat.counts ≡ counts) h.seats
+  pub all_parts : parts_of h.seats ≡ max_workers
+  pub one_ended : list_any has_ended h.seats ≡ true
+  pub have_drawn : (weight : ℕ → ℕ) → weigh_all weight h.drawn ≡ weigh_all (weigh_at order weight) (lists_of h.seats)
 
 -- the numbers of the jobs that each worker did
 abbrev pub all_numbers : List (List Done) → List (List ℕ)
@@ -91,9 +146,3 @@ one_at_number n m = one_if (m == n)
 -- one for a number below the count, and nothing for every other one
 abbrev pub one_below : ℕ → ℕ → ℕ
 one_below count n = one_if (nat_lt n count)
-
--- what the places that are taken weigh together, which are numbered from here on
-abbrev pub weigh_taken : (ℕ → ℕ) → ℕ → List Bool → ℕ
-weigh_taken weight from [] = 0
-weigh_taken weight from (true ∷ places) = weight from + weigh_taken weight (suc from) places
-weigh_taken weight from (false ∷ places) = weigh_taken weight (suc from) places

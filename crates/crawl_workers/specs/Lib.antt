@@ -4,10 +4,11 @@ pub mod Closings
 pub mod Crews
 pub mod Limits
 pub mod OutcomeLaws
+pub mod Orders
 pub mod Outcomes
-pub mod Queues
 pub mod Refreshes
 pub mod Shifts
+pub mod Sites
 pub mod Stale
 pub mod WaysOn
 pub mod World

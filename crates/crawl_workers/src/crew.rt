@@ -1,21 +1,24 @@
-//! The workers of a shift: each draws jobs from the frontier, and does them at a desk of its own.
+//! The workers of a shift: each draws jobs of the sites that it has entered, and does them at a desk of its own.
 //! RFC 9309 has none of it.
-ghost use Rattle.std.specs.Prelude.{◌≡◌, [], IfOk, OnOk, Some};
+ghost use Rattle.std.specs.Prelude.{◌≡◌, ◌<◌, ◌++◌, ◌∷◌, [], false, IfOk, OnOk, Some, length, true};
 ghost use Rattle.std.specs.List.{slice_get};
 ghost use Rattle.gate_lock.specs.Desks.{KeepsOut, receipt_of};
 ghost use Rattle.gate_lock.specs.Marks.{nothing_sealed};
-ghost use Rattle.crawl_workers.specs.Crews.{DoesJob, HasEnded, HasDone, newcomer};
+ghost use Rattle.job_line.specs.Covers.{ended_at};
+ghost use Rattle.crawl_workers.specs.Crews.{DoesJob, Ends, HasDone, HasEnded, HasWorked, IsAtLine, IsNewWork, StaysAt};
+ghost use Rattle.crawl_workers.specs.Orders.{IsOrder};
 ghost use Rattle.crawl_workers.specs.World.{world_of};
 
 use crate::clock::Clock;
 use crate::event::Event;
-use crate::frontier::Frontier;
 use crate::report::{Crawled, ShiftFault, Watcher};
+use crate::sites::Sites;
 use crate::worker::{Notes, Worker};
 use crate::working::work_by;
 use crawl_job::{Job, Outcome};
 use fetchers::Fetcher;
 use gate_lock::{Desk, Gate, GateLock, Receipts};
+use job_line::{JobLine, JobSeat};
 use std::alloc::{AllocError, Global};
 use std::marker::Model;
 use std::sync::Wait;
@@ -24,17 +27,22 @@ use std::sync::Wait;
 #[derive(Drop)]
 pub(crate) struct Crew<'a, F, C, W> {
     pub(crate) jobs: &'a [Job],
-    pub(crate) frontier: &'a Frontier,
+    pub(crate) line: &'a JobLine,
+    /// Which job an index of the line stands for, and how many jobs of the line each site has.
+    pub(crate) order: &'a [u64],
+    pub(crate) counts: &'a [u64],
+    pub(crate) sites: &'a Sites,
     pub(crate) fetcher: &'a F,
     pub(crate) clock: &'a C,
     pub(crate) watcher: &'a W,
+    ghost is_order: { IsOrder (length jobs.now) counts.now order.now },
 }
 
-// Who is told of the job of a number: the frontier, of robots files, and the watcher.
+// Who is told of the job of a number: the sites, of robots files, and the watcher.
 #[derive(Drop)]
 struct Told<'t, W: Watcher, R: Wait> {
     rt: &'t R,
-    frontier: &'t Frontier,
+    sites: &'t Sites,
     watcher: &'t W,
     number: u64,
 }
@@ -42,8 +50,8 @@ struct Told<'t, W: Watcher, R: Wait> {
 impl<W: Watcher, R: Wait> Notes for Told<'_, W, R> {
     fn sees(&self, event: Event<'_>) {
         match event {
-            Event::AsksRobots(authority) => self.frontier.asks(self.rt, authority),
-            Event::Answered(authority) => self.frontier.answered(self.rt, authority),
+            Event::AsksRobots(authority) => self.sites.asks(self.rt, authority),
+            Event::Answered(authority) => self.sites.answered(self.rt, authority),
             _ => {}
         }
         self.watcher.sees(self.number, event);
@@ -57,12 +65,32 @@ pub(crate) struct Done {
     pub(crate) crawled: Crawled,
 }
 
-/// A worker, as a member of the crew: the numbers that it drew, the jobs that it did, in this order, and,
-/// once it has ended, the receipts of its desk or why it has none.
+/// What a worker draws and does: its seat at the line, the numbers of the jobs that it drew, and what came
+/// of them, in this order.
 #[derive(Drop)]
-pub(crate) struct Member<G: Gate> {
+pub(crate) struct Work {
+    pub(crate) seat: JobSeat,
     pub(crate) drawn: Vec<u64>,
     pub(crate) done: Vec<Done>,
+}
+
+impl Model for Work {
+    ghost use Rattle.crawl_workers.specs.Crews.{WorkView};
+
+    ghost Value = { WorkView };
+
+    ghost view = { λ work. record {
+      seat = work.seat;
+      drawn = work.drawn.items;
+      done = work.done.items;
+    } };
+}
+
+/// A worker, as a member of the crew: its work, and, once it has ended, the receipts of its desk or why it
+/// has none.
+#[derive(Drop)]
+pub(crate) struct Member<G: Gate> {
+    pub(crate) work: Work,
     pub(crate) end: Option<Result<Receipts<G>, ShiftFault>>,
 }
 
@@ -72,8 +100,7 @@ impl<G: Gate> Model for Member<G> {
     ghost Value = { MemberView };
 
     ghost view = { λ worker. record {
-      drawn = worker.drawn.items;
-      done = worker.done.items;
+      work = worker.work;
       end = worker.end;
     } };
 }
@@ -87,11 +114,11 @@ impl<F: Fetcher, C: Clock, W: Watcher> Crew<'_, F, C, W> {
         gate: &GateLock<G>,
         worker: &mut Member<G>,
     )
-        requires new { worker.old ≡ newcomer }
-        ensures { HasEnded (world_of (F.gives self.now.fetcher.now) (C.reads self.now.clock.now))
-            self.now.jobs.now worker.new }
+        requires new { IsNewWork self.now.line.now self.now.counts.now worker.old.work }
+        ensures { Ends (world_of (F.gives self.now.fetcher.now) (C.reads self.now.clock.now))
+            self.now.jobs.now self.now.order.now worker.old worker.new }
     {
-        let end = self.man_desk(rt, alloc, gate, &mut worker.drawn, &mut worker.done);
+        let end = self.man_desk(rt, alloc, gate, &mut worker.work);
         worker.end = Some(end);
     }
 
@@ -101,75 +128,159 @@ impl<F: Fetcher, C: Clock, W: Watcher> Crew<'_, F, C, W> {
         rt: &R,
         alloc: Global,
         gate: &GateLock<G>,
-        drawn: &mut Vec<u64>,
-        done: &mut Vec<Done>,
+        work: &mut Work,
     ) -> Result<Receipts<G>, ShiftFault>
-        requires new { (drawn.old.items ≡ []) × (done.old.items ≡ []) }
-        ensures ok { IfOk result (λ r. HasDone
+        requires new { IsNewWork self.now.line.now self.now.counts.now work.old }
+        ensures seat { StaysAt work.old.seat work.new.seat }
+        ensures ok { IfOk result (λ r. HasEnded
             (world_of (F.gives self.now.fetcher.now) (C.reads self.now.clock.now))
-            self.now.jobs.now drawn.new.items done.new.items r) }
+            self.now.jobs.now self.now.order.now work.new r) }
     {
         let mut desk = gate.desk(rt, alloc)?;
-        let ended = self.draw_all(rt, alloc, &mut desk, drawn, done);
+        let ended = self.draw_all(rt, alloc, &mut desk, work);
         let receipts = desk.close();
         ended?;
         Ok(receipts)
     }
 
-    // Draws jobs until none is left, and does each. The room for what is kept of a job is taken before it
-    // is done.
+    // Enters sites until no job is left to enter for, and at each draws a job and does it. Then it does
+    // what it finds left. A worker that ends well has found the end of each site.
     fn draw_all<G: Gate, R: Wait>(
         &self,
         rt: &R,
         alloc: Global,
         desk: &mut Desk<'_, G>,
-        drawn: &mut Vec<u64>,
-        done: &mut Vec<Done>,
+        work: &mut Work,
     ) -> Result<(), AllocError>
-        requires new { (drawn.old.items ≡ []) × (done.old.items ≡ [])
+        requires new { IsNewWork self.now.line.now self.now.counts.now work.old
             × (receipt_of desk.old ≡ record { sealed = nothing_sealed; marks = [] }) }
         ensures out { KeepsOut desk.old desk.new }
-        ensures ok { OnOk result (HasDone
+        ensures seat { StaysAt work.old.seat work.new.seat }
+        ensures ok { OnOk result (HasEnded
             (world_of (F.gives self.now.fetcher.now) (C.reads self.now.clock.now))
-            self.now.jobs.now drawn.new.items done.new.items (receipt_of desk.new)) }
+            self.now.jobs.now self.now.order.now work.new (receipt_of desk.new)) }
     {
         'draws: for _ in rt.forever() {
-            let Some(next) = self.frontier.draw(rt) else {
-                return Ok(());
+            let Some(site) = self.sites.enter(rt) else {
+                return self.draw_rest(rt, alloc, desk, work);
             };
-            let did = self.do_next(rt, alloc, next.number, desk, drawn, done);
-            self.frontier.leave(rt, next.site);
-            did?;
+            let drew = self.draw_one(rt, alloc, site, desk, work);
+            self.sites.leave(rt, site);
+            drew?;
         }
         unreachable!()
     }
 
-    // Does the job that was drawn, behind those before it.
+    // Draws at each site, in order, to its end. A job that is still there is one for which a worker has
+    // entered and has not drawn yet: it then finds one job less.
+    fn draw_rest<G: Gate, R: Wait>(
+        &self,
+        rt: &R,
+        alloc: Global,
+        desk: &mut Desk<'_, G>,
+        work: &mut Work,
+    ) -> Result<(), AllocError>
+        requires seat { IsAtLine self.now.line.now self.now.counts.now work.old.seat }
+        requires so_far { HasWorked
+            (world_of (F.gives self.now.fetcher.now) (C.reads self.now.clock.now))
+            self.now.jobs.now self.now.order.now work.old (receipt_of desk.old) }
+        ensures out { KeepsOut desk.old desk.new }
+        ensures seat { StaysAt work.old.seat work.new.seat }
+        ensures ok { OnOk result (HasEnded
+            (world_of (F.gives self.now.fetcher.now) (C.reads self.now.clock.now))
+            self.now.jobs.now self.now.order.now work.new (receipt_of desk.new)) }
+    {
+        for site in 0..self.counts.len() {
+            self.draw_to_end(rt, alloc, site, desk, work)?;
+        }
+        Ok(())
+    }
+
+    // Draws at a site until its end, and does each job.
+    fn draw_to_end<G: Gate, R: Wait>(
+        &self,
+        rt: &R,
+        alloc: Global,
+        site: usize,
+        desk: &mut Desk<'_, G>,
+        work: &mut Work,
+    ) -> Result<(), AllocError>
+        requires seat { IsAtLine self.now.line.now self.now.counts.now work.old.seat }
+        requires so_far { HasWorked
+            (world_of (F.gives self.now.fetcher.now) (C.reads self.now.clock.now))
+            self.now.jobs.now self.now.order.now work.old (receipt_of desk.old) }
+        requires site { site < length self.now.counts.now }
+        ensures out { KeepsOut desk.old desk.new }
+        ensures seat { StaysAt work.old.seat work.new.seat }
+        ensures ok { OnOk result (HasWorked
+            (world_of (F.gives self.now.fetcher.now) (C.reads self.now.clock.now))
+            self.now.jobs.now self.now.order.now work.new (receipt_of desk.new)) }
+        ensures end { OnOk result (ended_at site work.new.seat ≡ true) }
+    {
+        'draws: for _ in rt.forever() {
+            if !self.draw_one(rt, alloc, site, desk, work)? {
+                return Ok(());
+            }
+        }
+        unreachable!()
+    }
+
+    // Draws a job at a site and does it, and tells whether there was one.
+    fn draw_one<G: Gate, R: Wait>(
+        &self,
+        rt: &R,
+        alloc: Global,
+        site: usize,
+        desk: &mut Desk<'_, G>,
+        work: &mut Work,
+    ) -> Result<bool, AllocError>
+        requires seat { IsAtLine self.now.line.now self.now.counts.now work.old.seat }
+        requires so_far { HasWorked
+            (world_of (F.gives self.now.fetcher.now) (C.reads self.now.clock.now))
+            self.now.jobs.now self.now.order.now work.old (receipt_of desk.old) }
+        ensures out { KeepsOut desk.old desk.new }
+        ensures seat { StaysAt work.old.seat work.new.seat }
+        ensures ok { OnOk result (HasWorked
+            (world_of (F.gives self.now.fetcher.now) (C.reads self.now.clock.now))
+            self.now.jobs.now self.now.order.now work.new (receipt_of desk.new)) }
+        ensures end { IfOk result (λ drew. drew ≡ false → site < length self.now.counts.now
+            → ended_at site work.new.seat ≡ true) }
+    {
+        let Some(index) = self.line.draw_at(&mut work.seat, site) else {
+            return Ok(false);
+        };
+        let number = self.order[index as usize];
+        self.do_next(rt, alloc, number, desk, work)?;
+        Ok(true)
+    }
+
+    // Does the job of a number, behind those before it. The room for what is kept of a job is taken before
+    // it is done.
     fn do_next<G: Gate, R: Wait>(
         &self,
         rt: &R,
         alloc: Global,
         number: u64,
         desk: &mut Desk<'_, G>,
-        drawn: &mut Vec<u64>,
-        done: &mut Vec<Done>,
+        work: &mut Work,
     ) -> Result<(), AllocError>
+        requires job { number < length self.now.jobs.now }
         requires so_far { HasDone
             (world_of (F.gives self.now.fetcher.now) (C.reads self.now.clock.now))
-            self.now.jobs.now drawn.old.items done.old.items (receipt_of desk.old) }
+            self.now.jobs.now work.old.drawn work.old.done (receipt_of desk.old) }
         ensures out { KeepsOut desk.old desk.new }
+        ensures seat { work.new.seat ≡ work.old.seat }
+        ensures drawn { OnOk result (work.new.drawn ≡ work.old.drawn ++ number ∷ []) }
         ensures ok { OnOk result (HasDone
             (world_of (F.gives self.now.fetcher.now) (C.reads self.now.clock.now))
-            self.now.jobs.now drawn.new.items done.new.items (receipt_of desk.new)) }
+            self.now.jobs.now work.new.drawn work.new.done (receipt_of desk.new)) }
     {
-        let Some(job) = self.jobs.get(number as usize) else {
-            return Ok(());
-        };
-        drawn.reserve(1)?;
-        done.reserve(1)?;
+        work.drawn.reserve(1)?;
+        work.done.reserve(1)?;
+        let job = &self.jobs[number as usize];
         let did = self.do_job(rt, alloc, number, job, desk)?;
-        drawn.push_reserved(number);
-        done.push_reserved(did);
+        work.drawn.push_reserved(number);
+        work.done.push_reserved(did);
         Ok(())
     }
 
@@ -196,7 +307,7 @@ impl<F: Fetcher, C: Clock, W: Watcher> Crew<'_, F, C, W> {
             clock: self.clock,
             notes: &Told {
                 rt,
-                frontier: self.frontier,
+                sites: self.sites,
                 watcher: self.watcher,
                 number,
             },

@@ -5,15 +5,16 @@
 mod clock;
 mod crew;
 mod event;
-mod frontier;
 mod handover;
 pub mod laws;
-mod once;
+mod order;
 mod places;
 mod refreshing;
 mod report;
 mod shift;
+mod sites;
 mod stale;
+mod turns;
 mod way_on;
 mod worker;
 mod working;

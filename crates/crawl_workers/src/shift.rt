@@ -1,22 +1,23 @@
 //! A shift: several workers do the jobs of a list over one gate, each on a thread of its own.
 //! RFC 9309, sections 2.2 to 2.4, in the profile of docs/POLICY.md.
-ghost use Rattle.std.specs.Prelude.{◌≡◌, ◌≤◌, ◌<◌, ℕ, All, IfOk, OnOk, length, replicate, slice_index_or, vec_len};
+ghost use Rattle.std.specs.Prelude.{◌≡◌, ◌≤◌, ◌<◌, ℕ, All, IfOk, OnOk, length, map, slice_index_or, vec_len};
+ghost use Rattle.job_line.specs.Covers.{IsNew, parts_of};
 ghost use Rattle.job_line.specs.Limits.{max_jobs, max_workers};
-ghost use Rattle.crawl_workers.specs.Crews.{AreAllDone, HasEnded, MemberView, newcomer, nothing_handed};
+ghost use Rattle.crawl_workers.specs.Crews.{AreAllDone, Ends, IsNewWork, MemberView, newcomer, nothing_handed};
 ghost use Rattle.crawl_workers.specs.Shifts.{IsShift};
 ghost use Rattle.crawl_workers.specs.World.{world_of};
 
 use crate::clock::Clock;
-use crate::crew::{Crew, Member};
-use crate::frontier::Frontier;
+use crate::crew::{Crew, Member, Work};
 use crate::handover::Handover;
-use crate::once::are_all_once;
+use crate::order::Order;
 use crate::places::place_all;
 use crate::report::{Crawled, Report, ShiftFault, Watcher};
+use crate::sites::Sites;
 use crawl_job::Job;
 use fetchers::Fetcher;
-use gate_lock::{Gate, GateLock, SettleFault, settle};
-use job_line::MAX_WORKERS;
+use gate_lock::{Gate, GateLock, settle};
+use job_line::{JobLine, JobSeat, MAX_WORKERS};
 use std::alloc::{AllocError, Global};
 use std::sync::Wait;
 use std::thread;
@@ -55,25 +56,36 @@ pub fn run_shift<
         jobs.now workers) }
 {
     let mut outcomes = no_outcomes(alloc, jobs.len())?;
-    let mut places = vec![in alloc; false; jobs.len()]?;
     let mut handover = Handover::with_room(alloc)?;
-    let frontier = Frontier::new(alloc, jobs, workers, gate.lend(rt).book().limits().places)?;
-    let crew = Crew {
-        jobs,
-        frontier: &frontier,
-        fetcher,
-        clock,
-        watcher,
-    };
-    crew.do_all(rt, alloc, gate, workers, &mut handover)?;
+    let Order {
+        names,
+        counts,
+        numbers,
+    } = Order::of_jobs(alloc, jobs)?;
+    let places = gate.lend(rt).book().limits().places;
+    let sites = Sites::new(alloc, names, &counts, workers, places)?;
+    let (line, seats) = JobLine::of_sites(alloc, &counts, workers)?;
+    {
+        let crew = Crew {
+            jobs,
+            line: &line,
+            order: &numbers,
+            counts: &counts,
+            sites: &sites,
+            fetcher,
+            clock,
+            watcher,
+        };
+        crew.do_all(rt, alloc, gate, seats, &mut handover)?;
+    }
     let Handover {
+        seats,
         drawn,
         done,
         receipts,
     } = handover;
-    if !are_all_once(drawn.as_slice(), &mut places) {
-        return Err(ShiftFault::Unsettled(SettleFault::Mismatch));
-    }
+    // One worker alone has found the end of each site, so all seats together drew each job, once.
+    line.gather(seats);
     place_all(&mut outcomes, done);
     let settled = settle(rt, alloc, gate, &receipts)?;
     Ok(Report {
@@ -97,15 +109,18 @@ fn no_outcomes(alloc: Global, count: usize) -> Result<Vec<Crawled>, AllocError>
     Ok(outcomes)
 }
 
-// So many workers, who have drawn nothing.
-fn hire<G: Gate>(alloc: Global, workers: u64) -> Result<Vec<Member<G>>, AllocError>
-    ensures { IfOk result (λ members. members.items ≡ replicate workers newcomer) }
+// A worker for each seat, who has done nothing.
+fn hire<G: Gate>(alloc: Global, seats: Vec<JobSeat>) -> Result<Vec<Member<G>>, AllocError>
+    ensures { IfOk result (λ members. members.items ≡ map newcomer seats.items) }
 {
-    let mut members = Vec::with_capacity(alloc, workers as usize)?;
-    for _ in 0..workers {
+    let mut members = Vec::with_capacity(alloc, seats.len())?;
+    for seat in seats {
         members.push_reserved(Member {
-            drawn: Vec::new(alloc),
-            done: Vec::new(alloc),
+            work: Work {
+                seat,
+                drawn: Vec::new(alloc),
+                done: Vec::new(alloc),
+            },
             end: None,
         });
     }
@@ -113,22 +128,25 @@ fn hire<G: Gate>(alloc: Global, workers: u64) -> Result<Vec<Member<G>>, AllocErr
 }
 
 impl<F: Fetcher + Sync, C: Clock + Sync, W: Watcher + Sync> Crew<'_, F, C, W> {
-    // Lets so many workers do all jobs, and takes what they hand over.
+    // Lets a worker at each seat do all jobs with the others, and takes what they hand over.
     fn do_all<G: Gate + Send + Sync, R: Threads + Wait + Sync>(
         &self,
         rt: &R,
         alloc: Global,
         gate: &GateLock<G>,
-        workers: u64,
+        seats: Vec<JobSeat>,
         handover: &mut Handover<G>,
     ) -> Result<(), ShiftFault>
-        requires few { workers ≤ max_workers }
+        requires few { (1 ≤ vec_len seats) × (vec_len seats ≤ max_workers) }
+        requires seats { All (IsNew self.now.line.now self.now.counts.now) seats.items }
+        requires parts { parts_of seats.items ≡ max_workers }
         requires new { handover.old ≡ nothing_handed }
         ensures { OnOk result (AreAllDone
             (world_of (F.gives self.now.fetcher.now) (C.reads self.now.clock.now))
-            self.now.jobs.now workers handover.new) }
+            self.now.jobs.now self.now.order.now self.now.line.now self.now.counts.now
+            (vec_len seats) handover.new) }
     {
-        let mut members = hire(alloc, workers)?;
+        let mut members = hire(alloc, seats)?;
         self.employ_all(rt, alloc, gate, &mut members);
         handover.take_all(members)?;
         Ok(())
@@ -142,10 +160,12 @@ impl<F: Fetcher + Sync, C: Clock + Sync, W: Watcher + Sync> Crew<'_, F, C, W> {
         gate: &GateLock<G>,
         members: &mut [Member<G>],
     )
-        requires new { All (λ member. member ≡ newcomer) members.old }
+        requires new { All (λ member. IsNewWork self.now.line.now self.now.counts.now member.work)
+            members.old }
         ensures { (i : ℕ) (d : MemberView) → i < length members.old →
-            HasEnded (world_of (F.gives self.now.fetcher.now) (C.reads self.now.clock.now))
-            self.now.jobs.now (slice_index_or members.new i d) }
+            Ends (world_of (F.gives self.now.fetcher.now) (C.reads self.now.clock.now))
+            self.now.jobs.now self.now.order.now
+            (slice_index_or members.old i d) (slice_index_or members.new i d) }
     {
         let crew = self;
         thread::for_each_mut(
@@ -153,10 +173,10 @@ impl<F: Fetcher + Sync, C: Clock + Sync, W: Watcher + Sync> Crew<'_, F, C, W> {
             members,
             MAX_WORKERS as usize,
             &|_: usize, member: &mut Member<G>|
-                requires { member.old ≡ newcomer }
-                ensures { HasEnded
+                requires { IsNewWork crew.now.line.now crew.now.counts.now member.old.work }
+                ensures { Ends
                     (world_of (F.gives crew.entry.now.fetcher.now) (C.reads crew.entry.now.clock.now))
-                    crew.entry.now.jobs.now member.new }
+                    crew.entry.now.jobs.now crew.entry.now.order.now member.old member.new }
             { crew.employ(rt, alloc, gate, member) },
         );
     }

@@ -1,0 +1,106 @@
+-- What a worker drew and which ends it found, when it draws once more, and what all workers drew.
+-- Used by `Crew` and `run_shift`.
+use Rattle.std.proofs.Common.{◌≡◌, ◌∙◌, ℕ, zero, suc, ◌+◌, ◌<◌, ◌≤◌, Bool, true, false, List, [], ◌∷◌, ◌++◌, length, slice_set, ap, refl, sym, subst, arith}
+use Rattle.std.specs.Prelude.{slice_index, slice_index_or}
+use Rattle.std.specs.List.{list_all, list_any}
+use Rattle.std.proofs.lemmas.List.{length-set}
+use Rattle.atomic_table.specs.Seated.{TableId}
+use Rattle.job_line.specs.Covers.{Covers, SeatView, has_ended, lists_of}
+use Rattle.job_line.specs.Sums.{weigh, weigh_all, weigh_below}
+use Rattle.crawl_workers.specs.Crews.{IsAtLine, StaysAt, one_at_number}
+use Rattle.crawl_workers.specs.Orders.{IsOrder, weigh_at}
+use Rattle.crawl_workers.proofs.Ordering.{weigh_both, weigh_indexes}
+use Rattle.crawl_workers.proofs.Placing.{one_below_some, one_for_itself, weigh_below-one_for}
+
+-- a list weighs at least what one of its numbers does
+weigh_one : (weight : ℕ → ℕ) (xs : List ℕ) (i : ℕ) → i < length xs → weight (slice_index xs i) ≤ weigh weight xs
+weigh_one weight [] i there = absurd (omega arith)
+weigh_one weight (x ∷ xs) zero there = omega arith
+weigh_one weight (x ∷ xs) (suc i) there = let later = weigh_one weight xs i (omega (arith, there)) in omega (arith, later)
+
+-- the order has numbers of jobs alone
+pub is_job : (count : ℕ) (counts order : List ℕ) → IsOrder count counts order → (index : ℕ) → index < length order → slice_index order index < count
+is_job count counts order is index there =
+    let n = slice_index order index in
+    let at = weigh_one (one_at_number n) order index there in
+    let all = is.each_once (one_at_number n) in
+    let one = one_for_itself n in
+    let below = weigh_below-one_for n count in
+    one_below_some count n (omega (arith, at, all, one, below))
+
+-- a job more is drawn
+pub draws_more : (order drawn now : List ℕ) (seat after : List ℕ) (index number : ℕ) → ((weight : ℕ → ℕ) → weigh weight drawn ≡ weigh (weigh_at order weight) seat)
+    → number ≡ slice_index order index → after ≡ seat ++ index ∷ [] → now ≡ drawn ++ number ∷ []
+    → (weight : ℕ → ℕ) → weigh weight now ≡ weigh (weigh_at order weight) after
+draws_more order drawn now seat after index number so_far job at_seat more weight =
+    omega (
+      arith,
+      so_far weight,
+      ap weight job,
+      ap (weigh weight) more,
+      weigh_both weight drawn (number ∷ []),
+      ap (weigh (weigh_at order weight)) at_seat,
+      weigh_both (weigh_at order weight) seat (index ∷ []),
+    )
+
+-- an end that was found stays found, and so is one more
+pub end_kept : (ended : List Bool) (site other : ℕ) → slice_index_or ended other false ≡ true → slice_index_or (slice_set ended site true) other false ≡ true
+end_kept [] site other is = is
+end_kept (end ∷ ended) zero zero is = refl
+end_kept (end ∷ ended) zero (suc other) is = is
+end_kept (end ∷ ended) (suc site) zero is = is
+end_kept (end ∷ ended) (suc site) (suc other) is = end_kept ended site other is
+
+pub end_is_found : (ended : List Bool) (site : ℕ) → site < length ended → slice_index_or (slice_set ended site true) site false ≡ true
+end_is_found [] site there = absurd (omega arith)
+end_is_found (end ∷ ended) zero there = refl
+end_is_found (end ∷ ended) (suc site) there = end_is_found ended site (omega (arith, there))
+
+-- the ends of all sites
+pub all_found : (ended : List Bool) → ((site : ℕ) → site < length ended → slice_index_or ended site false ≡ true) → list_all (λ end. end) ended ≡ true
+all_found [] each = refl
+all_found (true ∷ ended) each = all_found ended (λ site there. each (suc site) (omega (arith, there)))
+all_found (false ∷ ended) each = absurd (apart (each 0 (omega arith)))
+  where
+    apart : false ≡ true → ⊥
+    apart is = cc
+
+-- the seat is the same one where nothing is drawn, where a job is drawn, and where an end is found
+pub stays : (seat : SeatView) → StaysAt seat seat
+stays seat = record { same_line = refl; same_counts = refl; same_parts = refl; same_sites = refl; ends_kept = λ site is. is }
+
+pub stays_drawn : (old new : SeatView) (drawn : List ℕ) → new ≡ record old { drawn = drawn } → StaysAt old new
+stays_drawn old new drawn is = subst (StaysAt old) (sym is) (record { same_line = refl; same_counts = refl; same_parts = refl; same_sites = refl; ends_kept = λ site end. end })
+
+pub stays_ended : (old new : SeatView) (site : ℕ) → new ≡ record old { ended = slice_set old.ended site true } → StaysAt old new
+stays_ended old new site is = subst (StaysAt old) (sym is) (record {
+  same_line = refl;
+  same_counts = refl;
+  same_parts = refl;
+  same_sites = length-set old.ended site true;
+  ends_kept = λ other end. end_kept old.ended site other end;
+})
+
+pub stays_on : (old mid new : SeatView) → StaysAt old mid → StaysAt mid new → StaysAt old new
+stays_on old mid new first second = record {
+  same_line = second.same_line ∙ first.same_line;
+  same_counts = second.same_counts ∙ first.same_counts;
+  same_parts = second.same_parts ∙ first.same_parts;
+  same_sites = second.same_sites ∙ first.same_sites;
+  ends_kept = λ site end. second.ends_kept site (first.ends_kept site end);
+}
+
+pub at_line_still : (line : TableId) (counts : List ℕ) (old new : SeatView) → StaysAt old new → IsAtLine line counts old → IsAtLine line counts new
+at_line_still line counts old new stays at = record {
+  its_line = stays.same_line ∙ at.its_line;
+  its_counts = stays.same_counts ∙ at.its_counts;
+  its_sites = stays.same_sites ∙ at.its_sites;
+}
+
+-- all workers drew all jobs, each once, where the seats cover the line and one found the end of each site
+pub drawn_once : (count : ℕ) (counts order : List ℕ) (drawn : List (List ℕ)) (seats : List SeatView) → IsOrder count counts order → Covers counts seats → list_any has_ended seats ≡ true
+    → ((weight : ℕ → ℕ) → weigh_all weight drawn ≡ weigh_all (weigh_at order weight) (lists_of seats))
+    → (weight : ℕ → ℕ) → weigh_all weight drawn ≡ weigh_below weight count
+drawn_once count counts order drawn seats is covers ended same weight =
+    same weight ∙ covers.one_ended ended (weigh_at order weight) ∙ ap (weigh_below (weigh_at order weight)) (is.jobs ∙ sym is.len)
+    ∙ weigh_indexes weight order ∙ is.each_once weight
