@@ -1,0 +1,17 @@
+-- The next seat is of the line, as all are that are left.
+-- Used by `hire`.
+use Rattle.std.proofs.Common.{◌≡◌, rules, subst}
+use Rattle.std.specs.Prelude.{All}
+use Rattle.std.proofs.lemmas.List.Elements.{All-head, All-tail}
+use Rattle.job_line.specs.Covers.{SeatView}
+use Rattle.line_server.proofs.server.hire.Goals as goal
+
+pub invariant_of-servant : goal.invariant_of-servant
+invariant_of-servant g c =
+    let own = subst (All (λ (seat : SeatView). seat.line ≡ c.args.line.now)) c.in-Some.ensures.steps.0 c.loop-seat.invariant.own in
+    record { is_of = All-head (λ (seat : SeatView). seat.line ≡ c.args.line.now) c.in-Some.seat c.next.new.self.rest.items own }
+
+pub loop-seat-preserved : goal.loop-seat-preserved
+loop-seat-preserved g c =
+    let own = subst (All (λ (seat : SeatView). seat.line ≡ c.args.line.now)) c.in-Some.ensures.steps.0 c.loop-seat.invariant.own in
+    record { own = All-tail (λ (seat : SeatView). seat.line ≡ c.args.line.now) c.in-Some.seat c.next.new.self.rest.items own }

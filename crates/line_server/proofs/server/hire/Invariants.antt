@@ -1,0 +1,11 @@
+-- The seats that are left are all of the line.
+-- Used by `hire`.
+use Rattle.std.proofs.Common.{◌≡◌}
+use Rattle.std.specs.Prelude.{All}
+use Rattle.job_line.specs.Covers.{SeatView}
+use Rattle.line_server.proofs.server.hire.Given as goal
+
+abbrev pub invariant-loop-seat : goal.invariant-loop-seat
+invariant-loop-seat g l = record {
+  own : All (λ (seat : SeatView). seat.line ≡ l.fn.line) l.seat-iterator.rest.items;
+}
