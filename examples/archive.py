@@ -3,6 +3,8 @@
 
 usage: archive.py PORT TOKEN FOLDER [--every SECONDS] < URLS
 
+In place of a port it takes the path of a socket, which has a `/` in it.
+
 The URLs, one a line, are fetched one after the other by FETCH (clients/crawlgate.py). Every hour, or every so many
 seconds (0: behind each page), and at the end, the gate's history is sealed, and two files are written into the folder.
 Their names are the number of entries before them, so that they sort in the order of the seals:
@@ -10,21 +12,29 @@ Their names are the number of entries before them, so that they sort in the orde
     000000000000.segment   what SEAL handed out; `cat FOLDER/*.segment | crawlgate audit` audits all of them
     000000000000.warc      WARC/1.1: the pages that were fetched since the last seal, a response record each
 
+Until then each page lies in FOLDER/waiting, in a file of its own: a line of JSON with its URL and its hops, and the body.
+SIGINT and SIGTERM end the archive behind the page at hand, with a seal; what a killed one leaves waiting has no record.
+
 A response record has two fields of its own: `WARC-Crawlgate-Permit`, the number of the permit, and
 `WARC-Crawlgate-Reason`, by what it was allowed: `line <n>` of the robots file, `norule`, `robots` or `open`. So
 `grep -h "^S [0-9]* 65536 " FOLDER/*.segment` finds the start of the page's fetch.
 
 What FETCH replies is the status, the reason and the body of the last page, and no header field: the head in a record is
 a status line made of the status. The permit's number is not told either, nor the page to which redirects led, nor the
-moment. They are taken from the segment: the i-th start of the token in it is the i-th hop that fetched something. So
-pages wait in memory for their seal, which comes early where they have 64 MB, and the token must be this archive's
-alone: where others fetch under it the two do not fit, and the archive ends. One folder belongs to one run of the gate.
+moment. They are taken from the segment: the i-th start of the token in it is the i-th hop that fetched something, and
+the first of each page is that of its URL. So pages wait for their seal, which comes early where they have 64 MB, and the
+token must be this archive's alone, and the seals too: where others fetch under it, or seal, the archive ends behind the
+segment at hand. One folder belongs to one run of the gate.
 
-The last line is `pages <n> segments <m>`; what brought no page is told on standard error.
+The last line is `pages <n> segments <m>`; what brought no page is told on standard error, as are URLs that the gate does
+not take. The status is 1 where a signal ended it.
 """
 import base64
 import hashlib
+import json
 import os
+import shutil
+import signal
 import sys
 import time
 import uuid
@@ -43,11 +53,17 @@ INFO = (
 
 @dataclass
 class Page:
-    """What FETCH replied for a URL: the words of its hops, and the body of the last."""
+    """What FETCH replied for a URL, as the gate writes it: the words of its hops, and the file that has the body of the last
+    one."""
 
     url: str
     hops: List[str]
-    body: bytes
+    path: str
+
+    def body(self):
+        with open(self.path, "rb") as file:
+            file.readline()
+            return file.read()
 
     def fetches(self):
         """Returns the hops that fetched something: each of them has a start in the history."""
@@ -80,19 +96,22 @@ def starts_of(text, token):
     return starts
 
 
-def entries_before(text):
-    """Returns how many entries the history has before those of a segment."""
-    version, first = text.split(b"\n", 2)[:2]
-    return int(first.split(b" ")[1]) if version == b"V 3" else 0
+def entries_of(text):
+    """Returns how many entries the history has before those of a segment, and how many the segment has."""
+    if not text.startswith(b"V 3\n"):
+        return 0, text.count(b"\n") - 1
+    base, _, entries = text.partition(b"\nE\n")
+    return int(base.split(b"\n")[1].split(b" ")[1]), entries.count(b"\n")
 
 
 def tied(pages, starts):
     """Returns each page that was fetched, with the start of its last fetch."""
     left, found = list(starts), []
     for page in pages:
-        for hop in page.fetches():
+        for place, hop in enumerate(page.fetches()):
             start = left.pop(0) if left else None
-            if start is None or (hop.startswith("PAGE ") and not hop.startswith(f"PAGE {start.reason} ")):
+            is_other = start is None or (place == 0 and start.url != page.url)
+            if is_other or (hop.startswith("PAGE ") and not hop.startswith(f"PAGE {start.reason} ")):
                 sys.exit(f"archive.py: the segment has no such start of {page.url}: who else fetches under this token?")
         if page.hops[-1].startswith("PAGE "):
             found.append((page, start))
@@ -122,14 +141,15 @@ def record(kind, name, moment, fields, block):
 def response(page, start, info):
     """Returns the record of a page."""
     *reason, status, _, whole = page.hops[-1].split(" ")[1:]
+    body = page.body()
     fields = {
-        "WARC-Target-URI": start.url, "WARC-Warcinfo-ID": info, "WARC-Payload-Digest": digest(page.body),
+        "WARC-Target-URI": start.url, "WARC-Warcinfo-ID": info, "WARC-Payload-Digest": digest(body),
         "WARC-Crawlgate-Permit": start.number, "WARC-Crawlgate-Reason": " ".join(reason),
         "Content-Type": "application/http; msgtype=response",
     }
     if whole == "cut":
         fields["WARC-Truncated"] = "length"
-    block = f"HTTP/1.1 {status} \r\n\r\n".encode() + page.body
+    block = f"HTTP/1.1 {status} \r\n\r\n".encode() + body
     return record("response", name_of_record(), start.moment, fields, block)
 
 
@@ -153,21 +173,33 @@ def keep(folder, name, octets):
 
 
 class Archive:
-    """A folder, and the pages that wait for their seal."""
+    """A folder, and the pages that wait in it for their seal."""
 
     def __init__(self, gate, token, folder):
         self.gate, self.token, self.folder = gate, token.lower(), folder
         self.waiting, self.octets, self.pages, self.segments = [], 0, 0, 0
-        self.sealed = time.monotonic()
+        self.sealed, self.entries = time.monotonic(), None
+        self.room = f"{folder}/waiting"
+        try:
+            os.makedirs(self.room)
+        except FileExistsError:
+            sys.exit(f"archive.py: pages of an archive that was killed are in {self.room}: move them away")
 
     def fetch(self, url):
         try:
-            fetched = self.gate.fetch(self.token, url)
+            written = self.gate.written(url)
+            fetched = self.gate.fetch(self.token, written)
         except Refused as refused:
             return print(f"{url}: ERR {refused.word}", file=sys.stderr)
+        except ValueError:
+            return print(f"{url}: ERR chars", file=sys.stderr)
         if not fetched.is_page:
             print(f"{url}: {fetched.hops[-1]}", file=sys.stderr)
-        self.waiting.append(Page(url, fetched.hops, fetched.body))
+        path = f"{self.room}/{len(self.waiting):06}.page"
+        told = json.dumps({"url": written, "hops": fetched.hops})
+        with open(os.open(path, os.O_WRONLY | os.O_CREAT | os.O_EXCL | os.O_NOFOLLOW, 0o644), "wb") as file:
+            file.write(told.encode() + b"\n" + fetched.body)
+        self.waiting.append(Page(written, fetched.hops, path))
         self.octets += len(fetched.body)
 
     def is_due(self, seconds):
@@ -178,12 +210,18 @@ class Archive:
         text = self.gate.seal()
         self.sealed = time.monotonic()
         if text:
-            name = f"{entries_before(text):012}"
+            before, count = entries_of(text)
+            name = f"{before:012}"
             keep(self.folder, f"{name}.segment", text)
             self.segments += 1
+            if self.entries not in (None, before):
+                sys.exit(f"archive.py: who else seals? No segment here has the entries {self.entries} to {before}")
+            self.entries = before + count
             pages = tied(self.waiting, starts_of(text, self.token))
             if pages:
                 self.write(f"{name}.warc", pages)
+        for page in self.waiting:
+            os.unlink(page.path)
         self.waiting, self.octets = [], 0
 
     def write(self, name, pages):
@@ -193,6 +231,11 @@ class Archive:
         keep(self.folder, name, b"".join(records + [response(page, start, info) for page, start in pages]))
         self.pages += len(pages)
 
+    def end(self):
+        """Seals once more, and removes the room of the pages that waited."""
+        self.seal()
+        shutil.rmtree(self.room)
+
 
 def main(given):
     every = 3600.0
@@ -201,18 +244,24 @@ def main(given):
         given.pop(3)
     if len(given) != 3 or given[0].startswith("-"):
         sys.exit(__doc__)
-    port, token, folder = given
+    place, token, folder = given
     urls = [line.strip() for line in sys.stdin if line.strip()]
+    signals = []
+    for kind in (signal.SIGINT, signal.SIGTERM):
+        signal.signal(kind, lambda number, _: signals.append(number))
     os.makedirs(folder, exist_ok=True)
-    with Gate("127.0.0.1", int(port)) as gate:
+    with Gate.at(place) as gate:
         archive = Archive(gate, token, folder)
         for url in urls:
+            if signals:
+                break
             archive.fetch(url)
             if archive.is_due(every):
                 archive.seal()
-        archive.seal()
+        archive.end()
     print(f"pages {archive.pages} segments {archive.segments}")
+    return 1 if signals else 0
 
 
 if __name__ == "__main__":
-    main(sys.argv[1:])
+    sys.exit(main(sys.argv[1:]))
