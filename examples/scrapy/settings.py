@@ -1,0 +1,14 @@
+"""Settings of a Scrapy project whose pages are fetched under permits of `crawlgate serve`."""
+CRAWLGATE_TOKEN = "foobot"
+# a port of this machine, or the path of a socket
+CRAWLGATE_PLACE = "4000"
+# how many sessions it has with the server, which are as many of its --workers
+CRAWLGATE_SESSIONS = 4
+
+USER_AGENT = CRAWLGATE_TOKEN
+# each page of http and https goes through the gate, and nothing else is fetched
+DOWNLOAD_HANDLERS = {
+    "http": "crawlgate_scrapy.GateHandler", "https": "crawlgate_scrapy.GateHandler", "ftp": None, "s3": None,
+}
+# the gate reads the robots files
+ROBOTSTXT_OBEY = False
