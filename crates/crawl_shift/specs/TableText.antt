@@ -36,10 +36,10 @@ abbrev pub octets_of : Hop → Option ℕ
 octets_of (hops.Page number reason status size cut) = Some size
 octets_of _ = None
 
--- a number, or a dash where there is none
+-- a number, or nothing where there is none
 abbrev pub number_text : Option ℕ → List ℕ
 number_text (Some number) = decimal number
-number_text None = codes "-"
+number_text None = []
 
 -- what came of a hop, its status, its octets and the milliseconds of its fetch
 abbrev pub outcome_text : Hop → Option ℕ → List ℕ

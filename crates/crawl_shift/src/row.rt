@@ -153,9 +153,9 @@ fn octets_of(hop: &Hop) -> Option<u64>
     }
 }
 
-// A number, or a dash.
+// A number, or nothing: who reads a table of numbers takes an empty cell for none.
 fn number(number: Option<u64>) -> Piece<'static>
     ensures { piece_text result ≡ number_text number }
 {
-    number.map_or(Piece::Text("-"), |number| Piece::Number(number))
+    number.map_or(Piece::Text(""), |number| Piece::Number(number))
 }
