@@ -168,6 +168,50 @@ def fetches_for_nobody():
     return f"{fetched} of 2,000 pages were fetched"
 
 
+def turned_away(server, head):
+    """Returns what comes back to a browser that sends this head, with a page's lines as its body."""
+    with Session(server) as it:
+        it.send(head.encode() + b"SEAL\nURL http://a.example/\n")
+        return it.rest()
+
+
+def browser_is_turned_away():
+    """A web page has a browser send lines to the server: the head's first line ends the session, wherever it leads."""
+    heads = ["POST / HTTP/1.1\r\nHost: localhost\r\n\r\n", "GET /x?y HTTP/1.0\n\n", "URL http://a.example/ HTTP/1.1\n"]
+    with Server("--workers", "1") as server:
+        replies = [turned_away(server, it) for it in heads]
+        with Session(server) as it:
+            # another line, or a later one, is answered as ever
+            same(it.say("POST / HTTP/2"), "ERR verb")
+            same(it.say("POST / HTTP/1.1"), "ERR verb")
+            same(it.say("URL http://a.example/"), "URL http://a.example/")
+    same(replies, [b"ERR verb\n", b"ERR verb\n", b"ERR words\n"])
+
+
+def client_with_bounds():
+    """One client gets two permits, and makes two sites known; the next one as many."""
+    sites = [open_site() for _ in range(3)]
+    known, other, third = (it.authority for it in sites)
+    moved = open_site({"/x": response(302, b"", f"Location: {sites[2].url('/x')}")})
+    x = sites[0].url("/x")
+    with Server("--client-permits", "2", "--client-authorities", "2") as server:
+        with Session(server) as it:
+            same(it.say(f"REFRESH {known}"), f"TAKEN {known} open")
+            same(it.say_all([f"ASK foobot {x}"] * 3), ["PERMIT 65536", "PERMIT 65537", "ERR permits"])
+            same(it.say_all([f"START 65536 foobot {x}", f"ASK foobot {x}"]), ["GO 65536 open", "ERR permits"])
+            same(it.say_all(["DONE 65536", f"ASK foobot {x}"]), ["DONE 65536", "PERMIT 131072"])
+            # a site that is known already counts once
+            same(it.say_all([f"REFRESH {known}", f"REFRESH {other}"]), [f"TAKEN {known} open", f"TAKEN {other} open"])
+            same(it.say_all([f"REFRESH {third}", f"REFRESH {known}"]), ["ERR authorities"] * 2)
+            it.send(f"FETCH foobot {x}\n".encode())
+            same(it.lines(3), ["HOP 1 ERR authorities", "BODY 0", ""])
+        with Session(server) as it:
+            it.send(f"FETCH foobot {moved.url('/x')}\n".encode())
+            same(it.lines(4), ["HOP 1 PAGE open 302 0 whole", "HOP 2 PAGE open 200 5 whole", "BODY 5", "hello"])
+            same(it.say(f"REFRESH {known}"), "ERR authorities")
+            same(it.say("QUIT"), "BYE")
+
+
 def patience_with_good_clients():
     """A patience of two seconds is no limit of a session, and a fetch takes as long as it takes."""
     site = open_site({"/slow": (3.5, response(200, b"hello"))})
@@ -277,7 +321,22 @@ def memory():
     return f"{before / 1e6:.1f} MB, and {after / 1e6:.1f} behind {count:,} fetches, {each:.0f} octets an entry"
 
 
+def refreshed_again_and_again():
+    """A robots file of 500,000 octets that stays as it is lies in memory once, however often it is fetched."""
+    rules = b"user-agent: *\n" + b"disallow: /private/of/somebody\n" * 16_000
+    site = open_site({"/robots.txt": response(200, rules)})
+    with Server("--workers", "1") as server, Session(server) as it:
+        line, wanted = f"REFRESH {site.authority}", f"TAKEN {site.authority} rules"
+        same(it.say_all([line] * 20), [wanted] * 20)
+        before = server.resident()
+        same(it.say_all([line] * 100), [wanted] * 100)
+        more = server.resident() - before
+    assert more < 10_000_000, f"{more:,} octets more"
+    return f"{more:,} octets more behind 100 fetches of {len(rules):,}"
+
+
 CASES = [
     numbers_of_others, killed_clients, unread_behind_the_end, nobody_holds_a_worker, gone_during_a_fetch, fetches_for_nobody,
-    patience_with_good_clients, few_descriptors, full_history, closed_streams, memory,
+    browser_is_turned_away, client_with_bounds, patience_with_good_clients, few_descriptors, full_history, closed_streams, memory,
+    refreshed_again_and_again,
 ]

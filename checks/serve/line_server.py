@@ -58,14 +58,16 @@ class Site:
 
 
 class Server:
-    """The built program as a line server, from its first line on. It can be started without a standard stream, as `>&-`; then
-    nothing is read of it, and the port must be told."""
+    """The built program as a line server, from its first line on, at a port or at a socket. It can be started without a
+    standard stream, as `>&-`; then nothing is read of it, and the port must be told."""
 
     program = None
 
-    def __init__(self, *words, without="", port=0):
+    def __init__(self, *words, without="", port=0, path=None):
         streams = {"stdin": subprocess.DEVNULL, "stdout": subprocess.PIPE, "stderr": subprocess.PIPE}
-        words = [self.program, "serve", "--port", str(port), *words]
+        place = ["--socket", path] if path else ["--port", str(port)]
+        words = [self.program, "serve", *place, *words]
+        self.path = path
         if without:
             words = ["sh", "-c", f'exec "$@" {without}', "sh", *words]
         self.process = subprocess.Popen(words, **streams)
@@ -77,7 +79,9 @@ class Server:
         is_there = select.select([self.process.stdout], [], [], SECONDS)[0]
         line = self.process.stdout.readline() if is_there else b""
         found = re.fullmatch(rb"LISTEN 127\.0\.0\.1:(\d+)\n", line)
-        if not found:
+        if self.path and line == f"LISTEN {self.path}\n".encode():
+            return
+        if self.path or not found:
             self.process.kill()
             raise AssertionError(f"its first line is {line!r}; {short(self.process.communicate()[1])}")
         self.port = int(found[1])
@@ -104,8 +108,13 @@ class Session:
     """A client's connection."""
 
     def __init__(self, server, seconds=SECONDS):
-        self.peer = socket.create_connection((HOST, server.port), seconds)
-        self.peer.setsockopt(socket.IPPROTO_TCP, socket.TCP_NODELAY, 1)
+        if server.path:
+            self.peer = socket.socket(socket.AF_UNIX)
+            self.peer.settimeout(seconds)
+            self.peer.connect(server.path)
+        else:
+            self.peer = socket.create_connection((HOST, server.port), seconds)
+            self.peer.setsockopt(socket.IPPROTO_TCP, socket.TCP_NODELAY, 1)
         self.unread = b""
         # how many reads brought something
         self.reads = 0

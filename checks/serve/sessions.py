@@ -1,5 +1,6 @@
 """Cases of checks/serve with good clients: what is replied to lines, of whatever form."""
 import importlib.util
+import os
 import socket
 import subprocess
 import sys
@@ -179,9 +180,10 @@ def python_client():
     return client
 
 
-def client_of(kind, server, *words):
+def client_of(kind, server, *words, **environment):
     """Returns what a client writes as a program, its standard error, and its status."""
-    ran = subprocess.run([f"{CLIENTS}/crawlgate.{kind}", str(server.port), *words], capture_output=True, timeout=SECONDS)
+    words = [f"{CLIENTS}/crawlgate.{kind}", server.path or str(server.port), *words]
+    ran = subprocess.run(words, capture_output=True, timeout=SECONDS, env={**os.environ, **environment})
     return ran.stdout, ran.stderr, ran.returncode
 
 
@@ -356,23 +358,7 @@ def ends_of_lines():
                 same((given, it.rest()), (given, wanted))
 
 
-def loopback_alone():
-    with Server() as server:
-        try:
-            socket.create_connection(("127.0.0.2", server.port), SECONDS).close()
-        except ConnectionRefusedError:
-            return
-        assert False, "it listens on 127.0.0.2 too"
-
-
-def port_that_is_taken():
-    with Server() as server:
-        ran = subprocess.run([Server.program, "serve", "--port", str(server.port)], capture_output=True, timeout=SECONDS)
-        same((ran.stdout, ran.returncode, ran.stderr), (b"", 3, b"crawlgate: device\n"))
-
-
 CASES = [
     quits, connections_are_counted, without_end, two_sessions, segments_are_what_was_served, fetches, faults_of_lines, site_is_down, one_robots_fetch_at_a_time,
-    client_in_python, client_in_bash, urls_as_written, fetches_what_was_decided, clients_wait_for_a_robots_fetch, thousand_lines_at_once, million_lines, line_by_octets, ends_of_lines, loopback_alone,
-    port_that_is_taken,
+    client_in_python, client_in_bash, urls_as_written, fetches_what_was_decided, clients_wait_for_a_robots_fetch, thousand_lines_at_once, million_lines, line_by_octets, ends_of_lines,
 ]

@@ -15,6 +15,7 @@ a session that sends no line for 300 seconds, or what its --patience says; one t
 send a `state` meanwhile. docs/FORMATS.md has every line and reply.
 
 As a program, `crawlgate.py PORT TOKEN URL` has the gate fetch a page, and writes its body, and its hops to standard error.
+In place of a port it takes the path of a socket, which has a `/` in it (`crawlgate serve --socket PATH`).
 """
 import contextlib
 import socket
@@ -79,14 +80,39 @@ class Permit:
         return _OPENER.open(request, timeout=timeout)
 
 
+def _connected(path, timeout):
+    """Returns a connection to a socket that is a file."""
+    peer = socket.socket(socket.AF_UNIX)
+    peer.settimeout(timeout)
+    try:
+        peer.connect(path)
+    except OSError:
+        peer.close()
+        raise
+    return peer
+
+
 class Gate:
     """A session of a line server. It raises an OSError where the connection ends or nothing comes for `timeout` seconds;
     without a timeout it waits as long as the server does: a fetch may take an hour."""
 
     def __init__(self, host, port, timeout=None):
-        self._peer = socket.create_connection((host, port), timeout)
-        self._peer.setsockopt(socket.IPPROTO_TCP, socket.TCP_NODELAY, 1)
-        self._replies = self._peer.makefile("rb")
+        peer = socket.create_connection((host, port), timeout)
+        peer.setsockopt(socket.IPPROTO_TCP, socket.TCP_NODELAY, 1)
+        self._take(peer)
+
+    @classmethod
+    def at(cls, place, timeout=None):
+        """A session at a port of this machine, or at the socket of a path, which has a `/` in it."""
+        if "/" not in place:
+            return cls("127.0.0.1", int(place), timeout)
+        gate = cls.__new__(cls)
+        gate._take(_connected(place, timeout))
+        return gate
+
+    def _take(self, peer):
+        self._peer = peer
+        self._replies = peer.makefile("rb")
 
     def __enter__(self):
         return self
@@ -230,9 +256,9 @@ class Gate:
 
 def main(given):
     if len(given) != 3:
-        sys.exit("usage: crawlgate.py PORT TOKEN URL")
-    port, token, url = given
-    with Gate("127.0.0.1", int(port)) as gate:
+        sys.exit("usage: crawlgate.py PORT TOKEN URL, or crawlgate.py PATH TOKEN URL")
+    place, token, url = given
+    with Gate.at(place) as gate:
         fetched = gate.fetch(token, url)
     print(*fetched.hops, sep="\n", file=sys.stderr)
     sys.stdout.buffer.write(fetched.body)

@@ -1,5 +1,6 @@
 #!/bin/bash
-# A client of `crawlgate serve`, for scripts. It needs bash (for /dev/tcp), head and sleep.
+# A client of `crawlgate serve`, for scripts. It needs bash (for /dev/tcp), head and sleep; for a socket, which is named by a
+# path with a / in place of the port, nc too (of OpenBSD).
 #
 # usage: crawlgate.sh PORT fetch TOKEN URL
 #        crawlgate.sh PORT run TOKEN URL COMMAND ..
@@ -37,7 +38,7 @@ receive() {
 
 # Sends a line, and reads the first line of its reply.
 say() {
-    printf '%s\n' "$*" >&3 || fail "the connection ended"
+    printf '%s\n' "$*" >&4 || fail "the connection ended"
     receive
 }
 
@@ -99,7 +100,7 @@ run() {
     number=${reply#PERMIT }
     expect GO START "$number" "$token" "$written"
     # (the command has no part in the connection: it ends with this script)
-    CRAWLGATE_URL=$written "${command[@]}" 3>&-
+    CRAWLGATE_URL=$written "${command[@]}" 3>&- 4>&-
     status=$?
     expect DONE DONE "$number"
     return "$status"
@@ -115,9 +116,9 @@ seal() {
 
 [ $# -ge 4 ] || [ "$# ${2-}" = "2 seal" ] ||
     fail "usage: crawlgate.sh PORT fetch TOKEN URL, or PORT run TOKEN URL COMMAND .., or PORT seal" 2
-port=$1 action=$2 token=${3-none} url=${4-none}
+place=$1 action=$2 token=${3-none} url=${4-none}
 shift $(($# < 4 ? $# : 4))
-case $port in *[!0-9]* | '') fail "no port: $port" 2 ;; esac
+case $place in */*) ;; *[!0-9]* | '') fail "no port, and no path: $place" 2 ;; esac
 # Another octet would end the word, or the line.
 case $token in *[!!-~]* | '') fail "no token: $token" 2 ;; esac
 case $url in *[!!-~]* | '') fail "no URL: $url" 2 ;; esac
@@ -127,5 +128,12 @@ run) [ $# -gt 0 ] || fail "run takes a token, a URL and a command" 2 ;;
 seal) [ "$token $url" = "none none" ] || fail "seal takes nothing" 2 ;;
 *) fail "neither fetch, run nor seal: $action" 2 ;;
 esac
-exec 3<>"/dev/tcp/127.0.0.1/$port" || fail "no connection"
+case $place in
+*/*)
+    command -v nc > /dev/null || fail "there is no nc for a socket"
+    coproc nc -N -U "$place"
+    exec 3<&"${COPROC[0]}" 4>&"${COPROC[1]}"
+    ;;
+*) exec 3<>"/dev/tcp/127.0.0.1/$place" 4>&3 || fail "no connection" ;;
+esac
 "$action" "$@"

@@ -1,4 +1,5 @@
-//! Clients over TCP: how they are accepted, how long they are waited for, and how they are let go.
+//! Clients over TCP, or over a socket that is a file: how they are accepted, how long they are waited for, and how they are
+//! let go.
 //! docs/FORMATS.md has the limits.
 #![tactic(auto)]
 
@@ -7,11 +8,12 @@ mod client_stream;
 mod closing;
 mod connections;
 mod listener;
+mod socket_file;
 mod waiting;
 
 pub use accept_fault::{AcceptFault, MAX_ACCEPT_FAULTS};
 pub use client_stream::ClientStream;
 pub use closing::{CLOSING_OCTETS, CLOSING_SECONDS, Closes, close, read_out};
 pub use connections::{Connections, MAX_CONNECTIONS};
-pub use listener::{Listener, accept_from};
+pub use listener::{Accepts, Listener, accept_from};
 pub use waiting::{PATIENCE_SECONDS, Waiting};

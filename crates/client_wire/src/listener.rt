@@ -1,12 +1,25 @@
 //! Where clients connect.
 
 use crate::accept_fault::{AcceptFault, MAX_ACCEPT_FAULTS};
-use std::net::{Ipv4Addr, Net, OpenListener, SocketAddr, TcpListener, TcpStream};
+use crate::socket_file;
+use std::alloc::Global;
+use std::fs::Files;
+use std::io::ErrorKind;
+use std::net::{Ipv4Addr, Net, SocketAddr, TcpListener, TcpStream};
+use std::os::fd::OwnedFd;
+use std::os::unix::net::UnixListener;
 use std::{io, thread, time};
 
-/// A port of the loopback, to which clients of this machine connect.
+/// Where clients of this machine connect: a port of the loopback, or a socket that is a file.
 #[derive(Drop)]
-pub struct Listener(TcpListener);
+pub struct Listener(Place);
+
+// What is listened at.
+#[derive(Drop)]
+enum Place {
+    Port(TcpListener),
+    File(UnixListener),
+}
 
 impl Listener {
     /// Listens at this port of 127.0.0.1, or for 0 at one that is free.
@@ -15,34 +28,69 @@ impl Listener {
         port: u16,
     ) -> io::Result<Listener> {
         let address = SocketAddr::from((Ipv4Addr::LOCALHOST, port));
-        Ok(Listener(TcpListener::bind(rt, address)?))
+        Ok(Listener(Place::Port(TcpListener::bind(rt, address)?)))
     }
 
-    /// The port at which it listens.
+    /// Listens at a socket that is a file of this path, which its owner alone can open (mode 0600). A socket that a
+    /// server which is gone has left there is replaced; `AddrInUse` where a server still listens, or where the file is no
+    /// socket.
+    pub fn bind_socket<R: Files + Net>(rt: &R, alloc: Global, path: &str) -> io::Result<Listener> {
+        Ok(Listener(Place::File(socket_file::bind(rt, alloc, path)?)))
+    }
+
+    /// The port at which it listens. A socket that is a file has none: `Unsupported`.
     pub fn port(&self) -> io::Result<u16> {
-        Ok(self.0.local_addr()?.port())
+        match &self.0 {
+            Place::Port(listener) => Ok(listener.local_addr()?.port()),
+            Place::File(_) => Err(io::Error::from(ErrorKind::Unsupported)),
+        }
     }
 
-    /// Waits for a client and gives its connection, as `accept_from` does.
+    /// Waits for a client and gives its connection, as `accept_from` does. One over a file has the type of the other:
+    /// reads, writes and limits of time are calls of a descriptor, which are the same for both.
     pub fn accept<R: time::Clock>(&self, rt: &R) -> Result<TcpStream, AcceptFault> {
-        let stream = accept_from(rt, &self.0)?;
-        // Replies are written whole, and are not to wait for more.
-        let _ = stream.set_nodelay(true);
-        Ok(stream)
+        accept_from(rt, self)
+    }
+}
+
+/// What accepts connections, one at a time.
+pub trait Accepts {
+    type Stream;
+
+    /// Waits for a connection and gives it.
+    fn accept_next(&self) -> io::Result<Self::Stream>;
+}
+
+impl Accepts for Listener {
+    type Stream = TcpStream;
+
+    fn accept_next(&self) -> io::Result<TcpStream> {
+        match &self.0 {
+            Place::Port(listener) => {
+                let (stream, _) = listener.accept()?;
+                // Replies are written whole, and are not to wait for more.
+                let _ = stream.set_nodelay(true);
+                Ok(stream)
+            }
+            Place::File(listener) => {
+                let (stream, _) = listener.accept()?;
+                Ok(TcpStream::from(OwnedFd::from(stream)))
+            }
+        }
     }
 }
 
 /// Accepts a connection. One that failed before it was accepted is passed over, and descriptors and
 /// memory are waited for, 899 times in a row at most; the last failure is told then. One of the device is
 /// told at once.
-pub fn accept_from<R: time::Clock, L: OpenListener>(
+pub fn accept_from<R: time::Clock, L: Accepts>(
     rt: &R,
     listener: &L,
 ) -> Result<L::Stream, AcceptFault> {
     let mut last = AcceptFault::Device;
     for faults in 1..=MAX_ACCEPT_FAULTS {
-        match listener.accept() {
-            Ok((stream, _)) => return Ok(stream),
+        match listener.accept_next() {
+            Ok(stream) => return Ok(stream),
             Err(error) => last = AcceptFault::of(&error),
         }
         match last.wait_after(faults) {

@@ -1,6 +1,6 @@
 -- What a keeper does for the line of a client, and what the client is told of it.
 -- The contract of `serve` cites it.
-use Rattle.std.specs.Prelude.{◌≡◌, ◌⊎◌, ℕ, Bool, true, false, List, Option, Some, None, Result, Ok, Err}
+use Rattle.std.specs.Prelude.{◌≡◌, ◌⊎◌, ◌||◌, ℕ, Bool, true, false, List, Option, Some, None, Result, Ok, Err}
 use Rattle.path_normal.specs.Capacity.{Enough, Overflows, Refused}
 use Rattle.gate_history.specs.Segment.{Sealed}
 use Rattle.gate_core.specs.declared.call.Call.{Call}
@@ -12,6 +12,7 @@ use Rattle.gate_core.specs.declared.state.State.{State}
 use Rattle.crawl_job.specs.declared.job.Outcome.{Outcome}
 use Rattle.keepers.specs.Deals.{Deals}
 use Rattle.command_server.specs.CallOf.{command_of}
+use Rattle.command_server.specs.FirstLines.{is_turned_away}
 use Rattle.command_server.specs.Limits.{max_client_line, max_lines}
 use Rattle.command_server.specs.Readings.{next_reading}
 use Rattle.command_server.specs.Session.{Session}
@@ -20,6 +21,7 @@ use Rattle.command_server.specs.declared.command.Command.{Command}
 use Rattle.command_server.specs.declared.command.Command.TheVariants as commands
 use Rattle.command_server.specs.declared.fault.LineFault.{LineFault}
 use Rattle.command_server.specs.declared.fault.LineFault.TheVariants as faults
+use Rattle.command_server.specs.declared.first_line.FirstLine.{FirstLine}
 use Rattle.command_server.specs.declared.session_fault.SessionFault.{SessionFault}
 use Rattle.command_server.specs.declared.told.Told.{Told}
 use Rattle.command_server.specs.declared.told.Told.TheVariants as tolds
@@ -88,14 +90,16 @@ module _ {S : Type 0} (deals : Deals S) where
       ⊎ DoesCommand (reads (next_reading number)) old (command_of (Client m (deals.can_fetch old)) line Overflows) told new
       ⊎ DoesCommand (reads (next_reading number)) old (command_of (Client m (deals.can_fetch old)) line Refused) told new))
 
-  -- what a line of a client is answered: the text of what it is told. The next line has readings of its own
-  abbrev pub AnswersClient : (ℕ → ℕ → Type 0) → ClientState S → List ℕ → List ℕ → Bool → ClientState S → Type 0
-  AnswersClient reads old line text ended new =
+  -- what a line of a client is answered: the text of what it is told. The session ends behind a farewell, and behind a
+  -- first line that is turned away. The next line has readings of its own
+  abbrev pub AnswersClient : FirstLine → (ℕ → ℕ → Type 0) → ClientState S → List ℕ → List ℕ → Bool → ClientState S → Type 0
+  AnswersClient first reads old line text ended new =
       (told : Told) × (DoesRequest reads old.number old.keeper line told new.keeper
-      × ((text ≡ told_text told) × (ended ≡ is_farewell told) × (new.number ≡ next_reading (next_reading old.number))))
+      × ((text ≡ told_text told) × (ended ≡ (is_turned_away first old.number line || is_farewell told))
+      × (new.number ≡ next_reading (next_reading old.number))))
 
   -- a session of a client, and its end, which comes whatever the session met
-  pub record Serves (reads : ℕ → ℕ → Type 0) (old new : S) (input left written written_new : Option (List ℕ)) (result : Result (Unit {0}) SessionFault) : Type 0 where
+  pub record Serves (first : FirstLine) (reads : ℕ → ℕ → Type 0) (old new : S) (input left written written_new : Option (List ℕ)) (result : Result (Unit {0}) SessionFault) : Type 0 where
     pub last : ClientState S
-    pub session : Session (AnswersClient reads) max_client_line max_lines (record { keeper = old; number = 0 }) last input left written written_new result
+    pub session : Session (AnswersClient first reads) max_client_line max_lines (record { keeper = old; number = 0 }) last input left written written_new result
     pub ends : deals.ends last.keeper new

@@ -16,5 +16,6 @@ pub mod Replay
 pub mod HopText
 pub mod ToldText
 pub mod Readings
+pub mod FirstLines
 pub mod Clients
 pub mod JobWords

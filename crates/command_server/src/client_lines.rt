@@ -1,11 +1,14 @@
 //! The lines of a client, answered by a keeper.
 //! `serve` runs a session over them.
-ghost use Rattle.std.specs.Prelude.{◌≡◌};
-ghost use Rattle.command_server.specs.Clients.{DoesCall, DoesRequest};
+ghost use Rattle.std.specs.Prelude.{◌≡◌, ◌||◌};
+ghost use Rattle.command_server.specs.Answers.{ends_session};
+ghost use Rattle.command_server.specs.Clients.{DoesCall, DoesRequest, is_farewell};
+ghost use Rattle.command_server.specs.FirstLines.{is_turned_away};
 
 use crate::answerer::{Answerer, Flow};
 use crate::command::{Command, read_command};
 use crate::fault::LineFault;
+use crate::first_line::FirstLine;
 use crate::numbered_clock::{FetchClock, NumberedClock, next_reading};
 use crate::told::Told;
 use crate::verbs::Dialogue;
@@ -24,10 +27,12 @@ pub(crate) struct Client<'k, K: Keeper> {
     pub(crate) number: u64,
 }
 
-/// A line is answered by the call that the keeper makes at the moment that the clock tells.
+/// A line is answered by the call that the keeper makes at the moment that the clock tells. The first one may end the
+/// session.
 #[derive(Drop)]
 pub(crate) struct ClientLines<'c, C: NumberedClock> {
     pub(crate) clock: &'c C,
+    pub(crate) first: FirstLine,
 }
 
 impl<'k, K: Keeper, C: NumberedClock> Answerer<Client<'k, K>> for ClientLines<'_, C> {
@@ -35,7 +40,7 @@ impl<'k, K: Keeper, C: NumberedClock> Answerer<Client<'k, K>> for ClientLines<'_
 
     ghost answers = { λ lines _ old line text ended new.
         (new.keeper.ghost_name ≡ old.keeper.ghost_name)
-        × AnswersClient K.deals (C.reads lines.clock.now)
+        × AnswersClient K.deals lines.first (C.reads lines.clock.now)
         (record { keeper = old.keeper.now; number = old.number }) line text ended
         (record { keeper = new.keeper.now; number = new.number }) };
 
@@ -48,9 +53,21 @@ impl<'k, K: Keeper, C: NumberedClock> Answerer<Client<'k, K>> for ClientLines<'_
         sink: &mut W,
     ) -> Result<Flow, DeviceFault> {
         let told = told_of(alloc, self.clock, client.number, client.keeper, line);
+        let flow = flow_behind(self.first, client.number, line, &told);
         client.number = next_reading(next_reading(client.number));
         told.tell(output, sink)?;
-        Ok(told.flow())
+        Ok(flow)
+    }
+}
+
+// Whether the session goes on behind a line that has the reading of this number, by what it is told.
+fn flow_behind(first: FirstLine, number: u64, line: &[u8], told: &Told) -> Flow
+    ensures { ends_session result ≡ (is_turned_away first number line.now || is_farewell told.now) }
+{
+    if first.turns_away(number, line) {
+        Flow::Ends
+    } else {
+        told.flow()
     }
 }
 

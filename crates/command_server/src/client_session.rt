@@ -3,10 +3,12 @@
 ghost use Rattle.std.specs.Prelude.{◌≡◌};
 ghost use Rattle.command_server.specs.Clients.{AnswersClient, Serves};
 ghost use Rattle.command_server.specs.Limits.{max_client_line, max_lines};
+ghost use Rattle.command_server.specs.declared.first_line.FirstLine.TheVariants as first_lines;
 ghost use Rattle.command_server.specs.Session.{Session, failures_after_reads, failures_after_writes};
 
 use crate::book_lines::MAX_LINES;
 use crate::client_lines::{Client, ClientLines};
+use crate::first_line::FirstLine;
 use crate::numbered_clock::NumberedClock;
 use crate::session::run_session;
 use crate::session_fault::SessionFault;
@@ -27,14 +29,33 @@ pub fn serve<R: Source, W: Sink, K: Keeper, C: NumberedClock>(
     keeper: &mut K,
     clock: &C,
 ) -> Result<(), SessionFault>
-    ensures session { Serves K.deals (C.reads clock.now) keeper.old keeper.new
+    ensures session { Serves K.deals first_lines.Any (C.reads clock.now) keeper.old keeper.new
         (R.left reader.old) (R.left reader.new)
         (W.written writer.old) (W.written writer.new) result }
     ensures reads { R.failures reader.new ≡ failures_after_reads (R.failures reader.old) result }
     ensures writes { W.failures writer.new
         ≡ failures_after_writes (W.failures writer.old) result }
 {
-    let lines = ClientLines { clock };
+    serve_from(alloc, reader, writer, keeper, clock, FirstLine::Any)
+}
+
+/// Serves a client as `serve` does, but ends the session behind a first line that is turned away.
+pub fn serve_from<R: Source, W: Sink, K: Keeper, C: NumberedClock>(
+    alloc: Global,
+    reader: &mut R,
+    writer: &mut W,
+    keeper: &mut K,
+    clock: &C,
+    first: FirstLine,
+) -> Result<(), SessionFault>
+    ensures session { Serves K.deals first (C.reads clock.now) keeper.old keeper.new
+        (R.left reader.old) (R.left reader.new)
+        (W.written writer.old) (W.written writer.new) result }
+    ensures reads { R.failures reader.new ≡ failures_after_reads (R.failures reader.old) result }
+    ensures writes { W.failures writer.new
+        ≡ failures_after_writes (W.failures writer.old) result }
+{
+    let lines = ClientLines { clock, first };
     let mut client = Client { keeper, number: 0 };
     let end = run_lines(alloc, reader, writer, &lines, &mut client);
     client.keeper.end();
@@ -50,7 +71,7 @@ fn run_lines<'k, R: Source, W: Sink, K: Keeper, C: NumberedClock>(
     client: &mut Client<'k, K>,
 ) -> Result<(), SessionFault>
     ensures keeper { client.new.keeper.ghost_name ≡ client.old.keeper.ghost_name }
-    ensures session { Session (AnswersClient K.deals (C.reads lines.now.clock.now))
+    ensures session { Session (AnswersClient K.deals lines.now.first (C.reads lines.now.clock.now))
         max_client_line max_lines
         (record { keeper = client.old.keeper.now; number = client.old.number })
         (record { keeper = client.new.keeper.now; number = client.new.number })

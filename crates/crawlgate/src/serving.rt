@@ -9,14 +9,17 @@ use client_wire::Listener;
 use crawl_workers::{SystemClock, TcpFetcher};
 use gate_core::Book;
 use gate_lock::{Blanks, Gate, GateLock, SettleFault};
+use keepers::Bounds;
 use line_server::{Alarm, ServeFault, Served, Server};
-use program_streams::{Ending, new_book, tell_full_log, tell_listening, tell_served};
-use program_words::ServeOptions;
+use program_streams::{
+    Ending, new_book, tell_full_log, tell_listening, tell_listening_at, tell_served,
+};
+use program_words::{Place, ServeOptions};
 use std::marker::Brand;
 use std::sync::Wait;
 use std::thread::Threads;
-use std::time;
 use std::time::Duration;
+use std::{fs, io, time};
 
 // Who is told of a full history: standard error.
 #[derive(Drop)]
@@ -39,22 +42,58 @@ pub(crate) fn serve<R: Threads + Wait + time::Clock + Sync>(
     requires { AreForServe options }
 {
     match new_book(host, options.limits) {
-        Ok(book) => match Listener::bind(host, options.port) {
-            Ok(listener) => match tell_port(host, &listener) {
-                Ending::Done => serve_clients(rt, host, options, book, &listener),
-                ending => ending,
-            },
+        Ok(book) => match listen(host, &options.place) {
+            Ok(listener) => {
+                let ending = serve_at(rt, host, &options, book, &listener);
+                leave(host, &options.place);
+                ending
+            }
             Err(_) => Ending::Device,
         },
         Err(ending) => ending,
     }
 }
 
-// Tells where it listens.
-fn tell_port(host: &HostRuntime, listener: &Listener) -> Ending {
+// Tells where it listens, and serves.
+fn serve_at<R: Threads + Wait + time::Clock + Sync>(
+    rt: &R,
+    host: &HostRuntime,
+    options: &ServeOptions,
+    book: Book,
+    listener: &Listener,
+) -> Ending
+    requires options { AreForServe options.now }
+    requires book { (book.base ≡ empty_base) × (book.entries ≡ []) }
+{
+    match tell_place(host, &options.place, listener) {
+        Ending::Done => serve_clients(rt, host, options, book, listener),
+        ending => ending,
+    }
+}
+
+// Listens where the options say.
+fn listen(host: &HostRuntime, place: &Place) -> io::Result<Listener> {
+    match place {
+        Place::Port(port) => Listener::bind(host, *port),
+        Place::Socket(path) => Listener::bind_socket(host, host.alloc(), path.as_str()),
+    }
+}
+
+// Tells where it listens: a port that was free is known to the listener alone.
+fn tell_place(host: &HostRuntime, place: &Place, listener: &Listener) -> Ending {
+    if let Place::Socket(path) = place {
+        return tell_listening_at(host, path.as_str());
+    }
     match listener.port() {
         Ok(port) => tell_listening(host, port),
         Err(_) => Ending::Device,
+    }
+}
+
+// Removes the socket that was made. While this server listens at it, no other has taken its path.
+fn leave(host: &HostRuntime, place: &Place) {
+    if let Place::Socket(path) = place {
+        let _ = fs::remove_file(host, path.as_str());
     }
 }
 
@@ -62,11 +101,11 @@ fn tell_port(host: &HostRuntime, listener: &Listener) -> Ending {
 fn serve_clients<R: Threads + Wait + time::Clock + Sync>(
     rt: &R,
     host: &HostRuntime,
-    options: ServeOptions,
+    options: &ServeOptions,
     book: Book,
     listener: &Listener,
 ) -> Ending
-    requires options { AreForServe options }
+    requires options { AreForServe options.now }
     requires book { (book.base ≡ empty_base) × (book.entries ≡ []) }
 {
     match TcpFetcher::with_limits(host.alloc(), *host, AGENT, options.times, options.reach) {
@@ -81,6 +120,10 @@ fn serve_clients<R: Threads + Wait + time::Clock + Sync>(
                 workers: options.workers,
                 connections: options.connections,
                 patience: Duration::from_secs(options.patience),
+                bounds: Bounds {
+                    permits: options.client_permits,
+                    authorities: options.client_authorities,
+                },
             };
             run_over::<Brand, _, _, _, _>(host, &server, book, Blanks::new())
         }

@@ -2,3 +2,4 @@
 pub mod Deals
 pub mod BookKeeping
 pub mod DeskKeeping
+pub mod Bounding

@@ -1,12 +1,15 @@
 //! `DeskKeeper`: a desk of a gate, a bag of what the session has out, and what fetches.
 //! RFC 9309, sections 2.2 to 2.4.
-ghost use Rattle.std.specs.Prelude.{◌≡◌, [], IfOk};
+ghost use Rattle.std.specs.Prelude.{◌≡◌, [], IfOk, Some};
 ghost use Rattle.gate_lock.specs.Bags.{held_in};
 ghost use Rattle.gate_lock.specs.Desks.{IsNew, out_of};
+ghost use Rattle.keepers.specs.Bounding.{TellsRefused, are_all};
 ghost use Rattle.keepers.specs.DeskKeeping.{IsClosed, MayCondense};
 
+use crate::bounds::Bounds;
 use crate::keeper::Keeper;
-use crawl_job::{Job, Outcome};
+use crate::newcomers::Newcomers;
+use crawl_job::{Hop, Job, Outcome, Refusal};
 use crawl_workers::{Clock, Fetcher, refresh, work};
 use gate_core::{AskRefusal, BeginRefusal, Denial, NoMemory, Standing, State};
 use gate_history::{Reason, Segment};
@@ -22,7 +25,11 @@ use std::sync::Wait;
 #[must_use]
 pub struct DeskKeeper<'a, 'g, G: Gate, F: Fetcher, R: Wait> {
     rt: &'a R,
+    gate: &'g GateLock<G>,
     fetcher: &'a F,
+    bounds: Bounds,
+    // How many authorities became known by the session.
+    newcomers: u64,
     desk: Desk<'g, G>,
     bag: Bag<G>,
     ghost is_of: { bag.desk ≡ desk.no },
@@ -50,7 +57,7 @@ impl From<DesksFull> for NoKeeper {
 }
 
 impl<'a, 'g, G: Gate, F: Fetcher, R: Wait> DeskKeeper<'a, 'g, G, F, R> {
-    /// A keeper at a desk of its own.
+    /// A keeper at a desk of its own, whose sessions may have all that the gate has.
     pub fn open(
         rt: &'a R,
         alloc: Global,
@@ -60,12 +67,32 @@ impl<'a, 'g, G: Gate, F: Fetcher, R: Wait> DeskKeeper<'a, 'g, G, F, R> {
         ensures desk { IfOk result (λ keeper. IsNew gate.now keeper.desk) }
         ensures bag { IfOk result (λ keeper. (keeper.bag.permits ≡ []) × (keeper.bag.runs ≡ [])) }
         ensures fetcher { IfOk result (λ keeper. keeper.fetcher ≡ fetcher.entry) }
+        ensures bounds { IfOk result (λ keeper. are_all keeper.bounds) }
+    {
+        DeskKeeper::open_within(rt, alloc, gate, fetcher, Bounds::none())
+    }
+
+    /// A keeper at a desk of its own, each session of which keeps to the bounds.
+    pub fn open_within(
+        rt: &'a R,
+        alloc: Global,
+        gate: &'g GateLock<G>,
+        fetcher: &'a F,
+        bounds: Bounds,
+    ) -> Result<DeskKeeper<'a, 'g, G, F, R>, NoKeeper>
+        ensures desk { IfOk result (λ keeper. IsNew gate.now keeper.desk) }
+        ensures bag { IfOk result (λ keeper. (keeper.bag.permits ≡ []) × (keeper.bag.runs ≡ [])) }
+        ensures fetcher { IfOk result (λ keeper. keeper.fetcher ≡ fetcher.entry) }
+        ensures bounds { IfOk result (λ keeper. (keeper.bounds ≡ bounds) × (keeper.newcomers ≡ 0)) }
     {
         let desk = gate.desk(rt, alloc)?;
         match Bag::new(alloc, &desk) {
             Ok(bag) => Ok(DeskKeeper {
                 rt,
+                gate,
                 fetcher,
+                bounds,
+                newcomers: 0,
                 desk,
                 bag,
             }),
@@ -80,6 +107,8 @@ impl<'a, 'g, G: Gate, F: Fetcher, R: Wait> DeskKeeper<'a, 'g, G, F, R> {
     // Condenses the marks of the desk, where there is no room for those that come next.
     fn make_way(&mut self)
         ensures fetcher { self.new.fetcher ≡ self.old.fetcher }
+        ensures bounds { self.new.bounds ≡ self.old.bounds }
+        ensures newcomers { self.new.newcomers ≡ self.old.newcomers }
         ensures bag { self.new.bag ≡ self.old.bag }
         ensures desk { MayCondense self.old.desk self.new.desk }
     {
@@ -94,7 +123,10 @@ impl<'a, 'g, G: Gate, F: Fetcher, R: Wait> DeskKeeper<'a, 'g, G, F, R> {
     {
         let DeskKeeper {
             rt,
+            gate: _,
             fetcher: _,
+            bounds: _,
+            newcomers: _,
             mut desk,
             bag,
         } = self;
@@ -107,19 +139,21 @@ impl<'a, 'g, G: Gate, F: Fetcher, R: Wait> Keeper for DeskKeeper<'a, 'g, G, F, R
     ghost use Rattle.std.specs.Prelude.{◌≡◌, true};
     ghost use Rattle.gate_lock.specs.Bags.{BagFinishes, BagReturns, BagStarts};
     ghost use Rattle.crawl_workers.specs.World.{world_of};
+    ghost use Rattle.gate_lock.specs.Desks.{out_of};
+    ghost use Rattle.keepers.specs.Bounding.{Bounded, RefusesAsk, RefusesFetch, RefusesRefresh, has_enough};
     ghost use Rattle.keepers.specs.DeskKeeping.{Behind, KeeperAsks, KeeperEnds, KeeperFetches, KeeperReads, KeeperRefreshes, KeeperSeals};
 
     ghost deals = { record {
       can_fetch = λ _. true;
-      asks = λ k token url m result k2. (k2.fetcher ≡ k.fetcher) × Behind k.desk (λ d. KeeperAsks d k.bag token url m result k2.desk k2.bag);
-      starts = λ k number token url m result k2. (k2.fetcher ≡ k.fetcher) × BagStarts k.bag k.desk number token url m result k2.bag k2.desk;
-      returns = λ k number result k2. (k2.fetcher ≡ k.fetcher) × BagReturns k.bag k.desk number result k2.bag k2.desk;
-      finishes = λ k number result k2. (k2.fetcher ≡ k.fetcher) × BagFinishes k.bag k.desk number result k2.bag k2.desk;
-      reads = λ k authority m state k2. (k2.fetcher ≡ k.fetcher) × KeeperReads k.desk k.bag authority m state k2.desk k2.bag;
-      refreshes = λ reads k authority told k2. (k2.fetcher ≡ k.fetcher) × Behind k.desk (λ d. KeeperRefreshes (world_of (F.gives k.fetcher.now) reads) d k.bag authority told k2.desk k2.bag);
-      fetches = λ reads k job told k2. (k2.fetcher ≡ k.fetcher) × Behind k.desk (λ d. KeeperFetches (world_of (F.gives k.fetcher.now) reads) d k.bag job told k2.desk k2.bag);
-      seals = λ k result k2. (k2.fetcher ≡ k.fetcher) × KeeperSeals k.desk k.bag result k2.desk k2.bag;
-      ends = λ k k2. (k2.fetcher ≡ k.fetcher) × KeeperEnds k.desk k.bag k2.desk k2.bag;
+      asks = λ k token url m result k2. ((k2.fetcher ≡ k.fetcher) × (k2.bounds ≡ k.bounds) × (k2.newcomers ≡ k.newcomers)) × Behind k.desk (λ d. Bounded (has_enough k.bounds.permits (out_of d)) (RefusesAsk d k.bag result k2.desk k2.bag) (KeeperAsks d k.bag token url m result k2.desk k2.bag));
+      starts = λ k number token url m result k2. ((k2.fetcher ≡ k.fetcher) × (k2.bounds ≡ k.bounds) × (k2.newcomers ≡ k.newcomers)) × BagStarts k.bag k.desk number token url m result k2.bag k2.desk;
+      returns = λ k number result k2. ((k2.fetcher ≡ k.fetcher) × (k2.bounds ≡ k.bounds) × (k2.newcomers ≡ k.newcomers)) × BagReturns k.bag k.desk number result k2.bag k2.desk;
+      finishes = λ k number result k2. ((k2.fetcher ≡ k.fetcher) × (k2.bounds ≡ k.bounds) × (k2.newcomers ≡ k.newcomers)) × BagFinishes k.bag k.desk number result k2.bag k2.desk;
+      reads = λ k authority m state k2. ((k2.fetcher ≡ k.fetcher) × (k2.bounds ≡ k.bounds) × (k2.newcomers ≡ k.newcomers)) × KeeperReads k.desk k.bag authority m state k2.desk k2.bag;
+      refreshes = λ reads k authority told k2. ((k2.fetcher ≡ k.fetcher) × (k2.bounds ≡ k.bounds)) × Behind k.desk (λ d. Bounded (has_enough k.bounds.authorities k.newcomers) (RefusesRefresh d k.bag told k2.desk k2.bag) (KeeperRefreshes (world_of (F.gives k.fetcher.now) reads) d k.bag authority told k2.desk k2.bag));
+      fetches = λ reads k job told k2. ((k2.fetcher ≡ k.fetcher) × (k2.bounds ≡ k.bounds)) × Behind k.desk (λ d. Bounded (has_enough k.bounds.authorities k.newcomers) (RefusesFetch d k.bag told k2.desk k2.bag) (KeeperFetches (world_of (F.gives k.fetcher.now) reads) d k.bag job told k2.desk k2.bag));
+      seals = λ k result k2. ((k2.fetcher ≡ k.fetcher) × (k2.bounds ≡ k.bounds) × (k2.newcomers ≡ k.newcomers)) × KeeperSeals k.desk k.bag result k2.desk k2.bag;
+      ends = λ k k2. ((k2.fetcher ≡ k.fetcher) × (k2.bounds ≡ k.bounds) × (k2.newcomers ≡ 0)) × KeeperEnds k.desk k.bag k2.desk k2.bag;
     } };
 
     fn can_fetch(&self) -> bool {
@@ -127,6 +161,9 @@ impl<'a, 'g, G: Gate, F: Fetcher, R: Wait> Keeper for DeskKeeper<'a, 'g, G, F, R
     }
 
     fn ask(&mut self, token: Token, url: PageUrl, moment: u64) -> Result<PermitNo, AskRefusal> {
+        if self.bounds.has_permits(self.desk.out()) {
+            return Err(AskRefusal::PermitsFull);
+        }
         self.make_way();
         if self.bag.make_room().is_err() {
             return Err(AskRefusal::NoMemory);
@@ -171,9 +208,14 @@ impl<'a, 'g, G: Gate, F: Fetcher, R: Wait> Keeper for DeskKeeper<'a, 'g, G, F, R
         authority: &Authority,
         clock: &C,
     ) -> Option<Result<Standing, BeginRefusal>> {
+        if self.bounds.has_authorities(self.newcomers) {
+            return Some(Err(BeginRefusal::AuthoritiesFull));
+        }
         self.make_way();
-        let (desk, fetcher) = (&mut self.desk, self.fetcher);
-        Some(refresh(self.rt, alloc, authority, desk, fetcher, clock))
+        let fetcher = Newcomers::new(self.rt, self.gate, self.fetcher, self.newcomers);
+        let told = refresh(self.rt, alloc, authority, &mut self.desk, &fetcher, clock);
+        self.newcomers = fetcher.count.get();
+        Some(told)
     }
 
     fn fetch<C: Clock>(
@@ -182,9 +224,14 @@ impl<'a, 'g, G: Gate, F: Fetcher, R: Wait> Keeper for DeskKeeper<'a, 'g, G, F, R
         job: Job,
         clock: &C,
     ) -> Option<Result<Outcome, NoMemory>> {
+        if self.bounds.has_authorities(self.newcomers) {
+            return Some(refused(alloc));
+        }
         self.make_way();
-        let (desk, fetcher) = (&mut self.desk, self.fetcher);
-        match work(self.rt, alloc, job, desk, fetcher, clock) {
+        let fetcher = Newcomers::new(self.rt, self.gate, self.fetcher, self.newcomers);
+        let worked = work(self.rt, alloc, job, &mut self.desk, &fetcher, clock);
+        self.newcomers = fetcher.count.get();
+        match worked {
             Ok(outcome) => Some(Ok(outcome)),
             Err(_) => Some(Err(NoMemory)),
         }
@@ -196,5 +243,20 @@ impl<'a, 'g, G: Gate, F: Fetcher, R: Wait> Keeper for DeskKeeper<'a, 'g, G, F, R
 
     fn end(&mut self) {
         self.bag.clear(self.rt, &mut self.desk);
+        self.newcomers = 0;
     }
+}
+
+// What comes of a fetch for which no authority may become known.
+fn refused(alloc: Global) -> Result<Outcome, NoMemory>
+    ensures { TellsRefused (Some result) }
+{
+    let mut hops = Vec::new(alloc);
+    if hops.push(Hop::Refused(Refusal::AuthoritiesFull)).is_err() {
+        return Err(NoMemory);
+    }
+    Ok(Outcome {
+        hops,
+        body: Vec::new(alloc),
+    })
 }

@@ -3,9 +3,12 @@
 #![tactic(auto)]
 
 mod book_keeper;
+mod bounds;
 mod desk_keeper;
 mod keeper;
+mod newcomers;
 
 pub use book_keeper::BookKeeper;
+pub use bounds::Bounds;
 pub use desk_keeper::{DeskKeeper, NoKeeper};
 pub use keeper::Keeper;

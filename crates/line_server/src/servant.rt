@@ -6,7 +6,7 @@ use crate::numbers::{Numbers, share_of};
 use crate::server::Server;
 use crate::warden::Alarm;
 use client_wire::{AcceptFault, ClientStream, Waiting, close};
-use command_server::{NumberedClock, serve};
+use command_server::{FirstLine, NumberedClock, serve_from};
 use counted_io::{Counted, DeviceFault};
 use crawl_workers::Fetcher;
 use gate_lock::{Gate, GateLock, Receipts};
@@ -46,7 +46,8 @@ impl<F: Fetcher, C: NumberedClock, A: Alarm, R: Wait + time::Clock> Server<'_, F
         numbers: &mut Numbers<'_>,
         taken: &mut u64,
     ) -> Result<Receipts<G>, ServeFault> {
-        let mut keeper = DeskKeeper::open(self.rt, self.alloc, gate, self.fetcher)?;
+        let bounds = self.bounds;
+        let mut keeper = DeskKeeper::open_within(self.rt, self.alloc, gate, self.fetcher, bounds)?;
         let ended = self.take_all(numbers, &mut keeper, taken);
         let receipts = keeper.close();
         ended?;
@@ -95,12 +96,20 @@ impl<F: Fetcher, C: NumberedClock, A: Alarm, R: Wait + time::Clock> Server<'_, F
         unreachable!()
     }
 
-    // Serves a client to its end. A fault of its session ends its connection alone.
+    // Serves a client to its end, where it is no browser. A fault of its session ends its connection alone.
     fn serve_client<G: Gate>(&self, stream: TcpStream, keeper: &mut DeskKeeper<'_, '_, G, F, R>) {
         let waiting = Cell::new(Waiting::new(self.patience));
         let mut reader = Counted::new(ClientStream::new(self.rt, &stream, &waiting));
         let mut writer = Counted::new(ClientStream::new(self.rt, &stream, &waiting));
-        let _ = serve(self.alloc, &mut reader, &mut writer, keeper, self.clock);
+        let first = FirstLine::NoRequest;
+        let _ = serve_from(
+            self.alloc,
+            &mut reader,
+            &mut writer,
+            keeper,
+            self.clock,
+            first,
+        );
         close(self.rt, stream);
     }
 }

@@ -12,6 +12,7 @@ use command_server::NumberedClock;
 use crawl_workers::Fetcher;
 use gate_lock::{Gate, GateLock, Receipts, settle};
 use job_line::{JobLine, JobSeat, MAX_WORKERS};
+use keepers::Bounds;
 use std::alloc::{AllocError, Global};
 use std::sync::Wait;
 use std::sync::atomic::AtomicU64;
@@ -35,6 +36,8 @@ pub struct Server<'a, F, C, A, R> {
     pub connections: Connections,
     /// How long a client is waited for.
     pub patience: Duration,
+    /// What a client may have of the gate.
+    pub bounds: Bounds,
 }
 
 /// What a server has done.

@@ -20,4 +20,6 @@ pub use books::new_book;
 pub use ending::Ending;
 pub use next::Next;
 pub use server_line::ServerLine;
-pub use telling::{tell_bad_line, tell_ending, tell_full_log, tell_listening, tell_served};
+pub use telling::{
+    tell_bad_line, tell_ending, tell_full_log, tell_listening, tell_listening_at, tell_served,
+};

@@ -4,7 +4,7 @@ use crate::ending::Ending;
 use program_words::{ServeOptions, ShiftOptions};
 
 /// How the program goes on.
-#[derive(Clone, Copy)]
+#[derive(Drop)]
 pub enum Next {
     /// It has done what was asked for, or can't.
     Ends(Ending),

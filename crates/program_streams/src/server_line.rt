@@ -8,16 +8,18 @@ use line_text::{Piece, Pieces};
 
 /// A line that a server writes.
 #[derive(Clone, Copy)]
-pub enum ServerLine {
+pub enum ServerLine<'a> {
     /// Clients may connect at this port of the loopback.
     Listens { port: u16 },
+    /// Clients may connect at the socket of this path.
+    ListensAt { path: &'a str },
     /// So many connections were accepted, and so many entries the history has.
     Served { connections: u64, events: u64 },
 }
 
-impl ServerLine {
+impl<'a> ServerLine<'a> {
     /// The line.
-    pub fn pieces(self) -> Pieces<'static>
+    pub fn pieces(self) -> Pieces<'a>
         ensures { pieces_text result ≡ server_text self }
     {
         match self {
@@ -26,6 +28,7 @@ impl ServerLine {
                 Piece::Number(u64::from(port)),
                 Piece::Text("\n"),
             ]),
+            ServerLine::ListensAt { path } => Pieces::two_words("LISTEN", Piece::Text(path)),
             ServerLine::Served {
                 connections,
                 events,

@@ -31,6 +31,11 @@ pub fn tell_listening(rt: &HostRuntime, port: u16) -> Ending {
     tell(rt, ServerLine::Listens { port }.pieces(), Ending::Done)
 }
 
+/// Tells the path of the socket at which clients may connect, or how the program ends where that can't be told.
+pub fn tell_listening_at(rt: &HostRuntime, path: &str) -> Ending {
+    tell(rt, ServerLine::ListensAt { path }.pieces(), Ending::Done)
+}
+
 /// Tells what a server has done, with which the program ends.
 pub fn tell_served(rt: &HostRuntime, connections: u64, events: u64) -> Ending {
     let line = ServerLine::Served {
@@ -46,7 +51,7 @@ pub fn tell_full_log(rt: &HostRuntime) {
 }
 
 // Writes a line to standard output, with which the program ends so.
-fn tell(rt: &HostRuntime, line: Pieces<'static>, ending: Ending) -> Ending {
+fn tell(rt: &HostRuntime, line: Pieces<'_>, ending: Ending) -> Ending {
     tell_to(rt.alloc(), &mut Counted::new(rt.stdout()), line, ending)
 }
 
@@ -54,7 +59,7 @@ fn tell(rt: &HostRuntime, line: Pieces<'static>, ending: Ending) -> Ending {
 pub(crate) fn tell_to<W: Sink>(
     alloc: Global,
     writer: &mut W,
-    line: Pieces<'static>,
+    line: Pieces<'_>,
     ending: Ending,
 ) -> Ending
     ensures tells { Tells (pieces_text line.entry) ending (W.written writer.old)
@@ -70,7 +75,7 @@ pub(crate) fn tell_to<W: Sink>(
 fn tell_through<W: Sink>(
     output: &mut Output,
     writer: &mut W,
-    line: Pieces<'static>,
+    line: Pieces<'_>,
     ending: Ending,
 ) -> Ending
     requires { output.old ≡ [] }
@@ -86,7 +91,7 @@ fn tell_through<W: Sink>(
 
 // Writes a line, or fails where a write fails.
 fn write_line<W: Sink>(
-    line: Pieces<'static>,
+    line: Pieces<'_>,
     output: &mut Output,
     sink: &mut W,
 ) -> Result<(), DeviceFault>

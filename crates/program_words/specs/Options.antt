@@ -1,9 +1,11 @@
 -- What the program's words may ask for: where they are taken, each option is a number in its range, and
 -- the one that was matched under its own name. docs/crawlgate.1.md has the ranges.
-use Rattle.std.specs.Prelude.{◌≡◌, ℕ, List, Some, codes}
+use Rattle.std.specs.Prelude.{◌≡◌, ℕ, ◌^◌, ◌-◌, List, Option, Some, None, codes, string_bytes}
 use Rattle.std.specs.Str.Parse.{digits_value, without_leading_plus}
-use Rattle.clap.specs.Words.{one_text}
+use Rattle.clap.specs.Words.{first_value, one_text}
 use Rattle.clap.specs.declared.parser.matches.Found.{Found}
+use Rattle.program_words.specs.declared.words.Place.{Place}
+use Rattle.program_words.specs.declared.words.Place.TheVariants as places
 use Rattle.program_words.specs.declared.words.ServeOptions.{ServeOptions}
 use Rattle.program_words.specs.declared.words.ShiftOptions.{ShiftOptions}
 use Rattle.program_words.specs.declared.words.Subcommand.{Subcommand}
@@ -58,6 +60,15 @@ abbrev pub IsNumberOf : Found → List ℕ → ℕ → Type 0
 IsNumberOf words name number =
     (text : List ℕ) × ((one_text words name ≡ Some text) × (number ≡ digits_value 10 (without_leading_plus text)))
 
+-- what is bound by an option that has this first value, or has none
+abbrev pub IsBoundBy : Option (List ℕ) → Found → List ℕ → ℕ → Type 0
+IsBoundBy None words name bound = bound ≡ 2 ^ 64 - 1
+IsBoundBy (Some text) words name bound = IsNumberOf words name bound
+
+-- the bound is the number that was matched under this name, and where none was no number is above it
+abbrev pub IsBoundOf : Found → List ℕ → ℕ → Type 0
+IsBoundOf words name bound = IsBoundBy (first_value words name) words name bound
+
 -- the limits of a book but for its first generation are those that were matched, each under its own name
 pub record AreLimitsOf (words : Found) (limits : Limits) : Type 0 where
   pub slots : IsNumberOf words (codes "slots") limits.slots
@@ -97,15 +108,22 @@ pub record AreConnectionsOf (words : Found) (connections : Connections) : Type 0
   pub endless : one_text words (codes "endless") ≡ Some (codes "true") → connections ≡ Endless
   pub counted : one_text words (codes "endless") ≡ Some (codes "false") → AreCounted words connections
 
+-- clients connect at the socket that was matched, and where none was at the port
+abbrev pub IsPlaceOf : Found → Place → Type 0
+IsPlaceOf words (places.Port port) = (first_value words (codes "socket") ≡ None) × IsNumberOf words (codes "port") port
+IsPlaceOf words (places.Socket path) = first_value words (codes "socket") ≡ Some (string_bytes path)
+
 -- the options of a server are those that were matched
 pub record AreServeOf (words : Found) (options : ServeOptions) : Type 0 where
   pub reach : IsReachOf words options.reach
-  pub port : IsNumberOf words (codes "port") options.port
+  pub place : IsPlaceOf words options.place
   pub workers : IsNumberOf words (codes "workers") options.workers
   pub connections : AreConnectionsOf words options.connections
   pub limits : AreLimitsOf words options.limits
   pub times : AreTimesOf words options.times
   pub patience : IsNumberOf words (codes "patience") options.patience
+  pub client_permits : IsBoundOf words (codes "client-permits") options.client_permits
+  pub client_authorities : IsBoundOf words (codes "client-authorities") options.client_authorities
 
 -- the limits of a replay are those that were matched
 pub record AreReplayOf (words : Found) (limits : Limits) : Type 0 where

@@ -72,15 +72,27 @@ fn shift_words<'a>(alloc: Global, defaults: &'a Defaults) -> Result<Command<'a>,
 fn serve_words<'a>(alloc: Global, defaults: &'a Defaults) -> Result<Command<'a>, AllocError> {
     let serve = Command::new(alloc, "serve")
         .about(
-            "Answers clients of this machine that connect to a port of 127.0.0.1, a reply a line",
+            "Answers clients of this machine that connect to a port of 127.0.0.1 or to a socket, a reply a line",
         )
         .after_help(help::SERVE)
         .arg(number(alloc, "port", &defaults.clients.port))?
+        .arg(
+            Arg::new(alloc, "socket")
+                .long("socket")
+                .value_name("PATH")
+                .action(ArgAction::Set)
+                .help(
+                    "Socket to listen at in place of a port, a file that its owner alone can open",
+                )
+                .conflicts_with("port")?,
+        )?
         .arg(number(alloc, "workers", &defaults.clients.workers))?
         .arg(number(alloc, "connections", &defaults.clients.connections))?;
     let serve = limit_words(alloc, defaults, serve)?;
     time_words(alloc, defaults, serve)?
         .arg(number(alloc, "patience", &defaults.clients.patience))?
+        .arg(bound(alloc, "client-permits", &defaults.clients.permits))?
+        .arg(bound(alloc, "client-authorities", &defaults.clients.authorities))?
         .arg(flag(
             alloc,
             "endless",
@@ -148,8 +160,16 @@ fn limit_words<'a>(
         .arg(number(alloc, "places", &defaults.book.places))
 }
 
-// An option with a number in its range, which is matched under the name that it has in the words.
+// An option with a number in its range, which is matched under the name that it has in the words, and has a usual one.
 fn number<'a>(alloc: Global, name: &'static str, option: &'a NumberOption) -> Arg<'a>
+    ensures id { result.id.now ≡ name.entry.now }
+    ensures long { result.long ≡ Some name.entry }
+{
+    bound(alloc, name, option).default_value(option.usual.as_str())
+}
+
+// The same without a usual number.
+fn bound<'a>(alloc: Global, name: &'static str, option: &'a NumberOption) -> Arg<'a>
     ensures id { result.id.now ≡ name.entry.now }
     ensures long { result.long ≡ Some name.entry }
 {
@@ -157,7 +177,6 @@ fn number<'a>(alloc: Global, name: &'static str, option: &'a NumberOption) -> Ar
         .long(name)
         .value_name("N")
         .action(ArgAction::Set)
-        .default_value(option.usual.as_str())
         .value_parser(clap::value_parser!(u64).range(option.least as i64..=option.most as i64))
         .help(option.about.as_str())
 }

@@ -58,6 +58,8 @@ pub(crate) struct ClientOptions {
     pub(crate) workers: NumberOption,
     pub(crate) connections: NumberOption,
     pub(crate) patience: NumberOption,
+    pub(crate) permits: NumberOption,
+    pub(crate) authorities: NumberOption,
 }
 
 /// The limits of time of fetches.
@@ -135,12 +137,17 @@ impl ClientOptions {
         let workers = "Clients that are served at a time";
         let connections = "Connections that are taken in all";
         let patience = "Seconds that a client is waited for between two ends of lines";
+        let permits = "Permits that one client may have out; all, where it is left out";
+        let authorities =
+            "Authorities that may become known by one client; all, where it is left out";
         let (usual, most) = (USUAL_CONNECTIONS, MAX_CONNECTIONS);
         Ok(ClientOptions {
             port: NumberOption::from_least(alloc, port, USUAL_PORT, 0, MAX_PORT)?,
             workers: NumberOption::new(alloc, workers, USUAL_WORKERS, MAX_WORKERS)?,
             connections: NumberOption::new(alloc, connections, usual, most)?,
             patience: NumberOption::new(alloc, patience, PATIENCE_SECONDS, PATIENCE_SECONDS)?,
+            permits: NumberOption::new(alloc, permits, MAX_SLOTS, MAX_SLOTS)?,
+            authorities: NumberOption::new(alloc, authorities, MAX_AUTHORITIES, MAX_AUTHORITIES)?,
         })
     }
 }

@@ -7,4 +7,6 @@ mod defaults;
 mod help;
 mod words;
 
-pub use words::{CheckOptions, CheckedUrls, ServeOptions, ShiftOptions, Subcommand, Told, options};
+pub use words::{
+    CheckOptions, CheckedUrls, Place, ServeOptions, ShiftOptions, Subcommand, Told, options,
+};

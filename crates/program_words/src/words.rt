@@ -5,7 +5,7 @@ ghost use Rattle.permit_book.specs.Numbers.{last_generation};
 ghost use Rattle.gate_core.specs.Limits.{AreLimits};
 ghost use Rattle.clap.specs.Words.{found_of};
 ghost use Rattle.client_wire.specs.Accepts.{AreServed};
-ghost use Rattle.program_words.specs.Options.{AreConnectionsOf, AreLimitsOf, AreTimesOf, IsChosen, IsInRange, IsNumberOf, IsReachOf, IsSetBy};
+ghost use Rattle.program_words.specs.Options.{AreConnectionsOf, AreLimitsOf, AreTimesOf, IsBoundOf, IsChosen, IsInRange, IsNumberOf, IsPlaceOf, IsReachOf, IsSetBy};
 ghost use Rattle.tcp_wire.specs.TimeLimits.{AreWithin};
 
 use crate::command::program;
@@ -24,7 +24,12 @@ use tcp_wire::{CONNECT_SECONDS, Reach, STEP_SECONDS, TimeLimits, WHOLE_SECONDS};
 // Why words that `clap` takes are refused.
 const BAD_NUMBER: &str = "a number is written in digits alone";
 
+const BAD_PATH: &str = "a socket's path has 1 to 96 octets, and no control characters";
+
 const BAD_TOKEN: &str = "a product token has 1 to 64 letters, - and _";
+
+// The most octets of a socket's path. (Linux takes 107, and the socket is made at a path with 11 more.)
+const MAX_PATH: usize = 96;
 
 /// What the program is asked to do.
 #[derive(Drop)]
@@ -42,7 +47,7 @@ pub enum Subcommand {
     Audit,
     /// Has workers do the jobs on standard input, and writes what is told of them to standard output.
     Shift(ShiftOptions),
-    /// Has workers serve clients that connect to a port of this machine.
+    /// Has workers serve clients of this machine.
     Serve(ServeOptions),
 }
 
@@ -60,11 +65,19 @@ pub struct ShiftOptions {
     pub told: Told,
 }
 
+/// Where clients connect.
+#[derive(Drop)]
+pub enum Place {
+    /// At this port of the loopback; for 0 at one that is free.
+    Port(u16),
+    /// At a socket that is a file of this path.
+    Socket(String),
+}
+
 /// How clients are served.
-#[derive(Clone, Copy)]
+#[derive(Drop)]
 pub struct ServeOptions {
-    /// The port of the loopback at which they connect; for 0 one that is free.
-    pub port: u16,
+    pub place: Place,
     /// How many are served at a time.
     pub workers: u64,
     /// How many connections are taken in all.
@@ -77,6 +90,10 @@ pub struct ServeOptions {
     pub reach: Reach,
     /// The seconds that a client is waited for between two ends of lines.
     pub patience: u64,
+    /// How many permits a client may have out; the greatest number, where it may have all.
+    pub client_permits: u64,
+    /// How many authorities may become known by a client; the greatest number, where all may.
+    pub client_authorities: u64,
 }
 
 /// What is checked.
@@ -155,6 +172,9 @@ fn chosen_by<'a>(
     if has_sign(words) {
         return Ok(Chosen::Refused(BAD_NUMBER));
     }
+    if let Some(("serve", serve)) = matches.subcommand() {
+        return Ok(serve_of(alloc, serve)?);
+    }
     Ok(chosen_of(&matches))
 }
 
@@ -185,7 +205,6 @@ fn subcommand_of(matches: &ArgMatches<'_>) -> Option<Subcommand>
     match matches.subcommand() {
         Some(("replay", replay)) => replay_of(replay),
         Some(("shift", shift)) => shift_of(shift),
-        Some(("serve", serve)) => serve_of(serve),
         Some(("audit", _)) => Some(Subcommand::Audit),
         // There is no other subcommand, and one is required.
         _ => Some(Subcommand::Lines),
@@ -254,18 +273,33 @@ fn shift_of(matches: &ArgMatches<'_>) -> Option<Subcommand>
     }))
 }
 
-fn serve_of(matches: &ArgMatches<'_>) -> Option<Subcommand>
+fn serve_of(alloc: Global, matches: &ArgMatches<'_>) -> Result<Chosen, AllocError>
+    ensures { IfOk result IsChosen }
+{
+    let Some(place) = place_of(alloc, matches)? else {
+        return Ok(Chosen::Refused(BAD_PATH));
+    };
+    match served_at(place, matches) {
+        Some(subcommand) => Ok(Chosen::Taken(subcommand)),
+        None => Ok(Chosen::Refused(BAD_NUMBER)),
+    }
+}
+
+fn served_at(place: Place, matches: &ArgMatches<'_>) -> Option<Subcommand>
+    requires { IsPlaceOf (found_of matches.now) place }
     ensures range { IfSome result IsInRange }
     ensures words { IfSome result (IsSetBy (found_of matches.now)) }
 {
     Some(Subcommand::Serve(ServeOptions {
-        port: port_of(matches)?,
+        place,
         workers: number_of(matches, "workers", MAX_WORKERS)?,
         connections: connections_of(matches)?,
         limits: limits_of(matches, Limits::usual().first_generation)?,
         times: times_of(matches)?,
         reach: reach_of(matches),
         patience: number_of(matches, "patience", PATIENCE_SECONDS)?,
+        client_permits: bound_of(matches, "client-permits", MAX_SLOTS)?,
+        client_authorities: bound_of(matches, "client-authorities", MAX_AUTHORITIES)?,
     }))
 }
 
@@ -280,6 +314,26 @@ fn connections_of(matches: &ArgMatches<'_>) -> Option<Connections>
     } else {
         Some(Connections::AtMost(count))
     }
+}
+
+// The socket that the option names, or else the port.
+fn place_of(alloc: Global, matches: &ArgMatches<'_>) -> Result<Option<Place>, AllocError>
+    ensures { IfOk result (λ found. IfSome found (IsPlaceOf (found_of matches.now))) }
+{
+    let Some(path) = matches.get_str("socket") else {
+        return Ok(port_of(matches).map(Place::Port));
+    };
+    if !is_path(path) {
+        return Ok(None);
+    }
+    Ok(Some(Place::Socket(String::from_str(alloc, path)?)))
+}
+
+// Whether a socket may have this path: one line of text, as long as the system takes for a socket that is made beside it.
+fn is_path(path: &str) -> bool {
+    !path.is_empty()
+        && path.len() <= MAX_PATH
+        && !path.bytes().any(|octet| octet.is_ascii_control())
 }
 
 // The port, which may be 0.
@@ -336,6 +390,16 @@ fn limits_of(matches: &ArgMatches<'_>, first_generation: u64) -> Option<Limits>
         authority_limit: number_of(matches, "authorities", MAX_AUTHORITIES)?,
         places: number_of(matches, "places", MAX_PLACES)?,
     })
+}
+
+// What an option bounds, and no bound where it was left out.
+fn bound_of(matches: &ArgMatches<'_>, name: &str, most: u64) -> Option<u64>
+    ensures { IfSome result (IsBoundOf (found_of matches.now) name.now) }
+{
+    match matches.get_str(name) {
+        Some(_) => number_of(matches, name, most),
+        None => Some(u64::MAX),
+    }
 }
 
 // The number of an option, where it is from 1 to `most`.

@@ -2,11 +2,10 @@
 //! The numbers are those of errno(3) of Linux. Times are in milliseconds.
 
 use super::scripted::HandClock;
-use client_wire::{AcceptFault, accept_from};
+use client_wire::{AcceptFault, Accepts, accept_from};
 use std::cell::Cell;
 use std::io;
 use std::io::ErrorKind;
-use std::net::{Ipv4Addr, OpenListener, SocketAddr};
 use std::process::Abort;
 use std::test::Fail;
 
@@ -21,17 +20,17 @@ struct Failing {
     calls: Cell<u32>,
 }
 
-impl OpenListener for Failing {
+impl Accepts for Failing {
     type Stream = Accepted;
 
-    fn accept(&self) -> io::Result<(Accepted, SocketAddr)> {
+    fn accept_next(&self) -> io::Result<Accepted> {
         self.calls.set(self.calls.get().saturating_add(1));
         match self.left.get().checked_sub(1) {
             Some(left) => {
                 self.left.set(left);
                 Err(io::Error::from_raw_os_error(self.number))
             }
-            None => Ok((Accepted, SocketAddr::from((Ipv4Addr::LOCALHOST, 1)))),
+            None => Ok(Accepted),
         }
     }
 }

@@ -8,6 +8,7 @@ use client_wire::{Connections, Listener};
 use crawl_workers::{Clock, ScriptedSites};
 use gate_core::{Book, Limits};
 use gate_lock::{Blanks, Gate, GateLock};
+use keepers::Bounds;
 use line_server::{Alarm, Server};
 use std::alloc::Global;
 use std::io::{Read, Write};
@@ -84,6 +85,7 @@ fn serve_two<G: Gate + Send + Sync, R: Threads + Wait + time::Clock + Sync>(
         workers: 1,
         connections: Connections::AtMost(2),
         patience: Duration::from_millis(PATIENCE),
+        bounds: Bounds::none(),
     };
     match server.run(&gate) {
         Ok(served) => Ok(served.events),

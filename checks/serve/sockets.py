@@ -1,0 +1,85 @@
+"""Cases of checks/serve on where clients connect: a port of the loopback, or a socket that is a file."""
+import os
+import socket
+import stat
+import subprocess
+import tempfile
+
+from line_server import SECONDS, Server, Session, open_site, same
+from sessions import client_of
+
+
+def loopback_alone():
+    with Server() as server:
+        try:
+            socket.create_connection(("127.0.0.2", server.port), SECONDS).close()
+        except ConnectionRefusedError:
+            return
+        assert False, "it listens on 127.0.0.2 too"
+
+
+def port_that_is_taken():
+    with Server() as server:
+        ran = subprocess.run([Server.program, "serve", "--port", str(server.port)], capture_output=True, timeout=SECONDS)
+        same((ran.stdout, ran.returncode, ran.stderr), (b"", 3, b"crawlgate: device\n"))
+
+
+def refused(path):
+    """Returns whether no server listens at a path, and says so."""
+    ran = subprocess.run([Server.program, "serve", "--socket", path], capture_output=True, timeout=SECONDS)
+    return (ran.stdout, ran.returncode, ran.stderr) == (b"", 3, b"crawlgate: device\n")
+
+
+# What stands for OpenBSD's nc, which a machine may not have: octets go to a socket and come from it.
+NC = """#!/usr/bin/env python3
+import os, socket, sys, threading
+peer = socket.socket(socket.AF_UNIX)
+peer.connect(sys.argv[sys.argv.index("-U") + 1])
+def send():
+    while octets := os.read(0, 65536):
+        peer.sendall(octets)
+    peer.shutdown(socket.SHUT_WR)
+threading.Thread(target=send, daemon=True).start()
+while octets := peer.recv(65536):
+    os.write(1, octets)
+"""
+
+
+def clients_at_a_socket():
+    site = open_site()
+    wanted = (b"hello", b"PAGE open 200 5 whole\n", 0)
+    with tempfile.TemporaryDirectory() as folder:
+        with open(f"{folder}/nc", "w") as file:
+            file.write(NC)
+        os.chmod(f"{folder}/nc", 0o755)
+        with Server(path=f"{folder}/gate") as server:
+            same(client_of("py", server, "foobot", site.url("/x")), wanted)
+            path = f"{folder}:{os.environ['PATH']}"
+            same(client_of("sh", server, "fetch", "foobot", site.url("/x"), PATH=path), wanted)
+            same(client_of("sh", server, "run", "foobot", site.url("/x"), "echo", "page", PATH=path), (b"page\n", b"", 0))
+
+
+def socket_of_its_owner():
+    """Its mode is 0600; a server that listens keeps it, one that was killed leaves it to the next, and no other file is
+    taken for one."""
+    with tempfile.TemporaryDirectory() as folder:
+        path, other = f"{folder}/gate", f"{folder}/other"
+        with open(other, "w") as file:
+            file.write("of somebody else")
+        with Server(path=path) as server, Session(server) as it:
+            same(stat.filemode(os.stat(path).st_mode), "srw-------")
+            same(sorted(os.listdir(folder)), ["gate", "other"])
+            same((refused(path), refused(other), refused(f"{folder}/none/gate")), (True, True, True))
+            same(it.say("STATE a.example"), "STATE a.example unknown idle")
+        same(os.path.exists(path), True)
+        with Server("--connections", "1", path=path) as server:
+            with Session(server) as it:
+                it.send(b"URL http://A.example/%7e\nQUIT\n")
+                same(it.rest(), b"URL http://a.example/~\nBYE\n")
+            same(server.end(), (b"SERVED connections 1 events 0\n", 0, b""))
+        same(sorted(os.listdir(folder)), ["other"])
+        with open(other) as file:
+            same(file.read(), "of somebody else")
+
+
+CASES = [loopback_alone, port_that_is_taken, socket_of_its_owner, clients_at_a_socket]
