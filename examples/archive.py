@@ -165,7 +165,10 @@ def keep(folder, name, octets):
         file.write(octets)
         file.flush()
         os.fsync(file.fileno())
-    os.link(hidden, f"{folder}/{name}")
+    try:
+        os.link(hidden, f"{folder}/{name}")
+    except FileExistsError:
+        sys.exit(f"archive.py: {folder}/{name} is there, of another run of the gate; what was to be it is {hidden}")
     os.unlink(hidden)
     handle = os.open(folder, os.O_RDONLY)
     os.fsync(handle)

@@ -75,7 +75,7 @@ def socket_of_its_owner():
         with Server("--connections", "1", path=path) as server:
             with Session(server) as it:
                 it.send(b"URL http://A.example/%7e\nQUIT\n")
-                same(it.rest(), b"URL http://a.example/~\nBYE\n")
+                same(it.rest(), b"URL http://a.example/%7e\nBYE\n")
             same(server.end(), (b"SERVED connections 1 events 0\n", 0, b""))
         same(sorted(os.listdir(folder)), ["other"])
         with open(other) as file:
