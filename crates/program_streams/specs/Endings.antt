@@ -19,11 +19,13 @@ exit_status endings.BadLine = 1
 exit_status endings.DeniedUrl = 1
 exit_status endings.BadUrl = 2
 exit_status endings.NoUrls = 2
+exit_status endings.BadFile = 3
 exit_status endings.BadWords = 2
 exit_status endings.NoMemory = 3
 exit_status endings.Device = 3
 
--- what is told behind the program's name; what is wrong with the words is told by their reader
+-- what is told behind the program's name; what is wrong with the words, or with a file, is told by
+-- their reader
 abbrev pub message_of : Ending → Option (List ℕ)
 message_of endings.Done = None
 message_of endings.LongLine = Some (codes "line too long")
@@ -31,7 +33,8 @@ message_of endings.ManyLines = Some (codes "too many lines")
 message_of endings.BadLine = None
 message_of endings.DeniedUrl = None
 message_of endings.BadUrl = None
-message_of endings.NoUrls = Some (codes "no URL behind the robots.txt")
+message_of endings.NoUrls = Some (codes "no URL in the input")
+message_of endings.BadFile = None
 message_of endings.BadWords = None
 message_of endings.NoMemory = Some (codes "no memory")
 message_of endings.Device = Some (codes "device")

@@ -23,6 +23,8 @@ pub enum Ending {
     BadUrl,
     /// A check found no URL in its input.
     NoUrls,
+    /// The file of a robots text could not be opened or read, which was told.
+    BadFile,
     /// The program's words were refused, or asked for help.
     BadWords,
     /// A growth of memory was refused.
@@ -67,7 +69,7 @@ impl Ending {
             Ending::Done => 0,
             Ending::LongLine | Ending::ManyLines | Ending::BadLine | Ending::DeniedUrl => 1,
             Ending::BadUrl | Ending::NoUrls | Ending::BadWords => 2,
-            Ending::NoMemory | Ending::Device => 3,
+            Ending::BadFile | Ending::NoMemory | Ending::Device => 3,
         }
     }
 
@@ -80,8 +82,9 @@ impl Ending {
             | Ending::BadLine
             | Ending::DeniedUrl
             | Ending::BadUrl
+            | Ending::BadFile
             | Ending::BadWords => None,
-            Ending::NoUrls => Some("no URL behind the robots.txt"),
+            Ending::NoUrls => Some("no URL in the input"),
             Ending::LongLine => Some("line too long"),
             Ending::ManyLines => Some("too many lines"),
             Ending::NoMemory => Some("no memory"),

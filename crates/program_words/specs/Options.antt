@@ -4,6 +4,9 @@ use Rattle.std.specs.Prelude.{◌≡◌, ℕ, ◌^◌, ◌-◌, List, Option, So
 use Rattle.std.specs.Str.Parse.{digits_value, without_leading_plus}
 use Rattle.clap.specs.Words.{first_value, one_text}
 use Rattle.clap.specs.declared.parser.matches.Found.{Found}
+use Rattle.program_words.specs.declared.words.CheckOptions.{CheckOptions}
+use Rattle.program_words.specs.declared.words.CheckedText.{CheckedText}
+use Rattle.program_words.specs.declared.words.CheckedText.TheVariants.{Input, File}
 use Rattle.program_words.specs.declared.words.Place.{Place}
 use Rattle.program_words.specs.declared.words.Place.TheVariants as places
 use Rattle.program_words.specs.declared.words.ServeOptions.{ServeOptions}
@@ -12,6 +15,8 @@ use Rattle.program_words.specs.declared.words.Subcommand.{Subcommand}
 use Rattle.program_words.specs.declared.words.Subcommand.TheVariants.{Replay, Export, Lines, Check, Audit, Shift, Serve}
 use Rattle.program_words.specs.declared.words.Chosen.{Chosen}
 use Rattle.program_words.specs.declared.words.Chosen.TheVariants.{Taken, Refused}
+use Rattle.robots_check.specs.declared.detail.Detail.{Detail}
+use Rattle.robots_check.specs.declared.detail.Detail.TheVariants.{Plain, Explained}
 use Rattle.client_wire.specs.Accepts.{AreServed}
 use Rattle.client_wire.specs.Waiting.{IsPatience}
 use Rattle.client_wire.specs.declared.connections.Connections.{Connections}
@@ -130,12 +135,32 @@ pub record AreReplayOf (words : Found) (limits : Limits) : Type 0 where
   pub limits_are : AreLimitsOf words limits
   pub generation : IsNumberOf words (codes "generation") limits.first_generation
 
--- the numbers of the subcommand are those that were matched, each under its own name
+-- the robots text is the file whose name was matched under `robots`, and without one the input
+abbrev pub IsTextOf : Found → CheckedText → Type 0
+IsTextOf words Input = first_value words (codes "robots") ≡ None
+IsTextOf words (File name) = first_value words (codes "robots") ≡ Some (string_bytes name)
+
+-- answers are explained where the flag says so, and else not
+pub record IsDetailOf (words : Found) (detail : Detail) : Type 0 where
+  pub explained : one_text words (codes "explain") ≡ Some (codes "true") → detail ≡ Explained
+  pub plain : one_text words (codes "explain") ≡ Some (codes "false") → detail ≡ Plain
+
+-- the options of a check, but for its token and its URLs, are those that were matched
+pub record AreCheckOf (words : Found) (options : CheckOptions) : Type 0 where
+  pub text : IsTextOf words options.text
+  pub detail : IsDetailOf words options.detail
+
+-- the options of the subcommand are those that were matched, each under its own name
 abbrev pub IsSetBy : Found → Subcommand → Type 0
 IsSetBy words (Replay limits) = AreReplayOf words limits
 IsSetBy words (Export limits) = AreReplayOf words limits
 IsSetBy words Lines = Unit {0}
-IsSetBy words (Check options) = Unit {0}
+IsSetBy words (Check options) = AreCheckOf words options
 IsSetBy words Audit = Unit {0}
 IsSetBy words (Shift options) = AreShiftOf words options
 IsSetBy words (Serve options) = AreServeOf words options
+
+-- the same of what is taken
+abbrev pub IsChosenBy : Found → Chosen → Type 0
+IsChosenBy words (Taken subcommand) = IsSetBy words subcommand
+IsChosenBy words (Refused reason) = Unit {0}

@@ -104,9 +104,7 @@ fn serve_words<'a>(alloc: Global, defaults: &'a Defaults) -> Result<Command<'a>,
 // The words of `check`.
 fn check_words<'a>(alloc: Global) -> Result<Command<'a>, AllocError> {
     Command::new(alloc, "check")
-        .about(
-            "Says of URLs whether the robots.txt on standard input allows them, and by which line",
-        )
+        .about("Says of URLs whether a robots.txt allows them, and by which line")
         .after_help(help::CHECK)
         .arg(
             Arg::new(alloc, "token")
@@ -122,6 +120,13 @@ fn check_words<'a>(alloc: Global) -> Result<Command<'a>, AllocError> {
                 .num_args(1..)
                 .action(ArgAction::Append)
                 .help("URLs, or paths that begin with /; - alone reads them from the input"),
+        )?
+        .arg(
+            Arg::new(alloc, "robots")
+                .long("robots")
+                .value_name("FILE")
+                .action(ArgAction::Set)
+                .help("Reads the robots.txt from this file, and not from the input"),
         )?
         .arg(flag(
             alloc,

@@ -50,8 +50,9 @@ With --explain the lines that it comes from stand before it, as
     rule line 3 allow /private/map octets 12 no
     because only
 A URL may be a path that begins with /, and https is taken as http: only its path and query count. With
-the only URL -, URLs are read from the input, one a line, behind the robots.txt and an empty line:
-    { cat robots.txt; echo; echo; cat urls; } | crawlgate check foobot -
+the only URL -, URLs are read from the input, one a line. With --robots that has URLs alone, and without
+it the robots.txt stands before them, up to an empty line. So use --robots where others wrote the file:
+    crawlgate check --robots robots.txt foobot - < urls
 The exit status is 0 where all are allowed, 1 where one is denied, and 2 where one can't be read.";
 
 /// The lines of `lines`.

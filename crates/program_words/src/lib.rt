@@ -8,5 +8,6 @@ mod help;
 mod words;
 
 pub use words::{
-    CheckOptions, CheckedUrls, Place, ServeOptions, ShiftOptions, Subcommand, Told, options,
+    CheckOptions, CheckedText, CheckedUrls, Place, ServeOptions, ShiftOptions, Subcommand, Told,
+    options,
 };

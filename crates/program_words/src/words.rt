@@ -5,7 +5,7 @@ ghost use Rattle.permit_book.specs.Numbers.{last_generation};
 ghost use Rattle.gate_core.specs.Limits.{AreLimits};
 ghost use Rattle.clap.specs.Words.{found_of};
 ghost use Rattle.client_wire.specs.Accepts.{AreServed};
-ghost use Rattle.program_words.specs.Options.{AreConnectionsOf, AreLimitsOf, AreTimesOf, IsBoundOf, IsChosen, IsInRange, IsNumberOf, IsPlaceOf, IsReachOf, IsSetBy};
+ghost use Rattle.program_words.specs.Options.{AreConnectionsOf, AreLimitsOf, AreTimesOf, IsBoundOf, IsChosen, IsChosenBy, IsDetailOf, IsInRange, IsNumberOf, IsPlaceOf, IsReachOf, IsSetBy, IsTextOf};
 ghost use Rattle.tcp_wire.specs.TimeLimits.{AreWithin};
 
 use crate::command::program;
@@ -41,7 +41,7 @@ pub enum Subcommand {
     Export(Limits),
     /// Reads a robots text from standard input, and writes what each of its lines says.
     Lines,
-    /// Reads a robots text from standard input, and says of URLs whether it allows them.
+    /// Says of URLs whether a robots text allows them.
     Check(CheckOptions),
     /// Audits the text of a history, or those of its segments, on standard input.
     Audit,
@@ -101,8 +101,18 @@ pub struct ServeOptions {
 pub struct CheckOptions {
     /// The crawler for which it is.
     pub token: Token,
+    pub text: CheckedText,
     pub urls: CheckedUrls,
     pub detail: Detail,
+}
+
+/// Where the robots text of a check comes from.
+#[derive(Drop)]
+pub enum CheckedText {
+    /// It is the input, or where the URLs are lines of that, what stands before them.
+    Input,
+    /// It is the content of the file of this name.
+    File(String),
 }
 
 /// Where the URLs of a check come from.
@@ -110,7 +120,7 @@ pub struct CheckOptions {
 pub enum CheckedUrls {
     /// They are words of the command line.
     Words(Vec<String>),
-    /// They are lines of the input, behind the robots text.
+    /// They are lines of the input: all, or where the robots text is there too, those behind it.
     Input,
 }
 
@@ -212,12 +222,14 @@ fn subcommand_of(matches: &ArgMatches<'_>) -> Option<Subcommand>
 }
 
 fn check_of(alloc: Global, matches: &ArgMatches<'_>) -> Result<Chosen, AllocError>
-    ensures { IfOk result IsChosen }
+    ensures range { IfOk result IsChosen }
+    ensures words { IfOk result (IsChosenBy (found_of matches.now)) }
 {
     let token = matches.get_str("token").unwrap_or("");
     match Token::new(alloc, token.as_bytes()) {
         Ok(token) => Ok(Chosen::Taken(Subcommand::Check(CheckOptions {
             token,
+            text: text_of(alloc, matches)?,
             urls: urls_of(alloc, matches)?,
             detail: detail_of(matches),
         }))),
@@ -226,7 +238,19 @@ fn check_of(alloc: Global, matches: &ArgMatches<'_>) -> Result<Chosen, AllocErro
     }
 }
 
-fn detail_of(matches: &ArgMatches<'_>) -> Detail {
+// The robots text of a check: the file that the option names, and without it the input.
+fn text_of(alloc: Global, matches: &ArgMatches<'_>) -> Result<CheckedText, AllocError>
+    ensures { IfOk result (IsTextOf (found_of matches.now)) }
+{
+    match matches.get_str("robots") {
+        Some(name) => Ok(CheckedText::File(String::from_str(alloc, name)?)),
+        None => Ok(CheckedText::Input),
+    }
+}
+
+fn detail_of(matches: &ArgMatches<'_>) -> Detail
+    ensures { IsDetailOf (found_of matches.now) result }
+{
     if matches.get_flag("explain") {
         Detail::Explained
     } else {

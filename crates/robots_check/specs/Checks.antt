@@ -8,7 +8,7 @@ use Rattle.counted_io.specs.declared.next_line.ReadLineFault.{ReadLineFault}
 use Rattle.counted_io.specs.declared.next_line.ReadLineFault.TheVariants as causes
 use Rattle.robots_text.specs.Lines.{KeepsSame, kept, text_limit}
 use Rattle.robots_text.specs.Records.{Numbered, numbered_records}
-use Rattle.robots_check.specs.Input.{HasUrls}
+use Rattle.robots_check.specs.Input.{AreUrlLines, HasUrls}
 use Rattle.robots_check.specs.Outcomes.{outcome_of}
 use Rattle.robots_check.specs.declared.fault.CheckFault.{CheckFault}
 use Rattle.robots_check.specs.declared.fault.CheckFault.TheVariants.{Read, Write, NoMemory}
@@ -89,6 +89,22 @@ ChecksInput detail input left word written new (Err Read) = StopsWithin input le
 ChecksInput detail input left word written new (Err Write) = ReadsAndTellsWhole detail input left word written new (Err Write)
 ChecksInput detail input left word written new (Err NoMemory) =
     StopsWithin input left written new ⊎ ReadsAndTellsWhole detail input left word written new (Err NoMemory)
+
+-- the whole input was read, and what is told of what is kept of a body and of the URLs of the lines was written
+pub record ReadsLinesAndTells (detail : Detail) (body : List ℕ) (input left : Option (List ℕ)) (word : List ℕ) (written new : Option (List ℕ)) (result : Result Outcome CheckFault) : Type 0 where
+  pub lines : List ℕ
+  pub reads : ReadsWhole input left lines
+  pub urls : List (List ℕ)
+  pub urls_are : AreUrlLines lines urls
+  pub tells : Tells detail (kept body) word urls written new result
+
+-- the same as `Checks` where the input has the URLs alone, and the text is what is kept of a body
+abbrev pub ChecksLines : Detail → (body : List ℕ) → (input left : Option (List ℕ)) → List ℕ → (written new : Option (List ℕ)) → Result Outcome CheckFault → Type 0
+ChecksLines detail body input left word written new (Ok outcome) = ReadsLinesAndTells detail body input left word written new (Ok outcome)
+ChecksLines detail body input left word written new (Err Read) = StopsWithin input left written new
+ChecksLines detail body input left word written new (Err Write) = ReadsLinesAndTells detail body input left word written new (Err Write)
+ChecksLines detail body input left word written new (Err NoMemory) =
+    StopsWithin input left written new ⊎ ReadsLinesAndTells detail body input left word written new (Err NoMemory)
 
 -- the fault of a check whose read failed so
 abbrev pub check_fault : ReadLineFault → CheckFault

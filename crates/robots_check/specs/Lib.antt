@@ -6,6 +6,7 @@ pub mod Answers
 pub mod Checks
 pub mod Explained
 pub mod Input
+pub mod Notes
 pub mod Outcomes
 pub mod Ready
 pub mod Rows

@@ -1,28 +1,32 @@
 //! `check`: whether a robots text allows URLs to a crawler, and by which line.
 //! `crawlgate check` runs it over standard input and output.
-ghost use Rattle.std.specs.Prelude.{◌≡◌, map};
-ghost use Rattle.robots_check.specs.Checks.{Checks, ChecksInput, failures_after_reads, failures_after_writes};
+ghost use Rattle.std.specs.Prelude.{◌≡◌, IfOk, map};
+ghost use Rattle.robots_check.specs.Checks.{Checks, ChecksInput, ChecksLines, failures_after_reads, failures_after_writes};
+ghost use Rattle.robots_check.specs.Notes.{IsNoted, NotesFront, NotesText, notes_text};
 
 use crate::answering::answer;
 use crate::body::{read_to, read_whole};
 use crate::detail::Detail;
 use crate::fault::CheckFault;
 use crate::input::{split_input, urls_of};
+use crate::notes::tell_notes;
 use crate::outcome::Outcome;
 use counted_io::{Sink, Source};
 use robots_text::{MAX_TEXT, RobotsText, Token};
 use std::alloc::Global;
 
-// How many octets of a robots text are read: one more than the limit tells that there is more.
-const MAX_BODY: usize = MAX_TEXT + 1;
+/// How many octets of a robots text are read: one more than the limit tells that there is more.
+pub const MAX_BODY: usize = MAX_TEXT + 1;
 
 /// Reads a robots text, of which it takes at most one octet more than the limit, and writes of each
 /// URL whether a crawler of this token may fetch it, and by which line. A URL may be a path, and
-/// its scheme https.
-pub fn check<R: Source, W: Sink>(
+/// its scheme https. To `errors` it tells beforehand what of the text may surprise: that it is cut,
+/// that no line is a record, and rules that match no URL.
+pub fn check<R: Source, W: Sink, E: Sink>(
     alloc: Global,
     reader: &mut R,
     writer: &mut W,
+    errors: &mut E,
     token: &Token,
     urls: &[&[u8]],
     detail: Detail,
@@ -32,17 +36,25 @@ pub fn check<R: Source, W: Sink>(
     ensures reads { R.failures reader.new ≡ failures_after_reads (R.failures reader.old) result }
     ensures writes { W.failures writer.new
         ≡ failures_after_writes (W.failures writer.old) result }
+    ensures notes { IfOk result (λ _. NotesText (R.left reader.old) (R.left reader.new)
+        (E.written errors.old) (E.written errors.new)
+        (E.failures errors.old) (E.failures errors.new)) }
 {
     let body = read_to(alloc, reader, MAX_BODY)?;
-    answer(alloc, RobotsText::of(body), token, urls, detail, writer)
+    let count = body.len();
+    let text = RobotsText::of(body);
+    tell_notes(alloc, &text, count, errors)?;
+    answer(alloc, text, token, urls, detail, writer)
 }
 
 /// The same where the URLs stand in the input, one a line, behind the robots text: that ends at the
-/// first empty line which a line follows that begins with `/`, `http:` or `https:`.
-pub fn check_input<R: Source, W: Sink>(
+/// first empty line which a line follows that begins with `/`, `http:` or `https:`. Who writes the
+/// text can end it so, and bring URLs of their own: `check_lines` keeps the two apart.
+pub fn check_input<R: Source, W: Sink, E: Sink>(
     alloc: Global,
     reader: &mut R,
     writer: &mut W,
+    errors: &mut E,
     token: &Token,
     detail: Detail,
 ) -> Result<Outcome, CheckFault>
@@ -51,10 +63,41 @@ pub fn check_input<R: Source, W: Sink>(
     ensures reads { R.failures reader.new ≡ failures_after_reads (R.failures reader.old) result }
     ensures writes { W.failures writer.new
         ≡ failures_after_writes (W.failures writer.old) result }
+    ensures notes { IfOk result (λ _. NotesFront (R.left reader.old) (R.left reader.new)
+        (E.written errors.old) (E.written errors.new)
+        (E.failures errors.old) (E.failures errors.new)) }
 {
     let input = read_whole(alloc, reader)?;
     let (front, lines) = split_input(input.as_slice());
     let urls = urls_of(alloc, lines)?;
     let text = RobotsText::read(alloc, front)?;
+    tell_notes(alloc, &text, front.len(), errors)?;
+    answer(alloc, text, token, urls.as_slice(), detail, writer)
+}
+
+/// The same where the input has the URLs alone, one a line, and the robots text is what is kept of
+/// this body: nothing in the body is read as a URL.
+pub fn check_lines<R: Source, W: Sink, E: Sink>(
+    alloc: Global,
+    body: &[u8],
+    reader: &mut R,
+    writer: &mut W,
+    errors: &mut E,
+    token: &Token,
+    detail: Detail,
+) -> Result<Outcome, CheckFault>
+    ensures checks { ChecksLines detail body.now (R.left reader.old) (R.left reader.new) token.now
+        (W.written writer.old) (W.written writer.new) result }
+    ensures reads { R.failures reader.new ≡ failures_after_reads (R.failures reader.old) result }
+    ensures writes { W.failures writer.new
+        ≡ failures_after_writes (W.failures writer.old) result }
+    ensures notes { IfOk result (λ _. IsNoted (notes_text body.now)
+        (E.written errors.old) (E.written errors.new)
+        (E.failures errors.old) (E.failures errors.new)) }
+{
+    let lines = read_whole(alloc, reader)?;
+    let urls = urls_of(alloc, lines.as_slice())?;
+    let text = RobotsText::read(alloc, body)?;
+    tell_notes(alloc, &text, body.len(), errors)?;
     answer(alloc, text, token, urls.as_slice(), detail, writer)
 }

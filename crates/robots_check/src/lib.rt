@@ -13,12 +13,14 @@ mod finding;
 mod input;
 mod judge;
 pub mod laws;
+mod notes;
 mod outcome;
 mod page;
 mod rows;
 mod rules;
 
-pub use checking::{check, check_input};
+pub use checking::{MAX_BODY, check, check_input, check_lines};
 pub use detail::Detail;
 pub use fault::CheckFault;
+pub use notes::tell_notes;
 pub use outcome::Outcome;

@@ -1,0 +1,165 @@
+//! What is told of a robots text beside what it says of URLs.
+//! docs/FORMATS.md has the lines.
+ghost use Rattle.std.specs.Prelude.{◌≡◌, ◌++◌, [], IfOk, flat_map};
+ghost use Rattle.std.specs.List.{list_any};
+ghost use Rattle.counted_io.specs.Output.{Pushes};
+ghost use Rattle.line_text.specs.Pieces.{pieces_text};
+ghost use Rattle.robots_text.specs.Left.{records_left};
+ghost use Rattle.robots_text.specs.Records.{kind_seen, line_seen, numbered_records};
+ghost use Rattle.robots_check.specs.Notes.{IsNoted, behind_question, cut_note, has_query_apostrophe, is_said, line_note, notes_of, silent_note};
+
+use counted_io::{DeviceFault, Output, Sink};
+use line_text::{Piece, Pieces};
+use robots_text::{MAX_TEXT, RecordKind, RecordLine, Records, RobotsText};
+use std::alloc::{AllocError, Global};
+
+/// Tells of a text, whose body had so many octets, what may surprise who reads its verdicts. A write
+/// that fails ends it, and nothing else.
+pub fn tell_notes<E: Sink>(
+    alloc: Global,
+    text: &RobotsText,
+    count: usize,
+    errors: &mut E,
+) -> Result<(), AllocError>
+    ensures { IfOk result (λ _. IsNoted (notes_of count (numbered_records text.now))
+        (E.written errors.old) (E.written errors.new)
+        (E.failures errors.old) (E.failures errors.new)) }
+{
+    let mut output = Output::new(alloc)?;
+    let _ = write_notes(text, count, &mut output, errors);
+    Ok(())
+}
+
+fn write_notes<E: Sink>(
+    text: &RobotsText,
+    count: usize,
+    output: &mut Output,
+    errors: &mut E,
+) -> Result<(), DeviceFault>
+    requires { output.old ≡ [] }
+    ensures { IsNoted (notes_of count (numbered_records text.now))
+        (E.written errors.old) (E.written errors.new)
+        (E.failures errors.old) (E.failures errors.new) }
+{
+    push_notes(text, count, output, errors)?;
+    output.flush(errors)?;
+    Ok(())
+}
+
+fn push_notes<E: Sink>(
+    text: &RobotsText,
+    count: usize,
+    output: &mut Output,
+    errors: &mut E,
+) -> Result<(), DeviceFault>
+    ensures { Pushes (E.written errors.old) (E.written errors.new)
+        (E.failures errors.old) (E.failures errors.new) output.old output.new
+        (notes_of count (numbered_records text.now)) result }
+{
+    head_pieces(text, count).push(output, errors)?;
+    push_line_notes(text.records(), output, errors)
+}
+
+// What is told of the text as a whole.
+fn head_pieces(text: &RobotsText, count: usize) -> Pieces<'static>
+    ensures { pieces_text result ≡ cut_note count ++ silent_note (numbered_records text.now) }
+{
+    Pieces::of(&[
+        Piece::Text(cut_note(count)),
+        Piece::Text(silent_note(text.records())),
+    ])
+}
+
+fn cut_note(count: usize) -> &'static str
+    ensures { result.now ≡ cut_note count }
+{
+    if count <= MAX_TEXT {
+        ""
+    } else {
+        "crawlgate: of the robots.txt only the lines that end within 512,000 bytes are read\n"
+    }
+}
+
+fn silent_note(records: Records<'_>) -> &'static str
+    ensures { result.now ≡ silent_note (records_left records.entry) }
+{
+    let mut left = records;
+    match left.next() {
+        Some(first) if !is_said(first.kind) && !has_said(left) => {
+            "crawlgate: no line of the robots.txt is a record, so it allows all\n"
+        }
+        _ => "",
+    }
+}
+
+// Whether one of the lines that are left is a record.
+fn has_said(records: Records<'_>) -> bool
+    ensures { result ≡ list_any (λ line. is_said line.kind) (records_left records.entry) }
+{
+    let mut left = records;
+    while let Some(record) = left.next() {
+        if is_said(record.kind) {
+            return true;
+        }
+    }
+    false
+}
+
+fn is_said(kind: RecordKind<'_>) -> bool
+    ensures { result ≡ is_said (kind_seen kind.entry) }
+{
+    match kind {
+        RecordKind::Agent(_) | RecordKind::Rule(_, _) => true,
+        RecordKind::Other => false,
+    }
+}
+
+// Pushes what is told of each line that is left.
+fn push_line_notes<E: Sink>(
+    records: Records<'_>,
+    output: &mut Output,
+    errors: &mut E,
+) -> Result<(), DeviceFault>
+    ensures { Pushes (E.written errors.old) (E.written errors.new)
+        (E.failures errors.old) (E.failures errors.new) output.old output.new
+        (flat_map line_note (records_left records.entry)) result }
+{
+    let mut left = records;
+    while let Some(item) = left.next() {
+        line_pieces(item).push(output, errors)?;
+    }
+    Ok(())
+}
+
+fn line_pieces(item: RecordLine<'_>) -> Pieces<'static>
+    ensures { pieces_text result ≡ line_note (line_seen item.entry) }
+{
+    match item.kind {
+        RecordKind::Rule(_, value) if has_query_apostrophe(value) => Pieces::of(&[
+            Piece::Text("crawlgate: line "),
+            Piece::Number(item.line),
+            Piece::Text(" matches no URL: a URL has %27 for ' in its query\n"),
+        ]),
+        _ => Pieces::whole(""),
+    }
+}
+
+// Whether an apostrophe stands behind a question mark.
+fn has_query_apostrophe(value: &[u8]) -> bool
+    ensures { result ≡ has_query_apostrophe value.now }
+{
+    behind_question(value).iter().any(|octet| *octet == b'\'')
+}
+
+fn behind_question(value: &[u8]) -> &[u8]
+    ensures { result.now ≡ behind_question value.now }
+{
+    let mut left = value;
+    while let [octet, rest @ ..] = left {
+        if *octet == b'?' {
+            return rest;
+        }
+        left = rest;
+    }
+    &[]
+}
