@@ -15,7 +15,7 @@ COMMANDS = [
     ["replay"], ["replay", "--slots", "1", "--log", "3"], ["replay", "--export"], ["audit"], ["lines"], ["check", "foobot", "-"],
     ["check", "--explain", "foobot", "-"], ["check", "foobot", "/a", "/"], ["shift"], ["shift", "--tsv"], ["shift", "--export"],
 ]
-WORDS = ["replay", "shift", "serve", "audit", "lines", "check", "--slots", "--log", "--export", "--explain", "--tsv", "--help", "--version", "--workers", "0", "1", "65537", "-1",
+WORDS = ["replay", "shift", "serve", "audit", "lines", "check", "--slots", "--log", "--export", "--explain", "--robots", "--robots=/", "--tsv", "--help", "--version", "--workers", "0", "1", "65537", "-1",
          "foobot", "/a", "-", "", "--", "--slots=1", "x" * 5_000, "\u00e9", "99999999999999999999", "+1", " 1", "1e3", "-h", "help", b"\xff", b"/\xff\xfe"]
 REPLY = re.compile(
     rb"TURN \S+ \d+|TAKEN \S+ (rules|open|closed)|PERMIT \d+|GO \d+ (open|norule|robots|line \d+)|NO \S+ (spent|unknown|expired|closed|line \d+)|(BACK|DONE) \d+"

@@ -1,6 +1,7 @@
-"""Hostile robots files: what `lines`, `check` and `check --explain` write of them, against the second reading of RFC 9309 in
-checks/agreement."""
+"""Hostile robots files: what `lines`, `check` and `check --explain` write of them, and what is told of them on standard
+error, against the second reading of RFC 9309 in checks/agreement."""
 import re
+import tempfile
 
 import pages
 from auditor import TEXT_LIMIT, agreement
@@ -45,13 +46,39 @@ def reason(matching):
     return f"allow above disallow of line {least}" if kind != other else f"first of line {line} and {least}"
 
 
+def agents_of(records, token):
+    """Yields a line for each user-agent line of the groups in which one speaks to the token."""
+    name = token if ("agent", token) in records else "*"
+    groups, is_open = [], False
+    for number, (kind, value) in enumerate(records, 1):
+        if kind == "agent":
+            groups = groups if is_open else [*groups, []]
+            groups[-1].append((number, value))
+        is_open = kind == "agent" or is_open and kind == "other"
+    for group in groups:
+        if any(value == name for _, value in group):
+            for number, value in group:
+                said = "all" if value == "*" else f"name {value}" if value else "none"
+                yield f"agent line {number} {said}{'' if value == name else ' same group'}"
+
+
+def told(text, records):
+    """Returns what is told of a text on standard error."""
+    lines = []
+    if len(text) > TEXT_LIMIT:
+        lines.append("of the robots.txt only the lines that end within 512,000 bytes are read")
+    if records and all(kind == "other" for kind, _ in records):
+        lines.append("no line of the robots.txt is a record, so it allows all")
+    for number, (kind, value) in enumerate(records, 1):
+        if kind in ("allow", "disallow") and re.search(rb"(?s)\?.*'", value):
+            lines.append(f"line {number} matches no URL: a URL has %27 for ' in its query")
+    return "".join(f"crawlgate: {it}\n" for it in lines).encode()
+
+
 def explained(records, token, path):
     """Yields the lines of an explanation."""
-    name = token if ("agent", token) in records else "*"
-    agents = [number for number, it in enumerate(records, 1) if it == ("agent", name)]
-    yield from (f"agent line {it} {'all' if name == '*' else f'name {name}'}" for it in agents)
-    if not agents:
-        yield "agent none"
+    heads = list(agents_of(records, token))
+    yield from heads or ["agent none"]
     rules = list(ranked(records, token, path))
     for octets, kind, line, value, is_matching in rules:
         yield " ".join(["rule line", str(line), kind, *([escaped(value)] if value else []), "octets", str(octets), "matches" if is_matching else "no"])
@@ -141,13 +168,26 @@ def try_text(tried, dice):
     text = dice.choices([it for _, it in KINDS], [it for it, _ in KINDS])[0](dice)
     records = [agreement.record_of(line) for line in agreement.lines_of(text)]
     lines = "".join(f"{agreement.line_text(number, it)}\n" for number, it in enumerate(records, 1))
-    tried.same("lines", text, ["lines"], lines.encode())
+    notes = told(text, records)
+    tried.same("lines", text, ["lines"], lines.encode(), error=notes)
+    with tempfile.NamedTemporaryFile() as file:
+        file.write(text)
+        file.flush()
+        try_checks(tried, dice, text, records, notes, file.name)
+
+
+def try_checks(tried, dice, text, records, notes, file):
+    """Compares what checks write of a robots file that is the input, a part of it, or in a file."""
     for token in dice.sample(TOKENS, 2):
         urls = urls_of(dice)
         for options in ([], ["--explain"]):
             tried.count("verdicts", len(urls))
             wanted = answers(records, token.lower(), urls, bool(options))
-            tried.same("check", text, ["check", *options, token, *urls], *wanted)
+            tried.same("check", text, ["check", *options, token, *urls], *wanted, error=notes)
+            tried.same("check of a file", b"", ["check", *options, "--robots", file, token, *urls], *wanted, error=notes)
+            given = "".join(f"{it}\n" for it in urls).encode()
+            if urls:
+                tried.same("check of a file and lines", given, ["check", *options, "--robots", file, token, "-"], *wanted, error=notes)
             if not is_split(text + b"\n"):
                 given = text + b"\n\n" + "".join(f"{it}\n" for it in ["/", *urls]).encode()
                 if len(text) < TEXT_LIMIT:

@@ -2,6 +2,7 @@
 import collections
 import os
 import random
+import re
 import shlex
 import subprocess
 import sys
@@ -15,6 +16,8 @@ sys.path.insert(0, f"{os.path.dirname(HERE)}/serve")
 SECONDS = 20
 # the exit statuses that docs/FORMATS.md lists
 STATUSES = (0, 1, 2, 3)
+# the last line of standard error where the status is 3
+FAULT = re.compile(rb'(?m)^crawlgate: (no memory|device|cannot read ".*": .+)\n\Z')
 MOST_TOLD = 20
 
 
@@ -81,19 +84,21 @@ class Tried:
             return b"", None, b""
         return ran.stdout, ran.returncode, ran.stderr
 
-    def same(self, what, given, words, wanted, status=0):
-        """Compares what the program writes, and its status."""
-        found, ended, error = self.run(words, given)
+    def same(self, what, given, words, wanted, status=0, error=None):
+        """Compares what the program writes, its status, and its standard error where that is given."""
+        found, ended, told = self.run(words, given)
         about = f"{what}: {' '.join(words)}"
         if ended != status:
-            self.expect(about, given, False, f"its status is {ended}, and not {status}; it wrote {short(found)}, {short(error)}", words)
+            self.expect(about, given, False, f"its status is {ended}, and not {status}; it wrote {short(found)}, {short(told)}", words)
         else:
             self.expect(about, given, found == wanted, found != wanted and difference(found, wanted), words)
+            if error is not None:
+                self.expect(about, given, told == error, told != error and f"of its standard error {difference(told, error)}", words)
 
     def survives(self, what, given, words, **how):
         """Sees to it that the program ends as it may, whatever it is given. Returns what it wrote, and its status."""
         found, status, error = self.run(words, given, **how)
-        is_told = status in (0, 1, 2) or error in (b"crawlgate: no memory\n", b"crawlgate: device\n")
+        is_told = status in (0, 1, 2) or FAULT.search(error)
         told = "it hangs" if status is None else f"its status is {status}, and it tells {short(error)}"
         self.expect(f"{what}: {' '.join(map(str, words))}", given, status in STATUSES and is_told, told, [str(it) for it in words])
         return found, status

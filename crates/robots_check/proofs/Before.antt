@@ -10,7 +10,7 @@ use Rattle.path_normal.specs.PageText.{target_of}
 use Rattle.path_normal.specs.declared.fault.UrlFault.{UrlFault}
 use Rattle.robots_text.specs.Groups.{AreRulesFor, Ruled}
 use Rattle.robots_text.specs.Records.{Numbered}
-use Rattle.robots_check.specs.AgentText.{agents_for, agents_text}
+use Rattle.robots_check.specs.AgentText.{Shown, agents_for, agents_text}
 use Rattle.robots_check.specs.AnswerText.{answer_text}
 use Rattle.robots_check.specs.Answering.{CutsBefore, IsBeforeOn, PassesBefore, Passing, PassingFront}
 use Rattle.robots_check.specs.Answers.{Answer, allowed_by, allowed_unruled, allowed_robots, denied_by, unread, IsAnswerOn}
@@ -87,7 +87,7 @@ rows_text [] = refl
 rows_text (row ∷ rows) = ap (λ l. row_text (row_seen row) ++ l) (rows_text rows)
 
 -- the three parts are an explanation
-pub explains : (lines : List Numbered) (word path : List ℕ) (answer : Answer) (agents : List Numbered) (rules : List Ruled) (rows searched pushed : List Row) (octets : ℕ) (second : Option Tried) (reason : List ℕ) →
+pub explains : (lines : List Numbered) (word path : List ℕ) (answer : Answer) (agents : List Shown) (rules : List Ruled) (rows searched pushed : List Row) (octets : ℕ) (second : Option Tried) (reason : List ℕ) →
     agents ≡ agents_for lines word → AreRulesFor lines word rules → AreRows path rules (map row_seen rows) → searched ≡ rows → pushed ≡ rows → IsSecondFor (map row_seen searched) answer second → octets ≡ winner_octets answer → reason ≡ because_text octets answer second →
     Explains lines word path answer (agents_text agents ++ (flat_map (λ row. row_text (row_seen row)) pushed ++ reason))
 explains lines word path answer agents rules rows searched pushed octets second reason agents_are are_rules are_rows searched_is pushed_is is_second octets_are reason_is = record {

@@ -6,3 +6,4 @@ mod Judging
 mod Passing
 mod Placing
 mod Reading
+mod Showing

@@ -1,5 +1,5 @@
--- What an explanation says of a path before the answer: the user-agent lines that speak to the token, each rule line
--- for it, and why the one that gives the verdict is above the others.
+-- What an explanation says of a path before the answer: the user-agent lines of the groups that speak to the token, each
+-- rule line for it, and why the one that gives the verdict is above the others.
 -- RFC 9309, section 2.2; docs/FORMATS.md has the lines.
 use Rattle.std.specs.Prelude.{◌≡◌, ◌==◌, ℕ, Bool, List, [], ◌++◌, Option, Some, None, codes, decimal, flat_map, length, if◌then◌else◌}
 use Rattle.line_text.specs.RuleWords.{rule_word, value_text}

@@ -1,61 +1,112 @@
-//! The user-agent lines that speak to a token, and their lines of an explanation.
+//! The user-agent lines of the groups that speak to a token, and their lines of an explanation.
 //! RFC 9309, section 2.2.1.
-ghost use Rattle.std.specs.Prelude.{◌≡◌, IfOk, filter, flat_map, map};
+ghost use Rattle.std.specs.Prelude.{◌≡◌, ◌==◌, IfOk, flat_map, map};
+ghost use Rattle.std.specs.List.{list_any};
 ghost use Rattle.counted_io.specs.Output.{Pushes};
 ghost use Rattle.line_text.specs.Pieces.{piece_text, pieces_text};
-ghost use Rattle.robots_text.specs.Left.{records_left};
-ghost use Rattle.robots_text.specs.Records.{line_seen, numbered_records};
+ghost use Rattle.robots_text.specs.Grouped.{grouped_left, grouped_seen};
+ghost use Rattle.robots_text.specs.Records.{numbered_records};
 ghost use Rattle.robots_text.specs.Walk.{speaks};
-ghost use Rattle.robots_check.specs.AgentText.{agent_line_text, agent_text, agents_for, agents_text};
+ghost use Rattle.robots_check.specs.AgentText.{agent_line_text, agent_text, agents_for, agents_text, beside_text, groups_that, head_seen, heads_in, is_head_of};
 
 use counted_io::{DeviceFault, Output, Sink};
 use line_text::{Piece, Pieces};
 use robots_text::{
-    Agent, RecordKind, RecordLine, Records, RobotsText, Token, Whom, speaks, whom_for,
+    Agent, GroupedRecord, GroupedRecords, RecordKind, RobotsText, Token, Whom, speaks, whom_for,
 };
 use std::alloc::{AllocError, Global};
 
-/// The user-agent lines that speak to the token.
+/// A user-agent line of a group that speaks to the token.
+#[derive(Clone, Copy)]
+pub(crate) struct Head<'t> {
+    pub(crate) line: u64,
+    pub(crate) kind: RecordKind<'t>,
+    /// Whether the line itself speaks to the token.
+    pub(crate) speaks: bool,
+}
+
+/// The user-agent lines of the groups that speak to the token.
 pub(crate) fn agents_for<'t>(
     alloc: Global,
     text: &'t RobotsText,
     token: &Token,
-) -> Result<Vec<RecordLine<'t>>, AllocError>
+) -> Result<Vec<Head<'t>>, AllocError>
     ensures { IfOk result (λ agents.
-        map line_seen agents.items ≡ agents_for (numbered_records text.now) token.now) }
+        map head_seen agents.items ≡ agents_for (numbered_records text.now) token.now) }
 {
     let whom = whom_for(text.records(), token.text().as_bytes());
-    speaking(alloc, text.records(), whom)
+    let groups = groups_that(alloc, text.groups(), whom)?;
+    let heads = heads_in(alloc, text.groups(), whom, groups.as_slice())?;
+    Ok(heads)
 }
 
-// Those of the lines that are left which speak to them.
-fn speaking<'t>(
+// The groups of the lines that are left which speak to them.
+fn groups_that(
     alloc: Global,
-    records: Records<'t>,
+    lines: GroupedRecords<'_>,
     whom: Whom<'_>,
-) -> Result<Vec<RecordLine<'t>>, AllocError>
-    ensures { IfOk result (λ agents. map line_seen agents.items
-        ≡ filter (λ line. speaks whom.entry line.kind) (records_left records.entry)) }
+) -> Result<Vec<u64>, AllocError>
+    ensures { IfOk result (λ groups.
+        groups.items ≡ groups_that (speaks whom.entry) (grouped_left lines.entry)) }
 {
-    let mut agents = Vec::new(alloc);
-    let mut left = records;
-    while let Some(record) = left.next() {
-        if speaks(whom, record.kind) {
-            agents.push(record)?;
+    let mut groups = Vec::new(alloc);
+    let mut left = lines;
+    while let Some(line) = left.next() {
+        if speaks(whom, line.kind) {
+            groups.push(line.group)?;
         }
     }
-    Ok(agents)
+    Ok(groups)
+}
+
+// The user-agent lines of these groups among the lines that are left.
+fn heads_in<'t>(
+    alloc: Global,
+    lines: GroupedRecords<'t>,
+    whom: Whom<'_>,
+    groups: &[u64],
+) -> Result<Vec<Head<'t>>, AllocError>
+    ensures { IfOk result (λ heads. map head_seen heads.items
+        ≡ heads_in (speaks whom.entry) groups.now (grouped_left lines.entry)) }
+{
+    let mut heads = Vec::new(alloc);
+    let mut left = lines;
+    while let Some(line) = left.next() {
+        if is_head_of(groups, line) {
+            heads.push(Head {
+                line: line.line,
+                kind: line.kind,
+                speaks: speaks(whom, line.kind),
+            })?;
+        }
+    }
+    Ok(heads)
+}
+
+fn is_head_of(groups: &[u64], line: GroupedRecord<'_>) -> bool
+    ensures { result ≡ is_head_of groups.now (grouped_seen line.entry) }
+{
+    match line.kind {
+        RecordKind::Agent(_) => has_group(groups, line.group),
+        _ => false,
+    }
+}
+
+fn has_group(groups: &[u64], sought: u64) -> bool
+    ensures { result ≡ list_any (λ group. group == sought) groups.now }
+{
+    groups.iter().any(|group| *group == sought)
 }
 
 /// Pushes their lines, or one that says that there is none.
 pub(crate) fn push_agents<W: Sink>(
-    agents: &[RecordLine<'_>],
+    agents: &[Head<'_>],
     output: &mut Output,
     sink: &mut W,
 ) -> Result<(), DeviceFault>
     ensures { Pushes (W.written sink.old) (W.written sink.new)
         (W.failures sink.old) (W.failures sink.new) output.old output.new
-        (agents_text (map line_seen agents.now)) result }
+        (agents_text (map head_seen agents.now)) result }
 {
     if agents.is_empty() {
         return Pieces::whole("agent none\n").push(output, sink);
@@ -64,13 +115,13 @@ pub(crate) fn push_agents<W: Sink>(
 }
 
 fn push_lines<W: Sink>(
-    agents: &[RecordLine<'_>],
+    agents: &[Head<'_>],
     output: &mut Output,
     sink: &mut W,
 ) -> Result<(), DeviceFault>
     ensures { Pushes (W.written sink.old) (W.written sink.new)
         (W.failures sink.old) (W.failures sink.new) output.old output.new
-        (flat_map (λ line. agent_text (line_seen line)) agents.now) result }
+        (flat_map (λ head. agent_text (head_seen head)) agents.now) result }
 {
     for agent in agents {
         agent_pieces(*agent).push(output, sink)?;
@@ -78,26 +129,38 @@ fn push_lines<W: Sink>(
     Ok(())
 }
 
-fn agent_pieces(agent: RecordLine<'_>) -> Pieces<'_>
-    ensures { pieces_text result ≡ agent_text (line_seen agent.entry) }
+fn agent_pieces(head: Head<'_>) -> Pieces<'_>
+    ensures { pieces_text result ≡ agent_text (head_seen head.entry) }
 {
-    match agent.kind {
+    match head.kind {
         RecordKind::Agent(Agent::Name(name)) => {
-            named_pieces(agent.line, " name ", Piece::LowerCase(name))
+            named_pieces(head.line, " name ", Piece::LowerCase(name), head.speaks)
         }
-        RecordKind::Agent(Agent::All) => named_pieces(agent.line, " all", Piece::Text("")),
-        _ => named_pieces(agent.line, "", Piece::Text("")),
+        RecordKind::Agent(Agent::All) => {
+            named_pieces(head.line, " all", Piece::Text(""), head.speaks)
+        }
+        RecordKind::Agent(Agent::Nobody) => {
+            named_pieces(head.line, " none", Piece::Text(""), head.speaks)
+        }
+        _ => named_pieces(head.line, "", Piece::Text(""), head.speaks),
     }
 }
 
-fn named_pieces<'a>(line: u64, word: &'a str, name: Piece<'a>) -> Pieces<'a>
-    ensures { pieces_text result ≡ agent_line_text line word.now (piece_text name.entry) }
+fn beside_word(speaks: bool) -> &'static str
+    ensures { result.now ≡ beside_text speaks }
+{
+    if speaks { "\n" } else { " same group\n" }
+}
+
+fn named_pieces<'a>(line: u64, word: &'a str, name: Piece<'a>, speaks: bool) -> Pieces<'a>
+    ensures { pieces_text result ≡ agent_line_text line word.now (piece_text name.entry)
+        (beside_text speaks) }
 {
     Pieces::of(&[
         Piece::Text("agent line "),
         Piece::Number(line),
         Piece::Text(word),
         name,
-        Piece::Text("\n"),
+        Piece::Text(beside_word(speaks)),
     ])
 }

@@ -3,25 +3,24 @@
 ghost use Rattle.std.specs.Prelude.{◌≡◌, ◌++◌, IfOk, flat_map, map, option_map};
 ghost use Rattle.counted_io.specs.Output.{Pushes};
 ghost use Rattle.line_text.specs.Pieces.{pieces_text};
-ghost use Rattle.robots_text.specs.Records.{line_seen};
-ghost use Rattle.robots_check.specs.AgentText.{agents_text};
+ghost use Rattle.robots_check.specs.AgentText.{agents_text, head_seen};
 ghost use Rattle.robots_check.specs.Answers.{answer_seen};
 ghost use Rattle.robots_check.specs.Explained.{IsSecondFor, alike_text, because_by, because_text, hits_text, row_text, winner_octets};
 ghost use Rattle.robots_check.specs.Rows.{row_seen};
 ghost use Rattle.robots_text.specs.Walk.{rule_seen};
 
-use crate::agents::push_agents;
+use crate::agents::{Head, push_agents};
 use crate::finding::Finding;
 use crate::rows::{Row, second};
 use counted_io::{DeviceFault, Output, Sink};
 use line_text::{Piece, Pieces, gap_before, rule_word};
 use path_normal::normal_pattern;
-use robots_text::{RecordLine, RuleLine};
+use robots_text::RuleLine;
 use std::alloc::{AllocError, Global};
 
 /// Pushes the explanation of a finding: the user-agent lines, the rows, and the reason.
 pub(crate) fn push_explanation<W: Sink>(
-    agents: &[RecordLine<'_>],
+    agents: &[Head<'_>],
     rows: &[Row<'_>],
     reason: Pieces<'_>,
     output: &mut Output,
@@ -29,7 +28,7 @@ pub(crate) fn push_explanation<W: Sink>(
 ) -> Result<(), DeviceFault>
     ensures { Pushes (W.written sink.old) (W.written sink.new)
         (W.failures sink.old) (W.failures sink.new) output.old output.new
-        (agents_text (map line_seen agents.now) ++ (flat_map (λ row. row_text (row_seen row)) rows.now
+        (agents_text (map head_seen agents.now) ++ (flat_map (λ row. row_text (row_seen row)) rows.now
         ++ pieces_text reason.entry)) result }
 {
     push_agents(agents, output, sink)?;

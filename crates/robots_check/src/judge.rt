@@ -6,11 +6,12 @@ ghost use Rattle.robots_text.specs.Records.{numbered_records};
 ghost use Rattle.robots_check.specs.Answers.{IsAnswerOn, answer_seen};
 ghost use Rattle.robots_check.specs.Ready.{IsReady};
 
+use crate::agents::Head;
 use crate::detail::Detail;
 use crate::finding::Finding;
 use crate::rules::place_of;
 use path_normal::PageUrl;
-use robots_text::{RecordLine, RuleLine, Token};
+use robots_text::{RuleLine, Token};
 use robots_verdict::{Allowed, Policy, Verdict};
 
 /// A robots text that is ready to be asked, and the crawler for which it is.
@@ -19,7 +20,7 @@ pub(crate) struct Judge<'t> {
     pub(crate) policy: &'t Policy,
     pub(crate) token: &'t Token,
     pub(crate) rules: &'t [RuleLine<'t>],
-    pub(crate) agents: &'t [RecordLine<'t>],
+    pub(crate) agents: &'t [Head<'t>],
     pub(crate) detail: Detail,
 }
 

@@ -1,7 +1,11 @@
 -- What passed to the output is written, or cut there.
 -- The lemmas of `Passing` say so.
-use Rattle.std.proofs.Common.{◌∙◌}
+use Rattle.std.proofs.Common.{◌∙◌, ap, map, subst, sym}
 use Rattle.std.proofs.lemmas.Result.{err_from_is_err_and}
+use Rattle.robots_text.specs.Groups.{AreRulesFor}
+use Rattle.robots_text.specs.Records.{numbered_records}
+use Rattle.robots_text.specs.Walk.{rule_seen}
+use Rattle.robots_check.specs.AgentText.{agents_for, head_seen}
 use Rattle.robots_check.proofs.Passing.{front_none, told_all, told_front}
 use Rattle.robots_check.proofs.answering.answer.Goals as goal
 
@@ -41,3 +45,10 @@ pub returns-clause-tells : goal.returns-clause-tells
 returns-clause-tells g c =
     let same = c.in_ok-policy.ensures ∙ c.in_ok-new.ensures in
     told_all _ _ _ _ _ _ _ _ _ _ _ same c.in_ok-output.ensures.empty c.in_ok-outcome.ensures.passes c.in_ok-flush.ensures.ok
+
+pub push_answers-requires : goal.push_answers-requires
+push_answers-requires g c = (
+  subst (λ rules. AreRulesFor (numbered_records c.in_ok-policy.policy) c.args.token.now (map rule_seen rules)) (sym c.as_slice.ensures.value)
+      (subst (λ text. AreRulesFor (numbered_records text) c.args.token.now (map rule_seen c.in_ok-rules.rules.items)) c.text.ensures c.in_ok-rules.ensures),
+  ap (map head_seen) c.as_slice-2.ensures.value ∙ c.in_ok-agents.ensures ∙ ap (λ text. agents_for (numbered_records text) c.args.token.now) c.text-2.ensures,
+)

@@ -1,5 +1,5 @@
 -- What passed to the output is written, or cut there.
-use Rattle.std.proofs.Common.{◌≡◌, ◌++◌, ◌∙◌, ℕ, List, Option, ap, inl, inr, subst, sym}
+use Rattle.std.proofs.Common.{◌++◌, ◌∙◌, ℕ, List, Option, ap, inl, inr, subst, sym}
 use Rattle.std.specs.Io.KnownBytes.{Appends}
 use Rattle.std.proofs.KnownBytes.{Appends-trans}
 use Rattle.counted_io.specs.Device.{AppendsPrefix, one_more}
