@@ -1,0 +1,4 @@
+-- The lemmas of the proofs.
+-- The proof files of this crate cite them.
+mod Lines
+mod Failing

@@ -1,0 +1,93 @@
+//! A sink that is written to only once something else has come up, as a journal has to before anything is told.
+//! Clients' streams and reports are written behind a journal.
+ghost use Rattle.std.specs.Prelude.{◌≡◌, ◌<◌, ◌≤◌, Result, length, IfOk};
+ghost use Rattle.std.specs.Io.KnownBytes.{WriteAppends};
+ghost use Rattle.counted_io.specs.Device.{failures_after, one_more};
+ghost use Rattle.journal_tape.specs.Behind.{GoesFirst};
+ghost use Rattle.journal_tape.specs.Parts.{ahead_of, failures_of, sink_of};
+
+use counted_io::{DeviceFault, Sink};
+
+/// What must have come up before anything is told.
+pub trait ComesUp {
+    ghost use Rattle.std.specs.Prelude.{Result};
+    ghost use Rattle.counted_io.specs.declared.fault.DeviceFault.{DeviceFault};
+
+    /// Holds of each result that a call may have.
+    ghost comes: { Self → Result Unit DeviceFault → Type 0 };
+
+    /// Waits until all that was done so far may be told, or says that it never may be.
+    fn come_up(&self) -> Result<(), DeviceFault>
+        ensures { comes self.now result };
+}
+
+/// A sink, and what comes up before each write to it.
+#[derive(Drop)]
+pub struct Behind<A, W> {
+    ahead: A,
+    sink: W,
+    failures: u64,
+}
+
+impl<A: ComesUp, W: Sink> Behind<A, W> {
+    /// Nothing has been written through it yet.
+    pub fn new(ahead: A, sink: W) -> Behind<A, W>
+        ensures ahead { ahead_of result ≡ ahead }
+        ensures sink { sink_of result ≡ sink }
+        ensures failures { failures_of result ≡ 0 }
+    {
+        Behind {
+            ahead,
+            sink,
+            failures: 0,
+        }
+    }
+
+    /// The sink inside.
+    pub fn into_sink(self) -> W
+    where
+        A: Drop,
+        ensures { result ≡ sink_of self }
+    {
+        self.sink
+    }
+
+    // Comes up, and then writes.
+    fn write_after(&mut self, bytes: &[u8]) -> Result<usize, DeviceFault>
+        ensures bound { IfOk result (λ n. n ≤ length bytes.now) }
+        ensures takes { IfOk result (λ n. 0 < length bytes.now → 0 < n) }
+        ensures bytes { WriteAppends (W.written (sink_of self.old)) (W.written (sink_of self.new))
+            result bytes.now }
+        ensures first { GoesFirst (A.comes (ahead_of self.old)) W.failures
+            (sink_of self.old) (sink_of self.new) result }
+        ensures ahead { ahead_of self.new ≡ ahead_of self.old }
+        ensures count { failures_of self.new ≡ failures_of self.old }
+    {
+        self.ahead.come_up()?;
+        self.sink.write(bytes)
+    }
+}
+
+impl<A: ComesUp, W: Sink> Sink for Behind<A, W> {
+    ghost written = { λ s. W.written (sink_of s) };
+
+    ghost failures = { failures_of };
+
+    /// Nothing is written where coming up fails: that is a failure of the write.
+    fn write(&mut self, bytes: &[u8]) -> Result<usize, DeviceFault>
+        ensures bound { IfOk result (λ n. n ≤ length bytes.now) }
+        ensures takes { IfOk result (λ n. 0 < length bytes.now → 0 < n) }
+        ensures bytes { WriteAppends (W.written (sink_of self.old)) (W.written (sink_of self.new))
+            result bytes.now }
+        ensures count { failures_of self.new ≡ failures_after (failures_of self.old) result }
+        ensures first { GoesFirst (A.comes (ahead_of self.old)) W.failures
+            (sink_of self.old) (sink_of self.new) result }
+        ensures ahead { ahead_of self.new ≡ ahead_of self.old }
+    {
+        let result = self.write_after(bytes);
+        if result.is_err() {
+            self.failures = self.failures.wrapping_add(1);
+        }
+        result
+    }
+}
