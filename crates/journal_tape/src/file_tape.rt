@@ -32,11 +32,6 @@ impl<F: Write + OpenFile> FileTape<F> {
         }
     }
 
-    /// Why the last call that failed did.
-    pub fn cause(&self) -> Option<io::Error> {
-        self.cause
-    }
-
     // Notes why a call failed.
     fn fault(&mut self, cause: io::Error) -> DeviceFault
         ensures { file_failures self.new ≡ one_more (file_failures self.old) }
@@ -68,5 +63,9 @@ impl<F: Write + OpenFile> Tape for FileTape<F> {
             Ok(()) => Ok(()),
             Err(cause) => Err(self.fault(cause)),
         }
+    }
+
+    fn cause(&self) -> Option<io::Error> {
+        self.cause
     }
 }

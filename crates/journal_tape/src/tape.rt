@@ -6,6 +6,7 @@ ghost use Rattle.counted_io.specs.Device.{failures_after, AppendsPrefix};
 ghost use Rattle.journal_tape.specs.Crash.{HasKept};
 
 use counted_io::DeviceFault;
+use std::io;
 
 /// A file that is only appended to, with a count of its failures.
 pub trait Tape {
@@ -33,6 +34,11 @@ pub trait Tape {
         ensures least { kept self.old ≤ kept self.new }
         ensures all { OnOk result (HasKept (written self.new) (kept self.new)) }
         ensures count { failures self.new ≡ failures_after (failures self.old) result };
+
+    /// Why the last call that failed did, where that is known.
+    fn cause(&self) -> Option<io::Error> {
+        None
+    }
 }
 
 /// Appends all of `bytes`, in as many calls as it takes, and stops at the first that fails.
