@@ -1,6 +1,6 @@
 -- What a session is refused that has all that it may have of a gate: docs/FORMATS.md, `ERR permits`, `ERR authorities`.
 -- The contracts of `Bounds` and of `DeskKeeper`.
-use Rattle.std.specs.Prelude.{◌≡◌, ℕ, ◌^◌, ◌-◌, Bool, true, false, nat_lt, not, List, [], ◌∷◌, Option, Some, None, Result, Ok, Err}
+use Rattle.std.specs.Prelude.{◌≡◌, ◌⊎◌, ℕ, ◌^◌, ◌-◌, Bool, true, false, nat_lt, not, List, [], ◌∷◌, Option, Some, None, Result, Ok, Err}
 use Rattle.gate_core.specs.declared.refusal.AskRefusal.{AskRefusal}
 use Rattle.gate_core.specs.declared.refusal.AskRefusal.TheVariants as ask
 use Rattle.gate_core.specs.declared.refusal.BeginRefusal.{BeginRefusal}
@@ -26,8 +26,7 @@ has_enough most count = not (nat_lt count most)
 
 -- a call is refused where the session has enough, and else it is made
 abbrev pub Bounded : (enough : Bool) (refused made : Type 0) → Type 0
-Bounded true refused made = refused
-Bounded false refused made = made
+Bounded enough refused made = ((enough ≡ true) × refused) ⊎ ((enough ≡ false) × made)
 
 -- nothing was done
 abbrev pub Stays : DeskView → BagView → DeskView → BagView → Type 0

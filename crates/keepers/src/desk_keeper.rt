@@ -4,7 +4,8 @@ ghost use Rattle.std.specs.Prelude.{◌≡◌, [], IfOk, Some};
 ghost use Rattle.gate_lock.specs.Bags.{held_in};
 ghost use Rattle.gate_lock.specs.Desks.{IsNew, out_of};
 ghost use Rattle.keepers.specs.Bounding.{TellsRefused, are_all};
-ghost use Rattle.keepers.specs.DeskKeeping.{IsClosed, MayCondense};
+ghost use Rattle.crawl_workers.specs.World.{world_of};
+ghost use Rattle.keepers.specs.DeskKeeping.{Behind, IsClosed, KeeperAsks, KeeperFetches, KeeperRefreshes, MayCondense};
 
 use crate::bounds::Bounds;
 use crate::keeper::Keeper;
@@ -117,6 +118,72 @@ impl<'a, 'g, G: Gate, F: Fetcher, R: Wait> DeskKeeper<'a, 'g, G, F, R> {
         }
     }
 
+    // Asks at the desk, whose permit comes into the bag.
+    fn ask_desk(&mut self, token: Token, url: PageUrl, moment: u64) -> Result<PermitNo, AskRefusal>
+        ensures fetcher { self.new.fetcher ≡ self.old.fetcher }
+        ensures bounds { self.new.bounds ≡ self.old.bounds }
+        ensures newcomers { self.new.newcomers ≡ self.old.newcomers }
+        ensures asks { Behind self.old.desk (λ d. KeeperAsks d self.old.bag token url moment result
+            self.new.desk self.new.bag) }
+    {
+        self.make_way();
+        if self.bag.make_room().is_err() {
+            return Err(AskRefusal::NoMemory);
+        }
+        let permit = self.desk.ask(self.rt, token, url, moment)?;
+        let number = permit.number();
+        match self.bag.keep(permit) {
+            Ok(()) => Ok(number),
+            Err((permit, _)) => {
+                self.desk.back(self.rt, permit);
+                Err(AskRefusal::NoMemory)
+            }
+        }
+    }
+
+    // Fetches a robots file at the desk.
+    fn refresh_desk<C: Clock>(
+        &mut self,
+        alloc: Global,
+        authority: &Authority,
+        clock: &C,
+    ) -> Result<Standing, BeginRefusal>
+        ensures fetcher { self.new.fetcher ≡ self.old.fetcher }
+        ensures bounds { self.new.bounds ≡ self.old.bounds }
+        ensures refreshes { Behind self.old.desk (λ d. KeeperRefreshes
+            (world_of (F.gives self.old.fetcher.now) (C.reads clock.now))
+            d self.old.bag authority.now (Some result) self.new.desk self.new.bag) }
+    {
+        self.make_way();
+        let fetcher = Newcomers::new(self.rt, self.gate, self.fetcher, self.newcomers);
+        let told = refresh(self.rt, alloc, authority, &mut self.desk, &fetcher, clock);
+        self.newcomers = fetcher.count.get();
+        told
+    }
+
+    // Does a job at the desk.
+    fn fetch_desk<C: Clock>(
+        &mut self,
+        alloc: Global,
+        job: Job,
+        clock: &C,
+    ) -> Result<Outcome, NoMemory>
+        ensures fetcher { self.new.fetcher ≡ self.old.fetcher }
+        ensures bounds { self.new.bounds ≡ self.old.bounds }
+        ensures fetches { Behind self.old.desk (λ d. KeeperFetches
+            (world_of (F.gives self.old.fetcher.now) (C.reads clock.now))
+            d self.old.bag job (Some result) self.new.desk self.new.bag) }
+    {
+        self.make_way();
+        let fetcher = Newcomers::new(self.rt, self.gate, self.fetcher, self.newcomers);
+        let worked = work(self.rt, alloc, job, &mut self.desk, &fetcher, clock);
+        self.newcomers = fetcher.count.get();
+        match worked {
+            Ok(outcome) => Ok(outcome),
+            Err(_) => Err(NoMemory),
+        }
+    }
+
     /// Ends the last session, and closes the desk.
     pub fn close(self) -> Receipts<G>
         ensures { IsClosed self.entry.desk self.entry.bag result }
@@ -145,13 +212,13 @@ impl<'a, 'g, G: Gate, F: Fetcher, R: Wait> Keeper for DeskKeeper<'a, 'g, G, F, R
 
     ghost deals = { record {
       can_fetch = λ _. true;
-      asks = λ k token url m result k2. ((k2.fetcher ≡ k.fetcher) × (k2.bounds ≡ k.bounds) × (k2.newcomers ≡ k.newcomers)) × Behind k.desk (λ d. Bounded (has_enough k.bounds.permits (out_of d)) (RefusesAsk d k.bag result k2.desk k2.bag) (KeeperAsks d k.bag token url m result k2.desk k2.bag));
+      asks = λ k token url m result k2. ((k2.fetcher ≡ k.fetcher) × (k2.bounds ≡ k.bounds) × (k2.newcomers ≡ k.newcomers)) × Bounded (has_enough k.bounds.permits (out_of k.desk)) (RefusesAsk k.desk k.bag result k2.desk k2.bag) (Behind k.desk (λ d. KeeperAsks d k.bag token url m result k2.desk k2.bag));
       starts = λ k number token url m result k2. ((k2.fetcher ≡ k.fetcher) × (k2.bounds ≡ k.bounds) × (k2.newcomers ≡ k.newcomers)) × BagStarts k.bag k.desk number token url m result k2.bag k2.desk;
       returns = λ k number result k2. ((k2.fetcher ≡ k.fetcher) × (k2.bounds ≡ k.bounds) × (k2.newcomers ≡ k.newcomers)) × BagReturns k.bag k.desk number result k2.bag k2.desk;
       finishes = λ k number result k2. ((k2.fetcher ≡ k.fetcher) × (k2.bounds ≡ k.bounds) × (k2.newcomers ≡ k.newcomers)) × BagFinishes k.bag k.desk number result k2.bag k2.desk;
       reads = λ k authority m state k2. ((k2.fetcher ≡ k.fetcher) × (k2.bounds ≡ k.bounds) × (k2.newcomers ≡ k.newcomers)) × KeeperReads k.desk k.bag authority m state k2.desk k2.bag;
-      refreshes = λ reads k authority told k2. ((k2.fetcher ≡ k.fetcher) × (k2.bounds ≡ k.bounds)) × Behind k.desk (λ d. Bounded (has_enough k.bounds.authorities k.newcomers) (RefusesRefresh d k.bag told k2.desk k2.bag) (KeeperRefreshes (world_of (F.gives k.fetcher.now) reads) d k.bag authority told k2.desk k2.bag));
-      fetches = λ reads k job told k2. ((k2.fetcher ≡ k.fetcher) × (k2.bounds ≡ k.bounds)) × Behind k.desk (λ d. Bounded (has_enough k.bounds.authorities k.newcomers) (RefusesFetch d k.bag told k2.desk k2.bag) (KeeperFetches (world_of (F.gives k.fetcher.now) reads) d k.bag job told k2.desk k2.bag));
+      refreshes = λ reads k authority told k2. ((k2.fetcher ≡ k.fetcher) × (k2.bounds ≡ k.bounds)) × Bounded (has_enough k.bounds.authorities k.newcomers) (RefusesRefresh k.desk k.bag told k2.desk k2.bag) (Behind k.desk (λ d. KeeperRefreshes (world_of (F.gives k.fetcher.now) reads) d k.bag authority told k2.desk k2.bag));
+      fetches = λ reads k job told k2. ((k2.fetcher ≡ k.fetcher) × (k2.bounds ≡ k.bounds)) × Bounded (has_enough k.bounds.authorities k.newcomers) (RefusesFetch k.desk k.bag told k2.desk k2.bag) (Behind k.desk (λ d. KeeperFetches (world_of (F.gives k.fetcher.now) reads) d k.bag job told k2.desk k2.bag));
       seals = λ k result k2. ((k2.fetcher ≡ k.fetcher) × (k2.bounds ≡ k.bounds) × (k2.newcomers ≡ k.newcomers)) × KeeperSeals k.desk k.bag result k2.desk k2.bag;
       ends = λ k k2. ((k2.fetcher ≡ k.fetcher) × (k2.bounds ≡ k.bounds) × (k2.newcomers ≡ 0)) × KeeperEnds k.desk k.bag k2.desk k2.bag;
     } };
@@ -164,19 +231,7 @@ impl<'a, 'g, G: Gate, F: Fetcher, R: Wait> Keeper for DeskKeeper<'a, 'g, G, F, R
         if self.bounds.has_permits(self.desk.out()) {
             return Err(AskRefusal::PermitsFull);
         }
-        self.make_way();
-        if self.bag.make_room().is_err() {
-            return Err(AskRefusal::NoMemory);
-        }
-        let permit = self.desk.ask(self.rt, token, url, moment)?;
-        let number = permit.number();
-        match self.bag.keep(permit) {
-            Ok(()) => Ok(number),
-            Err((permit, _)) => {
-                self.desk.back(self.rt, permit);
-                Err(AskRefusal::NoMemory)
-            }
-        }
+        self.ask_desk(token, url, moment)
     }
 
     fn start(
@@ -211,11 +266,7 @@ impl<'a, 'g, G: Gate, F: Fetcher, R: Wait> Keeper for DeskKeeper<'a, 'g, G, F, R
         if self.bounds.has_authorities(self.newcomers) {
             return Some(Err(BeginRefusal::AuthoritiesFull));
         }
-        self.make_way();
-        let fetcher = Newcomers::new(self.rt, self.gate, self.fetcher, self.newcomers);
-        let told = refresh(self.rt, alloc, authority, &mut self.desk, &fetcher, clock);
-        self.newcomers = fetcher.count.get();
-        Some(told)
+        Some(self.refresh_desk(alloc, authority, clock))
     }
 
     fn fetch<C: Clock>(
@@ -227,14 +278,7 @@ impl<'a, 'g, G: Gate, F: Fetcher, R: Wait> Keeper for DeskKeeper<'a, 'g, G, F, R
         if self.bounds.has_authorities(self.newcomers) {
             return Some(refused(alloc));
         }
-        self.make_way();
-        let fetcher = Newcomers::new(self.rt, self.gate, self.fetcher, self.newcomers);
-        let worked = work(self.rt, alloc, job, &mut self.desk, &fetcher, clock);
-        self.newcomers = fetcher.count.get();
-        match worked {
-            Ok(outcome) => Some(Ok(outcome)),
-            Err(_) => Some(Err(NoMemory)),
-        }
+        Some(self.fetch_desk(alloc, job, clock))
     }
 
     fn seal(&mut self) -> Result<Segment, NoMemory> {
