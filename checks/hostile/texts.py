@@ -128,7 +128,7 @@ def drawn(dice):
 def groups(dice):
     """Many groups and heads, some of them doubled, some of them empty."""
     heads = [f"user-agent: {it}\n".encode() for it in ["*", "* x", "foobot", "FOOBOT/2", "barbot", "1", "", "foo-_bot x"]]
-    rules = [b"allow: /a\n", b"disallow: /a\n", b"disallow:\n", b"allow: /a$\n", b"disallow: /*b\n", b"sitemap: x\n", b"\n", b"# x\n", b"disallow /a\n"]
+    rules = [b"allow: /a\n", b"disallow: /a\n", b"disallow:\n", b"allow: /a$\n", b"disallow: /*b\n", b"allow: /a?b'\n", b"allow: /'?\n", b"sitemap: x\n", b"\n", b"# x\n", b"disallow /a\n"]
     return b"".join(dice.choice(heads + rules) for _ in range(dice.choice([20, 200])))
 
 

@@ -1,6 +1,6 @@
 //! The robots file that `check --robots` names.
 //! docs/crawlgate.1.md has what is told where it can't be read.
-ghost use Rattle.std.specs.Prelude.{◌≡◌, IfSome, IfOk, take};
+ghost use Rattle.std.specs.Prelude.{◌≡◌, ◌+◌, IfSome, IfOk, take};
 ghost use Rattle.robots_text.specs.Lines.{text_limit};
 
 use crate::ending::Ending;
