@@ -29,7 +29,7 @@ fn read_named(rt: &HostRuntime, name: &str) -> io::Result<Vec<u8>> {
 
 /// Reads a reader to its end, but no more than `MAX_BODY` octets.
 pub(crate) fn read_front<R: Read + Drop>(alloc: Global, reader: R) -> io::Result<Vec<u8>>
-    ensures { IfOk result (λ body. IfSome (R.remaining reader.entry) (λ octets.
+    ensures { IfOk result (λ body. IfSome (R.remaining reader) (λ octets.
         body.items ≡ take (text_limit + 1) octets)) }
 {
     let mut body = Vec::new(alloc);
