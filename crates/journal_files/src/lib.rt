@@ -1,0 +1,25 @@
+//! The files of a journal, to which several threads come up before they tell anything: whoever needs it first writes
+//! for all. What is recorded, and its text, is told by a `Chronicle`.
+#![tactic(auto)]
+
+mod chronicle;
+mod fault;
+mod folder;
+mod group;
+mod names;
+mod place;
+mod policy;
+mod records;
+mod rotation;
+mod shelf;
+mod writer;
+
+pub use crate::chronicle::{Chronicle, Sealer, Spelled};
+pub use crate::fault::{FolderFault, JournalFault};
+pub use crate::folder::Folder;
+pub use crate::group::{FILE_OCTETS, GroupJournal};
+pub use crate::names::file_name;
+pub use crate::place::Place;
+pub use crate::policy::SyncPolicy;
+pub use crate::records::{Abreast, Records, Unrecorded};
+pub use crate::shelf::Shelf;

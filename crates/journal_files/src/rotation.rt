@@ -1,0 +1,56 @@
+//! A journal's next file: what is recorded is sealed, and the file begins with what it goes on from.
+//! docs/SEALING.md has what a seal of a gate hands out.
+ghost use Rattle.std.specs.Prelude.{◌≡◌, OnOk, OnErr, IsNone};
+ghost use Rattle.journal_files.specs.Writing.{TurnsOver, TurnsOverOrStays};
+
+use crate::chronicle::{Chronicle, Sealer};
+use crate::fault::JournalFault;
+use crate::group::{GroupJournal, Turn};
+use crate::shelf::Shelf;
+use crate::writer::Writer;
+use std::sync::Wait;
+
+impl<S: Shelf + Drop> GroupJournal<S> {
+    /// Has what is recorded sealed, of which comes what comes without a journal, and begins a new file. Where nothing
+    /// was sealed, the file goes on. Where the journal fails, it is sealed all the same, and nothing may be told.
+    pub fn rotate<H: Chronicle, R: Wait, K: Sealer>(
+        &self,
+        rt: &R,
+        chronicle: &H,
+        sealer: &mut K,
+    ) -> K::Sealed
+        ensures { K.seals sealer.old result sealer.new }
+    {
+        match self.take_turn(rt, u64::MAX) {
+            Turn::Taken(writer) => {
+                let mut writer = writer;
+                let sealed = sealer.seal();
+                let outcome = writer.turn_over::<H, K>(chronicle, &sealed);
+                // A fault is kept with the writer, and each call from now on meets it.
+                let _ = self.put_back(rt, writer, outcome);
+                sealed
+            }
+            Turn::Reached | Turn::Failed => sealer.seal(),
+        }
+    }
+}
+
+impl<S: Shelf> Writer<S> {
+    // Ends the file where something was sealed, and begins the next one.
+    fn turn_over<H: Chronicle, K: Sealer>(
+        &mut self,
+        chronicle: &H,
+        sealed: &K::Sealed,
+    ) -> Result<(), JournalFault>
+        ensures { OnOk result (TurnsOverOrStays (K.ends sealed.now self.old.place)
+            (H.begins chronicle.now) self.old self.new) }
+    {
+        match self.rest::<K>(sealed) {
+            Some(rest) => {
+                self.end_file(rest?.as_slice())?;
+                self.begin_file(chronicle)
+            }
+            None => Ok(()),
+        }
+    }
+}
