@@ -1,7 +1,6 @@
 -- Which first lines end a session: request lines of HTTP (RFC 9112, section 3: method, target and version).
 -- Cited by the contract of `serve_from`.
-use Rattle.std.specs.Prelude.{ℕ, zero, suc, ◌-◌, Bool, true, false, ◌||◌, ◌&&◌, List, length, codes}
-use Rattle.std.specs.List.{drop}
+use Rattle.std.specs.Prelude.{ℕ, zero, suc, ◌-◌, Bool, true, false, ◌||◌, ◌&&◌, List, codes, drop, length}
 use Rattle.std.specs.Str.{bytes_eq}
 use Rattle.command_server.specs.declared.first_line.FirstLine.{FirstLine}
 use Rattle.command_server.specs.declared.first_line.FirstLine.TheVariants.{Any, NoRequest}
