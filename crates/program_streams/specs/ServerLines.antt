@@ -8,6 +8,6 @@ use Rattle.program_streams.specs.declared.server_line.ServerLine.TheVariants.{Li
 -- where a server listens, and what it has done
 abbrev pub server_text : ServerLine → List ℕ
 server_text (Listens port) = line_of (codes "LISTEN" ∷ (codes "127.0.0.1:" ++ decimal port) ∷ [])
-server_text (ListensAt path) = line_of (codes "LISTEN" ∷ path ∷ [])
+server_text (ListensAt path) = line_of (codes "LISTEN" ∷ path.now ∷ [])
 server_text (Served connections events) =
     line_of (codes "SERVED" ∷ codes "connections" ∷ decimal connections ∷ codes "events" ∷ decimal events ∷ [])

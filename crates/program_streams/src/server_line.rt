@@ -20,7 +20,7 @@ pub enum ServerLine<'a> {
 impl<'a> ServerLine<'a> {
     /// The line.
     pub fn pieces(self) -> Pieces<'a>
-        ensures { pieces_text result ≡ server_text self }
+        ensures { pieces_text result ≡ server_text self.entry }
     {
         match self {
             ServerLine::Listens { port } => Pieces::of(&[
