@@ -181,7 +181,7 @@ class Serve:
         try:
             found = re.fullmatch(rb"LISTEN 127\.0\.0\.1:(\d+)\n", first)
             if found:
-                server = type("Listening", (), {"port": int(found[1])})
+                server = type("Listening", (), {"port": int(found[1]), "path": None})
                 session = reset_quietly(lambda: line_server.Session(server, SECONDS))
                 if session:
                     with session:
