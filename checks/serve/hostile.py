@@ -321,7 +321,22 @@ def memory():
     return f"{before / 1e6:.1f} MB, and {after / 1e6:.1f} behind {count:,} fetches, {each:.0f} octets an entry"
 
 
+def refreshed_again_and_again():
+    """A robots file of 500,000 octets that stays as it is lies in memory once, however often it is fetched."""
+    rules = b"user-agent: *\n" + b"disallow: /private/of/somebody\n" * 16_000
+    site = open_site({"/robots.txt": response(200, rules)})
+    with Server("--workers", "1") as server, Session(server) as it:
+        line, wanted = f"REFRESH {site.authority}", f"TAKEN {site.authority} rules"
+        same(it.say_all([line] * 20), [wanted] * 20)
+        before = server.resident()
+        same(it.say_all([line] * 100), [wanted] * 100)
+        more = server.resident() - before
+    assert more < 10_000_000, f"{more:,} octets more"
+    return f"{more:,} octets more behind 100 fetches of {len(rules):,}"
+
+
 CASES = [
     numbers_of_others, killed_clients, unread_behind_the_end, nobody_holds_a_worker, gone_during_a_fetch, fetches_for_nobody,
     browser_is_turned_away, client_with_bounds, patience_with_good_clients, few_descriptors, full_history, closed_streams, memory,
+    refreshed_again_and_again,
 ]

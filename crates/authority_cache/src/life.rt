@@ -4,8 +4,9 @@ ghost use Rattle.std.specs.Prelude.{◌≡◌, ◌+◌, ◌<◌, ◌≤◌};
 ghost use Rattle.robots_verdict.specs.Answer.{said, spares_of};
 ghost use Rattle.authority_cache.specs.Lives.{IsOwnLife, behind_twin, life_of, timed, twin_of};
 
-use robots_verdict::{Answer, Said};
+use robots_verdict::{Answer, Policy, Said};
 use std::marker::Model;
+use std::sync::Arc;
 
 /// The seconds for which an answer is in force at most: 24 hours.
 pub const LIFE: u64 = 86_400;
@@ -92,6 +93,13 @@ impl TimedAnswer {
             answer: self.answer.twin(),
             life: self.life,
         }
+    }
+
+    /// Takes a policy in place of that of its rules, where it has the same text and no twin was given. What it says stays.
+    pub fn share(&mut self, policy: Arc<Policy>)
+        ensures { self.new ≡ self.old }
+    {
+        self.answer.share(policy);
     }
 
     /// The answer and its life.

@@ -60,7 +60,8 @@ pub(crate) fn bring_answer<G: Gate, F: Fetcher, C: Clock, N: Notes, R: Wait>(
     ensures out { HasOut desk.old desk.new 0 0 0 0 0 1 }
 {
     let mut why = ClosedBy::NoMemory;
-    let answer = fetch_answer(alloc, &turn, fetcher, &mut why);
+    let mut answer = fetch_answer(alloc, &turn, fetcher, &mut why);
+    share_text(rt, desk, turn.authority(), &mut answer);
     let closed_by = match answer.answer() {
         Answer::Closed(_) => Some(why),
         Answer::Rules(_) | Answer::Open(_) => None,
@@ -100,6 +101,22 @@ fn fetch_answer<G: Gate, F: Fetcher>(
             }
             Step::NoMemory(_) => return undecided(),
         };
+    }
+}
+
+// Lets the answer share the text of the one in force, where this has the same octets: a robots file that is fetched again
+// and again lies in memory once.
+fn share_text<G: Gate, R: Wait>(
+    rt: &R,
+    desk: &Desk<'_, G>,
+    authority: &Authority,
+    answer: &mut TimedAnswer,
+)
+    ensures { answer.new ≡ answer.old }
+{
+    let in_force = desk.lend(rt).book().hint(authority.text(), 0);
+    if let Some(policy) = in_force {
+        answer.share(policy);
     }
 }
 

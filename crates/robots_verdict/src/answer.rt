@@ -89,6 +89,15 @@ impl Answer {
         }
     }
 
+    /// Takes a policy in place of that of its rules, where it has the same text and no twin was given. What it says stays.
+    pub fn share(&mut self, policy: Arc<Policy>)
+        ensures { self.new ≡ self.old }
+    {
+        if let Answer::Rules(rules) = self {
+            rules.share(policy);
+        }
+    }
+
     /// What it says, beside the answer. It takes none of the spares, and no memory for a text; a handle of a
     /// policy can be refused all the same.
     pub fn says(&self) -> Result<Said, AllocError>

@@ -51,7 +51,13 @@ impl Rules {
     pub(crate) fn new(alloc: Global, text: RobotsText) -> Result<Rules, AllocError>
         ensures { IfOk result (λ rules. rules ≡ record { text = text; spares = 2 }) }
     {
-        let policy = Arc::new(alloc, Policy::new(alloc, text)?)?;
+        Rules::of(Arc::new(alloc, Policy::new(alloc, text)?)?)
+    }
+
+    // Rules of this policy, with two spares.
+    fn of(policy: Arc<Policy>) -> Result<Rules, AllocError>
+        ensures { IfOk result (λ rules. rules ≡ record { text = arc_value policy; spares = 2 }) }
+    {
         let first = Arc::try_clone(&policy)?;
         let second = Arc::try_clone(&policy)?;
         Ok(Rules {
@@ -130,6 +136,19 @@ impl Rules {
             && self.policy.text().bytes() == policy.text().bytes()
         {
             self.policy = policy;
+        }
+    }
+
+    /// Takes a policy in place of theirs, where it has the same text and no spare was spent, so that this lies in memory
+    /// once. Where a handle is refused theirs stays.
+    pub fn share(&mut self, policy: Arc<Policy>)
+        ensures { self.new ≡ self.old }
+    {
+        if self.spares() < 2 || self.policy.text().bytes() != policy.text().bytes() {
+            return;
+        }
+        if let Ok(rules) = Rules::of(policy) {
+            *self = rules;
         }
     }
 
