@@ -10,7 +10,6 @@ mod checks;
 mod ending;
 mod found;
 mod next;
-mod records;
 mod replays;
 mod robots_file;
 mod server_line;

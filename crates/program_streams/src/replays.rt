@@ -1,4 +1,4 @@
-//! `replay` and `replay --export` over the standard streams.
+//! `replay`, `replay --export` and `lines` over the standard streams.
 //! docs/FORMATS.md has what they read and write.
 ghost use Rattle.std.specs.Prelude.{◌≡◌, []};
 ghost use Rattle.gate_core.specs.Limits.{AreLimits};
@@ -10,6 +10,7 @@ use command_server::replay;
 use counted_io::{Counted, Output, Sink, Source};
 use crawl_audit::export;
 use gate_core::{Book, Limits};
+use robots_lines::lines;
 use std::alloc::Global;
 use std::io;
 
@@ -112,4 +113,11 @@ fn write_present<W: Sink>(book: &Book, output: &mut Output, writer: &mut W, ende
         Ok(()) => ended,
         Err(_) => Ending::Device,
     }
+}
+
+/// Writes the records of standard input to standard output.
+pub(crate) fn lines_streams(rt: &HostRuntime) -> Ending {
+    let mut reader = Counted::new(rt.stdin());
+    let mut writer = Counted::new(rt.stdout());
+    Ending::of(lines(rt.alloc(), &mut reader, &mut writer))
 }
