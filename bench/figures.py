@@ -16,6 +16,8 @@ sys.dont_write_bytecode = True
 ROOT = os.path.dirname(os.path.dirname(os.path.realpath(__file__)))
 # (what plays with a server)
 sys.path.insert(0, f"{ROOT}/checks/serve")
+# (what opens TLS)
+sys.path.insert(0, f"{ROOT}/checks")
 # how many seconds a peer may take for one figure
 PATIENCE = 5
 
@@ -32,12 +34,16 @@ def words_of(given, usage):
     return os.path.realpath(program), 50 if quick else 1
 
 
-def speed():
-    """Returns the script checks/speed/run as a module."""
-    loader = importlib.machinery.SourceFileLoader("speed", f"{ROOT}/checks/speed/run")
-    module = importlib.util.module_from_spec(importlib.util.spec_from_loader("speed", loader))
+def script(name, path):
+    """Returns a script as a module of this name."""
+    loader = importlib.machinery.SourceFileLoader(name, f"{ROOT}/{path}")
+    module = importlib.util.module_from_spec(importlib.util.spec_from_loader(name, loader))
     loader.exec_module(module)
     return module
+
+
+def speed():
+    return script("speed", "checks/speed/run")
 
 
 def table(head, rows):

@@ -8,7 +8,7 @@ import sys
 sys.path.insert(0, f"{os.path.dirname(os.path.realpath(__file__))}/serve")
 from line_server import same
 
-URI, ID, DIGEST = r"http://[!-~]+", r"<urn:uuid:[0-9a-f-]{36}>", r"sha256:[A-Z2-7]{52}===="
+URI, ID, DIGEST = r"https?://[!-~]+", r"<urn:uuid:[0-9a-f-]{36}>", r"sha256:[A-Z2-7]{52}===="
 DATE, HTTP = r"\d{4}-\d\d-\d\dT\d\d:\d\d:\d\dZ", r"application/http; msgtype=response"
 NEEDED = {"WARC-Record-ID": ID, "WARC-Date": DATE, "WARC-Block-Digest": DIGEST, "Content-Length": r"\d+"}
 OF_KIND = {

@@ -60,6 +60,8 @@ class _AsItCame(urllib.request.HTTPErrorProcessor):
     def http_response(self, request, response):
         return response
 
+    https_response = http_response
+
 
 _OPENER = urllib.request.build_opener(_AsItCame)
 

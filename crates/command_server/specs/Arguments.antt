@@ -2,9 +2,10 @@
 -- Cited by the contracts of `arguments` and `calls`.
 use Rattle.std.specs.Prelude.{ℕ, List, None, Result, Ok, Err, ok_or}
 use Rattle.robots_text.specs.Token.{token_of}
-use Rattle.path_normal.specs.Authority.{authority_from}
-use Rattle.path_normal.specs.PageUrl.{page_url_from}
+use Rattle.path_normal.specs.Authority.{authority_among}
+use Rattle.path_normal.specs.PageUrl.{page_url_among}
 use Rattle.path_normal.specs.Capacity.{Capacity, unless_refused}
+use Rattle.path_normal.specs.declared.schemes.Schemes.{Schemes}
 use Rattle.robots_text.specs.declared.token.TokenFault.{TokenFault}
 use Rattle.robots_text.specs.declared.token.TokenFault.TheVariants as tokens
 use Rattle.path_normal.specs.declared.fault.AuthorityFault.{AuthorityFault}
@@ -53,10 +54,10 @@ abbrev pub token_word : List ℕ → Capacity → Result (List ℕ) LineFault
 token_word word capacity =
     read_on (ok_or (token_of word) faults.Token) (λ token. unless_refused faults.Memory (Ok token) capacity)
 
--- the authority of a word
-abbrev pub authority_word : List ℕ → Capacity → Result (List ℕ) LineFault
-authority_word word capacity = or_fault fault_of_authority (authority_from word capacity)
+-- the authority of a word, where these schemes are read
+abbrev pub authority_word : Schemes → List ℕ → Capacity → Result (List ℕ) LineFault
+authority_word schemes word capacity = or_fault fault_of_authority (authority_among schemes word capacity)
 
--- the page URL of a word
-abbrev pub page_word : List ℕ → Capacity → Result (List ℕ) LineFault
-page_word word capacity = or_fault url_fault (page_url_from None word capacity)
+-- the page URL of a word, where these schemes are read
+abbrev pub page_word : Schemes → List ℕ → Capacity → Result (List ℕ) LineFault
+page_word schemes word capacity = or_fault url_fault (page_url_among schemes None word capacity)

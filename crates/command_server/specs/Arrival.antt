@@ -8,6 +8,8 @@ use Rattle.std.specs.Option.{option_and_then, option_map}
 use Rattle.std.specs.Path.{slash}
 use Rattle.std.specs.Str.{bytes_eq}
 use Rattle.percent_encoding.specs.Percent.{percent_decode}
+use Rattle.path_normal.specs.declared.schemes.Schemes.{Schemes}
+use Rattle.path_normal.specs.declared.schemes.Schemes.TheVariants.{Http}
 use Rattle.authority_cache.specs.Lives.{Timed}
 use Rattle.robots_verdict.specs.declared.said.Said.{Said}
 use Rattle.robots_fetch.specs.declared.reply.RobotsReply.{RobotsReply}
@@ -15,7 +17,7 @@ use Rattle.robots_fetch.specs.declared.reply.RobotsReply.TheVariants as replies
 use Rattle.robots_fetch.specs.declared.status.StatusClass.{StatusClass}
 use Rattle.robots_fetch.specs.declared.status.StatusClass.TheVariants as classes
 use Rattle.robots_fetch.specs.Statuses.{class_of}
-use Rattle.robots_fetch.specs.Walk.{AnswerOf}
+use Rattle.robots_fetch.specs.Walk.{AnswerOfAmong}
 use Rattle.line_text.specs.Number.{number_of}
 use Rattle.command_server.specs.declared.fault.LineFault.{LineFault}
 use Rattle.command_server.specs.declared.fault.LineFault.TheVariants as faults
@@ -139,30 +141,34 @@ TakesReply old None new = (old ≡ []) × (new ≡ [])
 TakesReply old (Some reply) new =
     (first : List ℕ) × ((second : List ℕ) × ((old ≡ first ∷ second ∷ new) × IsReply first second reply))
 
--- the replies of the words decide an answer for the authority, of this life
-abbrev pub IsDecided : List ℕ → List (List ℕ) → Said → ℕ → Type 0
-IsDecided authority words says life =
-    (replies : List RobotsReply) × (AreReplies words replies × AnswerOf authority replies says life)
+-- the replies of the words decide an answer for the authority, of this life, where these schemes are read
+abbrev pub IsDecided : Schemes → List ℕ → List (List ℕ) → Said → ℕ → Type 0
+IsDecided schemes authority words says life =
+    (replies : List RobotsReply) × (AreReplies words replies × AnswerOfAmong schemes authority replies says life)
 
 -- the replies end before they decide
-abbrev pub EndsBefore : List ℕ → List (List ℕ) → Type 0
-EndsBefore authority words =
+abbrev pub EndsBefore : Schemes → List ℕ → List (List ℕ) → Type 0
+EndsBefore schemes authority words =
     (replies : List RobotsReply) × (AreReplies words replies
-    × ((says : Said) (life : ℕ) → AnswerOf authority replies says life → ⊥))
+    × ((says : Said) (life : ℕ) → AnswerOfAmong schemes authority replies says life → ⊥))
 
 -- the first of the replies decide, and more words follow
-pub record GoesOnAfter (authority : List ℕ) (words : List (List ℕ)) : Type 0 where
+pub record GoesOnAfter (schemes : Schemes) (authority : List ℕ) (words : List (List ℕ)) : Type 0 where
   pub read : List (List ℕ)
   pub rest : List (List ℕ)
   pub says : Said
   pub life : ℕ
   pub all : words ≡ read ++ rest
   pub more : rest ≢ []
-  pub decided : IsDecided authority read says life
+  pub decided : IsDecided schemes authority read says life
 
--- the answer and its life that the words bring for the authority, or why they bring none
+-- the answer and its life that the words bring for the authority where these schemes are read, or why they bring none
+abbrev pub BringsAmong : Schemes → List ℕ → List (List ℕ) → Result Timed LineFault → Type 0
+BringsAmong schemes authority words (Ok brought) = IsDecided schemes authority words brought.says brought.life
+BringsAmong schemes authority words (Err faults.Replies) = EndsBefore schemes authority words ⊎ GoesOnAfter schemes authority words
+BringsAmong schemes authority words (Err faults.Memory) = Unit {0}
+BringsAmong schemes authority words (Err _) = ⊥
+
+-- the answer and its life that the words bring where `http` alone is read, or why they bring none
 abbrev pub Brings : List ℕ → List (List ℕ) → Result Timed LineFault → Type 0
-Brings authority words (Ok brought) = IsDecided authority words brought.says brought.life
-Brings authority words (Err faults.Replies) = EndsBefore authority words ⊎ GoesOnAfter authority words
-Brings authority words (Err faults.Memory) = Unit {0}
-Brings authority words (Err _) = ⊥
+Brings = BringsAmong Http

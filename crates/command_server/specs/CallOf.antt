@@ -1,9 +1,11 @@
 -- What a command line means: checks 3 to 8 of docs/FORMATS.md, in their order.
--- Cited by the contracts of `calls` and `command`.
+-- Each takes the schemes that are read first. Cited by the contracts of `calls` and `command`.
 use Rattle.std.specs.Prelude.{ℕ, Bool, List, [], ◌∷◌, Result, Ok, Err, ok_or, if◌then◌else◌}
 use Rattle.std.specs.Int.{is_in_range}
 use Rattle.std.specs.List.{list_all, list_any}
 use Rattle.path_normal.specs.Capacity.{Capacity}
+use Rattle.path_normal.specs.declared.schemes.Schemes.{Schemes}
+use Rattle.path_normal.specs.declared.schemes.Schemes.TheVariants.{Http}
 use Rattle.gate_core.specs.Calls.{HasSpare}
 use Rattle.gate_core.specs.declared.call.Call.{Call}
 use Rattle.gate_core.specs.declared.call.Call.TheVariants as calls
@@ -24,40 +26,40 @@ use Rattle.command_server.specs.Verbs.{row_of, verb_of}
 use Rattle.line_text.specs.Words.{is_count_within, is_empty_word, words_of}
 
 -- one word, which is an authority: `STATE <authority>` and `REFRESH <authority>`
-abbrev pub authority_alone : List (List ℕ) → Capacity → Result (List ℕ) LineFault
-authority_alone (authority ∷ []) capacity = authority_word authority capacity
-authority_alone _ capacity = Err faults.Words
+abbrev pub authority_alone : Schemes → List (List ℕ) → Capacity → Result (List ℕ) LineFault
+authority_alone schemes (authority ∷ []) capacity = authority_word schemes authority capacity
+authority_alone schemes _ capacity = Err faults.Words
 
 -- `BEGIN <authority>`
-abbrev pub begin_of : ℕ → List (List ℕ) → Capacity → Result Call LineFault
-begin_of moment words capacity = read_on (authority_alone words capacity) (λ a. Ok (calls.Begin a moment))
+abbrev pub begin_of : Schemes → ℕ → List (List ℕ) → Capacity → Result Call LineFault
+begin_of schemes moment words capacity = read_on (authority_alone schemes words capacity) (λ a. Ok (calls.Begin a moment))
 
 -- `ARRIVE <authority> <turn> <reply> ..`
-abbrev pub arrive_of : ℕ → List (List ℕ) → Capacity → Result Arrival LineFault
-arrive_of moment (authority ∷ turn ∷ replies) capacity =
-    read_on (authority_word authority capacity) (λ a. read_on (number_word turn) (λ t.
+abbrev pub arrive_of : Schemes → ℕ → List (List ℕ) → Capacity → Result Arrival LineFault
+arrive_of schemes moment (authority ∷ turn ∷ replies) capacity =
+    read_on (authority_word schemes authority capacity) (λ a. read_on (number_word turn) (λ t.
     read_on (reply_words_of replies) (λ words.
     Ok (record { authority = a; turn = t; replies = words; moment = moment }))))
-arrive_of moment _ capacity = Err faults.Words
+arrive_of schemes moment _ capacity = Err faults.Words
 
 -- `FETCH <token> <url>`, and a job of a shift
-abbrev pub job_words_of : List (List ℕ) → Capacity → Result Job LineFault
-job_words_of (token ∷ url ∷ []) capacity =
+abbrev pub job_words_of : Schemes → List (List ℕ) → Capacity → Result Job LineFault
+job_words_of schemes (token ∷ url ∷ []) capacity =
     read_on (token_word token capacity) (λ t.
-    read_on (page_word url capacity) (λ u. Ok (record { token = t; url = u })))
-job_words_of _ capacity = Err faults.Words
+    read_on (page_word schemes url capacity) (λ u. Ok (record { token = t; url = u })))
+job_words_of schemes _ capacity = Err faults.Words
 
 -- `ASK <token> <url>`
-abbrev pub ask_of : ℕ → List (List ℕ) → Capacity → Result Call LineFault
-ask_of moment words capacity =
-    read_on (job_words_of words capacity) (λ job. Ok (calls.Ask job.token job.url moment))
+abbrev pub ask_of : Schemes → ℕ → List (List ℕ) → Capacity → Result Call LineFault
+ask_of schemes moment words capacity =
+    read_on (job_words_of schemes words capacity) (λ job. Ok (calls.Ask job.token job.url moment))
 
 -- `START <n> <token> <url>`
-abbrev pub start_of : ℕ → List (List ℕ) → Capacity → Result Call LineFault
-start_of moment (number ∷ token ∷ url ∷ []) capacity =
+abbrev pub start_of : Schemes → ℕ → List (List ℕ) → Capacity → Result Call LineFault
+start_of schemes moment (number ∷ token ∷ url ∷ []) capacity =
     read_on (number_word number) (λ n.
-    read_on (job_words_of (token ∷ url ∷ []) capacity) (λ job. Ok (calls.Start n job.token job.url moment)))
-start_of moment _ capacity = Err faults.Words
+    read_on (job_words_of schemes (token ∷ url ∷ []) capacity) (λ job. Ok (calls.Start n job.token job.url moment)))
+start_of schemes moment _ capacity = Err faults.Words
 
 -- one word, which is a permit's number
 abbrev pub permit_alone : List (List ℕ) → Result ℕ LineFault
@@ -73,9 +75,9 @@ abbrev pub done_of : List (List ℕ) → Result Call LineFault
 done_of words = read_on (permit_alone words) (λ n. Ok (calls.Finish n))
 
 -- one word, which is the URL of a page: `URL <url>`
-abbrev pub page_alone : List (List ℕ) → Capacity → Result (List ℕ) LineFault
-page_alone (url ∷ []) capacity = page_word url capacity
-page_alone _ capacity = Err faults.Words
+abbrev pub page_alone : Schemes → List (List ℕ) → Capacity → Result (List ℕ) LineFault
+page_alone schemes (url ∷ []) capacity = page_word schemes url capacity
+page_alone schemes _ capacity = Err faults.Words
 
 -- the command that makes a call
 abbrev pub calling : Result Call LineFault → Result Command LineFault
@@ -87,54 +89,54 @@ CanBeMade (commands.Call call) = HasSpare call
 CanBeMade _ = Unit {0}
 
 -- check 8: the words that follow a verb, from left to right; BACK, DONE, SEAL and QUIT use no moment
-abbrev pub arguments_of : Verb → ℕ → List (List ℕ) → Capacity → Result Command LineFault
-arguments_of verbs.Begin moment words capacity = calling (begin_of moment words capacity)
-arguments_of verbs.Arrive moment words capacity =
-    read_on (arrive_of moment words capacity) (λ arrival. Ok (commands.Arrive arrival))
-arguments_of verbs.Ask moment words capacity = calling (ask_of moment words capacity)
-arguments_of verbs.Start moment words capacity = calling (start_of moment words capacity)
-arguments_of verbs.Back moment words capacity = calling (back_of words)
-arguments_of verbs.Done moment words capacity = calling (done_of words)
-arguments_of verbs.State moment words capacity =
-    read_on (authority_alone words capacity) (λ authority. Ok (commands.State authority moment))
-arguments_of verbs.Sweep moment words capacity = Ok (commands.Call (calls.Sweep moment))
-arguments_of verbs.Seal moment words capacity = Ok commands.Seal
-arguments_of verbs.Refresh moment words capacity =
-    read_on (authority_alone words capacity) (λ authority. Ok (commands.Refresh authority))
-arguments_of verbs.Fetch moment words capacity = read_on (job_words_of words capacity) (λ job. Ok (commands.Fetch job))
-arguments_of verbs.Url moment words capacity = read_on (page_alone words capacity) (λ url. Ok (commands.Url url))
-arguments_of verbs.Quit moment words capacity = Ok commands.Quit
+abbrev pub arguments_of : Schemes → Verb → ℕ → List (List ℕ) → Capacity → Result Command LineFault
+arguments_of schemes verbs.Begin moment words capacity = calling (begin_of schemes moment words capacity)
+arguments_of schemes verbs.Arrive moment words capacity =
+    read_on (arrive_of schemes moment words capacity) (λ arrival. Ok (commands.Arrive arrival))
+arguments_of schemes verbs.Ask moment words capacity = calling (ask_of schemes moment words capacity)
+arguments_of schemes verbs.Start moment words capacity = calling (start_of schemes moment words capacity)
+arguments_of schemes verbs.Back moment words capacity = calling (back_of words)
+arguments_of schemes verbs.Done moment words capacity = calling (done_of words)
+arguments_of schemes verbs.State moment words capacity =
+    read_on (authority_alone schemes words capacity) (λ authority. Ok (commands.State authority moment))
+arguments_of schemes verbs.Sweep moment words capacity = Ok (commands.Call (calls.Sweep moment))
+arguments_of schemes verbs.Seal moment words capacity = Ok commands.Seal
+arguments_of schemes verbs.Refresh moment words capacity =
+    read_on (authority_alone schemes words capacity) (λ authority. Ok (commands.Refresh authority))
+arguments_of schemes verbs.Fetch moment words capacity = read_on (job_words_of schemes words capacity) (λ job. Ok (commands.Fetch job))
+arguments_of schemes verbs.Url moment words capacity = read_on (page_alone schemes words capacity) (λ url. Ok (commands.Url url))
+arguments_of schemes verbs.Quit moment words capacity = Ok commands.Quit
 
 -- the verb takes so many words
 abbrev pub takes : Verb → List (List ℕ) → Bool
 takes verb words = is_count_within (row_of verb).least (row_of verb).most words
 
 -- check 7: the number of words
-abbrev pub counted_of : Verb → ℕ → List (List ℕ) → Capacity → Result Command LineFault
-counted_of verb moment words capacity =
-    if takes verb words then arguments_of verb moment words capacity else Err faults.Words
+abbrev pub counted_of : Schemes → Verb → ℕ → List (List ℕ) → Capacity → Result Command LineFault
+counted_of schemes verb moment words capacity =
+    if takes verb words then arguments_of schemes verb moment words capacity else Err faults.Words
 
 -- check 6: the verb
-abbrev pub verb_words_of : Dialogue → ℕ → List (List ℕ) → Capacity → Result Command LineFault
-verb_words_of dialogue moment [] capacity = Err faults.Verb
-verb_words_of dialogue moment (name ∷ words) capacity =
-    read_on (ok_or (verb_of dialogue name) faults.Verb) (λ verb. counted_of verb moment words capacity)
+abbrev pub verb_words_of : Schemes → Dialogue → ℕ → List (List ℕ) → Capacity → Result Command LineFault
+verb_words_of schemes dialogue moment [] capacity = Err faults.Verb
+verb_words_of schemes dialogue moment (name ∷ words) capacity =
+    read_on (ok_or (verb_of dialogue name) faults.Verb) (λ verb. counted_of schemes verb moment words capacity)
 
 -- check 5: the moment, which begins each line of a replay
-abbrev pub timed_words_of : List (List ℕ) → Capacity → Result Command LineFault
-timed_words_of [] capacity = Err faults.Moment
-timed_words_of (first ∷ words) capacity =
-    read_on (ok_or (number_of first) faults.Moment) (λ moment. verb_words_of Replay moment words capacity)
+abbrev pub timed_words_of : Schemes → List (List ℕ) → Capacity → Result Command LineFault
+timed_words_of schemes [] capacity = Err faults.Moment
+timed_words_of schemes (first ∷ words) capacity =
+    read_on (ok_or (number_of first) faults.Moment) (λ moment. verb_words_of schemes Replay moment words capacity)
 
 -- a client's line has none
-abbrev pub dialogue_words_of : Dialogue → List (List ℕ) → Capacity → Result Command LineFault
-dialogue_words_of Replay words capacity = timed_words_of words capacity
-dialogue_words_of (Client moment fetches) words capacity = verb_words_of (Client moment fetches) moment words capacity
+abbrev pub dialogue_words_of : Schemes → Dialogue → List (List ℕ) → Capacity → Result Command LineFault
+dialogue_words_of schemes Replay words capacity = timed_words_of schemes words capacity
+dialogue_words_of schemes (Client moment fetches) words capacity = verb_words_of schemes (Client moment fetches) moment words capacity
 
 -- check 4: no word is empty
-abbrev pub full_words_of : Dialogue → List (List ℕ) → Capacity → Result Command LineFault
-full_words_of dialogue words capacity =
-    if list_any is_empty_word words then Err faults.Words else dialogue_words_of dialogue words capacity
+abbrev pub full_words_of : Schemes → Dialogue → List (List ℕ) → Capacity → Result Command LineFault
+full_words_of schemes dialogue words capacity =
+    if list_any is_empty_word words then Err faults.Words else dialogue_words_of schemes dialogue words capacity
 
 -- the octet may stand in a command line
 abbrev pub is_line_octet : ℕ → Bool
@@ -145,6 +147,10 @@ abbrev pub has_line_octets : List ℕ → Bool
 has_line_octets line = list_all is_line_octet line
 
 -- the command of a line, or the first fault that it has with some capacity; check 3: its octets
+abbrev pub command_of_among : Schemes → Dialogue → List ℕ → Capacity → Result Command LineFault
+command_of_among schemes dialogue line capacity =
+    if has_line_octets line then full_words_of schemes dialogue (words_of line) capacity else Err faults.Chars
+
+-- the same where `http` alone is read
 abbrev pub command_of : Dialogue → List ℕ → Capacity → Result Command LineFault
-command_of dialogue line capacity =
-    if has_line_octets line then full_words_of dialogue (words_of line) capacity else Err faults.Chars
+command_of = command_of_among Http

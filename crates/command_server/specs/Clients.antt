@@ -11,7 +11,7 @@ use Rattle.gate_core.specs.declared.state.Standing.{Standing}
 use Rattle.gate_core.specs.declared.state.State.{State}
 use Rattle.crawl_job.specs.declared.job.Outcome.{Outcome}
 use Rattle.keepers.specs.Deals.{Deals}
-use Rattle.command_server.specs.CallOf.{command_of}
+use Rattle.command_server.specs.CallOf.{command_of_among}
 use Rattle.command_server.specs.FirstLines.{is_turned_away}
 use Rattle.command_server.specs.Limits.{max_client_line, max_lines}
 use Rattle.command_server.specs.Readings.{next_reading}
@@ -81,14 +81,15 @@ module _ {S : Type 0} (deals : Deals S) where
   DoesCommand reads old (Ok commands.Quit) told new = deals.ends old new × (told ≡ tolds.Bye)
   DoesCommand reads old (Err fault) told new = TellsFault old fault told new
 
-  -- a line is what it means at the clock's reading of this number, with enough capacity; or, with too little, the
-  -- fault of the word that needs more. What it fetches reads the clock anew, under the next number
+  -- a line is what it means at the clock's reading of this number where the keeper's schemes are read, with enough
+  -- capacity; or, with too little, the fault of the word that needs more. What it fetches reads the clock anew, under
+  -- the next number
   abbrev pub DoesRequest : (ℕ → ℕ → Type 0) → ℕ → S → List ℕ → Told → S → Type 0
   DoesRequest reads number old line told new =
       (m : ℕ) × (reads number m
-      × (DoesCommand (reads (next_reading number)) old (command_of (Client m (deals.can_fetch old)) line Enough) told new
-      ⊎ DoesCommand (reads (next_reading number)) old (command_of (Client m (deals.can_fetch old)) line Overflows) told new
-      ⊎ DoesCommand (reads (next_reading number)) old (command_of (Client m (deals.can_fetch old)) line Refused) told new))
+      × (DoesCommand (reads (next_reading number)) old (command_of_among (deals.schemes old) (Client m (deals.can_fetch old)) line Enough) told new
+      ⊎ DoesCommand (reads (next_reading number)) old (command_of_among (deals.schemes old) (Client m (deals.can_fetch old)) line Overflows) told new
+      ⊎ DoesCommand (reads (next_reading number)) old (command_of_among (deals.schemes old) (Client m (deals.can_fetch old)) line Refused) told new))
 
   -- what a line of a client is answered: the text of what it is told. The session ends behind a farewell, and behind a
   -- first line that is turned away. The next line has readings of its own

@@ -1,7 +1,9 @@
 -- What a book answers a line: the text of a reply that the line's call may have.
--- The contract of `replay` cites it.
+-- The contracts of `replay` and `replay_among` cite it.
 use Rattle.std.specs.Prelude.{◌≡◌, ◌⊎◌, ℕ, Bool, true, false, List, Result, Ok, Err}
 use Rattle.path_normal.specs.Capacity.{Enough, Overflows, Refused}
+use Rattle.path_normal.specs.declared.schemes.Schemes.{Schemes}
+use Rattle.path_normal.specs.declared.schemes.Schemes.TheVariants.{Http}
 use Rattle.authority_cache.specs.Lives.{Timed}
 use Rattle.gate_history.specs.Segment.{Sealed}
 use Rattle.gate_core.specs.declared.call.Call.{Call}
@@ -21,8 +23,8 @@ use Rattle.command_server.specs.declared.fault.LineFault.{LineFault}
 use Rattle.command_server.specs.declared.fault.LineFault.TheVariants as faults
 use Rattle.command_server.specs.declared.verbs.Dialogue.TheVariants.{Replay}
 use Rattle.command_server.specs.declared.arrival.Arrival.{Arrival}
-use Rattle.command_server.specs.Arrival.{Brings}
-use Rattle.command_server.specs.CallOf.{command_of}
+use Rattle.command_server.specs.Arrival.{BringsAmong}
+use Rattle.command_server.specs.CallOf.{command_of_among}
 use Rattle.command_server.specs.FaultText.{line_fault_text}
 use Rattle.command_server.specs.SealText.{seal_text}
 use Rattle.command_server.specs.ReplyText.{bye_text, reply_text, state_text}
@@ -47,10 +49,10 @@ AnswersBrought old arrival (Ok brought) text new =
     AnswersCall old (calls.Arrive arrival.authority arrival.turn brought arrival.moment) text new
 AnswersBrought old arrival (Err fault) text new = (text ≡ line_fault_text fault) × Stays old new
 
--- the replies of an arrival bring an answer or a fault, and the text answers that
-abbrev pub AnswersArrival : Gate → Arrival → List ℕ → Gate → Type 0
-AnswersArrival old arrival text new =
-    (brought : Result Timed LineFault) × (Brings arrival.authority arrival.replies brought
+-- the replies of an arrival bring an answer or a fault where these schemes are read, and the text answers that
+abbrev pub AnswersArrival : Schemes → Gate → Arrival → List ℕ → Gate → Type 0
+AnswersArrival schemes old arrival text new =
+    (brought : Result Timed LineFault) × (BringsAmong schemes arrival.authority arrival.replies brought
     × AnswersBrought old arrival brought text new)
 
 -- the text is that of what was sealed
@@ -63,21 +65,25 @@ AnswersNoVerb old text ended new = (text ≡ line_fault_text faults.Verb) × (en
 
 -- what a command is answered: a call its reply, QUIT a farewell, which ends the session, a line with a
 -- fault that fault; and but for a call nothing changes
-abbrev pub AnswersCommand : Gate → Result Command LineFault → List ℕ → Bool → Gate → Type 0
-AnswersCommand old (Ok (commands.Call call)) text ended new = AnswersCall old call text new × (ended ≡ false)
-AnswersCommand old (Ok (commands.Arrive arrival)) text ended new = AnswersArrival old arrival text new × (ended ≡ false)
-AnswersCommand old (Ok (commands.State authority m)) text ended new = AnswersState old authority m text new × (ended ≡ false)
-AnswersCommand old (Ok commands.Seal) text ended new = AnswersSeal old text new × (ended ≡ false)
-AnswersCommand old (Ok (commands.Refresh authority)) text ended new = AnswersNoVerb old text ended new
-AnswersCommand old (Ok (commands.Fetch job)) text ended new = AnswersNoVerb old text ended new
-AnswersCommand old (Ok (commands.Url url)) text ended new = AnswersNoVerb old text ended new
-AnswersCommand old (Ok commands.Quit) text ended new = (text ≡ bye_text) × (ended ≡ true) × Stays old new
-AnswersCommand old (Err fault) text ended new = (text ≡ line_fault_text fault) × (ended ≡ false) × Stays old new
+abbrev pub AnswersCommand : Schemes → Gate → Result Command LineFault → List ℕ → Bool → Gate → Type 0
+AnswersCommand schemes old (Ok (commands.Call call)) text ended new = AnswersCall old call text new × (ended ≡ false)
+AnswersCommand schemes old (Ok (commands.Arrive arrival)) text ended new = AnswersArrival schemes old arrival text new × (ended ≡ false)
+AnswersCommand schemes old (Ok (commands.State authority m)) text ended new = AnswersState old authority m text new × (ended ≡ false)
+AnswersCommand schemes old (Ok commands.Seal) text ended new = AnswersSeal old text new × (ended ≡ false)
+AnswersCommand schemes old (Ok (commands.Refresh authority)) text ended new = AnswersNoVerb old text ended new
+AnswersCommand schemes old (Ok (commands.Fetch job)) text ended new = AnswersNoVerb old text ended new
+AnswersCommand schemes old (Ok (commands.Url url)) text ended new = AnswersNoVerb old text ended new
+AnswersCommand schemes old (Ok commands.Quit) text ended new = (text ≡ bye_text) × (ended ≡ true) × Stays old new
+AnswersCommand schemes old (Err fault) text ended new = (text ≡ line_fault_text fault) × (ended ≡ false) × Stays old new
 
--- what a line is answered: what it means with enough capacity; or, with too little, the fault of the word
--- that needs more, and nothing changes
+-- what a line is answered where these schemes are read: what it means with enough capacity; or, with too little, the
+-- fault of the word that needs more, and nothing changes
+abbrev pub AnswersLineAmong : Schemes → Gate → List ℕ → List ℕ → Bool → Gate → Type 0
+AnswersLineAmong schemes old line text ended new =
+    AnswersCommand schemes old (command_of_among schemes Replay line Enough) text ended new
+    ⊎ AnswersCommand schemes old (command_of_among schemes Replay line Overflows) text ended new
+    ⊎ AnswersCommand schemes old (command_of_among schemes Replay line Refused) text ended new
+
+-- the same where `http` alone is read
 abbrev pub AnswersLine : Gate → List ℕ → List ℕ → Bool → Gate → Type 0
-AnswersLine old line text ended new =
-    AnswersCommand old (command_of Replay line Enough) text ended new
-    ⊎ AnswersCommand old (command_of Replay line Overflows) text ended new
-    ⊎ AnswersCommand old (command_of Replay line Refused) text ended new
+AnswersLine = AnswersLineAmong Http

@@ -7,7 +7,7 @@ ghost use Rattle.command_server.specs.Arguments.{token_word};
 
 use crate::fault::LineFault;
 use line_text::number_of;
-use path_normal::{Authority, PageUrl};
+use path_normal::{Authority, PageUrl, Schemes};
 use robots_text::Token;
 use std::alloc::Global;
 
@@ -26,18 +26,18 @@ pub fn read_token(alloc: Global, word: &str) -> Result<Token, LineFault>
     Ok(token)
 }
 
-/// Reads an authority.
-pub fn read_authority(alloc: Global, word: &str) -> Result<Authority, LineFault>
-    ensures { IsRead result (authority_word word.now) }
+/// Reads an authority of pages of these schemes.
+pub fn read_authority(alloc: Global, schemes: Schemes, word: &str) -> Result<Authority, LineFault>
+    ensures { IsRead result (authority_word schemes word.now) }
 {
-    let authority = Authority::new(alloc, word)?;
+    let authority = Authority::new_among(alloc, schemes, word)?;
     Ok(authority)
 }
 
-/// Reads the URL of a page.
-pub fn read_page(alloc: Global, word: &str) -> Result<PageUrl, LineFault>
-    ensures { IsRead result (page_word word.now) }
+/// Reads the URL of a page of these schemes.
+pub fn read_page(alloc: Global, schemes: Schemes, word: &str) -> Result<PageUrl, LineFault>
+    ensures { IsRead result (page_word schemes word.now) }
 {
-    let url = PageUrl::parse(alloc, word)?;
+    let url = PageUrl::parse_among(alloc, schemes, word)?;
     Ok(url)
 }

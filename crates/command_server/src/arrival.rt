@@ -1,12 +1,12 @@
 //! What an ARRIVE line brings, and the answer that its replies decide (RFC 9309, section 2.3.1).
 //! The walk over the replies is that of robots fetches.
 ghost use Rattle.std.specs.Prelude.{◌≡◌, IfOk};
-ghost use Rattle.command_server.specs.Arrival.{Brings};
+ghost use Rattle.command_server.specs.Arrival.{BringsAmong};
 
 use crate::fault::LineFault;
 use crate::reply_words::ReplyWords;
 use authority_cache::{TimedAnswer, TurnNo};
-use path_normal::Authority;
+use path_normal::{Authority, Schemes};
 use robots_fetch::{Step, Walk};
 use std::alloc::Global;
 
@@ -20,19 +20,20 @@ pub struct Arrival<'a> {
     pub moment: u64,
 }
 
-/// The answer that the replies decide for the authority, with its life.
+/// The answer that the replies decide for the authority where these schemes are read, with its life.
 pub(crate) fn decide(
     alloc: Global,
+    schemes: Schemes,
     authority: &Authority,
     replies: ReplyWords<'_>,
 ) -> Result<TimedAnswer, LineFault>
-    ensures brings { Brings authority.now replies.entry result }
+    ensures brings { BringsAmong schemes authority.now replies.entry result }
     ensures spares { IfOk result (λ brought. brought.spares ≡ 2) }
 {
     let mut replies = replies;
     let mut walk = Walk::new(authority)?;
     while let Some(reply) = replies.next(alloc)? {
-        walk = match walk.step(alloc, &reply) {
+        walk = match walk.step_among(alloc, schemes, &reply) {
             Step::Go(next) => next,
             Step::Done(answer) if replies.is_empty() => return Ok(answer),
             Step::Done(_) => return Err(LineFault::Replies),

@@ -4,14 +4,14 @@ ghost use Rattle.std.specs.Prelude.{◌≡◌, OnErr, OnOk};
 ghost use Rattle.counted_io.specs.Device.{failures_after};
 ghost use Rattle.command_server.specs.Answers.{CutsReply, GivesReply};
 ghost use Rattle.command_server.specs.Limits.{max_lines};
-ghost use Rattle.command_server.specs.Replay.{AnswersArrival, AnswersCall, AnswersLine, AnswersSeal};
+ghost use Rattle.command_server.specs.Replay.{AnswersArrival, AnswersCall, AnswersLine, AnswersLineAmong, AnswersSeal};
 ghost use Rattle.gate_core.specs.Calls.{HasSpare};
 ghost use Rattle.line_text.specs.Limits.{max_long_line};
 ghost use Rattle.command_server.specs.Session.{Session, failures_after_reads, failures_after_writes};
 
 use crate::answerer::{Answerer, Flow};
 use crate::arrival::{Arrival, decide};
-use crate::command::{Command, read_command};
+use crate::command::{Command, read_command_among};
 use crate::fault::LineFault;
 use crate::reply_text::{bye_pieces, fault_pieces, reply_pieces, state_pieces};
 use crate::seal_text::push_sealed;
@@ -21,15 +21,19 @@ use crate::verbs::Dialogue;
 use counted_io::{DeviceFault, Output, Sink, Source};
 use gate_core::{Book, Call};
 use line_text::MAX_LONG_LINE;
+use path_normal::Schemes;
 use std::alloc::Global;
 
-/// A book is lent, and a line answered by the call that it makes.
-struct BookLines;
+/// A book is lent, and a line answered by the call that it makes where these schemes are read.
+#[derive(Drop)]
+struct BookLines {
+    schemes: Schemes,
+}
 
 impl Answerer<Book> for BookLines {
-    ghost use Rattle.command_server.specs.Replay.{AnswersLine};
+    ghost use Rattle.command_server.specs.Replay.{AnswersLineAmong};
 
-    ghost answers = { λ _ _. AnswersLine };
+    ghost answers = { λ lines _. AnswersLineAmong lines.schemes };
 
     fn answer<W: Sink>(
         &self,
@@ -39,13 +43,13 @@ impl Answerer<Book> for BookLines {
         output: &mut Output,
         sink: &mut W,
     ) -> Result<Flow, DeviceFault> {
-        match read_command(alloc, Dialogue::Replay, line) {
+        match read_command_among(alloc, self.schemes, Dialogue::Replay, line) {
             Ok(Command::Call(call)) => {
                 answer_call(book, call, output, sink)?;
                 Ok(Flow::Goes)
             }
             Ok(Command::Arrive(arrival)) => {
-                answer_arrival(book, alloc, arrival, output, sink)?;
+                answer_arrival(book, alloc, self.schemes, arrival, output, sink)?;
                 Ok(Flow::Goes)
             }
             Ok(Command::State { authority, moment }) => {
@@ -77,7 +81,8 @@ impl Answerer<Book> for BookLines {
 pub const MAX_LINES: u64 = 1000000;
 
 /// Reads lines, makes their calls on the book, and writes their replies, before each read that may
-/// wait and at the end. The book keeps what the lines have done, also after a fault.
+/// wait and at the end. The book keeps what the lines have done, also after a fault. They name pages
+/// of `http` alone.
 pub fn replay<R: Source, W: Sink>(
     alloc: Global,
     reader: &mut R,
@@ -91,11 +96,29 @@ pub fn replay<R: Source, W: Sink>(
     ensures writes { W.failures writer.new
         ≡ failures_after_writes (W.failures writer.old) result }
 {
+    replay_among(alloc, Schemes::Http, reader, writer, book)
+}
+
+/// Replays lines as `replay` does, which name pages of these schemes.
+pub fn replay_among<R: Source, W: Sink>(
+    alloc: Global,
+    schemes: Schemes,
+    reader: &mut R,
+    writer: &mut W,
+    book: &mut Book,
+) -> Result<(), SessionFault>
+    ensures session { Session (AnswersLineAmong schemes) max_long_line max_lines book.old book.new
+        (R.left reader.old) (R.left reader.new)
+        (W.written writer.old) (W.written writer.new) result }
+    ensures reads { R.failures reader.new ≡ failures_after_reads (R.failures reader.old) result }
+    ensures writes { W.failures writer.new
+        ≡ failures_after_writes (W.failures writer.old) result }
+{
     run_session(
         alloc,
         reader,
         writer,
-        &BookLines,
+        &BookLines { schemes },
         book,
         MAX_LONG_LINE,
         MAX_LINES,
@@ -140,15 +163,16 @@ fn answer_seal<W: Sink>(
 fn answer_arrival<W: Sink>(
     book: &mut Book,
     alloc: Global,
+    schemes: Schemes,
     arrival: Arrival<'_>,
     output: &mut Output,
     sink: &mut W,
 ) -> Result<(), DeviceFault>
     ensures ok { OnOk result (GivesReply
-        (λ reply. AnswersArrival book.old arrival.entry reply book.new)
+        (λ reply. AnswersArrival schemes book.old arrival.entry reply book.new)
         (W.written sink.old) (W.written sink.new) output.old output.new) }
     ensures err { OnErr result (CutsReply
-        (λ reply. AnswersArrival book.old arrival.entry reply book.new)
+        (λ reply. AnswersArrival schemes book.old arrival.entry reply book.new)
         (W.written sink.old) (W.written sink.new) output.old) }
     ensures count { W.failures sink.new ≡ failures_after (W.failures sink.old) result }
 {
@@ -158,7 +182,7 @@ fn answer_arrival<W: Sink>(
         replies,
         moment,
     } = arrival;
-    match decide(alloc, &authority, replies) {
+    match decide(alloc, schemes, &authority, replies) {
         Ok(answer) => {
             let call = Call::Arrive {
                 authority,

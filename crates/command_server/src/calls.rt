@@ -16,30 +16,39 @@ use authority_cache::TurnNo;
 use crawl_job::Job;
 use gate_core::Call;
 use line_text::Words;
-use path_normal::{Authority, PageUrl};
+use path_normal::{Authority, PageUrl, Schemes};
 use permit_book::PermitNo;
 use std::alloc::Global;
 
 /// Reads the word behind `BEGIN`, `STATE` and `REFRESH`: `<authority>`.
-pub fn read_authority_alone(alloc: Global, words: Words<'_>) -> Result<Authority, LineFault>
+pub fn read_authority_alone(
+    alloc: Global,
+    schemes: Schemes,
+    words: Words<'_>,
+) -> Result<Authority, LineFault>
     requires { IsTrue (takes Verb.State (words_left words)) }
-    ensures { IsRead result (authority_alone (words_left words.entry)) }
+    ensures { IsRead result (authority_alone schemes (words_left words.entry)) }
 {
     let mut words = words;
     let authority = words.first();
-    let authority = read_authority(alloc, authority)?;
+    let authority = read_authority(alloc, schemes, authority)?;
     Ok(authority)
 }
 
 /// Reads `ARRIVE <authority> <turn> <reply> ..`.
-pub fn read_arrive(alloc: Global, moment: u64, words: Words<'_>) -> Result<Arrival<'_>, LineFault>
+pub fn read_arrive(
+    alloc: Global,
+    schemes: Schemes,
+    moment: u64,
+    words: Words<'_>,
+) -> Result<Arrival<'_>, LineFault>
     requires { IsTrue (takes Verb.Arrive (words_left words)) }
-    ensures { IsRead result (arrive_of moment (words_left words.entry)) }
+    ensures { IsRead result (arrive_of schemes moment (words_left words.entry)) }
 {
     let mut words = words;
     let authority = words.first();
     let turn = words.first();
-    let authority = read_authority(alloc, authority)?;
+    let authority = read_authority(alloc, schemes, authority)?;
     let turn = TurnNo::new(read_number(turn)?);
     let replies = ReplyWords::of(words)?;
     Ok(Arrival {
@@ -51,28 +60,33 @@ pub fn read_arrive(alloc: Global, moment: u64, words: Words<'_>) -> Result<Arriv
 }
 
 /// Reads the words behind `ASK` and `FETCH`: `<token> <url>`.
-pub fn read_job_words(alloc: Global, words: Words<'_>) -> Result<Job, LineFault>
+pub fn read_job_words(alloc: Global, schemes: Schemes, words: Words<'_>) -> Result<Job, LineFault>
     requires { IsTrue (takes Verb.Fetch (words_left words)) }
-    ensures { IsRead result (job_words_of (words_left words.entry)) }
+    ensures { IsRead result (job_words_of schemes (words_left words.entry)) }
 {
     let mut words = words;
     let token = words.first();
     let url = words.first();
     let token = read_token(alloc, token)?;
-    let url = read_page(alloc, url)?;
+    let url = read_page(alloc, schemes, url)?;
     Ok(Job { token, url })
 }
 
 /// Reads `START <n> <token> <url>`.
-pub fn read_start(alloc: Global, moment: u64, words: Words<'_>) -> Result<Call, LineFault>
+pub fn read_start(
+    alloc: Global,
+    schemes: Schemes,
+    moment: u64,
+    words: Words<'_>,
+) -> Result<Call, LineFault>
     requires { IsTrue (takes Verb.Start (words_left words)) }
-    ensures read { IsRead result (start_of moment (words_left words.entry)) }
+    ensures read { IsRead result (start_of schemes moment (words_left words.entry)) }
     ensures spare { IfOk result HasSpare }
 {
     let mut words = words;
     let number = words.first();
     let number = PermitNo::new(read_number(number)?);
-    let Job { token, url } = read_job_words(alloc, words)?;
+    let Job { token, url } = read_job_words(alloc, schemes, words)?;
     Ok(Call::Start {
         number,
         token,
@@ -82,13 +96,17 @@ pub fn read_start(alloc: Global, moment: u64, words: Words<'_>) -> Result<Call, 
 }
 
 /// Reads the word behind `URL`: `<url>`.
-pub fn read_page_alone(alloc: Global, words: Words<'_>) -> Result<PageUrl, LineFault>
+pub fn read_page_alone(
+    alloc: Global,
+    schemes: Schemes,
+    words: Words<'_>,
+) -> Result<PageUrl, LineFault>
     requires { IsTrue (takes Verb.Url (words_left words)) }
-    ensures { IsRead result (page_alone (words_left words.entry)) }
+    ensures { IsRead result (page_alone schemes (words_left words.entry)) }
 {
     let mut words = words;
     let url = words.first();
-    let url = read_page(alloc, url)?;
+    let url = read_page(alloc, schemes, url)?;
     Ok(url)
 }
 

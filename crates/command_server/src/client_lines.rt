@@ -6,7 +6,7 @@ ghost use Rattle.command_server.specs.Clients.{DoesCall, DoesRequest, is_farewel
 ghost use Rattle.command_server.specs.FirstLines.{is_turned_away};
 
 use crate::answerer::{Answerer, Flow};
-use crate::command::{Command, read_command};
+use crate::command::{Command, read_command_among};
 use crate::fault::LineFault;
 use crate::first_line::FirstLine;
 use crate::numbered_clock::{FetchClock, NumberedClock, next_reading};
@@ -71,7 +71,8 @@ fn flow_behind(first: FirstLine, number: u64, line: &[u8], told: &Told) -> Flow
     }
 }
 
-// Makes the call of a line at the reading of this number. What it fetches has the next number.
+// Makes the call of a line at the reading of this number, where the keeper's schemes are read. What it
+// fetches has the next number.
 fn told_of<K: Keeper, C: NumberedClock>(
     alloc: Global,
     clock: &C,
@@ -89,7 +90,7 @@ fn told_of<K: Keeper, C: NumberedClock>(
         clock,
         number: next_reading(number),
     };
-    match read_command(alloc, dialogue, line) {
+    match read_command_among(alloc, keeper.schemes(), dialogue, line) {
         Ok(Command::Call(call)) => told_of_call(keeper, call),
         Ok(Command::State { authority, moment }) => {
             let state = keeper.state(&authority, moment);

@@ -2,7 +2,7 @@
 //! Used by the session; `CallOf` has the order of the checks.
 ghost use Rattle.std.specs.Prelude.{◌≡◌, IfOk, IsTrue, MatchOption, false, true};
 ghost use Rattle.path_normal.specs.Capacity.{IsRead};
-ghost use Rattle.command_server.specs.CallOf.{arguments_of, CanBeMade, command_of};
+ghost use Rattle.command_server.specs.CallOf.{arguments_of, CanBeMade, command_of_among, command_of};
 ghost use Rattle.command_server.specs.CallOf.{is_line_octet};
 ghost use Rattle.command_server.specs.CallOf.{has_line_octets, takes, timed_words_of, verb_words_of};
 ghost use Rattle.line_text.specs.Words.{words_left};
@@ -17,7 +17,7 @@ use crate::verbs::{Dialogue, Verb};
 use crawl_job::Job;
 use gate_core::Call;
 use line_text::{Words, number_of};
-use path_normal::{Authority, PageUrl};
+use path_normal::{Authority, PageUrl, Schemes};
 use std::alloc::Global;
 
 /// What a command line asks of a session.
@@ -41,13 +41,26 @@ pub enum Command<'a> {
     Quit,
 }
 
-/// Reads a command line of a dialogue, without its line end.
+/// Reads a command line of a dialogue, without its line end, where `http` alone is read.
 pub fn read_command(
     alloc: Global,
     dialogue: Dialogue,
     line: &[u8],
 ) -> Result<Command<'_>, LineFault>
     ensures read { IsRead result (command_of dialogue line.now) }
+    ensures spare { IfOk result CanBeMade }
+{
+    read_command_among(alloc, Schemes::Http, dialogue, line)
+}
+
+/// Reads a command line as `read_command` does, where these schemes are read.
+pub fn read_command_among(
+    alloc: Global,
+    schemes: Schemes,
+    dialogue: Dialogue,
+    line: &[u8],
+) -> Result<Command<'_>, LineFault>
+    ensures read { IsRead result (command_of_among schemes dialogue line.now) }
     ensures spare { IfOk result CanBeMade }
 {
     let Some(text) = plain_text(line) else {
@@ -58,8 +71,8 @@ pub fn read_command(
         return Err(LineFault::Words);
     }
     match dialogue {
-        Dialogue::Replay => read_timed(alloc, words),
-        Dialogue::Client { moment, .. } => read_verb(alloc, dialogue, moment, words),
+        Dialogue::Replay => read_timed(alloc, schemes, words),
+        Dialogue::Client { moment, .. } => read_verb(alloc, schemes, dialogue, moment, words),
     }
 }
 
@@ -85,8 +98,8 @@ fn is_line_octet(octet: u8) -> bool
     (32..=126).contains(&octet)
 }
 
-fn read_timed(alloc: Global, words: Words<'_>) -> Result<Command<'_>, LineFault>
-    ensures read { IsRead result (timed_words_of (words_left words.entry)) }
+fn read_timed(alloc: Global, schemes: Schemes, words: Words<'_>) -> Result<Command<'_>, LineFault>
+    ensures read { IsRead result (timed_words_of schemes (words_left words.entry)) }
     ensures spare { IfOk result CanBeMade }
 {
     let mut words = words;
@@ -96,16 +109,17 @@ fn read_timed(alloc: Global, words: Words<'_>) -> Result<Command<'_>, LineFault>
     let Some(moment) = number_of(first) else {
         return Err(LineFault::Moment);
     };
-    read_verb(alloc, Dialogue::Replay, moment, words)
+    read_verb(alloc, schemes, Dialogue::Replay, moment, words)
 }
 
 fn read_verb(
     alloc: Global,
+    schemes: Schemes,
     dialogue: Dialogue,
     moment: u64,
     words: Words<'_>,
 ) -> Result<Command<'_>, LineFault>
-    ensures read { IsRead result (verb_words_of dialogue moment (words_left words.entry)) }
+    ensures read { IsRead result (verb_words_of schemes dialogue moment (words_left words.entry)) }
     ensures spare { IfOk result CanBeMade }
 {
     let mut words = words;
@@ -119,30 +133,31 @@ fn read_verb(
     if !words.count_is_within(row.least, row.most) {
         return Err(LineFault::Words);
     }
-    read_arguments(alloc, verb, moment, words)
+    read_arguments(alloc, schemes, verb, moment, words)
 }
 
 fn read_arguments(
     alloc: Global,
+    schemes: Schemes,
     verb: Verb,
     moment: u64,
     words: Words<'_>,
 ) -> Result<Command<'_>, LineFault>
     requires { IsTrue (takes verb (words_left words)) }
-    ensures read { IsRead result (arguments_of verb moment (words_left words.entry)) }
+    ensures read { IsRead result (arguments_of schemes verb moment (words_left words.entry)) }
     ensures spare { IfOk result CanBeMade }
 {
     Ok(Command::Call(match verb {
         Verb::Begin => {
-            let authority = read_authority_alone(alloc, words)?;
+            let authority = read_authority_alone(alloc, schemes, words)?;
             Call::Begin { authority, moment }
         }
-        Verb::Arrive => return Ok(Command::Arrive(read_arrive(alloc, moment, words)?)),
+        Verb::Arrive => return Ok(Command::Arrive(read_arrive(alloc, schemes, moment, words)?)),
         Verb::Ask => {
-            let Job { token, url } = read_job_words(alloc, words)?;
+            let Job { token, url } = read_job_words(alloc, schemes, words)?;
             Call::Ask { token, url, moment }
         }
-        Verb::Start => read_start(alloc, moment, words)?,
+        Verb::Start => read_start(alloc, schemes, moment, words)?,
         Verb::Back => {
             let number = read_permit_alone(words)?;
             Call::Back { number }
@@ -152,17 +167,17 @@ fn read_arguments(
             Call::Finish { number }
         }
         Verb::State => {
-            let authority = read_authority_alone(alloc, words)?;
+            let authority = read_authority_alone(alloc, schemes, words)?;
             return Ok(Command::State { authority, moment });
         }
         Verb::Sweep => Call::Sweep { moment },
         Verb::Seal => return Ok(Command::Seal),
         Verb::Refresh => {
-            let authority = read_authority_alone(alloc, words)?;
+            let authority = read_authority_alone(alloc, schemes, words)?;
             return Ok(Command::Refresh { authority });
         }
-        Verb::Fetch => return Ok(Command::Fetch(read_job_words(alloc, words)?)),
-        Verb::Url => return Ok(Command::Url(read_page_alone(alloc, words)?)),
+        Verb::Fetch => return Ok(Command::Fetch(read_job_words(alloc, schemes, words)?)),
+        Verb::Url => return Ok(Command::Url(read_page_alone(alloc, schemes, words)?)),
         Verb::Quit => return Ok(Command::Quit),
     }))
 }

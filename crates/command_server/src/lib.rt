@@ -28,14 +28,14 @@ mod verbs;
 
 pub use answerer::{Answerer, Flow};
 pub use arrival::Arrival;
-pub use book_lines::{MAX_LINES, replay};
+pub use book_lines::{MAX_LINES, replay, replay_among};
 pub use client_session::{MAX_CLIENT_LINE, serve, serve_from};
-pub use command::{Command, read_command};
+pub use command::{Command, read_command, read_command_among};
 pub use fault::LineFault;
 pub use first_line::FirstLine;
 pub use hop_lines::push_hops;
 pub use hop_text::hop_pieces;
-pub use job_words::read_job;
+pub use job_words::{read_job, read_job_among};
 pub use keepers::{BookKeeper, DeskKeeper, Keeper, NoKeeper};
 pub use numbered_clock::{NumberedClock, next_reading};
 pub use refusal_text::refusal_word;

@@ -1,14 +1,15 @@
 -- What one more line does to what was read so far, and why a line is bad.
 -- Used by the calls of the auditor and by `audit`.
-use Rattle.std.proofs.Common.{◌≡◌, ◌≢◌, ℕ, ◌+◌, ◌<◌, ◌≤◌, ◌==◌, Bool, true, false, cond, List, [], ◌∷◌, ◌++◌, Some, None, Ok, Err, filter, length, inl, inr, refl, sym, ap, subst, ◌∙◌, arith, append_assoc, append-nil, length-append, get_or}
+use Rattle.std.proofs.Common.{◌≡◌, ◌≢◌, ℕ, ◌+◌, ◌<◌, ◌≤◌, ◌==◌, Bool, true, false, cond, All, List, [], ◌∷◌, ◌++◌, Some, None, Ok, Err, filter, length, inl, inr, refl, sym, ap, subst, ◌∙◌, arith, append_assoc, append-nil, length-append, get_or}
 use Rattle.std.specs.Prelude.{Option}
 use Rattle.std.specs.Io.KnownBytes.{Consumes, IsAtEnd, prepend_known}
 use Rattle.std.proofs.KnownBytes.{Consumes-trans, Keeps-refl, prepend_known-end}
 use Rattle.std.proofs.lemmas.Bool.Decides.{nat_tests}
 use Rattle.std.proofs.lemmas.List.Concat.{flat_map-append}
-use Rattle.std.proofs.lemmas.List.Elements.{All-head, All-tail, filter-append}
+use Rattle.std.proofs.lemmas.List.Elements.{All-append, All-cons, All-head, All-nil, All-tail, filter-append}
 use Rattle.counted_io.specs.Lines.{FindsEnd, FindsTooLongTo, HasNoLineFeed, TakesLast, TakesLineTo}
 use Rattle.counted_io.specs.declared.line_end.LineEnd.TheVariants.{Lf}
+use Rattle.path_normal.specs.declared.schemes.Schemes.{Schemes}
 use Rattle.gate_history.specs.Base.{empty_base}
 use Rattle.gate_history.specs.History.{from}
 use Rattle.gate_history.specs.Legal.{IsLegal}
@@ -19,7 +20,7 @@ use Rattle.crawl_audit.specs.declared.fault.AuditFault.TheVariants.{BadLine, Rea
 use Rattle.crawl_audit.specs.declared.fault.Audited.{Audited}
 use Rattle.crawl_audit.specs.declared.version.Version.TheVariants.{One}
 use Rattle.crawl_audit.specs.Audit.{AddsLine, GoesTo, Heard, HeardAll, Holds, is_entry_line, is_start_line, IsFault, LeadsNowhere}
-use Rattle.crawl_audit.specs.ChainAudit.{IsChainAudited, IsChainBadAt}
+use Rattle.crawl_audit.specs.ChainAudit.{IsAmong, IsChainAudited, IsChainBadAt}
 use Rattle.crawl_audit.specs.Chains.{IsFront, line_limit, most_lines}
 use Rattle.crawl_audit.specs.SpellBase.{ended, lines_text}
 use Rattle.crawl_audit.specs.Steps.{MayEnd, Place, Runs, start, Steps}
@@ -51,17 +52,19 @@ few_counted test (l ∷ ls) = by (test l) (few_counted test ls)
     by false rest = omega (arith, rest)
 
 -- a line that leads somewhere was taken
-pub holds_more : (a a' a'' : Auditor) (lines : List (List ℕ)) (place : Place) (line : List ℕ) → Holds a lines place → (goes : GoesTo place line a a') → length lines < most_lines →
-    a''.stage ≡ a'.stage → a''.ledger ≡ a'.ledger → a''.version ≡ a'.version → a''.count ≡ a'.count → a''.events ≡ a'.events → a''.starts ≡ a'.starts → a''.lines ≡ a.lines + 1 →
-    Holds a'' (lines ++ line ∷ []) goes.next
-holds_more a a' a'' lines place line holds goes room stage ledger version count events starts more =
+pub holds_more : (schemes : Schemes) (a a' a'' : Auditor) (lines : List (List ℕ)) (place : Place) (line : List ℕ) → Holds schemes a lines place → (goes : GoesTo place line a a') → length lines < most_lines → IsAmong schemes line →
+    a''.schemes ≡ a.schemes → a''.stage ≡ a'.stage → a''.ledger ≡ a'.ledger → a''.version ≡ a'.version → a''.count ≡ a'.count → a''.events ≡ a'.events → a''.starts ≡ a'.starts → a''.lines ≡ a.lines + 1 →
+    Holds schemes a'' (lines ++ line ∷ []) goes.next
+holds_more schemes a a' a'' lines place line holds goes room among same stage ledger version count events starts more =
     let many = length-append lines (line ∷ []) in
     let counts = goes.counts in
     record {
+      schemes_are = same ∙ holds.schemes_are;
       runs = runs_then start place goes.next lines (line ∷ []) holds.runs (goes.next, (goes.steps, refl));
       stands = stands_still a' a'' goes.next stage ledger version count goes.stands;
       lines_are = omega (arith, more, holds.lines_are, many);
       few = omega (arith, many, room);
+      among = All-append (IsAmong schemes) lines (line ∷ []) holds.among (All-cons (IsAmong schemes) line [] among (All-nil (IsAmong schemes)));
       events_are = events ∙ counts.events (omega (arith, holds.events_are, few_counted is_entry_line lines, room))
           ∙ ap (λ n. cond (is_entry_line line) (n + 1) n) holds.events_are ∙ sym (counted_more is_entry_line lines line);
       starts_are = starts ∙ counts.starts (omega (arith, holds.starts_are, few_counted is_start_line lines, room))
@@ -69,13 +72,15 @@ holds_more a a' a'' lines place line holds goes room stage ledger version count 
     }
 
 -- what was read is the same where the reader and its line changed alone
-pub moved : (a a' : Auditor) (lines : List (List ℕ)) (place : Place) → a'.stage ≡ a.stage → a'.ledger ≡ a.ledger → a'.version ≡ a.version → a'.count ≡ a.count → a'.lines ≡ a.lines → a'.events ≡ a.events → a'.starts ≡ a.starts →
-    Holds a lines place → Holds a' lines place
-moved a a' lines place stage ledger version count taken events starts holds = record {
+pub moved : (schemes : Schemes) (a a' : Auditor) (lines : List (List ℕ)) (place : Place) → a'.schemes ≡ a.schemes → a'.stage ≡ a.stage → a'.ledger ≡ a.ledger → a'.version ≡ a.version → a'.count ≡ a.count → a'.lines ≡ a.lines → a'.events ≡ a.events → a'.starts ≡ a.starts →
+    Holds schemes a lines place → Holds schemes a' lines place
+moved schemes a a' lines place same stage ledger version count taken events starts holds = record {
+  schemes_are = same ∙ holds.schemes_are;
   runs = holds.runs;
   stands = stands_still a a' place stage ledger version count holds.stands;
   lines_are = taken ∙ holds.lines_are;
   few = holds.few;
+  among = holds.among;
   events_are = events ∙ holds.events_are;
   starts_are = starts ∙ holds.starts_are;
 }
@@ -102,7 +107,7 @@ line_then line after = append_assoc line (10 ∷ []) after
 -- ---- bad lines
 
 -- the text is known, and these lines are its front
-module _ (a : Auditor) (lines : List (List ℕ)) (place : Place) (holds : Holds a lines place) (text : List ℕ) where
+module _ (schemes : Schemes) (a : Auditor) (lines : List (List ℕ)) (place : Place) (holds : Holds schemes a lines place) (text : List ℕ) where
   -- a line with which a right text may go on leads somewhere
   front_steps : (next : List ℕ) → IsFront (lines ++ next ∷ []) → (p : Place) × Steps place next p
   front_steps next is =
@@ -117,40 +122,41 @@ module _ (a : Auditor) (lines : List (List ℕ)) (place : Place) (holds : Holds 
 
   -- what stands behind the lines so far does not begin with a line with which a right text may go on
   bad_at : (behind : List ℕ) → text ≡ lines_text lines ++ behind → (number : ℕ) → number ≡ a.lines + 1 → (behind ≡ [] → MayEnd place → ⊥) →
-      ((next after : List ℕ) → length next ≤ line_limit → behind ≡ next ++ 10 ∷ after → IsFront (lines ++ next ∷ []) → ⊥) → IsChainBadAt text number
+      ((next after : List ℕ) → length next ≤ line_limit → behind ≡ next ++ 10 ∷ after → IsAmong schemes next → IsFront (lines ++ next ∷ []) → ⊥) → IsChainBadAt schemes text number
   bad_at behind is number count ends bad = record {
     front = lines;
     before = reads_are_fronts lines place holds.runs holds.few;
+    among = holds.among;
     behind = behind;
     text_is = is;
     whole = λ none first later chain same.
         let run = chain_ends first later chain in
         ends none (subst MayEnd (one_run start run.0 place lines (subst (λ (ls : List (List ℕ)). Runs start ls run.0) same run.1.0) holds.runs) run.1.1);
     line_is = count ∙ ap (λ n. n + 1) holds.lines_are;
-    bad = λ next after short then is_front. bad next after short (then ∙ line_then next after) is_front;
+    bad = λ next after short then among is_front. bad next after short (then ∙ line_then next after) among is_front;
   }
 
   -- a whole line
-  pub bad_line : (raw rest : List ℕ) → text ≡ lines_text lines ++ (raw ++ 10 ∷ rest) → HasNoLineFeed raw → (number : ℕ) → number ≡ a.lines + 1 → LeadsNowhere lines place raw → IsChainBadAt text number
+  pub bad_line : (raw rest : List ℕ) → text ≡ lines_text lines ++ (raw ++ 10 ∷ rest) → HasNoLineFeed raw → (number : ℕ) → number ≡ a.lines + 1 → LeadsNowhere schemes lines place raw → IsChainBadAt schemes text number
   bad_line raw rest is none number count nowhere =
       bad_at (raw ++ 10 ∷ rest) is number count (λ empty. absurd (not_empty raw rest (sym empty)))
-      (λ next after short then is_front.
+      (λ next after short then among is_front.
       let same = (cut_lines raw next rest after (feedless raw none) (front_feedless next is_front) then).0 in
       let step = front_steps next is_front in
       let few = is_front.few in
-      nowhere (omega (arith, few, length-append lines (next ∷ []))) step.0 (subst (λ (l : List ℕ). Steps place l step.0) (sym same) step.1))
+      nowhere (omega (arith, few, length-append lines (next ∷ []))) (subst (IsAmong schemes) (sym same) among) step.0 (subst (λ (l : List ℕ). Steps place l step.0) (sym same) step.1))
 
   -- octets without a line feed that are too long, or all that there is
   pub bad_part : (raw rest : List ℕ) → text ≡ lines_text lines ++ (raw ++ rest) → HasNoLineFeed raw → 0 < length raw → (number : ℕ) → number ≡ a.lines + 1 →
-      ((l r : List ℕ) → length l ≤ line_limit → raw ++ rest ≡ l ++ 10 ∷ r → length l < length raw) → IsChainBadAt text number
+      ((l r : List ℕ) → length l ≤ line_limit → raw ++ rest ≡ l ++ 10 ∷ r → length l < length raw) → IsChainBadAt schemes text number
   bad_part raw rest is none some number count long =
       bad_at (raw ++ rest) is number count (λ empty. absurd (omega (arith, some, ap length empty, length-append raw rest)))
-      (λ next after short then is_front. beyond raw next rest after none then (long next after short then))
+      (λ next after short then among is_front. beyond raw next rest after none then (long next after short then))
 
   -- nothing, where a base is not whole
-  pub bad_end : text ≡ lines_text lines → (MayEnd place → ⊥) → (number : ℕ) → number ≡ a.lines + 1 → IsChainBadAt text number
+  pub bad_end : text ≡ lines_text lines → (MayEnd place → ⊥) → (number : ℕ) → number ≡ a.lines + 1 → IsChainBadAt schemes text number
   bad_end is ends number count =
-      bad_at [] (is ∙ sym (append-nil (lines_text lines))) number count (λ empty. ends) (λ next after short then is_front. not_empty next after then)
+      bad_at [] (is ∙ sym (append-nil (lines_text lines))) number count (λ empty. ends) (λ next after short then among is_front. not_empty next after then)
 
 -- ---- what the source gave
 
@@ -169,33 +175,33 @@ split_twice input behind after text front more is first then =
 text_more : (lines : List (List ℕ)) (line : List ℕ) → lines_text (lines ++ line ∷ []) ≡ lines_text lines ++ (line ++ 10 ∷ [])
 text_more lines line = flat_map-append ended lines (line ∷ []) ∙ ap (λ t. lines_text lines ++ t) (append-nil (ended line))
 
-module _ (a : Auditor) (input behind : Option (List ℕ)) (heard : Heard a input behind) where
+module _ (schemes : Schemes) (a : Auditor) (input behind : Option (List ℕ)) (heard : Heard schemes a input behind) where
   -- a whole line does not go on
-  pub line_fault : (line : List ℕ) (after : Option (List ℕ)) (fault : AuditFault) (a' : Auditor) → TakesLineTo Lf line_limit behind after line → AddsLine heard.lines heard.place line (Err fault) a' →
-      (text : List ℕ) → input ≡ Some text → IsFault text fault
+  pub line_fault : (line : List ℕ) (after : Option (List ℕ)) (fault : AuditFault) (a' : Auditor) → TakesLineTo Lf line_limit behind after line → AddsLine schemes heard.lines heard.place line (Err fault) a' →
+      (text : List ℕ) → input ≡ Some text → IsFault schemes text fault
   line_fault line after (BadLine number) a' t b text is =
       let s = split_twice input behind after text (lines_text heard.lines) (t.raw ++ 10 ∷ []) is heard.taken t.consumed in
       let holds = heard.holds in
-      bad_line a heard.lines heard.place heard.holds text t.raw s.0 (s.2 ∙ ap (λ k. lines_text heard.lines ++ k) (append_assoc t.raw (10 ∷ []) s.0)) t.no_line_feed number
-      (b.0 ∙ ap (λ n. n + 1) (sym holds.lines_are)) (subst (LeadsNowhere heard.lines heard.place) t.line_is b.1)
+      bad_line schemes a heard.lines heard.place heard.holds text t.raw s.0 (s.2 ∙ ap (λ k. lines_text heard.lines ++ k) (append_assoc t.raw (10 ∷ []) s.0)) t.no_line_feed number
+      (b.0 ∙ ap (λ n. n + 1) (sym holds.lines_are)) (subst (LeadsNowhere schemes heard.lines heard.place) t.line_is b.1)
   line_fault line after Read a' t b text is = tt
   line_fault line after NoMemory a' t b text is = tt
 
   -- a last line has no end
-  pub last_fault : (line pending : List ℕ) (left : Option (List ℕ)) (number : ℕ) → number ≡ a.lines + 1 → TakesLast line_limit behind pending left line → (text : List ℕ) → input ≡ Some text → IsChainBadAt text number
+  pub last_fault : (line pending : List ℕ) (left : Option (List ℕ)) (number : ℕ) → number ≡ a.lines + 1 → TakesLast line_limit behind pending left line → (text : List ℕ) → input ≡ Some text → IsChainBadAt schemes text number
   last_fault line pending left number count t text is =
       let s = split_twice input behind (prepend_known pending left) text (lines_text heard.lines) line is heard.taken t.consumed in
       let end = prepend_known-end (prepend_known pending left) left pending (Keeps-refl (prepend_known pending left)) t.drained.empty t.drained.at_end in
       let none : s.0 ≡ [] = subst IsAtEnd s.1 end in
-      bad_part a heard.lines heard.place heard.holds text line s.0 s.2 t.no_line_feed t.some number count
+      bad_part schemes a heard.lines heard.place heard.holds text line s.0 s.2 t.no_line_feed t.some number count
       (λ l r short same. omega (arith, ap length same, ap length none, length-append line s.0, length-append l (10 ∷ r)))
 
   -- octets that are too long for a line
-  pub long_fault : (pending : List ℕ) (left : Option (List ℕ)) (number : ℕ) → number ≡ a.lines + 1 → FindsTooLongTo Lf line_limit behind pending left → (text : List ℕ) → input ≡ Some text → IsChainBadAt text number
+  pub long_fault : (pending : List ℕ) (left : Option (List ℕ)) (number : ℕ) → number ≡ a.lines + 1 → FindsTooLongTo Lf line_limit behind pending left → (text : List ℕ) → input ≡ Some text → IsChainBadAt schemes text number
   long_fault pending left number count t text is =
       let s = split_twice input behind (prepend_known pending left) text (lines_text heard.lines) t.raw is heard.taken t.consumed in
       let over : line_limit < length t.raw = elim t.too_long [ inl h ↦ h | inr h ↦ h.0 ] in
-      bad_part a heard.lines heard.place heard.holds text t.raw s.0 s.2 t.no_line_feed (omega arith) number count (λ l r short same. omega arith)
+      bad_part schemes a heard.lines heard.place heard.holds text t.raw s.0 s.2 t.no_line_feed (omega arith) number count (λ l r short same. omega arith)
 
   -- nothing more was there
   ended_at : (line pending : List ℕ) (left : Option (List ℕ)) → FindsEnd behind pending left line → Consumes input (prepend_known pending left) (lines_text heard.lines) × IsAtEnd (prepend_known pending left)
@@ -206,15 +212,15 @@ module _ (a : Auditor) (input behind : Option (List ℕ)) (heard : Heard a input
   )
 
   -- but a base is not whole
-  pub end_fault : (line pending : List ℕ) (left : Option (List ℕ)) (number : ℕ) → number ≡ a.lines + 1 → FindsEnd behind pending left line → (MayEnd heard.place → ⊥) → (text : List ℕ) → input ≡ Some text → IsChainBadAt text number
+  pub end_fault : (line pending : List ℕ) (left : Option (List ℕ)) (number : ℕ) → number ≡ a.lines + 1 → FindsEnd behind pending left line → (MayEnd heard.place → ⊥) → (text : List ℕ) → input ≡ Some text → IsChainBadAt schemes text number
   end_fault line pending left number count f ends text is =
       let at = ended_at line pending left f in
       let s = split_known text (prepend_known pending left) (lines_text heard.lines) (subst (λ (i : Option (List ℕ)). Consumes i (prepend_known pending left) (lines_text heard.lines)) is at.0) in
       let none : s.0 ≡ [] = subst IsAtEnd s.1 at.1 in
-      bad_end a heard.lines heard.place heard.holds text (s.2 ∙ ap (λ k. lines_text heard.lines ++ k) none ∙ append-nil (lines_text heard.lines)) ends number count
+      bad_end schemes a heard.lines heard.place heard.holds text (s.2 ∙ ap (λ k. lines_text heard.lines ++ k) none ∙ append-nil (lines_text heard.lines)) ends number count
 
   -- and texts are whole
-  pub end_heard : (line pending : List ℕ) (left : Option (List ℕ)) (a' : Auditor) → Holds a' heard.lines heard.place → FindsEnd behind pending left line → MayEnd heard.place → HeardAll a' input (prepend_known pending left)
+  pub end_heard : (line pending : List ℕ) (left : Option (List ℕ)) (a' : Auditor) → Holds schemes a' heard.lines heard.place → FindsEnd behind pending left line → MayEnd heard.place → HeardAll schemes a' input (prepend_known pending left)
   end_heard line pending left a' holds f ends =
       let at = ended_at line pending left f in
       record {
@@ -224,7 +230,7 @@ module _ (a : Auditor) (input behind : Option (List ℕ)) (heard : Heard a input
       }
 
   -- one more line was taken
-  pub line_heard : (line : List ℕ) (after : Option (List ℕ)) (a' : Auditor) → TakesLineTo Lf line_limit behind after line → AddsLine heard.lines heard.place line (Ok tt) a' → Heard a' input after × (a'.lines ≡ a.lines + 1)
+  pub line_heard : (line : List ℕ) (after : Option (List ℕ)) (a' : Auditor) → TakesLineTo Lf line_limit behind after line → AddsLine schemes heard.lines heard.place line (Ok tt) a' → Heard schemes a' input after × (a'.lines ≡ a.lines + 1)
   line_heard line after a' t b =
       let holds = b.1 in
       let before = heard.holds in (
@@ -242,8 +248,8 @@ module _ (a : Auditor) (input behind : Option (List ℕ)) (heard : Heard a input
   few_heard = let holds = heard.holds in omega (arith, holds.lines_are, holds.few)
 
 -- all was taken
-pub all_audited : (a : Auditor) (input behind : Option (List ℕ)) → HeardAll a input behind → (audited : Audited) → audited.events ≡ a.events → audited.starts ≡ a.starts → (text : List ℕ) → input ≡ Some text → IsChainAudited text audited
-all_audited a input behind all audited events starts text is =
+pub all_audited : (schemes : Schemes) (a : Auditor) (input behind : Option (List ℕ)) → HeardAll schemes a input behind → (audited : Audited) → audited.events ≡ a.events → audited.starts ≡ a.starts → (text : List ℕ) → input ≡ Some text → IsChainAudited schemes text audited
+all_audited schemes a input behind all audited events starts text is =
     let heard = all.heard in
     let holds = heard.holds in
     let s = split_known text behind (lines_text heard.lines) (subst (λ (i : Option (List ℕ)). Consumes i behind (lines_text heard.lines)) is heard.taken) in
@@ -257,22 +263,25 @@ all_audited a input behind all audited events starts text is =
       later = later;
       chain = chain.1.1.0;
       few = subst (λ (ls : List (List ℕ)). length ls ≤ most_lines) (sym lines) holds.few;
+      among = subst (λ (ls : List (List ℕ)). All (IsAmong schemes) ls) (sym lines) holds.among;
       text_is = s.2 ∙ ap (λ k. lines_text heard.lines ++ k) none ∙ append-nil (lines_text heard.lines) ∙ ap lines_text (sym lines);
       events_are = events ∙ holds.events_are ∙ ap (λ ls. length (filter is_entry_line ls)) (sym lines) ∙ entries_of_chain first later;
       starts_are = starts ∙ holds.starts_are ∙ ap (λ ls. length (filter is_start_line ls)) (sym lines) ∙ starts_of_chain first later;
     }
 
 -- before the first line
-pub heard_start : (a : Auditor) (left : Option (List ℕ)) (pending : List ℕ) → pending ≡ [] → a.stage ≡ stages.Start → a.version ≡ One → a.count ≡ 0 → TellsAll a.ledger (from empty_base) → a.ledger.numbers.rising ≡ false →
-    a.events ≡ 0 → a.starts ≡ 0 → a.lines ≡ 0 → IsLegal (from empty_base) → Heard a left (prepend_known pending left)
-heard_start a left pending none stage version count tells any events starts lines legal = record {
+pub heard_start : (schemes : Schemes) (a : Auditor) (left : Option (List ℕ)) (pending : List ℕ) → a.schemes ≡ schemes → pending ≡ [] → a.stage ≡ stages.Start → a.version ≡ One → a.count ≡ 0 → TellsAll a.ledger (from empty_base) → a.ledger.numbers.rising ≡ false →
+    a.events ≡ 0 → a.starts ≡ 0 → a.lines ≡ 0 → IsLegal (from empty_base) → Heard schemes a left (prepend_known pending left)
+heard_start schemes a left pending same none stage version count tells any events starts lines legal = record {
   lines = [];
   place = start;
   holds = record {
+    schemes_are = same;
     runs = refl;
     stands = (stage, record { version_is = version; rising_is = any; count_is = count; tells = tells; legal = legal });
     lines_are = lines;
     few = omega arith;
+    among = All-nil (IsAmong schemes);
     events_are = events;
     starts_are = starts;
   };

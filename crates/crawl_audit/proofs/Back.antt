@@ -17,13 +17,14 @@ use Rattle.std.proofs.lemmas.Slice.Eq.{bytes_eq-Decides}
 use Rattle.std.proofs.lemmas.Str.Parse.{IsNumeralModel, numerals_by_value}
 use Rattle.percent_encoding.specs.Percent.{percent_decode, percent_encode_byte}
 use Rattle.percent_encoding.proofs.PercentLemmas.{percent_decode-nil, percent_decode-percent_encode_byte, percent_decode_escape, percent_decode_not_percent}
-use Rattle.path_normal.specs.Authority.{authority_of_read, is_delimiter, IsAuthority}
+use Rattle.path_normal.specs.Authority.{authority_of_read, is_delimiter, root_of, written_host, IsAuthority}
+use Rattle.path_normal.specs.declared.schemes.Schemes.TheVariants.{HttpAndHttps}
 use Rattle.path_normal.specs.declared.fault.AuthorityFault.{AuthorityFault}
 use Rattle.path_normal.specs.declared.fault.UrlFault.{UrlFault}
 use Rattle.path_normal.specs.Capacity.{Enough, unless_refused}
 use Rattle.path_normal.specs.Normal.{is_unreserved}
 use Rattle.path_normal.specs.PageText.{authority_of}
-use Rattle.path_normal.specs.PageUrl.{IsPage, page_url_from}
+use Rattle.path_normal.specs.PageUrl.{IsPage, page_url_among}
 use Rattle.robots_text.specs.Lines.{kept}
 use Rattle.line_text.specs.Number.{is_number, is_numeral, is_small, number_of}
 use Rattle.crawl_audit.specs.Spell.{body_word}
@@ -52,10 +53,10 @@ page_back page is = ap result_ok is.own
 
 -- an authority
 pub authority_back : (authority : List ℕ) → IsAuthority authority → authority_named authority ≡ Some authority
-authority_back authority is = by (list_any is_delimiter authority) refl
+authority_back authority is = by (list_any is_delimiter (written_host HttpAndHttps authority)) refl
   where
     root : Result (List ℕ) UrlFault
-    root = page_url_from None (codes "http://" ++ authority ++ codes "/") Enough
+    root = page_url_among HttpAndHttps None (root_of authority) Enough
 
     read : (r : Result (List ℕ) UrlFault) → authority_of_read r ≡ Ok authority → option_map authority_of (result_ok r) ≡ Some authority
     read (Ok page) e = ap result_ok e
@@ -64,7 +65,7 @@ authority_back authority is = by (list_any is_delimiter authority) refl
         none_is : None ≡ Some authority → ⊥
         none_is e = cc
 
-    by : (t : Bool) → list_any is_delimiter authority ≡ t → option_map authority_of (result_ok root) ≡ Some authority
+    by : (t : Bool) → list_any is_delimiter (written_host HttpAndHttps authority) ≡ t → option_map authority_of (result_ok root) ≡ Some authority
     by true e = absurd (bad (sym (ap (λ b. cond b (Err AuthorityFault.BadAuthority) (unless_refused AuthorityFault.NoMemory (authority_of_read root) Enough)) e) ∙ is.own))
       where
         bad : Err AuthorityFault.BadAuthority ≡ Ok authority → ⊥

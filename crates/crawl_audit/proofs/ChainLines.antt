@@ -17,6 +17,7 @@ use Rattle.crawl_audit.specs.Chains.{AllGoOn, chain_lines, head_lines, IsChain, 
 use Rattle.crawl_audit.specs.Entries.{IsEntry}
 use Rattle.crawl_audit.specs.Laws.{RightChainIsNeverBad}
 use Rattle.crawl_audit.specs.Spell.{answer_fields, entry_line}
+use Rattle.crawl_audit.specs.ChainAudit.{IsAmong}
 use Rattle.crawl_audit.specs.SpellBase.{answer_line, base_lines, grant_line, lines_text, numbers_line, open_lines, permit_line, running_line, turn_line, unspent_line}
 use Rattle.crawl_audit.proofs.Returning.{answer_length, digits, line_length, more, token_length}
 use Rattle.crawl_audit.proofs.RowSpelling.{IsLivedRow, lived, row_feedless, shown_flight, shown_grant, shown_numbers, shown_permit, shown_standing}
@@ -209,9 +210,14 @@ same_lines (line ∷ lines) (f ∷ front) all all' same =
     let rest = same_lines lines front (All-tail IsGoodLine line lines all) (All-tail IsGoodLine f front all') cut.1 in
     λ i. cut.0 i ∷ rest i
 
--- the text of a chain is bad at no line
+-- what is true of all lines is true of those behind a front
+pub all_after : (P : List ℕ → Type 0) (front rest : List (List ℕ)) → All P (front ++ rest) → All P rest
+all_after P [] rest all = all
+all_after P (line ∷ front) rest all = all_after P front rest (All-tail P line (front ++ rest) all)
+
+-- the text of a chain that names what is read is bad at no line
 pub right_chain : RightChainIsNeverBad
-right_chain first later line chain few bad = by bad.behind refl
+right_chain schemes first later line chain few among bad = by bad.behind refl
   where
     by : (b : List ℕ) → bad.behind ≡ b → ⊥
     by [] none =
@@ -221,7 +227,7 @@ right_chain first later line chain few bad = by bad.behind refl
         let n = next_line (chain_lines first later) bad.front bad.behind (good_chain first later chain) (good_begins bad.front bad.before) bad.text_is (omega (arith, ap length is)) in
         let good = n.good in
         let long = ap length n.lines_are in
-        bad.bad n.next (lines_text n.rest) good.short n.behind_is (record {
+        bad.bad n.next (lines_text n.rest) good.short n.behind_is (All-head (IsAmong schemes) n.next n.rest (all_after (IsAmong schemes) bad.front (n.next ∷ n.rest) (subst (All (IsAmong schemes)) n.lines_are among))) (record {
           first = first;
           later = later;
           chain = chain;

@@ -10,6 +10,8 @@ pub mod Exporting
 pub mod FirstLines
 pub mod Following
 pub mod Growing
+pub mod HttpLines
+pub mod HttpTexts
 pub mod ListedNumbers
 pub mod LoadedPermits
 pub mod LoadedRows

@@ -1,6 +1,6 @@
 -- What the words of a line name, one after the other. More is named than the one spelling of each entry.
 -- Used to show that the readers of `read` read each entry back from its line.
-use Rattle.std.proofs.Common.{◌≡◌, ℕ, List, [], ◌++◌, Some, Ok, Err, codes}
+use Rattle.std.proofs.Common.{◌≡◌, ℕ, List, [], Some, Ok, Err, codes}
 use Rattle.std.specs.Prelude.{Option, None, Result, if◌then◌else◌}
 use Rattle.std.specs.Option.{option_map}
 use Rattle.std.specs.Result.{result_ok}
@@ -10,7 +10,9 @@ use Rattle.robots_text.specs.Lines.{kept}
 use Rattle.robots_text.specs.Token.{token_of}
 use Rattle.path_normal.specs.Capacity.{Enough}
 use Rattle.path_normal.specs.PageText.{authority_of}
-use Rattle.path_normal.specs.PageUrl.{page_url_from}
+use Rattle.path_normal.specs.declared.schemes.Schemes.TheVariants.{HttpAndHttps}
+use Rattle.path_normal.specs.Authority.{root_of}
+use Rattle.path_normal.specs.PageUrl.{page_url_among}
 use Rattle.robots_verdict.specs.declared.answer.Answer.{Answer}
 use Rattle.robots_verdict.specs.declared.answer.Closure.{Closure}
 use Rattle.robots_verdict.specs.declared.answer.Closure.TheVariants as closures
@@ -42,11 +44,11 @@ and_then (Some value) next = next value
 
 -- the URL of the page that a word names
 abbrev pub page_named : List ℕ → Option (List ℕ)
-page_named word = result_ok (page_url_from None word Enough)
+page_named word = result_ok (page_url_among HttpAndHttps None word Enough)
 
 -- the authority that a word names
 abbrev pub authority_named : List ℕ → Option (List ℕ)
-authority_named word = option_map authority_of (page_named (codes "http://" ++ word ++ codes "/"))
+authority_named word = option_map authority_of (page_named (root_of word))
 
 -- what is kept of the body that a word writes
 abbrev pub body_named : List ℕ → List ℕ

@@ -1,9 +1,10 @@
 -- What an audit says of texts: that they spell a chain, or which line continues none; and where an auditor stands
 -- behind the lines that it read. docs/FORMATS.md has the causes; legality is that of `gate_history`.
-use Rattle.std.specs.Prelude.{◌≡◌, ℕ, ◌+◌, ◌<◌, ◌≤◌, ◌==◌, Bool, true, false, List, [], ◌∷◌, ◌++◌, Option, Some, None, Result, Ok, Err, codes, filter, if◌then◌else◌, length}
+use Rattle.std.specs.Prelude.{◌≡◌, ℕ, ◌+◌, ◌<◌, ◌≤◌, ◌==◌, All, Bool, true, false, List, [], ◌∷◌, ◌++◌, Option, Some, None, Result, Ok, Err, codes, filter, if◌then◌else◌, length}
 use Rattle.std.specs.List.{list_any}
 use Rattle.std.specs.Io.KnownBytes.{Consumes, IsAtEnd}
 use Rattle.counted_io.specs.Device.{one_more}
+use Rattle.path_normal.specs.declared.schemes.Schemes.{Schemes}
 use Rattle.gate_history.specs.Base.{empty_base}
 use Rattle.gate_history.specs.History.{History, from}
 use Rattle.gate_history.specs.Legal.{IsLegal}
@@ -17,7 +18,7 @@ use Rattle.crawl_audit.specs.declared.first_base.FirstBase.{FirstBase}
 use Rattle.crawl_audit.specs.declared.next_base.NextBase.{NextBase}
 use Rattle.crawl_audit.specs.declared.unread_line.UnreadLine.{UnreadLine}
 use Rattle.crawl_audit.specs.declared.unread_line.UnreadLine.TheVariants as unread
-use Rattle.crawl_audit.specs.ChainAudit.{IsChainBadAt}
+use Rattle.crawl_audit.specs.ChainAudit.{IsAmong, IsChainBadAt}
 use Rattle.crawl_audit.specs.Chains.{most_lines}
 use Rattle.crawl_audit.specs.FirstBase.{Reads}
 use Rattle.crawl_audit.specs.NextBase.{Expects}
@@ -25,11 +26,11 @@ use Rattle.crawl_audit.specs.SpellBase.{lines_text}
 use Rattle.crawl_audit.specs.Steps.{among, inside, MayEnd, Place, Runs, start, Steps, TakesEntry}
 use Rattle.crawl_audit.specs.Tables.{TellsAll}
 
--- what a fault says of a text
-abbrev pub IsFault : List ℕ → AuditFault → Type 0
-IsFault text (BadLine line) = IsChainBadAt text line
-IsFault text Read = Unit {0}
-IsFault text NoMemory = Unit {0}
+-- what a fault says of a text of which these schemes are read
+abbrev pub IsFault : Schemes → List ℕ → AuditFault → Type 0
+IsFault schemes text (BadLine line) = IsChainBadAt schemes text line
+IsFault schemes text Read = Unit {0}
+IsFault schemes text NoMemory = Unit {0}
 
 -- ---- the lines that are counted
 
@@ -88,6 +89,7 @@ pub record BeginsEntries (old new : Auditor) : Type 0 where
   pub count : new.count ≡ 0
   pub ledger : new.ledger ≡ old.ledger
   pub reader : new.reader ≡ old.reader
+  pub schemes : new.schemes ≡ old.schemes
   pub lines : new.lines ≡ old.lines
   pub events : new.events ≡ old.events
   pub starts : new.starts ≡ old.starts
@@ -118,43 +120,47 @@ EntersLine version rising h count line old (Ok _) new = EntersOne version rising
 EntersLine version rising h count line old (Err unread.NotOne) new = (next : Place) → TakesEntry version rising h count line next → ⊥
 EntersLine version rising h count line old (Err unread.NoMemory) new = Unit {0}
 
--- these lines were read, and led to the place
-pub record Holds (a : Auditor) (lines : List (List ℕ)) (place : Place) : Type 0 where
+-- these lines were read, and led to the place; they name the schemes alone that are read
+pub record Holds (schemes : Schemes) (a : Auditor) (lines : List (List ℕ)) (place : Place) : Type 0 where
+  pub schemes_are : a.schemes ≡ schemes
   pub runs : Runs start lines place
   pub stands : StandsAt a place
   pub lines_are : a.lines ≡ length lines
   pub few : length lines ≤ most_lines
+  pub among : All (IsAmong schemes) lines
   pub events_are : a.events ≡ length (filter is_entry_line lines)
   pub starts_are : a.starts ≡ length (filter is_start_line lines)
 
--- no line of a right text is this one, behind these
-abbrev pub LeadsNowhere : List (List ℕ) → Place → List ℕ → Type 0
-LeadsNowhere lines place line = length lines < most_lines → (next : Place) → Steps place line next → ⊥
+-- no line of a right text that names these schemes alone is this one, behind these
+abbrev pub LeadsNowhere : Schemes → List (List ℕ) → Place → List ℕ → Type 0
+LeadsNowhere schemes lines place line =
+    length lines < most_lines → IsAmong schemes line → (next : Place) → Steps place line next → ⊥
 
 -- one more line was read, or it does not continue those so far
-abbrev pub AddsLine : List (List ℕ) → Place → List ℕ → Result (Unit {0}) AuditFault → Auditor → Type 0
-AddsLine lines place line (Ok _) new = (next : Place) × Holds new (lines ++ line ∷ []) next
-AddsLine lines place line (Err (BadLine number)) new = (number ≡ length lines + 1) × LeadsNowhere lines place line
-AddsLine lines place line (Err _) new = Unit {0}
+abbrev pub AddsLine : Schemes → List (List ℕ) → Place → List ℕ → Result (Unit {0}) AuditFault → Auditor → Type 0
+AddsLine schemes lines place line (Ok _) new = (next : Place) × Holds schemes new (lines ++ line ∷ []) next
+AddsLine schemes lines place line (Err (BadLine number)) new =
+    (number ≡ length lines + 1) × LeadsNowhere schemes lines place line
+AddsLine schemes lines place line (Err _) new = Unit {0}
 
 -- the lines so far were the front of the input
-pub record Heard (a : Auditor) (input behind : Option (List ℕ)) : Type 0 where
+pub record Heard (schemes : Schemes) (a : Auditor) (input behind : Option (List ℕ)) : Type 0 where
   pub lines : List (List ℕ)
   pub place : Place
-  pub holds : Holds a lines place
+  pub holds : Holds schemes a lines place
   pub taken : Consumes input behind (lines_text lines)
 
 -- they were all of it, and a text may end there
-pub record HeardAll (a : Auditor) (input behind : Option (List ℕ)) : Type 0 where
-  pub heard : Heard a input behind
+pub record HeardAll (schemes : Schemes) (a : Auditor) (input behind : Option (List ℕ)) : Type 0 where
+  pub heard : Heard schemes a input behind
   pub ends : MayEnd heard.place
   pub at_end : IsAtEnd behind
 
 -- a step of an audit took a line, or found the end, or a fault
-abbrev pub TakesStep : Option (List ℕ) → Auditor → Result Bool AuditFault → Auditor → Option (List ℕ) → Type 0
-TakesStep input old (Ok true) new behind = Heard new input behind × (new.lines ≡ old.lines + 1)
-TakesStep input old (Ok false) new behind = HeardAll new input behind
-TakesStep input old (Err fault) new behind = (text : List ℕ) → input ≡ Some text → IsFault text fault
+abbrev pub TakesStep : Schemes → Option (List ℕ) → Auditor → Result Bool AuditFault → Auditor → Option (List ℕ) → Type 0
+TakesStep schemes input old (Ok true) new behind = Heard schemes new input behind × (new.lines ≡ old.lines + 1)
+TakesStep schemes input old (Ok false) new behind = HeardAll schemes new input behind
+TakesStep schemes input old (Err fault) new behind = (text : List ℕ) → input ≡ Some text → IsFault schemes text fault
 
 -- the source's count of failures after an audit: it rises exactly where a read failed
 abbrev pub failures_after_audit : {T : Type 0} → ℕ → Result T AuditFault → ℕ

@@ -1,27 +1,44 @@
 -- What an audit of texts one after the other says of them: that they spell a chain, or which line continues none.
 -- docs/FORMATS.md has the texts.
-use Rattle.std.specs.Prelude.{◌≡◌, ◌≢◌, ℕ, ◌+◌, ◌≤◌, List, [], ◌∷◌, ◌++◌, length}
+use Rattle.std.specs.Prelude.{◌≡◌, ◌≢◌, ℕ, ◌+◌, ◌≤◌, All, Bool, false, List, [], ◌∷◌, ◌++◌, length}
+use Rattle.std.specs.List.{list_any}
+use Rattle.path_normal.specs.declared.schemes.Schemes.{Schemes}
+use Rattle.path_normal.specs.declared.schemes.Schemes.TheVariants.{Http, HttpAndHttps}
+use Rattle.path_normal.specs.PageText.{is_https}
+use Rattle.line_text.specs.Words.{words_of}
 use Rattle.crawl_audit.specs.declared.fault.Audited.{Audited}
 use Rattle.crawl_audit.specs.Chains.{chain_entries, chain_lines, chain_text, IsChain, IsFront, most_lines, starts_in, Text, line_limit}
 use Rattle.crawl_audit.specs.SpellBase.{ended, lines_text}
 
--- the text is that of a chain of not too many lines, with these counts of its entries
-pub record IsChainAudited (text : List ℕ) (audited : Audited) : Type 0 where
+-- a word of the line begins with `https://`
+abbrev pub names_https : List ℕ → Bool
+names_https line = list_any is_https (words_of line)
+
+-- the line names pages and sites of these schemes alone
+abbrev pub IsAmong : Schemes → List ℕ → Type 0
+IsAmong Http line = names_https line ≡ false
+IsAmong HttpAndHttps line = Unit {0}
+
+-- the text is that of a chain of not too many lines, which name these schemes alone, with these counts of its entries
+pub record IsChainAudited (schemes : Schemes) (text : List ℕ) (audited : Audited) : Type 0 where
   pub first : Text
   pub later : List Text
   pub chain : IsChain first later
   pub few : length (chain_lines first later) ≤ most_lines
+  pub among : All (IsAmong schemes) (chain_lines first later)
   pub text_is : text ≡ chain_text first later
   pub events_are : audited.events ≡ length (chain_entries first later)
   pub starts_are : audited.starts ≡ starts_in (chain_entries first later)
 
--- a right text may begin with the lines before this one, but what stands behind them does not begin with a
--- line with which a right text may go on; where nothing stands there, the lines are not those of a whole chain
-pub record IsChainBadAt (text : List ℕ) (line : ℕ) : Type 0 where
+-- a right text may begin with the lines before this one, which name these schemes alone, but what stands behind them
+-- does not begin with a line that does so too and with which a right text may go on; where nothing stands there, the
+-- lines are not those of a whole chain
+pub record IsChainBadAt (schemes : Schemes) (text : List ℕ) (line : ℕ) : Type 0 where
   pub front : List (List ℕ)
   pub before : IsFront front
+  pub among : All (IsAmong schemes) front
   pub behind : List ℕ
   pub text_is : text ≡ lines_text front ++ behind
   pub whole : behind ≡ [] → (first : Text) (later : List Text) → IsChain first later → chain_lines first later ≢ front
   pub line_is : line ≡ length front + 1
-  pub bad : (next after : List ℕ) → length next ≤ line_limit → behind ≡ ended next ++ after → IsFront (front ++ next ∷ []) → ⊥
+  pub bad : (next after : List ℕ) → length next ≤ line_limit → behind ≡ ended next ++ after → IsAmong schemes next → IsFront (front ++ next ∷ []) → ⊥

@@ -1,6 +1,8 @@
 -- What is true of every spelling.
 -- The contracts of `laws.rt`.
-use Rattle.std.specs.Prelude.{◌≡◌, ℕ, ◌<◌, ◌≤◌, [], ◌++◌, All, List, length}
+use Rattle.std.specs.Prelude.{◌≡◌, ℕ, ◌<◌, ◌≤◌, ◌↔◌, [], ◌++◌, All, List, length}
+use Rattle.path_normal.specs.declared.schemes.Schemes.{Schemes}
+use Rattle.path_normal.specs.declared.schemes.Schemes.TheVariants.{Http}
 use Rattle.gate_history.specs.declared.entry.Entry.{Entry}
 use Rattle.gate_history.specs.Base.{Base, IsBase}
 use Rattle.gate_history.specs.History.{History, from}
@@ -8,9 +10,10 @@ use Rattle.gate_history.specs.Order.{IsInOrder}
 use Rattle.gate_history.specs.Seal.{SaysAs}
 use Rattle.gate_history.specs.Segment.{Sealed}
 use Rattle.crawl_audit.specs.declared.version.Version.{Version}
-use Rattle.crawl_audit.specs.ChainAudit.{IsChainBadAt}
+use Rattle.crawl_audit.specs.ChainAudit.{IsAmong, IsChainBadAt}
 use Rattle.crawl_audit.specs.Entries.{IsEntry}
 use Rattle.crawl_audit.specs.Exports.{IsExport, plain_text, text_of}
+use Rattle.crawl_audit.specs.HttpChains.{IsHttpChain}
 use Rattle.crawl_audit.specs.Chains.{chain_lines, chain_text, GoesOn, IsChain, IsFront, IsText, IsTextBase, most_lines, Text}
 use Rattle.crawl_audit.specs.Spell.{entry_line, spell}
 use Rattle.crawl_audit.specs.SpellBase.{base_lines, spell_segment}
@@ -50,11 +53,25 @@ abbrev pub OneBase : Type 0
 OneBase =
     (a b : Base) (after after' : List (List ℕ)) → IsTextBase a → IsTextBase b → base_lines a ++ after ≡ base_lines b ++ after' → a ≡ b
 
--- the text of a chain of not too many lines is bad at no line
+-- the text of a chain of not too many lines, which name the schemes alone that are read, is bad at no line
 abbrev pub RightChainIsNeverBad : Type 0
 RightChainIsNeverBad =
-    (first : Text) (later : List Text) (line : ℕ) → IsChain first later → length (chain_lines first later) ≤ most_lines
-    → IsChainBadAt (chain_text first later) line → ⊥
+    (schemes : Schemes) (first : Text) (later : List Text) (line : ℕ) → IsChain first later
+    → length (chain_lines first later) ≤ most_lines → All (IsAmong schemes) (chain_lines first later)
+    → IsChainBadAt schemes (chain_text first later) line → ⊥
+
+-- the lines of a chain name `http` alone exactly where its entries and its bases do
+abbrev pub HttpChainsNameHttp : Type 0
+HttpChainsNameHttp =
+    (first : Text) (later : List Text) → IsChain first later
+    → IsHttpChain first later ↔ All (IsAmong Http) (chain_lines first later)
+
+-- the text of such a chain, of not too many lines, is bad at no line where `http` alone is read
+abbrev pub HttpChainIsNeverBad : Type 0
+HttpChainIsNeverBad =
+    (first : Text) (later : List Text) (line : ℕ) → IsChain first later
+    → length (chain_lines first later) ≤ most_lines → IsHttpChain first later
+    → IsChainBadAt Http (chain_text first later) line → ⊥
 
 -- a line leads from a place to one place at most
 abbrev pub OneStep : Type 0

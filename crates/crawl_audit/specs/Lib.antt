@@ -7,6 +7,7 @@ pub mod Chains
 pub mod Entries
 pub mod Exports
 pub mod FirstBase
+pub mod HttpChains
 pub mod Laws
 pub mod Loading
 pub mod NextBase

@@ -2,9 +2,11 @@
 //! docs/FORMATS.md has the lines and the causes of a bad one.
 ghost use Rattle.std.specs.Prelude.{◌≡◌, ◌≢◌, ◌<◌, ◌+◌, ◌↔◌, ℕ, Bool, Err, IfOk, IsTrue, List, Option};
 ghost use Rattle.std.specs.Io.KnownBytes.{prepend_known};
+ghost use Rattle.path_normal.specs.declared.schemes.Schemes.{Schemes};
 ghost use Rattle.gate_history.specs.History.{History};
 ghost use Rattle.crawl_audit.specs.Audit.{AddsLine, AreEntries, BeginsEntries, EntersLine, Heard, Holds};
 ghost use Rattle.crawl_audit.specs.Audit.{Moves, StandsAt, TakesStep, failures_after_audit};
+ghost use Rattle.crawl_audit.specs.ChainAudit.{IsAmong, names_https};
 ghost use Rattle.crawl_audit.specs.Steps.{MayEnd, Place, among, start};
 
 use crate::fault::{AuditFault, Audited};
@@ -17,6 +19,7 @@ use crate::version::Version;
 use counted_io::{LineEnd, LineReader, NextLine, ReadLineFault, Source};
 use gate_core::MAX_LOG;
 use line_text::MAX_LONG_LINE;
+use path_normal::Schemes;
 use std::alloc::{AllocError, Global};
 use std::hash::RandomState;
 
@@ -47,6 +50,8 @@ pub(crate) struct Auditor {
     pub(crate) ledger: Ledger,
     pub(crate) version: Version,
     pub(crate) stage: Stage,
+    /// A line that names another scheme is bad.
+    pub(crate) schemes: Schemes,
     /// The keys of the hashers of tables.
     pub(crate) keys: RandomState,
     pub(crate) lines: u64,
@@ -59,9 +64,13 @@ pub(crate) struct Auditor {
 
 impl Auditor {
     /// An auditor that has read nothing, with the keys of its tables' hashers.
-    pub(crate) fn new(alloc: Global, keys: RandomState) -> Result<Auditor, AllocError>
+    pub(crate) fn new(
+        alloc: Global,
+        keys: RandomState,
+        schemes: Schemes,
+    ) -> Result<Auditor, AllocError>
         ensures heard { IfOk result (λ auditor. (left : Option (List ℕ))
-            → Heard auditor left (prepend_known auditor.reader left)) }
+            → Heard schemes auditor left (prepend_known auditor.reader left)) }
         ensures lines { IfOk result (λ auditor. auditor.lines ≡ 0) }
     {
         Ok(Auditor {
@@ -70,6 +79,7 @@ impl Auditor {
             ledger: Ledger::new(alloc, keys),
             version: Version::One,
             stage: Stage::Start,
+            schemes,
             keys,
             lines: 0,
             count: 0,
@@ -84,9 +94,9 @@ impl Auditor {
         alloc: Global,
         reader: &mut R,
     ) -> Result<bool, AuditFault>
-        ensures steps { (input : Option (List ℕ))
-            → Heard self.old input (prepend_known self.old.reader (R.left reader.old))
-            → TakesStep input self.old result self.new
+        ensures steps { (schemes : Schemes) (input : Option (List ℕ))
+            → Heard schemes self.old input (prepend_known self.old.reader (R.left reader.old))
+            → TakesStep schemes input self.old result self.new
             (prepend_known self.new.reader (R.left reader.new)) }
         ensures reads { R.failures reader.new
             ≡ failures_after_audit (R.failures reader.old) result }
@@ -123,13 +133,17 @@ impl Auditor {
 
     // Takes the line, where it may come.
     fn take_line(&mut self, alloc: Global) -> Result<(), AuditFault>
-        ensures line { (lines : List (List ℕ)) (place : Place) → Holds self.old lines place
-            → AddsLine lines place self.old.line.items result self.new }
+        ensures line { (schemes : Schemes) (lines : List (List ℕ)) (place : Place)
+            → Holds schemes self.old lines place
+            → AddsLine schemes lines place self.old.line.items result self.new }
         ensures reader { self.new.reader ≡ self.old.reader }
         ensures faults { result ≢ Err AuditFault.Read }
     {
         let number = self.lines.saturating_add(1);
         if self.lines >= MAX_LINES {
+            return Err(AuditFault::BadLine(number));
+        }
+        if !self.is_among() {
             return Err(AuditFault::BadLine(number));
         }
         match self.step(alloc) {
@@ -141,11 +155,22 @@ impl Auditor {
         Ok(())
     }
 
+    // Whether the line names sites of the schemes alone that are read.
+    fn is_among(&self) -> bool
+        ensures { IsTrue result ↔ IsAmong self.now.schemes self.now.line.items }
+    {
+        match self.schemes {
+            Schemes::Http => !names_https(self.line.as_slice()),
+            Schemes::HttpAndHttps => true,
+        }
+    }
+
     // Goes where the line leads.
     fn step(&mut self, alloc: Global) -> Result<(), UnreadLine>
         ensures moves { (place : Place) → StandsAt self.old place
             → Moves place self.old.line.items self.old result self.new }
         ensures reader { self.new.reader ≡ self.old.reader }
+        ensures schemes { self.new.schemes ≡ self.old.schemes }
     {
         match &mut self.stage {
             Stage::Start => self.step_from_start(alloc),
@@ -186,6 +211,7 @@ impl Auditor {
         ensures moves { StandsAt self.old start
             → Moves start self.old.line.items self.old result self.new }
         ensures reader { self.new.reader ≡ self.old.reader }
+        ensures schemes { self.new.schemes ≡ self.old.schemes }
     {
         if self.line.as_slice() == "V 2".as_bytes() {
             self.version = Version::Two;
@@ -205,6 +231,7 @@ impl Auditor {
             → AreEntries self.old version rising h count
             → Moves (among version rising h count) self.old.line.items self.old result self.new }
         ensures reader { self.new.reader ≡ self.old.reader }
+        ensures schemes { self.new.schemes ≡ self.old.schemes }
     {
         if self.line.as_slice() == "V 3".as_bytes() {
             self.stage = Stage::Further(self.ledger.next_base(alloc)?);
@@ -219,6 +246,7 @@ impl Auditor {
             → AreEntries self.old version rising h count
             → EntersLine version rising h count self.old.line.items self.old result self.new }
         ensures reader { self.new.reader ≡ self.old.reader }
+        ensures schemes { self.new.schemes ≡ self.old.schemes }
     {
         if self.count >= MAX_LOG || self.ledger.entries == u64::MAX {
             return Err(UnreadLine::NotOne);
@@ -248,4 +276,12 @@ impl Auditor {
             starts: self.starts,
         }
     }
+}
+
+// Whether a word of the line begins with `https://`.
+fn names_https(line: &[u8]) -> bool
+    ensures { result ≡ names_https line.now }
+{
+    line.split(|octet| *octet == b' ')
+        .any(|word| word.starts_with(b"https://"))
 }

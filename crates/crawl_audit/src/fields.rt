@@ -8,7 +8,8 @@ ghost use Rattle.line_text.specs.Words.{words_left};
 ghost use Rattle.path_normal.specs.Authority.{root_of};
 ghost use Rattle.path_normal.specs.Capacity.{Enough};
 ghost use Rattle.path_normal.specs.PageText.{authority_of};
-ghost use Rattle.path_normal.specs.PageUrl.{page_url_from};
+ghost use Rattle.path_normal.specs.PageUrl.{page_url_among};
+ghost use Rattle.path_normal.specs.declared.schemes.Schemes.TheVariants.{HttpAndHttps};
 ghost use Rattle.robots_text.specs.Token.{token_of};
 ghost use Rattle.crawl_audit.specs.Entries.{IsBody};
 ghost use Rattle.crawl_audit.specs.Reading.{Reads, head_word, tail_words};
@@ -16,7 +17,7 @@ ghost use Rattle.crawl_audit.specs.Spell.{body_word};
 
 use crate::unread_line::UnreadLine;
 use line_text::{Words, number_of};
-use path_normal::{Authority, PageUrl, Unread, root_text};
+use path_normal::{Authority, PageUrl, Schemes, Unread, root_text};
 use percent_encoding::percent_decode;
 use robots_text::{RobotsText, Token, TokenFault};
 use std::alloc::{AllocError, Global};
@@ -54,11 +55,11 @@ pub(crate) fn read_token(alloc: Global, word: &str) -> Result<Token, UnreadLine>
     }
 }
 
-/// A word as the URL of a page.
+/// A word as the URL of a page of either scheme: a line that names one that is not read is refused before.
 pub(crate) fn read_page(alloc: Global, word: &str) -> Result<PageUrl, UnreadLine>
-    ensures { Reads result (result_ok (page_url_from None word.now Enough)) }
+    ensures { Reads result (result_ok (page_url_among HttpAndHttps None word.now Enough)) }
 {
-    match PageUrl::read(alloc, word) {
+    match PageUrl::read_among(alloc, Schemes::HttpAndHttps, word) {
         Ok(url) => Ok(url),
         Err(Unread::Fault(_)) => Err(UnreadLine::NotOne),
         Err(Unread::Overflow | Unread::NoMemory) => Err(UnreadLine::NoMemory),
@@ -68,7 +69,8 @@ pub(crate) fn read_page(alloc: Global, word: &str) -> Result<PageUrl, UnreadLine
 /// A word as an authority: that of the page at its root.
 pub(crate) fn read_authority(alloc: Global, word: &str) -> Result<Authority, UnreadLine>
     ensures { Reads result
-        (option_map authority_of (result_ok (page_url_from None (root_of word.now) Enough))) }
+        (option_map authority_of
+        (result_ok (page_url_among HttpAndHttps None (root_of word.now) Enough))) }
 {
     let root = root_text(alloc, word)?;
     let url = read_page(alloc, root.as_str())?;

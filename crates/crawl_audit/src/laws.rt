@@ -1,6 +1,7 @@
 //! What is true of every spelling.
 //! docs/FORMATS.md has the spellings.
-ghost use Rattle.crawl_audit.specs.Laws.{EndsAreChains, ExportIsChain, FrontsAreRead, OneBase, OneEntry, OneHistory};
+ghost use Rattle.crawl_audit.specs.Laws.{EndsAreChains, ExportIsChain, FrontsAreRead, HttpChainIsNeverBad};
+ghost use Rattle.crawl_audit.specs.Laws.{HttpChainsNameHttp, OneBase, OneEntry, OneHistory};
 ghost use Rattle.crawl_audit.specs.Laws.{OneNextBase, OneStep, ReadsAreFronts};
 ghost use Rattle.crawl_audit.specs.Laws.{RightChainIsNeverBad, SegmentIsChain, SegmentsGoOn};
 
@@ -28,9 +29,17 @@ pub fn each_text_has_one_base()
     ensures { OneBase }
 {}
 
-/// The text of a chain is bad at no line, so an audit finds it right, where no read fails and memory suffices.
+/// The text of a chain that names the schemes alone that are read is bad at no line, so an audit finds it
+/// right, where no read fails and memory suffices.
 pub fn each_chain_is_right()
     ensures { RightChainIsNeverBad }
+{}
+
+/// The lines of a chain name `http` alone where its entries and its bases do, and only there: so an audit of
+/// `http` alone finds each such chain right, where no read fails and memory suffices, and no other.
+pub fn each_http_chain_names_http()
+    ensures lines { HttpChainsNameHttp }
+    ensures right { HttpChainIsNeverBad }
 {}
 
 /// The lines with which a right text may begin are those that are read line by line, and each leads to one

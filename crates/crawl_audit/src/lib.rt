@@ -26,7 +26,7 @@ mod row;
 mod unread_line;
 mod version;
 
-pub use audit_text::audit;
+pub use audit_text::{audit, audit_among};
 pub use auditor::{MAX_LINE, MAX_LINES};
 pub use export_text::{export, export_segment, push_segment_text};
 pub use fault::{AuditFault, Audited};

@@ -1,5 +1,7 @@
 -- What is told of a cause or of a refusal that has no words of the table's own: its word.
-use Rattle.std.proofs.Common.{◌≡◌, ◌≢◌, Option, refl}
+use Rattle.std.proofs.Common.{◌≡◌, ◌≢◌, Option, Some, codes, refl}
+use Rattle.tcp_wire.specs.declared.failure.Failure.{Failure}
+use Rattle.tcp_wire.specs.declared.failure.Failure.TheVariants as failures
 use Rattle.gate_history.specs.declared.outcome.Cause.{Cause}
 use Rattle.gate_history.specs.declared.outcome.Cause.TheVariants as causes
 use Rattle.gate_history.specs.Wording.{cause_words}
@@ -7,7 +9,7 @@ use Rattle.crawl_job.specs.declared.hop.Refusal.{Refusal}
 use Rattle.crawl_job.specs.declared.hop.Refusal.TheVariants as refusals
 use Rattle.crawl_workers.specs.declared.event.ClosedBy.{ClosedBy}
 use Rattle.command_server.specs.RefusalText.{refusal_word}
-use Rattle.crawl_shift.specs.Causes.{denial_phrase, refusal_phrase, spaced_words}
+use Rattle.crawl_shift.specs.Causes.{denial_phrase, early_end_phrase, refusal_phrase, spaced_words}
 
 -- a cause that is not a closed site
 pub not_closed : (cause : Cause) (by : Option ClosedBy) → cause ≢ causes.Closed → denial_phrase cause by ≡ spaced_words (cause_words cause)
@@ -24,3 +26,17 @@ not_memory refusals.LogFull other = refl
 not_memory refusals.Busy other = refl
 not_memory refusals.PermitsFull other = refl
 not_memory refusals.NoMemory other = absurd (other refl)
+
+-- a failure that is not one of a TLS connection
+pub not_tls : (failure : Failure) → failure ≢ failures.NoTls → early_end_phrase (Some failure) ≡ codes "ended early"
+not_tls failures.NoName other = refl
+not_tls failures.Refused other = refl
+not_tls failures.Unreachable other = refl
+not_tls failures.Reset other = refl
+not_tls (failures.NotConnected limit) other = refl
+not_tls (failures.Silent limit) other = refl
+not_tls (failures.TooLong limit) other = refl
+not_tls failures.NoTls other = absurd (other refl)
+not_tls failures.NoTlsProgram other = refl
+not_tls failures.Stopped other = refl
+not_tls failures.Other other = refl

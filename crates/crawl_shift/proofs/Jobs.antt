@@ -4,11 +4,12 @@ use Rattle.std.proofs.Common.{◌≡◌, ◌≢◌, inl, inr, ◌+◌, ℕ, suc,
 use Rattle.std.specs.Prelude.{Option, Result, Ok, Err, IfErr, IfOk, ◌⊎◌}
 use Rattle.std.proofs.lemmas.Option.{none-some}
 use Rattle.path_normal.specs.Capacity.{IsRead}
+use Rattle.path_normal.specs.declared.schemes.Schemes.{Schemes}
 use Rattle.crawl_job.specs.declared.job.Job.{Job}
 use Rattle.counted_io.specs.Lines.{IsDrained}
 use Rattle.command_server.specs.Answers.{AnswersLines}
 use Rattle.command_server.specs.Input.{TakesLines}
-use Rattle.command_server.specs.JobWords.{job_of}
+use Rattle.command_server.specs.JobWords.{job_of_among}
 use Rattle.command_server.specs.Session.{Meets, ResultsIn, Session, failures_after_reads}
 use Rattle.command_server.specs.declared.fault.LineFault.{LineFault}
 use Rattle.command_server.specs.declared.fault.LineFault.TheVariants as faults
@@ -21,22 +22,22 @@ use Rattle.crawl_shift.specs.JobLists.{AreAllJobs, AreJobs, EndsBadly, EndsWell,
 use Rattle.job_line.specs.Limits.{max_jobs}
 
 -- each line added its job
-pub record Added (old new : JobList) (lines : List (List ℕ)) : Type 0 where
+pub record Added (schemes : Schemes) (old new : JobList) (lines : List (List ℕ)) : Type 0 where
   pub own : List Job
   pub jobs_are : new.jobs.items ≡ old.jobs.items ++ own
-  pub read : AreJobs lines own
+  pub read : AreJobs schemes lines own
   pub fault_is : new.fault ≡ old.fault
 
 -- each line but the last added its job, and the last has a fault
-pub record Stopped (old new : JobList) (lines : List (List ℕ)) : Type 0 where
+pub record Stopped (schemes : Schemes) (old new : JobList) (lines : List (List ℕ)) : Type 0 where
   pub front : List (List ℕ)
   pub last : List ℕ
   pub lines_are : lines ≡ front ++ last ∷ []
   pub own : List Job
   pub jobs_are : new.jobs.items ≡ old.jobs.items ++ own
-  pub read : AreJobs front own
+  pub read : AreJobs schemes front own
   pub fault : LineFault
-  pub fails : MayFail last fault
+  pub fails : MayFail schemes last fault
   pub fault_is : new.fault ≡ Some fault
 
 never : false ≡ true → ⊥
@@ -46,16 +47,16 @@ behind_one : (old mid new : List Job) (job : Job) (own : List Job) → mid ≡ o
 behind_one old mid new job own first later = later ∙ ap (λ (l : List Job). l ++ own) first ∙ append_assoc old (job ∷ []) own
 
 -- where no line ended the session
-pub added : (old new : JobList) (lines : List (List ℕ)) (text : List ℕ) → AnswersLines TakesJob old lines text false new → Added old new lines
-added old new [] text answered = record {
+pub added : (schemes : Schemes) (old new : JobList) (lines : List (List ℕ)) (text : List ℕ) → AnswersLines (TakesJob schemes) old lines text false new → Added schemes old new lines
+added schemes old new [] text answered = record {
   own = [];
   jobs_are = ap (λ (l : JobList). l.jobs.items) answered.2 ∙ sym (append-nil old.jobs.items);
   read = tt;
   fault_is = ap (λ (l : JobList). l.fault) answered.2;
 }
-added old new (line ∷ lines) text (inl ends) = absurd (never ends.ended_is)
-added old new (line ∷ lines) text (inr goes) =
-    let later = added goes.state new lines goes.rest goes.then in
+added schemes old new (line ∷ lines) text (inl ends) = absurd (never ends.ended_is)
+added schemes old new (line ∷ lines) text (inr goes) =
+    let later = added schemes goes.state new lines goes.rest goes.then in
     let first = goes.answered.1 in
     record {
       own = first.0 ∷ later.own;
@@ -65,9 +66,9 @@ added old new (line ∷ lines) text (inr goes) =
     }
 
 -- where the last line did
-pub stopped : (old new : JobList) (lines : List (List ℕ)) (text : List ℕ) → AnswersLines TakesJob old lines text true new → Stopped old new lines
-stopped old new [] text answered = absurd (never (sym answered.1))
-stopped old new (line ∷ lines) text (inl ends) =
+pub stopped : (schemes : Schemes) (old new : JobList) (lines : List (List ℕ)) (text : List ℕ) → AnswersLines (TakesJob schemes) old lines text true new → Stopped schemes old new lines
+stopped schemes old new [] text answered = absurd (never (sym answered.1))
+stopped schemes old new (line ∷ lines) text (inl ends) =
     let kept = ends.answered.1 in
     record {
       front = [];
@@ -80,8 +81,8 @@ stopped old new (line ∷ lines) text (inl ends) =
       fails = kept.1.0;
       fault_is = kept.1.2;
     }
-stopped old new (line ∷ lines) text (inr goes) =
-    let later = stopped goes.state new lines goes.rest goes.then in
+stopped schemes old new (line ∷ lines) text (inr goes) =
+    let later = stopped schemes goes.state new lines goes.rest goes.then in
     let first = goes.answered.1 in
     record {
       front = line ∷ later.front;
@@ -96,36 +97,36 @@ stopped old new (line ∷ lines) text (inr goes) =
     }
 
 -- as many jobs as lines
-pub one_each : (lines : List (List ℕ)) (jobs : List Job) → AreJobs lines jobs → length jobs ≡ length lines
-one_each [] [] read = refl
-one_each [] (job ∷ jobs) read = absurd read
-one_each (line ∷ lines) [] read = absurd read
-one_each (line ∷ lines) (job ∷ jobs) read = ap suc (one_each lines jobs read.1)
+pub one_each : (schemes : Schemes) (lines : List (List ℕ)) (jobs : List Job) → AreJobs schemes lines jobs → length jobs ≡ length lines
+one_each schemes [] [] read = refl
+one_each schemes [] (job ∷ jobs) read = absurd read
+one_each schemes (line ∷ lines) [] read = absurd read
+one_each schemes (line ∷ lines) (job ∷ jobs) read = ap suc (one_each schemes lines jobs read.1)
 
 -- the session of a new list
-abbrev pub Sessions : (old new : JobList) (input left written written_new : Option (List ℕ)) → Result (Unit {0}) SessionFault → Type 0
-Sessions old new input left written written_new result =
+abbrev pub Sessions : (schemes : Schemes) (old new : JobList) (input left written written_new : Option (List ℕ)) → Result (Unit {0}) SessionFault → Type 0
+Sessions schemes old new input left written written_new result =
     (old.jobs.items ≡ []) × (old.fault ≡ None)
-    × Session TakesJob job_line_limit max_jobs old new input left written written_new result
+    × Session (TakesJob schemes) job_line_limit max_jobs old new input left written written_new result
 
 -- a list without a fault has the jobs of all lines that were taken
-goes_on : (ended : Bool) (old new : JobList) (lines : List (List ℕ)) (text : List ℕ) → new.fault ≡ None → AnswersLines TakesJob old lines text ended new → Added old new lines
-goes_on false old new lines text clean answered = added old new lines text answered
-goes_on true old new lines text clean answered =
-    let end = stopped old new lines text answered in
+goes_on : (schemes : Schemes) (ended : Bool) (old new : JobList) (lines : List (List ℕ)) (text : List ℕ) → new.fault ≡ None → AnswersLines (TakesJob schemes) old lines text ended new → Added schemes old new lines
+goes_on schemes false old new lines text clean answered = added schemes old new lines text answered
+goes_on schemes true old new lines text clean answered =
+    let end = stopped schemes old new lines text answered in
     absurd (none-some end.fault (sym clean ∙ end.fault_is))
 
 -- one with a fault has the jobs of all but the last
-ends : (ended : Bool) (old new : JobList) (lines : List (List ℕ)) (text : List ℕ) (fault : LineFault) → old.fault ≡ None → new.fault ≡ Some fault → AnswersLines TakesJob old lines text ended new → Stopped old new lines
-ends true old new lines text fault clean bad answered = stopped old new lines text answered
-ends false old new lines text fault clean bad answered =
-    let all = added old new lines text answered in
+ends : (schemes : Schemes) (ended : Bool) (old new : JobList) (lines : List (List ℕ)) (text : List ℕ) (fault : LineFault) → old.fault ≡ None → new.fault ≡ Some fault → AnswersLines (TakesJob schemes) old lines text ended new → Stopped schemes old new lines
+ends schemes true old new lines text fault clean bad answered = stopped schemes old new lines text answered
+ends schemes false old new lines text fault clean bad answered =
+    let all = added schemes old new lines text answered in
     absurd (none-some fault (sym clean ∙ sym all.fault_is ∙ bad))
 
-no_end : (ended : Bool) (old new : JobList) (lines : List (List ℕ)) (text : List ℕ) → new.fault ≡ None → AnswersLines TakesJob old lines text ended new → ended ≡ false
-no_end false old new lines text clean answered = refl
-no_end true old new lines text clean answered =
-    let end = stopped old new lines text answered in
+no_end : (schemes : Schemes) (ended : Bool) (old new : JobList) (lines : List (List ℕ)) (text : List ℕ) → new.fault ≡ None → AnswersLines (TakesJob schemes) old lines text ended new → ended ≡ false
+no_end schemes false old new lines text clean answered = refl
+no_end schemes true old new lines text clean answered =
+    let end = stopped schemes old new lines text answered in
     absurd (none-some end.fault (sym clean ∙ end.fault_is))
 
 met_ok : (met : Result (Unit {0}) SessionFault) → ResultsIn met (Ok tt) → met ≡ Ok tt
@@ -144,11 +145,11 @@ drained ended unread left goes (inl over) = absurd (never (sym goes ∙ over))
 drained ended unread left goes (inr none) = none
 
 -- a session that came to the end of its input took the lines of all jobs
-pub all_jobs : (old new : JobList) (input left written written_new : Option (List ℕ)) (result : Result (Unit {0}) SessionFault) → Sessions old new input left written written_new result →
-    new.fault ≡ None → result ≡ Ok tt → AreAllJobs input left new.jobs.items
-all_jobs old new input left written written_new result sessions clean well =
+pub all_jobs : (schemes : Schemes) (old new : JobList) (input left written written_new : Option (List ℕ)) (result : Result (Unit {0}) SessionFault) → Sessions schemes old new input left written written_new result →
+    new.fault ≡ None → result ≡ Ok tt → AreAllJobs schemes input left new.jobs.items
+all_jobs schemes old new input left written written_new result sessions clean well =
     let s = sessions.2 in
-    let all = goes_on s.ended old new s.lines s.text clean s.answered in
+    let all = goes_on schemes s.ended old new s.lines s.text clean s.answered in
     let met = met_ok s.met (subst (ResultsIn s.met) well s.results) in
     let stop = subst (Meets job_line_limit max_jobs (length s.lines) s.ended s.behind s.unread left) met s.stopped in
     record {
@@ -156,97 +157,97 @@ all_jobs old new input left written written_new result sessions clean well =
       behind = s.behind;
       unread = s.unread;
       took = s.took;
-      none = drained s.ended s.unread left (no_end s.ended old new s.lines s.text clean s.answered) stop.none;
-      read = subst (AreJobs s.lines) (sym (jobs_of old new all.own sessions.0 all.jobs_are)) all.read;
-      few = omega (arith, s.within, ap length (jobs_of old new all.own sessions.0 all.jobs_are), one_each s.lines all.own all.read);
+      none = drained s.ended s.unread left (no_end schemes s.ended old new s.lines s.text clean s.answered) stop.none;
+      read = subst (AreJobs schemes s.lines) (sym (jobs_of old new all.own sessions.0 all.jobs_are)) all.read;
+      few = omega (arith, s.within, ap length (jobs_of old new all.own sessions.0 all.jobs_are), one_each schemes s.lines all.own all.read);
     }
 
-count_is : (lines : List (List ℕ)) (jobs own : List Job) (number : ℕ) → jobs ≡ own → AreJobs lines own → number ≡ length jobs + 1 → number ≡ length lines + 1
-count_is lines jobs own number same read is = is ∙ ap (λ (l : List Job). length l + 1) same ∙ ap (λ (n : ℕ). n + 1) (one_each lines own read)
+count_is : (schemes : Schemes) (lines : List (List ℕ)) (jobs own : List Job) (number : ℕ) → jobs ≡ own → AreJobs schemes lines own → number ≡ length jobs + 1 → number ≡ length lines + 1
+count_is schemes lines jobs own number same read is = is ∙ ap (λ (l : List Job). length l + 1) same ∙ ap (λ (n : ℕ). n + 1) (one_each schemes lines own read)
 
 fault_same : (one other : LineFault) → Some one ≡ Some other → one ≡ other
 fault_same one other same = search rules
 
-read_fails : (line : List ℕ) (fault : LineFault) → fault ≢ faults.Memory → MayFail line fault → IsRead (Err fault) (job_of line)
-read_fails line fault other (inl fails) = fails
-read_fails line fault other (inr memory) = absurd (other memory)
+read_fails : (schemes : Schemes) (line : List ℕ) (fault : LineFault) → fault ≢ faults.Memory → MayFail schemes line fault → IsRead (Err fault) (job_of_among schemes line)
+read_fails schemes line fault other (inl fails) = fails
+read_fails schemes line fault other (inr memory) = absurd (other memory)
 
 -- the last line that was taken has a fault
-pub bad_line : (old new : JobList) (input left written written_new : Option (List ℕ)) (result : Result (Unit {0}) SessionFault) (number : ℕ) (fault : LineFault) →
-    Sessions old new input left written written_new result → new.fault ≡ Some fault → fault ≢ faults.Memory → number ≡ length new.jobs.items + 1 → IsBadJobLine input left number
-bad_line old new input left written written_new result number fault sessions bad other is =
+pub bad_line : (schemes : Schemes) (old new : JobList) (input left written written_new : Option (List ℕ)) (result : Result (Unit {0}) SessionFault) (number : ℕ) (fault : LineFault) →
+    Sessions schemes old new input left written written_new result → new.fault ≡ Some fault → fault ≢ faults.Memory → number ≡ length new.jobs.items + 1 → IsBadJobLine schemes input left number
+bad_line schemes old new input left written written_new result number fault sessions bad other is =
     let s = sessions.2 in
-    let end = ends s.ended old new s.lines s.text fault sessions.1 bad s.answered in
+    let end = ends schemes s.ended old new s.lines s.text fault sessions.1 bad s.answered in
     let same : end.fault ≡ fault = fault_same end.fault fault (sym end.fault_is ∙ bad) in
     let kept : fault ≢ faults.Memory = other in
     record {
       lines = end.front;
       jobs = end.own;
       read = end.read;
-      number_is = count_is end.front new.jobs.items end.own number (jobs_of old new end.own sessions.0 end.jobs_are) end.read is;
+      number_is = count_is schemes end.front new.jobs.items end.own number (jobs_of old new end.own sessions.0 end.jobs_are) end.read is;
       bad = inl (record {
         line = end.last;
         behind = s.behind;
         fault = fault;
         took = subst (TakesLines job_line_limit input s.behind) end.lines_are s.took;
-        fails = read_fails end.last fault other (subst (MayFail end.last) same end.fails);
+        fails = read_fails schemes end.last fault other (subst (MayFail schemes end.last) same end.fails);
         no_memory = kept;
       });
     }
 
 -- the line behind those that were taken is too long
-pub too_long : (old new : JobList) (input left written written_new : Option (List ℕ)) (result : Result (Unit {0}) SessionFault) (number : ℕ) →
-    Sessions old new input left written written_new result → new.fault ≡ None → result ≡ Err LongLine → number ≡ length new.jobs.items + 1 → IsBadJobLine input left number
-too_long old new input left written written_new result number sessions clean long is =
+pub too_long : (schemes : Schemes) (old new : JobList) (input left written written_new : Option (List ℕ)) (result : Result (Unit {0}) SessionFault) (number : ℕ) →
+    Sessions schemes old new input left written written_new result → new.fault ≡ None → result ≡ Err LongLine → number ≡ length new.jobs.items + 1 → IsBadJobLine schemes input left number
+too_long schemes old new input left written written_new result number sessions clean long is =
     let s = sessions.2 in
-    let all = goes_on s.ended old new s.lines s.text clean s.answered in
+    let all = goes_on schemes s.ended old new s.lines s.text clean s.answered in
     let met = met_fault s.met LongLine (search rules) (subst (ResultsIn s.met) long s.results) in
     let stop = subst (Meets job_line_limit max_jobs (length s.lines) s.ended s.behind s.unread left) met s.stopped in
     record {
       lines = s.lines;
       jobs = all.own;
       read = all.read;
-      number_is = count_is s.lines new.jobs.items all.own number (jobs_of old new all.own sessions.0 all.jobs_are) all.read is;
+      number_is = count_is schemes s.lines new.jobs.items all.own number (jobs_of old new all.own sessions.0 all.jobs_are) all.read is;
       bad = inr (inl (record { behind = s.behind; unread = s.unread; took = s.took; found = stop.1 }));
     }
 
 -- the line behind those that were taken is one too many
-pub too_many : (old new : JobList) (input left written written_new : Option (List ℕ)) (result : Result (Unit {0}) SessionFault) (number : ℕ) →
-    Sessions old new input left written written_new result → new.fault ≡ None → result ≡ Err Lines → number ≡ length new.jobs.items + 1 → IsBadJobLine input left number
-too_many old new input left written written_new result number sessions clean many is =
+pub too_many : (schemes : Schemes) (old new : JobList) (input left written written_new : Option (List ℕ)) (result : Result (Unit {0}) SessionFault) (number : ℕ) →
+    Sessions schemes old new input left written written_new result → new.fault ≡ None → result ≡ Err Lines → number ≡ length new.jobs.items + 1 → IsBadJobLine schemes input left number
+too_many schemes old new input left written written_new result number sessions clean many is =
     let s = sessions.2 in
-    let all = goes_on s.ended old new s.lines s.text clean s.answered in
+    let all = goes_on schemes s.ended old new s.lines s.text clean s.answered in
     let met = met_fault s.met Lines (search rules) (subst (ResultsIn s.met) many s.results) in
     let stop = subst (Meets job_line_limit max_jobs (length s.lines) s.ended s.behind s.unread left) met s.stopped in
     record {
       lines = s.lines;
       jobs = all.own;
       read = all.read;
-      number_is = count_is s.lines new.jobs.items all.own number (jobs_of old new all.own sessions.0 all.jobs_are) all.read is;
+      number_is = count_is schemes s.lines new.jobs.items all.own number (jobs_of old new all.own sessions.0 all.jobs_are) all.read is;
       bad = inr (inr (record { behind = s.behind; unread = s.unread; took = s.took; all = stop.1; found = stop.2 }));
     }
 
 -- the jobs of a list that ended well
-pub read_well : {X : Type 0} (told : Result X JobsFault) (items : X → List Job) (old new : JobList) (input left written written_new : Option (List ℕ)) (result : Result (Unit {0}) SessionFault) →
-    Sessions old new input left written written_new result →
-    IfOk told (λ jobs. EndsWell new result × (items jobs ≡ new.jobs.items)) → IfOk told (λ jobs. AreAllJobs input left (items jobs))
-read_well (Ok jobs) items old new input left written written_new result sessions well =
-    subst (AreAllJobs input left) (sym well.1) (all_jobs old new input left written written_new result sessions well.0.0 well.0.1)
-read_well (Err _) items old new input left written written_new result sessions well = tt
+pub read_well : {X : Type 0} (schemes : Schemes) (told : Result X JobsFault) (items : X → List Job) (old new : JobList) (input left written written_new : Option (List ℕ)) (result : Result (Unit {0}) SessionFault) →
+    Sessions schemes old new input left written written_new result →
+    IfOk told (λ jobs. EndsWell new result × (items jobs ≡ new.jobs.items)) → IfOk told (λ jobs. AreAllJobs schemes input left (items jobs))
+read_well schemes (Ok jobs) items old new input left written written_new result sessions well =
+    subst (AreAllJobs schemes input left) (sym well.1) (all_jobs schemes old new input left written written_new result sessions well.0.0 well.0.1)
+read_well schemes (Err _) items old new input left written written_new result sessions well = tt
 
 -- why one ended badly
-pub read_badly : {X : Type 0} (told : Result X JobsFault) (old new : JobList) (input left written written_new : Option (List ℕ)) (result : Result (Unit {0}) SessionFault) →
-    Sessions old new input left written written_new result →
-    IfErr told (EndsBadly new result) → IfErr told (IsJobsFault input left)
-read_badly (Ok jobs) old new input left written written_new result sessions bad = tt
-read_badly (Err jobs_fault.Read) old new input left written written_new result sessions bad = tt
-read_badly (Err jobs_fault.NoMemory) old new input left written written_new result sessions bad = tt
-read_badly (Err (jobs_fault.BadLine number)) old new input left written written_new result sessions bad =
+pub read_badly : {X : Type 0} (schemes : Schemes) (told : Result X JobsFault) (old new : JobList) (input left written written_new : Option (List ℕ)) (result : Result (Unit {0}) SessionFault) →
+    Sessions schemes old new input left written written_new result →
+    IfErr told (EndsBadly new result) → IfErr told (IsJobsFault schemes input left)
+read_badly schemes (Ok jobs) old new input left written written_new result sessions bad = tt
+read_badly schemes (Err jobs_fault.Read) old new input left written written_new result sessions bad = tt
+read_badly schemes (Err jobs_fault.NoMemory) old new input left written written_new result sessions bad = tt
+read_badly schemes (Err (jobs_fault.BadLine number)) old new input left written written_new result sessions bad =
     elim bad.1 [
-      | inl fault ↦ bad_line old new input left written written_new result number fault.0 sessions fault.1.0 fault.1.1 bad.0
+      | inl fault ↦ bad_line schemes old new input left written written_new result number fault.0 sessions fault.1.0 fault.1.1 bad.0
       | inr others ↦ elim others [
-        | inl long ↦ too_long old new input left written written_new result number sessions long.0 long.1 bad.0
-        | inr many ↦ too_many old new input left written written_new result number sessions many.0 many.1 bad.0
+        | inl long ↦ too_long schemes old new input left written written_new result number sessions long.0 long.1 bad.0
+        | inr many ↦ too_many schemes old new input left written written_new result number sessions many.0 many.1 bad.0
       ]
     ]
 

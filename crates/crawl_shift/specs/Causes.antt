@@ -35,14 +35,21 @@ failure_text failures.Reset = codes "reset"
 failure_text (failures.NotConnected limit) = past_text (codes "no connection ") limit
 failure_text (failures.Silent limit) = past_text (codes "silent ") limit
 failure_text (failures.TooLong limit) = past_text (codes "unfinished ") limit
+failure_text failures.NoTls = codes "no TLS connection"
+failure_text failures.NoTlsProgram = codes "no TLS program"
 failure_text failures.Stopped = codes "stopped"
 failure_text failures.Other = codes "network"
+
+-- why a response ended before it was whole: over TLS there may have been no connection
+abbrev pub early_end_phrase : Option Failure → List ℕ
+early_end_phrase (Some failures.NoTls) = codes "no TLS connection"
+early_end_phrase _ = codes "ended early"
 
 -- why a fetch failed
 abbrev pub wire_fault_phrase : WireFault → Option Failure → List ℕ
 wire_fault_phrase wire.Device (Some failure) = failure_text failure
 wire_fault_phrase wire.Device None = codes "network"
-wire_fault_phrase wire.EarlyEnd _ = codes "ended early"
+wire_fault_phrase wire.EarlyEnd failure = early_end_phrase failure
 wire_fault_phrase wire.BadHead _ = codes "bad head"
 wire_fault_phrase wire.HeadTooLong _ = codes "head too long"
 wire_fault_phrase wire.TooManyInterim _ = codes "too many interim heads"

@@ -28,6 +28,6 @@ pub record WritesReceipts (receipts : List Receipt) (old new : Option (List ℕ)
 pub record WritesShift (world : World) (workers : ℕ) (input left old new : Option (List ℕ)) : Type 0 where
   pub jobs : List Job
   pub report : ReportView
-  pub read : AreAllJobs input left jobs
+  pub read : AreAllJobs world.schemes input left jobs
   pub shift : IsShift world jobs workers report
   pub wrote : WritesReceipts report.receipts old new

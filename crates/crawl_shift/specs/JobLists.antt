@@ -2,11 +2,12 @@
 -- The contract of `read_jobs` cites it; docs/FORMATS.md has the lines.
 use Rattle.std.specs.Prelude.{◌≡◌, ◌≢◌, ◌⊎◌, ℕ, ◌+◌, ◌≤◌, Bool, true, false, List, [], ◌∷◌, ◌++◌, length, Option, None, Some, Result, Ok, Err}
 use Rattle.path_normal.specs.Capacity.{IsRead}
+use Rattle.path_normal.specs.declared.schemes.Schemes.{Schemes}
 use Rattle.counted_io.specs.Device.{one_more}
 use Rattle.counted_io.specs.Lines.{FindsTooLong, IsDrained}
 use Rattle.crawl_job.specs.declared.job.Job.{Job}
 use Rattle.command_server.specs.Input.{FindsLine, TakesLines}
-use Rattle.command_server.specs.JobWords.{job_of}
+use Rattle.command_server.specs.JobWords.{job_of_among}
 use Rattle.command_server.specs.declared.fault.LineFault.{LineFault}
 use Rattle.command_server.specs.declared.fault.LineFault.TheVariants as faults
 use Rattle.command_server.specs.declared.session_fault.SessionFault.{SessionFault}
@@ -21,49 +22,49 @@ abbrev pub job_line_limit : ℕ
 job_line_limit = 8192
 
 -- the line has this fault, or memory was refused
-abbrev pub MayFail : List ℕ → LineFault → Type 0
-MayFail line fault = IsRead (Err fault) (job_of line) ⊎ (fault ≡ faults.Memory)
+abbrev pub MayFail : Schemes → List ℕ → LineFault → Type 0
+MayFail schemes line fault = IsRead (Err fault) (job_of_among schemes line) ⊎ (fault ≡ faults.Memory)
 
 -- the job of a line was added, or its fault told, and the list is as it was
-abbrev pub AddsJob : JobList → List ℕ → Result (Unit {0}) LineFault → JobList → Type 0
-AddsJob old line (Ok _) new =
-    (job : Job) × (IsRead (Ok job) (job_of line) × (new.jobs.items ≡ old.jobs.items ++ job ∷ []) × (new.fault ≡ old.fault))
-AddsJob old line (Err fault) new = MayFail line fault × (new.jobs.items ≡ old.jobs.items) × (new.fault ≡ old.fault)
+abbrev pub AddsJob : Schemes → JobList → List ℕ → Result (Unit {0}) LineFault → JobList → Type 0
+AddsJob schemes old line (Ok _) new =
+    (job : Job) × (IsRead (Ok job) (job_of_among schemes line) × (new.jobs.items ≡ old.jobs.items ++ job ∷ []) × (new.fault ≡ old.fault))
+AddsJob schemes old line (Err fault) new = MayFail schemes line fault × (new.jobs.items ≡ old.jobs.items) × (new.fault ≡ old.fault)
 
 -- the list keeps the fault of a line
-abbrev pub KeepsFault : JobList → List ℕ → JobList → Type 0
-KeepsFault old line new =
-    (fault : LineFault) × (MayFail line fault × (new.jobs.items ≡ old.jobs.items) × (new.fault ≡ Some fault))
+abbrev pub KeepsFault : Schemes → JobList → List ℕ → JobList → Type 0
+KeepsFault schemes old line new =
+    (fault : LineFault) × (MayFail schemes line fault × (new.jobs.items ≡ old.jobs.items) × (new.fault ≡ Some fault))
 
 -- a line is answered with nothing; its job was added, or it has a fault and is the last
-abbrev pub TakesJob : JobList → List ℕ → List ℕ → Bool → JobList → Type 0
-TakesJob old line reply false new = (reply ≡ []) × AddsJob old line (Ok tt) new
-TakesJob old line reply true new = (reply ≡ []) × KeepsFault old line new
+abbrev pub TakesJob : Schemes → JobList → List ℕ → List ℕ → Bool → JobList → Type 0
+TakesJob schemes old line reply false new = (reply ≡ []) × AddsJob schemes old line (Ok tt) new
+TakesJob schemes old line reply true new = (reply ≡ []) × KeepsFault schemes old line new
 
 -- each line reads as its job
-abbrev pub AreJobs : List (List ℕ) → List Job → Type 0
-AreJobs [] [] = Unit {0}
-AreJobs [] (job ∷ jobs) = ⊥
-AreJobs (line ∷ lines) [] = ⊥
-AreJobs (line ∷ lines) (job ∷ jobs) = IsRead (Ok job) (job_of line) × AreJobs lines jobs
+abbrev pub AreJobs : Schemes → List (List ℕ) → List Job → Type 0
+AreJobs schemes [] [] = Unit {0}
+AreJobs schemes [] (job ∷ jobs) = ⊥
+AreJobs schemes (line ∷ lines) [] = ⊥
+AreJobs schemes (line ∷ lines) (job ∷ jobs) = IsRead (Ok job) (job_of_among schemes line) × AreJobs schemes lines jobs
 
 -- the jobs are those of all lines of the input, which are not too many or too long
-pub record AreAllJobs (input left : Option (List ℕ)) (jobs : List Job) : Type 0 where
+pub record AreAllJobs (schemes : Schemes) (input left : Option (List ℕ)) (jobs : List Job) : Type 0 where
   pub lines : List (List ℕ)
   pub behind : Option (List ℕ)
   pub unread : List ℕ
   pub took : TakesLines job_line_limit input behind lines
   pub none : IsDrained unread left
-  pub read : AreJobs lines jobs
+  pub read : AreJobs schemes lines jobs
   pub few : length jobs ≤ max_jobs
 
 -- behind these lines one was taken that has a fault
-pub record HasFault (input : Option (List ℕ)) (lines : List (List ℕ)) : Type 0 where
+pub record HasFault (schemes : Schemes) (input : Option (List ℕ)) (lines : List (List ℕ)) : Type 0 where
   pub line : List ℕ
   pub behind : Option (List ℕ)
   pub fault : LineFault
   pub took : TakesLines job_line_limit input behind (lines ++ line ∷ [])
-  pub fails : IsRead (Err fault) (job_of line)
+  pub fails : IsRead (Err fault) (job_of_among schemes line)
   pub no_memory : fault ≢ faults.Memory
 
 -- the line behind these is too long
@@ -82,18 +83,18 @@ pub record IsTooMany (input left : Option (List ℕ)) (lines : List (List ℕ)) 
   pub found : FindsLine job_line_limit behind unread left
 
 -- behind lines that read as jobs, the line of this number has a fault, or is too long, or one too many
-pub record IsBadJobLine (input left : Option (List ℕ)) (number : ℕ) : Type 0 where
+pub record IsBadJobLine (schemes : Schemes) (input left : Option (List ℕ)) (number : ℕ) : Type 0 where
   pub lines : List (List ℕ)
   pub jobs : List Job
-  pub read : AreJobs lines jobs
+  pub read : AreJobs schemes lines jobs
   pub number_is : number ≡ length lines + 1
-  pub bad : HasFault input lines ⊎ IsTooLong input left lines ⊎ IsTooMany input left lines
+  pub bad : HasFault schemes input lines ⊎ IsTooLong input left lines ⊎ IsTooMany input left lines
 
 -- why no jobs were read of the input
-abbrev pub IsJobsFault : Option (List ℕ) → Option (List ℕ) → JobsFault → Type 0
-IsJobsFault input left (BadLine number) = IsBadJobLine input left number
-IsJobsFault input left Read = Unit {0}
-IsJobsFault input left NoMemory = Unit {0}
+abbrev pub IsJobsFault : Schemes → Option (List ℕ) → Option (List ℕ) → JobsFault → Type 0
+IsJobsFault schemes input left (BadLine number) = IsBadJobLine schemes input left number
+IsJobsFault schemes input left Read = Unit {0}
+IsJobsFault schemes input left NoMemory = Unit {0}
 
 -- a read is told to have failed only where one did
 abbrev pub FailsToReadJobs : ℕ → ℕ → JobsFault → Type 0

@@ -2,7 +2,7 @@
 //! there (docs/FORMATS.md, the table of a shift).
 ghost use Rattle.std.specs.Prelude.{◌≡◌, ◌++◌, decimal};
 ghost use Rattle.gate_history.specs.Wording.{words_in};
-ghost use Rattle.crawl_shift.specs.Causes.{closing_text, denial_phrase, failure_text, wire_fault_phrase, past_text};
+ghost use Rattle.crawl_shift.specs.Causes.{early_end_phrase, closing_text, denial_phrase, failure_text, wire_fault_phrase, past_text};
 ghost use Rattle.crawl_shift.specs.Causes.{refusal_phrase, spaced_words, stop_phrase, words_text};
 
 use command_server::refusal_word;
@@ -71,12 +71,12 @@ pub(crate) fn denial_words(cause: Cause, by: Option<ClosedBy>) -> Words
     }
 }
 
-/// Why a fetch failed; at its device for this.
+/// Why a fetch failed; at its device for this, or at a TLS connection.
 pub(crate) fn fault_words(of: &'static str, fault: WireFault, failure: Option<Failure>) -> Words
     ensures { words_text result ≡ of.now ++ wire_fault_phrase fault failure }
 {
     match fault {
-        WireFault::EarlyEnd => Words::plain(of, "ended early"),
+        WireFault::EarlyEnd => early_words(of, failure),
         WireFault::BadHead => Words::plain(of, "bad head"),
         WireFault::HeadTooLong => Words::plain(of, "head too long"),
         WireFault::TooManyInterim => Words::plain(of, "too many interim heads"),
@@ -129,6 +129,18 @@ fn closing_words(by: ClosedBy) -> Words
     }
 }
 
+// Why a response ended before it was whole.
+#[tactic(auto, using(crate::proofs::CauseLemmas::not_tls))]
+fn early_words(of: &'static str, failure: Option<Failure>) -> Words
+    ensures { words_text result ≡ of.now ++ early_end_phrase failure }
+{
+    match failure {
+        None => Words::plain(of, "ended early"),
+        Some(Failure::NoTls) => Words::plain(of, "no TLS connection"),
+        Some(_) => Words::plain(of, "ended early"),
+    }
+}
+
 // Why a device failed.
 fn failure_words(of: &'static str, failure: Failure) -> Words
     ensures { words_text result ≡ of.now ++ failure_text failure }
@@ -141,6 +153,8 @@ fn failure_words(of: &'static str, failure: Failure) -> Words
         Failure::NotConnected(limit) => past_words(of, "no connection ", limit),
         Failure::Silent(limit) => past_words(of, "silent ", limit),
         Failure::TooLong(limit) => past_words(of, "unfinished ", limit),
+        Failure::NoTls => Words::plain(of, "no TLS connection"),
+        Failure::NoTlsProgram => Words::plain(of, "no TLS program"),
         Failure::Stopped => Words::plain(of, "stopped"),
         Failure::Other => Words::plain(of, "network"),
     }

@@ -1,11 +1,13 @@
 //! The jobs of a shift, a line for each (docs/FORMATS.md, jobs).
 ghost use Rattle.std.specs.Prelude.{◌≡◌, IfErr, IfOk};
+ghost use Rattle.path_normal.specs.declared.schemes.Schemes.TheVariants.{Http};
 ghost use Rattle.crawl_shift.specs.JobLists.{AddsJob, AreAllJobs, EndsBadly, EndsWell, FailsToReadJobs, IsJobsFault};
 
-use command_server::{Answerer, Flow, LineFault, SessionFault, read_job, run_session};
+use command_server::{Answerer, Flow, LineFault, SessionFault, read_job_among, run_session};
 use counted_io::{Counted, DeviceFault, Output, Sink, Source};
 use crawl_job::Job;
 use job_line::MAX_JOBS;
+use path_normal::Schemes;
 use std::alloc::Global;
 use std::io;
 
@@ -32,11 +34,12 @@ struct JobList {
 
 impl JobList {
     // Adds the job of a line.
-    fn take(&mut self, alloc: Global, line: &[u8]) -> Result<(), LineFault>
-        ensures { AddsJob self.old line.now result self.new }
+    fn take(&mut self, alloc: Global, schemes: Schemes, line: &[u8]) -> Result<(), LineFault>
+        ensures { AddsJob schemes self.old line.now result self.new }
     {
         self.jobs.reserve(1)?;
-        self.jobs.push_reserved(read_job(alloc, line)?);
+        self.jobs
+            .push_reserved(read_job_among(alloc, schemes, line)?);
         Ok(())
     }
 
@@ -62,12 +65,15 @@ impl JobList {
 }
 
 /// A line is answered with nothing, and the first line with a fault is the last.
-struct JobLines;
+#[derive(Drop)]
+struct JobLines {
+    schemes: Schemes,
+}
 
 impl Answerer<JobList> for JobLines {
     ghost use Rattle.crawl_shift.specs.JobLists.{TakesJob};
 
-    ghost answers = { λ _ _. TakesJob };
+    ghost answers = { λ lines _. TakesJob lines.schemes };
 
     fn answer<W: Sink>(
         &self,
@@ -77,7 +83,7 @@ impl Answerer<JobList> for JobLines {
         output: &mut Output,
         sink: &mut W,
     ) -> Result<Flow, DeviceFault> {
-        match list.take(alloc, line) {
+        match list.take(alloc, self.schemes, line) {
             Ok(()) => Ok(Flow::Goes),
             Err(fault) => {
                 list.fault = Some(fault);
@@ -87,11 +93,26 @@ impl Answerer<JobList> for JobLines {
     }
 }
 
-/// Reads the jobs of a source to its end: at most 4,096 lines, which end with LF or CR LF.
+/// Reads the jobs of a source to its end: at most 4,096 lines, which end with LF or CR LF. Their pages
+/// are of `http` alone.
 pub fn read_jobs<R: Source>(alloc: Global, reader: &mut R) -> Result<Vec<Job>, JobsFault>
     ensures jobs { IfOk result (λ jobs.
-        AreAllJobs (R.left reader.old) (R.left reader.new) jobs.items) }
-    ensures fault { IfErr result (IsJobsFault (R.left reader.old) (R.left reader.new)) }
+        AreAllJobs Http (R.left reader.old) (R.left reader.new) jobs.items) }
+    ensures fault { IfErr result (IsJobsFault Http (R.left reader.old) (R.left reader.new)) }
+    ensures reads { IfErr result (FailsToReadJobs (R.failures reader.old) (R.failures reader.new)) }
+{
+    read_jobs_among(alloc, Schemes::Http, reader)
+}
+
+/// Reads jobs as `read_jobs` does, of pages of these schemes.
+pub fn read_jobs_among<R: Source>(
+    alloc: Global,
+    schemes: Schemes,
+    reader: &mut R,
+) -> Result<Vec<Job>, JobsFault>
+    ensures jobs { IfOk result (λ jobs.
+        AreAllJobs schemes (R.left reader.old) (R.left reader.new) jobs.items) }
+    ensures fault { IfErr result (IsJobsFault schemes (R.left reader.old) (R.left reader.new)) }
     ensures reads { IfErr result (FailsToReadJobs (R.failures reader.old) (R.failures reader.new)) }
 {
     let mut list = JobList {
@@ -103,7 +124,7 @@ pub fn read_jobs<R: Source>(alloc: Global, reader: &mut R) -> Result<Vec<Job>, J
         alloc,
         reader,
         &mut nowhere,
-        &JobLines,
+        &JobLines { schemes },
         &mut list,
         MAX_JOB_LINE,
         MAX_JOBS,

@@ -14,7 +14,7 @@ mod status_line;
 mod table;
 mod under_way;
 
-pub use job_list::{JobsFault, MAX_JOB_LINE, read_jobs};
+pub use job_list::{JobsFault, MAX_JOB_LINE, read_jobs, read_jobs_among};
 pub use not_shifted::NotShifted;
 pub use shifting::Shift;
 pub use status_line::StatusLine;

@@ -7,7 +7,7 @@ ghost use Rattle.job_line.specs.Limits.{IsCrew, max_jobs};
 ghost use Rattle.crawl_shift.specs.Histories.{AreWholeHistory, WritesReceipts, WritesShift};
 
 use crate::both::Both;
-use crate::job_list::read_jobs;
+use crate::job_list::read_jobs_among;
 use crate::not_shifted::NotShifted;
 use crate::progress::Progress;
 use crate::status_line::StatusLine;
@@ -49,7 +49,7 @@ impl<
     ) -> Result<(), NotShifted>
         requires { IsCrew self.now.workers }
     {
-        let jobs = read_jobs(self.alloc, reader)?;
+        let jobs = read_jobs_among(self.alloc, self.fetcher.schemes(), reader)?;
         let progress = Progress::new(self.rt, self.alloc, writer, self.fetcher, jobs.len())?;
         let report = self.run_told(jobs.as_slice(), gate, &progress)?;
         progress.finish(report.outcomes.as_slice(), report.settled.starts)?;
@@ -65,7 +65,7 @@ impl<
     ) -> Result<(), NotShifted>
         requires { IsCrew self.now.workers }
     {
-        let jobs = read_jobs(self.alloc, reader)?;
+        let jobs = read_jobs_among(self.alloc, self.fetcher.schemes(), reader)?;
         let table = Table::new(self.rt, self.alloc, writer, self.fetcher)?;
         self.run_told(jobs.as_slice(), gate, &table)?;
         table.finish()?;
@@ -83,11 +83,11 @@ impl<
     ) -> Result<(), NotShifted>
         requires { IsCrew self.now.workers }
         ensures { OnOk result (WritesShift
-            (world_of (F.gives self.now.fetcher.now) (C.reads self.now.clock.now))
+            (world_of (F.gives self.now.fetcher.now) (F.follows self.now.fetcher.now) (C.reads self.now.clock.now))
             self.now.workers (S.left reader.old) (S.left reader.new)
             (W.written writer.old) (W.written writer.new)) }
     {
-        let jobs = read_jobs(self.alloc, reader)?;
+        let jobs = read_jobs_among(self.alloc, self.fetcher.schemes(), reader)?;
         let mut output = Output::new(self.alloc)?;
         let report = self.run_told(jobs.as_slice(), gate, &())?;
         let held = gate.lend(self.rt);
@@ -104,7 +104,7 @@ impl<
         requires jobs { length jobs.now ≤ max_jobs }
         requires workers { IsCrew self.now.workers }
         ensures { IfOk result (IsShift
-            (world_of (F.gives self.now.fetcher.now) (C.reads self.now.clock.now))
+            (world_of (F.gives self.now.fetcher.now) (F.follows self.now.fetcher.now) (C.reads self.now.clock.now))
             jobs.now self.now.workers) }
     {
         self.status.expect(jobs.len() as u64);

@@ -1,6 +1,6 @@
 -- What workers hand over, of one worker more and of all.
 -- Used by `Handover::take_all` and `do_all`.
-use Rattle.std.proofs.Common.{◌≡◌, ◌∙◌, ℕ, zero, suc, ◌+◌, ◌<◌, ◌≤◌, true, List, [], ◌∷◌, ◌++◌, length, take, ap, sym, refl, subst, arith}
+use Rattle.std.proofs.Common.{◌≡◌, ◌∙◌, ℕ, suc, ◌<◌, ◌≤◌, true, List, [], ◌∷◌, ◌++◌, length, take, ap, sym, refl, subst, arith}
 use Rattle.std.specs.Prelude.{All, IfOk, Some, Ok, Option, Result, map, slice_index_or}
 use Rattle.std.specs.List.{AllZip, list_any}
 use Rattle.std.specs.Option.{IsSomeAnd}
@@ -10,11 +10,11 @@ use Rattle.atomic_table.specs.Seated.{TableId}
 use Rattle.gate_lock.specs.Marks.{Receipt}
 use Rattle.job_line.specs.Covers.{IsNew, SeatView, has_ended, lists_of, parts_of}
 use Rattle.job_line.specs.Limits.{max_workers}
-use Rattle.job_line.specs.Sums.{weigh, weigh_all}
+use Rattle.job_line.specs.Sums.{weigh_all}
 use Rattle.crawl_workers.specs.declared.crew.Done.{Done}
 use Rattle.crawl_job.specs.declared.job.Job.{Job}
 use Rattle.crawl_workers.specs.declared.report.ShiftFault.{ShiftFault}
-use Rattle.crawl_workers.specs.Crews.{AreAllDone, EachHasDone, Ends, HandoverView, HandsOver, HasDone, HasEnded, IsNewWork, MemberView, TakesIn, newcomer}
+use Rattle.crawl_workers.specs.Crews.{AreAllDone, EachHasDone, Ends, HandoverView, HandsOver, HasEnded, IsNewWork, MemberView, TakesIn, newcomer}
 use Rattle.crawl_workers.specs.Orders.{weigh_at}
 use Rattle.crawl_workers.specs.World.{World}
 

@@ -19,7 +19,8 @@ use Rattle.http_wire.specs.declared.fault.WireFault.{WireFault}
 use Rattle.http_wire.specs.declared.response.HttpReply.{HttpReply}
 use Rattle.robots_fetch.specs.declared.redirect.Stop.{Stop}
 use Rattle.robots_fetch.specs.declared.redirect.Stop.TheVariants as stops
-use Rattle.robots_fetch.specs.Redirects.{location_target, most_redirects, redirect_target}
+use Rattle.path_normal.specs.declared.schemes.Schemes.{Schemes}
+use Rattle.robots_fetch.specs.Redirects.{location_target_among, most_redirects, redirect_target_among}
 use Rattle.crawl_job.specs.declared.hop.Hop.{Hop}
 use Rattle.crawl_job.specs.declared.hop.Hop.TheVariants as hops
 use Rattle.crawl_job.specs.declared.hop.Refusal.{Refusal}
@@ -54,7 +55,7 @@ refreshed world authority turn word old mid new begins brings =
     let h = brings.arrives.0 in
     let other = made mid h _ new brings.arrives.1.1.1.1 in
     let its_authority : turn.authority ≡ authority = ap (λ (t : Errand). t.authority) begins.turn_is in
-    let P : List ℕ → Type 0 = λ name. IsBrought (world.gives robots_limit) name brings.answer.says brings.answer.life in
+    let P : List ℕ → Type 0 = λ name. IsBrought world.schemes (world.gives robots_limit) name brings.answer.says brings.answer.life in
     let brought = subst P its_authority brings.brings in
     record {
       own = entries.Begun begins.begun authority turn.turn
@@ -169,10 +170,10 @@ target_if : (few : Bool) (target : Result (List ℕ) Stop) (next : List ℕ) →
 target_if true target next is = (refl, is)
 target_if false target next is = absurd (not_both stops.TooManyRedirects next is)
 
-pub led : (followed : ℕ) (url : List ℕ) (location : Option (List ℕ)) (next : List ℕ) →
-    redirect_target followed url location ≡ Ok next → (followed < most_redirects) × (location_target url location ≡ Ok next)
-led followed url location next is =
-    let both = target_if (nat_lt followed most_redirects) (location_target url location) next is in
+pub led : (schemes : Schemes) (followed : ℕ) (url : List ℕ) (location : Option (List ℕ)) (next : List ℕ) →
+    redirect_target_among schemes followed url location ≡ Ok next → (followed < most_redirects) × (location_target_among schemes url location ≡ Ok next)
+led schemes followed url location next is =
+    let both = target_if (nat_lt followed most_redirects) (location_target_among schemes url location) next is in
     (ltb-true followed most_redirects both.0, both.1)
 
 -- a hop of a fetch that gave no redirect is the last
@@ -189,7 +190,7 @@ last_fetch world token url number reason (Err fault) body own fetch ends is =
 pub fetch_tells : (world : World) (token url : List ℕ) (number : ℕ)
     (reason : Reason) (granted started followed : ℕ) (given : Result HttpReply WireFault) (way : WayOn) →
     IsSinceRead world granted → IsSinceRead world started → world.gives page_limit url given →
-    GoesOn number reason followed url given way →
+    GoesOn world.schemes number reason followed url given way →
     TellsWay world token url followed way
     (entries.Granted granted number (record { token = token; url = url }) ∷ entries.Started started number reason
     ∷ entries.Finished number ∷ [])
@@ -201,7 +202,7 @@ fetch_tells world token url number reason granted started followed given (ways.E
     (record { number = number; reason = reason; granted = granted; started = started; since_granted = since_granted; since_started = since_started; is_given = is; own_is = refl; tells = refl })
     goes.1 goes.2)
 fetch_tells world token url number reason granted started followed given (ways.Leads hop next) since_granted since_started is goes =
-    let on = led followed url (location_given given) next goes.1.1 in (
+    let on = led world.schemes followed url (location_given given) next goes.1.1 in (
       record {
         given = given;
         fetch = record { number = number; reason = reason; granted = granted; started = started; since_granted = since_granted; since_started = since_started; is_given = is; own_is = refl; tells = goes.1.0 };
@@ -223,7 +224,7 @@ pub fetched_once : (world : World) (permit : Pass) (m followed : ℕ) (run : Run
     (given : Result HttpReply WireFault) (way : WayOn) (old mid new : DeskView) →
     world.reads m → Somewhere old (λ g g2. DeskStarts old g permit m (Ok run) g2 mid) →
     world.gives page_limit permit.url given →
-    GoesOn permit.number run.reason followed permit.url given way →
+    GoesOn world.schemes permit.number run.reason followed permit.url given way →
     Somewhere mid (λ g g2. DeskFinishes mid g permit.number g2 new) →
     AddsEntries (λ (own : List Entry). (granted : ℕ) → IsSinceRead world granted → TellsWay world permit.token permit.url followed way
     (entries.Granted granted permit.number (record { token = permit.token; url = permit.url }) ∷ own)) old new

@@ -6,6 +6,7 @@ mod Drawing
 mod Fetching
 mod Handing
 mod Hops
+mod InForce
 mod Ordering
 mod Placing
 mod Shifting

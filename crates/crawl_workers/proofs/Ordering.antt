@@ -2,7 +2,7 @@
 -- list weigh.
 -- Used by `Order`, `Crew` and `run_shift`.
 use Rattle.std.proofs.Common.{◌≡◌, ◌∙◌, ℕ, zero, suc, ◌+◌, ◌<◌, List, [], ◌∷◌, ◌++◌, length, drop, slice_set, ap, refl, arith, Vec, Global}
-use Rattle.std.specs.Prelude.{slice_index, slice_index_or}
+use Rattle.std.specs.Prelude.{slice_index_or}
 use Rattle.job_line.specs.Sums.{jobs_in, weigh, weigh_all, weigh_below}
 use Rattle.crawl_workers.specs.Orders.{lists_in, weigh_at}
 

@@ -12,7 +12,7 @@ use Rattle.gate_history.specs.declared.entry.Entry.TheVariants as entries
 use Rattle.http_wire.specs.declared.fault.WireFault.{WireFault}
 use Rattle.http_wire.specs.declared.response.HttpReply.{HttpReply}
 use Rattle.robots_fetch.specs.declared.redirect.Stop.{Stop}
-use Rattle.robots_fetch.specs.Redirects.{location_target, most_redirects, redirect_target}
+use Rattle.robots_fetch.specs.Redirects.{location_target_among, most_redirects, redirect_target_among}
 use Rattle.robots_fetch.specs.Statuses.{class_of}
 use Rattle.robots_fetch.specs.declared.status.StatusClass.TheVariants as classes
 use Rattle.crawl_job.specs.declared.hop.Hop.{Hop}
@@ -57,7 +57,7 @@ pub record IsTurn
   pub since_begun : IsSinceRead world begun
   pub since_arrived : IsSinceRead world arrived
   pub stale : BeganStale authority begun turn
-  pub brings : IsBrought (world.gives robots_limit) authority says life
+  pub brings : IsBrought world.schemes (world.gives robots_limit) authority says life
   pub own_is : own ≡ entries.Begun begun authority turn ∷ entries.Arrived arrived authority turn says life ∷ []
 
 -- at most one such turn
@@ -127,7 +127,7 @@ pub record IsFollowed
   pub given : Result HttpReply WireFault
   pub fetch : IsFetch world token url hop given own
   pub redirects : IsRedirect given
-  pub leads : location_target url (location_given given) ≡ Ok next
+  pub leads : location_target_among world.schemes url (location_given given) ≡ Ok next
 
 -- why a redirect is not followed, with so many followed before it: it leads nowhere, or there is no memory
 -- for where it leads
@@ -144,7 +144,7 @@ pub record IsStopped
   pub given : Result HttpReply WireFault
   pub fetch : IsFetch world token url hop given own
   pub redirects : IsRedirect given
-  pub stops : IsStop followed (redirect_target followed url (location_given given)) stop
+  pub stops : IsStop followed (redirect_target_among world.schemes followed url (location_given given)) stop
   pub body_is : body ≡ []
 
 -- the last hop by itself: a fetch that gave no redirect, a denial, or a refusal

@@ -2,6 +2,7 @@
 -- RFC 9309, sections 2.3.1.1 to 2.3.1.5.
 use Rattle.std.specs.Prelude.{◌≡◌, ◌⊎◌, ◌+◌, ◌++◌, ◌∷◌, [], ℕ, List, Option, None, Some, Result, Ok, Err, map}
 use Rattle.path_normal.specs.PageText.{robots_url_of}
+use Rattle.path_normal.specs.declared.schemes.Schemes.{Schemes}
 use Rattle.robots_verdict.specs.declared.answer.Closure.TheVariants as closures
 use Rattle.robots_verdict.specs.declared.said.Said.{Said}
 use Rattle.robots_verdict.specs.declared.said.Said.TheVariants.{Closed}
@@ -19,7 +20,7 @@ use Rattle.gate_history.specs.declared.entry.Entry.TheVariants as entries
 use Rattle.gate_lock.specs.declared.mark.Mark.{Mark}
 use Rattle.http_wire.specs.declared.fault.WireFault.{WireFault}
 use Rattle.http_wire.specs.declared.response.HttpReply.{HttpReply}
-use Rattle.robots_fetch.specs.Walk.{AnswerOf}
+use Rattle.robots_fetch.specs.Walk.{AnswerOfAmong}
 use Rattle.fetchers.specs.Limits.{robots_limit}
 use Rattle.fetchers.specs.Walks.{AreLed, robots_reply_of}
 use Rattle.crawl_workers.specs.Stale.{IsNoAnswer}
@@ -29,25 +30,25 @@ use Rattle.crawl_workers.specs.World.{IsSinceRead, World}
 abbrev pub entries_of : List Mark → List Entry
 entries_of ms = map (λ m. m.entry) ms
 
--- fetches decide the answer for the authority, and its life: each was made of the URL to which the one
--- before it led, the first of the authority's robots file
+-- fetches decide the answer for the authority, and its life, where pages of these schemes are fetched: each was
+-- made of the URL to which the one before it led, the first of the authority's robots file
 pub record IsFetched
-    (gives : List ℕ → Result HttpReply WireFault → Type 0) (authority : List ℕ) (says : Said) (life : ℕ)
+    (schemes : Schemes) (gives : List ℕ → Result HttpReply WireFault → Type 0) (authority : List ℕ) (says : Said) (life : ℕ)
     : Type 0 where
   pub way : List (Result HttpReply WireFault)
   pub url : List ℕ
   pub last : Result HttpReply WireFault
-  pub are_led : AreLed gives (robots_url_of authority) way url
+  pub are_led : AreLed schemes gives (robots_url_of authority) way url
   pub is_given : gives url last
-  pub decided : AnswerOf authority (map robots_reply_of (way ++ last ∷ [])) says life
+  pub decided : AnswerOfAmong schemes authority (map robots_reply_of (way ++ last ∷ [])) says life
 
 -- where memory is refused, the answer is closed, for the greatest life
 abbrev pub IsUndecided : Said → ℕ → Type 0
 IsUndecided says life = (says ≡ Closed closures.Other) × (life ≡ greatest_life)
 
 -- the answer that arrives is one or the other
-abbrev pub IsBrought : (List ℕ → Result HttpReply WireFault → Type 0) → List ℕ → Said → ℕ → Type 0
-IsBrought gives authority says life = IsFetched gives authority says life ⊎ IsUndecided says life
+abbrev pub IsBrought : Schemes → (List ℕ → Result HttpReply WireFault → Type 0) → List ℕ → Said → ℕ → Type 0
+IsBrought schemes gives authority says life = IsFetched schemes gives authority says life ⊎ IsUndecided says life
 
 -- the turn of this number began at a moment at which no answer of the authority was in force, by the history
 -- before it
@@ -85,7 +86,7 @@ pub record Brings (world : World) (turn : Errand) (word : Standing) (old new : D
   pub answer : Timed
   pub arrived : ℕ
   pub read_arrived : world.reads arrived
-  pub brings : IsBrought (world.gives robots_limit) turn.authority answer.says answer.life
+  pub brings : IsBrought world.schemes (world.gives robots_limit) turn.authority answer.says answer.life
   pub arrives : Somewhere old (λ before behind. DeskArrives old before turn answer arrived behind new)
   pub word_is : word ≡ standing_as answer.says
 

@@ -1,6 +1,6 @@
 -- A site of a shift: when a worker may enter it for a job, and what it is then and when the worker leaves.
 -- Cited by the contracts of `Site`; RFC 9309 has none of it.
-use Rattle.std.specs.Prelude.{◌≡◌, ◌+◌, ◌-◌, ◌==◌, ◌&&◌, ℕ, Bool, true, false, if◌then◌else◌, nat_lt, not}
+use Rattle.std.specs.Prelude.{◌+◌, ◌-◌, ◌==◌, ◌&&◌, ℕ, Bool, true, false, if◌then◌else◌, nat_lt, not}
 use Rattle.crawl_workers.specs.declared.sites.Site.{Site}
 use Rattle.crawl_workers.specs.declared.sites.Robots.{Robots}
 use Rattle.crawl_workers.specs.declared.sites.Robots.TheVariants as robots

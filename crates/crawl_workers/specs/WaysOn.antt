@@ -9,7 +9,8 @@ use Rattle.gate_history.specs.declared.entry.Entry.{Entry}
 use Rattle.http_wire.specs.declared.fault.WireFault.{WireFault}
 use Rattle.http_wire.specs.declared.response.HttpReply.{HttpReply}
 use Rattle.robots_fetch.specs.declared.redirect.Stop.{Stop}
-use Rattle.robots_fetch.specs.Redirects.{most_redirects, redirect_target}
+use Rattle.path_normal.specs.declared.schemes.Schemes.{Schemes}
+use Rattle.robots_fetch.specs.Redirects.{most_redirects, redirect_target_among}
 use Rattle.crawl_job.specs.declared.hop.Hop.{Hop}
 use Rattle.crawl_job.specs.declared.hop.Hop.TheVariants as hops
 use Rattle.crawl_job.specs.declared.hop.Refusal.TheVariants as refusals
@@ -39,16 +40,17 @@ LeadsOn followed target page (ways.Ends hop body) = ⊥
 LeadsOn followed target page (ways.Leads hop next) = (hop ≡ page) × (target ≡ Ok next)
 LeadsOn followed target page (ways.Stops hop stop) = (hop ≡ page) × IsStop followed target stop
 
--- what comes behind a fetch: nothing behind what is no redirect, else where it leads
-abbrev pub GoesOn : ℕ → Reason → ℕ → List ℕ → Result HttpReply WireFault → WayOn → Type 0
-GoesOn number reason followed url given (ways.Ends hop body) =
+-- what comes behind a fetch, where pages of these schemes are fetched: nothing behind what is no redirect, else
+-- where it leads
+abbrev pub GoesOn : Schemes → ℕ → Reason → ℕ → List ℕ → Result HttpReply WireFault → WayOn → Type 0
+GoesOn schemes number reason followed url given (ways.Ends hop body) =
     (hop ≡ hop_of number reason given) × (IsRedirect given → ⊥) × (body.items ≡ body_given given)
-GoesOn number reason followed url given (ways.Leads hop next) =
+GoesOn schemes number reason followed url given (ways.Leads hop next) =
     IsRedirect given
-    × LeadsOn followed (redirect_target followed url (location_given given)) (hop_of number reason given) (ways.Leads hop next)
-GoesOn number reason followed url given (ways.Stops hop stop) =
+    × LeadsOn followed (redirect_target_among schemes followed url (location_given given)) (hop_of number reason given) (ways.Leads hop next)
+GoesOn schemes number reason followed url given (ways.Stops hop stop) =
     IsRedirect given
-    × LeadsOn followed (redirect_target followed url (location_given given)) (hop_of number reason given) (ways.Stops hop stop)
+    × LeadsOn followed (redirect_target_among schemes followed url (location_given given)) (hop_of number reason given) (ways.Stops hop stop)
 
 -- the entries of a hop, behind a refresh of its authority
 abbrev pub TellsWay :

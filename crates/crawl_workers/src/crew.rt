@@ -115,7 +115,7 @@ impl<F: Fetcher, C: Clock, W: Watcher> Crew<'_, F, C, W> {
         worker: &mut Member<G>,
     )
         requires new { IsNewWork self.now.line.now self.now.counts.now worker.old.work }
-        ensures { Ends (world_of (F.gives self.now.fetcher.now) (C.reads self.now.clock.now))
+        ensures { Ends (world_of (F.gives self.now.fetcher.now) (F.follows self.now.fetcher.now) (C.reads self.now.clock.now))
             self.now.jobs.now self.now.order.now worker.old worker.new }
     {
         let end = self.man_desk(rt, alloc, gate, &mut worker.work);
@@ -133,7 +133,7 @@ impl<F: Fetcher, C: Clock, W: Watcher> Crew<'_, F, C, W> {
         requires new { IsNewWork self.now.line.now self.now.counts.now work.old }
         ensures seat { StaysAt work.old.seat work.new.seat }
         ensures ok { IfOk result (λ r. HasEnded
-            (world_of (F.gives self.now.fetcher.now) (C.reads self.now.clock.now))
+            (world_of (F.gives self.now.fetcher.now) (F.follows self.now.fetcher.now) (C.reads self.now.clock.now))
             self.now.jobs.now self.now.order.now work.new r) }
     {
         let mut desk = gate.desk(rt, alloc)?;
@@ -157,7 +157,7 @@ impl<F: Fetcher, C: Clock, W: Watcher> Crew<'_, F, C, W> {
         ensures out { KeepsOut desk.old desk.new }
         ensures seat { StaysAt work.old.seat work.new.seat }
         ensures ok { OnOk result (HasEnded
-            (world_of (F.gives self.now.fetcher.now) (C.reads self.now.clock.now))
+            (world_of (F.gives self.now.fetcher.now) (F.follows self.now.fetcher.now) (C.reads self.now.clock.now))
             self.now.jobs.now self.now.order.now work.new (receipt_of desk.new)) }
     {
         'draws: for _ in rt.forever() {
@@ -182,12 +182,12 @@ impl<F: Fetcher, C: Clock, W: Watcher> Crew<'_, F, C, W> {
     ) -> Result<(), AllocError>
         requires seat { IsAtLine self.now.line.now self.now.counts.now work.old.seat }
         requires so_far { HasWorked
-            (world_of (F.gives self.now.fetcher.now) (C.reads self.now.clock.now))
+            (world_of (F.gives self.now.fetcher.now) (F.follows self.now.fetcher.now) (C.reads self.now.clock.now))
             self.now.jobs.now self.now.order.now work.old (receipt_of desk.old) }
         ensures out { KeepsOut desk.old desk.new }
         ensures seat { StaysAt work.old.seat work.new.seat }
         ensures ok { OnOk result (HasEnded
-            (world_of (F.gives self.now.fetcher.now) (C.reads self.now.clock.now))
+            (world_of (F.gives self.now.fetcher.now) (F.follows self.now.fetcher.now) (C.reads self.now.clock.now))
             self.now.jobs.now self.now.order.now work.new (receipt_of desk.new)) }
     {
         for site in 0..self.counts.len() {
@@ -207,13 +207,13 @@ impl<F: Fetcher, C: Clock, W: Watcher> Crew<'_, F, C, W> {
     ) -> Result<(), AllocError>
         requires seat { IsAtLine self.now.line.now self.now.counts.now work.old.seat }
         requires so_far { HasWorked
-            (world_of (F.gives self.now.fetcher.now) (C.reads self.now.clock.now))
+            (world_of (F.gives self.now.fetcher.now) (F.follows self.now.fetcher.now) (C.reads self.now.clock.now))
             self.now.jobs.now self.now.order.now work.old (receipt_of desk.old) }
         requires site { site < length self.now.counts.now }
         ensures out { KeepsOut desk.old desk.new }
         ensures seat { StaysAt work.old.seat work.new.seat }
         ensures ok { OnOk result (HasWorked
-            (world_of (F.gives self.now.fetcher.now) (C.reads self.now.clock.now))
+            (world_of (F.gives self.now.fetcher.now) (F.follows self.now.fetcher.now) (C.reads self.now.clock.now))
             self.now.jobs.now self.now.order.now work.new (receipt_of desk.new)) }
         ensures end { OnOk result (ended_at site work.new.seat ≡ true) }
     {
@@ -236,12 +236,12 @@ impl<F: Fetcher, C: Clock, W: Watcher> Crew<'_, F, C, W> {
     ) -> Result<bool, AllocError>
         requires seat { IsAtLine self.now.line.now self.now.counts.now work.old.seat }
         requires so_far { HasWorked
-            (world_of (F.gives self.now.fetcher.now) (C.reads self.now.clock.now))
+            (world_of (F.gives self.now.fetcher.now) (F.follows self.now.fetcher.now) (C.reads self.now.clock.now))
             self.now.jobs.now self.now.order.now work.old (receipt_of desk.old) }
         ensures out { KeepsOut desk.old desk.new }
         ensures seat { StaysAt work.old.seat work.new.seat }
         ensures ok { OnOk result (HasWorked
-            (world_of (F.gives self.now.fetcher.now) (C.reads self.now.clock.now))
+            (world_of (F.gives self.now.fetcher.now) (F.follows self.now.fetcher.now) (C.reads self.now.clock.now))
             self.now.jobs.now self.now.order.now work.new (receipt_of desk.new)) }
         ensures end { IfOk result (λ drew. drew ≡ false → site < length self.now.counts.now
             → ended_at site work.new.seat ≡ true) }
@@ -266,13 +266,13 @@ impl<F: Fetcher, C: Clock, W: Watcher> Crew<'_, F, C, W> {
     ) -> Result<(), AllocError>
         requires job { number < length self.now.jobs.now }
         requires so_far { HasDone
-            (world_of (F.gives self.now.fetcher.now) (C.reads self.now.clock.now))
+            (world_of (F.gives self.now.fetcher.now) (F.follows self.now.fetcher.now) (C.reads self.now.clock.now))
             self.now.jobs.now work.old.drawn work.old.done (receipt_of desk.old) }
         ensures out { KeepsOut desk.old desk.new }
         ensures seat { work.new.seat ≡ work.old.seat }
         ensures drawn { OnOk result (work.new.drawn ≡ work.old.drawn ++ number ∷ []) }
         ensures ok { OnOk result (HasDone
-            (world_of (F.gives self.now.fetcher.now) (C.reads self.now.clock.now))
+            (world_of (F.gives self.now.fetcher.now) (F.follows self.now.fetcher.now) (C.reads self.now.clock.now))
             self.now.jobs.now work.new.drawn work.new.done (receipt_of desk.new)) }
     {
         work.drawn.reserve(1)?;
@@ -297,7 +297,7 @@ impl<F: Fetcher, C: Clock, W: Watcher> Crew<'_, F, C, W> {
         ensures number { IfOk result (λ done. done.number ≡ number) }
         ensures out { KeepsOut desk.old desk.new }
         ensures ok { IfOk result (λ done. DoesJob
-            (world_of (F.gives self.now.fetcher.now) (C.reads self.now.clock.now))
+            (world_of (F.gives self.now.fetcher.now) (F.follows self.now.fetcher.now) (C.reads self.now.clock.now))
             self.now.jobs.now done desk.old desk.new) }
     {
         let worker = Worker {

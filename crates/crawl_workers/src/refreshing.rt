@@ -34,7 +34,7 @@ pub fn refresh<G: Gate, F: Fetcher, C: Clock, R: Wait>(
     fetcher: &F,
     clock: &C,
 ) -> Result<Standing, BeginRefusal>
-    ensures refreshes { Refreshes (world_of (F.gives fetcher.now) (C.reads clock.now))
+    ensures refreshes { Refreshes (world_of (F.gives fetcher.now) (F.follows fetcher.now) (C.reads clock.now))
         authority.now result desk.old desk.new }
     ensures no { desk.new.no ≡ desk.old.no }
     ensures out { KeepsOut desk.old desk.new }
@@ -54,7 +54,7 @@ pub(crate) fn bring_answer<G: Gate, F: Fetcher, C: Clock, N: Notes, R: Wait>(
     notes: &N,
 ) -> Standing
     requires own { turn.desk ≡ desk.old.no }
-    ensures brings { Brings (world_of (F.gives fetcher.now) (C.reads clock.now))
+    ensures brings { Brings (world_of (F.gives fetcher.now) (F.follows fetcher.now) (C.reads clock.now))
         turn result desk.old desk.new }
     ensures no { desk.new.no ≡ desk.old.no }
     ensures out { HasOut desk.old desk.new 0 0 0 0 0 1 }
@@ -80,20 +80,21 @@ fn fetch_answer<G: Gate, F: Fetcher>(
     fetcher: &F,
     why: &mut ClosedBy,
 ) -> TimedAnswer
-    ensures brings { IsBrought (F.gives fetcher.now robots_limit)
+    ensures brings { IsBrought (F.follows fetcher.now) (F.gives fetcher.now robots_limit)
         turn.now.authority result.says result.life }
     ensures spares { result.spares ≡ 2 }
 {
     let Ok(mut walk) = Walk::new(turn.authority()) else {
         return undecided();
     };
+    let schemes = fetcher.schemes();
     let time = fetcher.begin_walk();
     loop {
         let mut failure = None;
         let given = fetcher.fetch_robots(turn, walk.url(), time, &mut failure);
         let met = ClosedBy::met(&given, failure);
         let reply = robots_reply(given);
-        walk = match walk.step(alloc, &reply) {
+        walk = match walk.step_among(alloc, schemes, &reply) {
             Step::Go(next) => next,
             Step::Done(answer) => {
                 *why = met.decided(&reply, answer.answer());

@@ -52,7 +52,7 @@ pub fn run_shift<
 ) -> Result<Report<G>, ShiftFault>
     requires jobs { length jobs.now ≤ max_jobs }
     requires workers { (1 ≤ workers) × (workers ≤ max_workers) }
-    ensures { IfOk result (IsShift (world_of (F.gives fetcher.now) (C.reads clock.now))
+    ensures { IfOk result (IsShift (world_of (F.gives fetcher.now) (F.follows fetcher.now) (C.reads clock.now))
         jobs.now workers) }
 {
     let mut outcomes = no_outcomes(alloc, jobs.len())?;
@@ -142,7 +142,7 @@ impl<F: Fetcher + Sync, C: Clock + Sync, W: Watcher + Sync> Crew<'_, F, C, W> {
         requires parts { parts_of seats.items ≡ max_workers }
         requires new { handover.old ≡ nothing_handed }
         ensures { OnOk result (AreAllDone
-            (world_of (F.gives self.now.fetcher.now) (C.reads self.now.clock.now))
+            (world_of (F.gives self.now.fetcher.now) (F.follows self.now.fetcher.now) (C.reads self.now.clock.now))
             self.now.jobs.now self.now.order.now self.now.line.now self.now.counts.now
             (vec_len seats) handover.new) }
     {
@@ -163,7 +163,7 @@ impl<F: Fetcher + Sync, C: Clock + Sync, W: Watcher + Sync> Crew<'_, F, C, W> {
         requires new { All (λ member. IsNewWork self.now.line.now self.now.counts.now member.work)
             members.old }
         ensures { (i : ℕ) (d : MemberView) → i < length members.old →
-            Ends (world_of (F.gives self.now.fetcher.now) (C.reads self.now.clock.now))
+            Ends (world_of (F.gives self.now.fetcher.now) (F.follows self.now.fetcher.now) (C.reads self.now.clock.now))
             self.now.jobs.now self.now.order.now
             (slice_index_or members.old i d) (slice_index_or members.new i d) }
     {
@@ -175,7 +175,7 @@ impl<F: Fetcher + Sync, C: Clock + Sync, W: Watcher + Sync> Crew<'_, F, C, W> {
             &|_: usize, member: &mut Member<G>|
                 requires { IsNewWork crew.now.line.now crew.now.counts.now member.old.work }
                 ensures { Ends
-                    (world_of (F.gives crew.entry.now.fetcher.now) (C.reads crew.entry.now.clock.now))
+                    (world_of (F.gives crew.entry.now.fetcher.now) (F.follows crew.entry.now.fetcher.now) (C.reads crew.entry.now.clock.now))
                     crew.entry.now.jobs.now crew.entry.now.order.now member.old member.new }
             { crew.employ(rt, alloc, gate, member) },
         );

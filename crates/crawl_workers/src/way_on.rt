@@ -2,15 +2,15 @@
 //! RFC 9110, section 15.4.
 ghost use Rattle.std.specs.Prelude.{string_bytes};
 ghost use Rattle.std.specs.Option.{option_map};
-ghost use Rattle.robots_fetch.specs.Redirects.{redirect_target};
+ghost use Rattle.robots_fetch.specs.Redirects.{redirect_target_among};
 ghost use Rattle.crawl_workers.specs.WaysOn.{GoesOn, LeadsOn};
 
 use crawl_job::{Hop, Refusal};
 use gate_history::Reason;
 use http_wire::{HttpReply, WireFault};
-use path_normal::PageUrl;
+use path_normal::{PageUrl, Schemes};
 use permit_book::PermitNo;
-use robots_fetch::{MAX_REDIRECTS, Nowhere, StatusClass, Stop, class_of, redirect_target};
+use robots_fetch::{MAX_REDIRECTS, Nowhere, StatusClass, Stop, class_of, redirect_target_among};
 use std::alloc::Global;
 
 /// Where a job goes on behind a hop.
@@ -25,16 +25,17 @@ pub(crate) enum WayOn {
 }
 
 /// Where a job goes on behind the fetch of a page by the permit of this number, with so many
-/// redirects followed before it.
+/// redirects followed before it, where pages of these schemes are fetched.
 pub(crate) fn way_on(
     alloc: Global,
+    schemes: Schemes,
     number: PermitNo,
     reason: Reason,
     followed: u64,
     url: &PageUrl,
     given: Result<HttpReply, WireFault>,
 ) -> WayOn
-    ensures { GoesOn number reason followed url.now given result }
+    ensures { GoesOn schemes number reason followed url.now given result }
 {
     let reply = match given {
         Ok(reply) => reply,
@@ -48,20 +49,26 @@ pub(crate) fn way_on(
         cut: reply.cut,
     };
     match class_of(reply.status) {
-        StatusClass::Redirect => follow(page, followed, url, &reply.location),
+        StatusClass::Redirect => follow(page, schemes, followed, url, &reply.location),
         _ => WayOn::Ends(page, reply.body),
     }
 }
 
 // Where a job goes on behind a page of a redirect status.
-fn follow(page: Hop, followed: u64, url: &PageUrl, location: &Option<String>) -> WayOn
+fn follow(
+    page: Hop,
+    schemes: Schemes,
+    followed: u64,
+    url: &PageUrl,
+    location: &Option<String>,
+) -> WayOn
     ensures { LeadsOn followed
-        (redirect_target followed url.now (option_map string_bytes location.now)) page result }
+        (redirect_target_among schemes followed url.now (option_map string_bytes location.now)) page result }
 {
     if followed >= MAX_REDIRECTS {
         return WayOn::Stops(page, Hop::Stop(Stop::TooManyRedirects));
     }
-    match redirect_target(followed, url, location) {
+    match redirect_target_among(schemes, followed, url, location) {
         Ok(next) => WayOn::Leads(page, next),
         Err(Nowhere::Stop(stop)) => WayOn::Stops(page, Hop::Stop(stop)),
         Err(Nowhere::NoMemory) => WayOn::Stops(page, Hop::Refused(Refusal::NoMemory)),

@@ -60,7 +60,7 @@ impl<F: Fetcher, C: Clock, N: Notes, R: Wait> Worker<'_, F, C, N, R> {
         requires empty { room.items ≡ [] }
         requires room { max_hops ≤ vec_capacity room }
         ensures tells { AddsEntries (AreHops
-            (world_of (F.gives self.now.fetcher.now) (C.reads self.now.clock.now))
+            (world_of (F.gives self.now.fetcher.now) (F.follows self.now.fetcher.now) (C.reads self.now.clock.now))
             token.now url result.hops.items result.body.items) desk.old desk.new }
         ensures no { desk.new.no ≡ desk.old.no }
         ensures out { KeepsOut desk.old desk.new }
@@ -100,8 +100,8 @@ impl<F: Fetcher, C: Clock, N: Notes, R: Wait> Worker<'_, F, C, N, R> {
         desk: &mut Desk<'_, G>,
     ) -> WayOn
         ensures tells { AddsEntries (AfterRefresh
-            (world_of (F.gives self.now.fetcher.now) (C.reads self.now.clock.now)) url
-            (TellsWay (world_of (F.gives self.now.fetcher.now) (C.reads self.now.clock.now))
+            (world_of (F.gives self.now.fetcher.now) (F.follows self.now.fetcher.now) (C.reads self.now.clock.now)) url
+            (TellsWay (world_of (F.gives self.now.fetcher.now) (F.follows self.now.fetcher.now) (C.reads self.now.clock.now))
             token.now url followed result)) desk.old desk.new }
         ensures no { desk.new.no ≡ desk.old.no }
         ensures out { KeepsOut desk.old desk.new }
@@ -125,7 +125,7 @@ impl<F: Fetcher, C: Clock, N: Notes, R: Wait> Worker<'_, F, C, N, R> {
     // Refreshes the answer of a page's authority where none is in force. Where another desk does so,
     // its answer is waited for.
     fn see_to_answer<G: Gate>(&self, url: &PageUrl, desk: &mut Desk<'_, G>) -> Result<(), Refusal>
-        ensures refreshed { AddsEntries (MayRefresh (world_of (F.gives self.now.fetcher.now)
+        ensures refreshed { AddsEntries (MayRefresh (world_of (F.gives self.now.fetcher.now) (F.follows self.now.fetcher.now)
             (C.reads self.now.clock.now)) (authority_of url.now)) desk.old desk.new }
         ensures no { desk.new.no ≡ desk.old.no }
         ensures out { KeepsOut desk.old desk.new }
@@ -164,7 +164,7 @@ impl<F: Fetcher, C: Clock, N: Notes, R: Wait> Worker<'_, F, C, N, R> {
     ) -> Result<Option<RobotsTurn<G>>, BeginRefusal>
         requires { C.reads self.now.clock.now moment }
         ensures begins { MayBeginErrand
-            (world_of (F.gives self.now.fetcher.now) (C.reads self.now.clock.now))
+            (world_of (F.gives self.now.fetcher.now) (F.follows self.now.fetcher.now) (C.reads self.now.clock.now))
             (authority_of url.now) result desk.old desk.new }
         ensures no { desk.new.no ≡ desk.old.no }
     {
@@ -181,7 +181,7 @@ impl<F: Fetcher, C: Clock, N: Notes, R: Wait> Worker<'_, F, C, N, R> {
         desk: &mut Desk<'_, G>,
     ) -> WayOn
         ensures tells { AddsEntries (TellsWay
-            (world_of (F.gives self.now.fetcher.now) (C.reads self.now.clock.now))
+            (world_of (F.gives self.now.fetcher.now) (F.follows self.now.fetcher.now) (C.reads self.now.clock.now))
             token url followed result) desk.old desk.new }
         ensures no { desk.new.no ≡ desk.old.no }
         ensures out { KeepsOut desk.old desk.new }
@@ -201,9 +201,9 @@ impl<F: Fetcher, C: Clock, N: Notes, R: Wait> Worker<'_, F, C, N, R> {
     ) -> WayOn
         requires { permit.desk ≡ desk.old.no }
         ensures tells { AddsEntries (λ (own : List Entry). (granted : ℕ) →
-            IsSinceRead (world_of (F.gives self.now.fetcher.now) (C.reads self.now.clock.now))
+            IsSinceRead (world_of (F.gives self.now.fetcher.now) (F.follows self.now.fetcher.now) (C.reads self.now.clock.now))
             granted →
-            TellsWay (world_of (F.gives self.now.fetcher.now) (C.reads self.now.clock.now))
+            TellsWay (world_of (F.gives self.now.fetcher.now) (F.follows self.now.fetcher.now) (C.reads self.now.clock.now))
             permit.token permit.url followed result
             (Entry.Granted granted permit.number
             (record { token = permit.token; url = permit.url }) ∷ own)) desk.old desk.new }
@@ -220,7 +220,16 @@ impl<F: Fetcher, C: Clock, N: Notes, R: Wait> Worker<'_, F, C, N, R> {
         self.notes.sees(Event::Fetches);
         let (fetched, given) = self.fetcher.fetch_page(running, PAGE_LIMIT, &mut failure);
         self.notes.sees(Event::Fetched(failure));
-        let way = way_on(self.alloc, number, reason, followed, fetched.url(), given);
+        let schemes = self.fetcher.schemes();
+        let way = way_on(
+            self.alloc,
+            schemes,
+            number,
+            reason,
+            followed,
+            fetched.url(),
+            given,
+        );
         desk.finish(self.rt, fetched);
         way
     }

@@ -34,7 +34,7 @@ pub fn work<G: Gate, F: Fetcher, C: Clock, R: Wait>(
 ) -> Result<Outcome, AllocError>
     ensures no { desk.new.no ≡ desk.old.no }
     ensures out { KeepsOut desk.old desk.new }
-    ensures ok { IfOk result (λ outcome. Works (world_of (F.gives fetcher.now) (C.reads clock.now))
+    ensures ok { IfOk result (λ outcome. Works (world_of (F.gives fetcher.now) (F.follows fetcher.now) (C.reads clock.now))
         job outcome desk.old desk.new) }
     ensures starts { IfOk result (λ outcome. starts_in desk.new.marks
         ≡ starts_in desk.old.marks + fetches_in outcome.hops.items) }
@@ -59,7 +59,7 @@ pub(crate) fn work_by<G: Gate, F: Fetcher, C: Clock, N: Notes, R: Wait>(
     ensures no { desk.new.no ≡ desk.old.no }
     ensures out { KeepsOut desk.old desk.new }
     ensures ok { IfOk result (λ outcome. Works
-        (world_of (F.gives worker.now.fetcher.now) (C.reads worker.now.clock.now))
+        (world_of (F.gives worker.now.fetcher.now) (F.follows worker.now.fetcher.now) (C.reads worker.now.clock.now))
         job outcome desk.old desk.new) }
     ensures starts { IfOk result (λ outcome. starts_in desk.new.marks
         ≡ starts_in desk.old.marks + fetches_in outcome.hops.items) }

@@ -3,6 +3,7 @@
 #![tactic(auto)]
 
 mod serving;
+mod tls_program;
 
 ghost use Rattle.std.specs.Prelude.{◌≡◌, []};
 ghost use Rattle.gate_history.specs.Base.{empty_base};
@@ -10,6 +11,7 @@ ghost use Rattle.job_line.specs.Limits.{IsCrew};
 ghost use Rattle.program_words.specs.Options.{AreForShift};
 
 use crate::serving::serve;
+use crate::tls_program::find_tls_program;
 use counted_io::{Counted, Sink};
 use crawl_shift::{NotShifted, Shift, StatusLine};
 use crawl_workers::{Clock, Fetcher, SystemClock, TcpFetcher};
@@ -45,7 +47,17 @@ fn shift<R: Threads + Wait + time::Clock + Sync>(
 ) -> Ending
     requires { AreForShift options }
 {
-    match TcpFetcher::with_limits(host.alloc(), *host, AGENT, options.times, options.reach) {
+    if let Err(ending) = find_tls_program(host, options.tls_by, options.times.connect) {
+        return ending;
+    }
+    match TcpFetcher::with_tls(
+        host.alloc(),
+        *host,
+        AGENT,
+        options.times,
+        options.reach,
+        options.tls_by,
+    ) {
         Ok(fetcher) => {
             let clock = SystemClock::new(*host);
             let end = shift_by(rt, host, options, &fetcher, &clock);

@@ -5,6 +5,7 @@ ghost use Rattle.job_line.specs.Limits.{IsCrew};
 ghost use Rattle.program_words.specs.Options.{AreForServe};
 
 use crate::AGENT;
+use crate::tls_program::find_tls_program;
 use client_wire::Listener;
 use crawl_workers::{SystemClock, TcpFetcher};
 use gate_core::Book;
@@ -41,6 +42,9 @@ pub(crate) fn serve<R: Threads + Wait + time::Clock + Sync>(
 ) -> Ending
     requires { AreForServe options }
 {
+    if let Err(ending) = find_tls_program(host, options.tls_by, options.times.connect) {
+        return ending;
+    }
     match new_book(host, options.limits) {
         Ok(book) => match listen(host, &options.place) {
             Ok(listener) => {
@@ -108,7 +112,14 @@ fn serve_clients<R: Threads + Wait + time::Clock + Sync>(
     requires options { AreForServe options.now }
     requires book { (book.base ≡ empty_base) × (book.entries ≡ []) }
 {
-    match TcpFetcher::with_limits(host.alloc(), *host, AGENT, options.times, options.reach) {
+    match TcpFetcher::with_tls(
+        host.alloc(),
+        *host,
+        AGENT,
+        options.times,
+        options.reach,
+        options.tls_by,
+    ) {
         Ok(fetcher) => {
             let server = Server {
                 rt,

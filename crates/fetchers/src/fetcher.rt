@@ -6,7 +6,7 @@ ghost use Rattle.fetchers.specs.Walks.{IsOnWalk};
 
 use gate_lock::{Fetched, Gate, RobotsTurn, Running};
 use http_wire::{HttpReply, WireFault};
-use path_normal::PageUrl;
+use path_normal::{PageUrl, Schemes};
 use robots_text::Token;
 use tcp_wire::{Deadline, Failure};
 
@@ -67,10 +67,19 @@ pub trait Fetcher {
     ghost use Rattle.std.specs.Prelude.{ℕ, List, Result};
     ghost use Rattle.http_wire.specs.declared.fault.WireFault.{WireFault};
     ghost use Rattle.http_wire.specs.declared.response.HttpReply.{HttpReply};
+    ghost use Rattle.path_normal.specs.declared.schemes.Schemes.{Schemes};
 
     /// Holds of the most octets that are taken of a body, a URL, and each result that such a fetch of
     /// it gives.
     ghost gives: { Self → ℕ → List ℕ → Result HttpReply WireFault → Type 0 };
+
+    /// The schemes of the pages that it fetches.
+    ghost follows: { Self → Schemes };
+
+    /// The schemes of the pages that it fetches. Where texts are read for it, pages of others are refused, and no
+    /// redirect is followed to them.
+    fn schemes(&self) -> Schemes
+        ensures { result ≡ follows self.now };
 
     /// The time that the fetches of one walk over the redirects of a robots file may take together, which
     /// begins now; none where they have no limit, or no clock can be read.
@@ -129,7 +138,7 @@ pub trait Fetcher {
         time: Option<Deadline>,
         failure: &mut Option<Failure>,
     ) -> Result<HttpReply, WireFault>
-        requires { IsOnWalk (gives self.now robots_limit) _turn.now.authority url.now }
+        requires { IsOnWalk (follows self.now) (gives self.now robots_limit) _turn.now.authority url.now }
         ensures { gives self.now robots_limit url.now result }
     {
         self.load_robots(RobotsLeave { url }, time, failure)

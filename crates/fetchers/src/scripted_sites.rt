@@ -7,7 +7,7 @@ use crate::fetcher::{Fetcher, PageLeave, RobotsLeave};
 use crate::tcp_fetcher::ROBOTS_LIMIT;
 use counted_io::Counted;
 use http_wire::{HttpReply, WireFault, read_response};
-use path_normal::PageUrl;
+use path_normal::{PageUrl, Schemes};
 use std::alloc::Global;
 use tcp_wire::{Deadline, Failure};
 
@@ -53,8 +53,16 @@ impl<'a> ScriptedSites<'a> {
 
 impl<'a> Fetcher for ScriptedSites<'a> {
     ghost use Rattle.fetchers.specs.ScriptedSites.{GivesScripted};
+    ghost use Rattle.path_normal.specs.declared.schemes.Schemes.TheVariants.{Http};
 
     ghost gives = { λ sites. GivesScripted sites.pages.now };
+
+    ghost follows = { λ _. Http };
+
+    /// Sites in memory are of `http` alone.
+    fn schemes(&self) -> Schemes {
+        Schemes::Http
+    }
 
     fn load_page(
         &self,

@@ -1,4 +1,5 @@
 //! Worked rows, as facts that the check computes from the definitions: no code runs.
+#![tactic(auto, unfolding(path_normal::specs::PageText::authority_of))]
 
 ghost use Rattle.std.specs.Prelude.{Ok, Err, []};
 ghost use Rattle.gate_core.specs.Replies.{Begins, Arrives, Asks, Starts, Returns, Finishes, IsNext, NoneFree};

@@ -1,5 +1,6 @@
 pub mod Condensing
 pub mod Counting
+pub mod Denying
 pub mod Holding
 pub mod Keeping
 pub mod Merging

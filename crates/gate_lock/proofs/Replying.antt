@@ -4,7 +4,8 @@ use Rattle.std.proofs.Common.{◌≡◌, ℕ, Bool, true, false, List, [], ◌�
 use Rattle.std.specs.Prelude.{MatchBool, Ok, Err}
 use Rattle.std.proofs.lemmas.Bool.{true≢false}
 use Rattle.permit_book.specs.declared.out.Fetch.{Fetch}
-use Rattle.gate_history.specs.declared.entry.Entry.TheVariants.{Granted, StartDenied}
+use Rattle.gate_history.specs.declared.outcome.Cause.{Cause}
+use Rattle.gate_history.specs.declared.entry.Entry.TheVariants.{AskDenied, Granted, StartDenied}
 use Rattle.gate_history.specs.History.{entry_count}
 use Rattle.gate_history.specs.Outstanding.{stands}
 use Rattle.gate_core.specs.declared.refusal.AskRefusal.{AskRefusal}
@@ -46,3 +47,12 @@ pub granted_mark : (old new : Gate) (token url : List ℕ) (m number : ℕ) (las
 granted_mark old new token url m number last fetch ms ms2 mark asks is_last fetched marked same =
     let at = is_last old _ asks.4 in
     λ i. same i ++ (marked ∙ (λ j. mark_at (at.0 j) (Granted (at.2 j) number (fetched j)))) i ∷ []
+
+-- that of an ask that was denied
+pub denied_mark : (old new : Gate) (token url : List ℕ) (m : ℕ) (cause : Cause) (last : Last) (fetch : Fetch) (ms ms2 : List Mark) (mark : Mark) →
+    Adds old (AskDenied (moment_at old m) (record { token = token; url = url }) cause) new → IsLastEntry new last → fetch ≡ record { token = token; url = url } →
+    mark ≡ mark_at last.place (AskDenied last.moment fetch cause) → ms2 ≡ ms →
+    ms2 ++ mark ∷ [] ≡ ms ++ mark_at (entry_count (history old)) (AskDenied (moment_at old m) (record { token = token; url = url }) cause) ∷ []
+denied_mark old new token url m cause last fetch ms ms2 mark adds is_last fetched marked same =
+    let at = is_last old _ adds in
+    λ i. same i ++ (marked ∙ (λ j. mark_at (at.0 j) (AskDenied (at.2 j) (fetched j) cause))) i ∷ []

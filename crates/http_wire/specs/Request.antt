@@ -13,11 +13,11 @@ request_line target = codes "GET " ++ (target ++ (codes " HTTP/1.1" ++ crlf_byte
 abbrev pub field_line : List ℕ → List ℕ → List ℕ
 field_line name value = name ++ (codes ": " ++ (value ++ crlf_bytes))
 
--- the request for a target of an authority: any media type, no content coding, and no request after it
+-- the request for a target of a host, with its port where one is written: any media type, no content coding, and no request after it
 abbrev pub request : List ℕ → List ℕ → List ℕ → List ℕ
-request target authority agent =
+request target host agent =
     request_line target
-    ++ (field_line (codes "Host") authority
+    ++ (field_line (codes "Host") host
     ++ (field_line (codes "User-Agent") agent
     ++ (field_line (codes "Accept") (codes "*/*")
     ++ (field_line (codes "Accept-Encoding") (codes "identity")

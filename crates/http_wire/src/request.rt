@@ -3,7 +3,7 @@
 ghost use Rattle.std.specs.Prelude.{◌≡◌, ◌≤◌, All, length, take, Err, IfSome, OnOk, OnErr};
 ghost use Rattle.std.specs.Io.KnownBytes.{Appends};
 ghost use Rattle.counted_io.specs.Device.{failures_after, AppendsPrefix};
-ghost use Rattle.path_normal.specs.PageText.{authority_of, target_of};
+ghost use Rattle.path_normal.specs.PageText.{host_of, target_of};
 ghost use Rattle.http_wire.specs.Request.{joined_pieces, request};
 
 use crate::fault::WireFault;
@@ -21,9 +21,9 @@ pub fn write_get<W: Sink>(writer: &mut W, url: &PageUrl, agent: &[u8]) -> Result
     // No octet of the agent ends its line.
     requires { All (λ octet. (32 ≤ octet) × (octet ≤ 126)) agent.now }
     ensures ok { OnOk result (Appends (W.written writer.old) (W.written writer.new)
-        (request (target_of url.now) (authority_of url.now) agent.now)) }
+        (request (target_of url.now) (host_of url.now) agent.now)) }
     ensures err { OnErr result (AppendsPrefix (W.written writer.old) (W.written writer.new)
-        (request (target_of url.now) (authority_of url.now) agent.now)) }
+        (request (target_of url.now) (host_of url.now) agent.now)) }
     ensures fault { OnErr result (result ≡ Err WireFault.Device) }
     ensures count { W.failures writer.new ≡ failures_after (W.failures writer.old) result }
 {
@@ -31,7 +31,7 @@ pub fn write_get<W: Sink>(writer: &mut W, url: &PageUrl, agent: &[u8]) -> Result
         b"GET ",
         url.target().as_bytes(),
         b" HTTP/1.1\r\nHost: ",
-        url.authority().as_bytes(),
+        url.host().as_bytes(),
         b"\r\nUser-Agent: ",
         agent,
         b"\r\nAccept: */*\r\nAccept-Encoding: identity\r\nConnection: close\r\n\r\n",

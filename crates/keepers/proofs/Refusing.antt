@@ -1,7 +1,7 @@
 -- An ask that is refused, of a desk and then of its keeper.
--- Used by the `ask` of `DeskKeeper`.
-use Rattle.std.proofs.Common.{ℕ, List, inr}
-use Rattle.std.specs.Prelude.{Err}
+-- Used by the asks of `DeskKeeper`.
+use Rattle.std.proofs.Common.{◌≡◌, ℕ, false, List, inr, true≢false}
+use Rattle.std.specs.Prelude.{Err, is_err, Ok, OnOk, Result}
 use Rattle.gate_core.specs.declared.refusal.AskRefusal.{AskRefusal}
 use Rattle.gate_core.specs.declared.refusal.AskRefusal.TheVariants as ask
 use Rattle.gate_lock.specs.Bags.{BagView, HoldsSame}
@@ -17,3 +17,8 @@ refused d b token url m ask.LogFull d2 b2 asks holds = (asks, holds)
 refused d b token url m ask.Busy d2 b2 asks holds = (asks, holds)
 refused d b token url m ask.PermitsFull d2 b2 asks holds = (asks, holds)
 refused d b token url m ask.NoMemory d2 b2 asks holds = (inr asks, holds)
+
+-- what is so where a call was not refused
+pub unrefused : {A E P : Type 0} (r : Result A E) → is_err r ≡ false → OnOk r P → P
+unrefused (Ok a) is holds = holds
+unrefused (Err e) is holds = absurd (true≢false is)

@@ -1,6 +1,6 @@
 -- What a session is refused that has all that it may have of a gate: docs/FORMATS.md, `ERR permits`, `ERR authorities`.
 -- The contracts of `Bounds` and of `DeskKeeper`.
-use Rattle.std.specs.Prelude.{◌≡◌, ◌⊎◌, ℕ, ◌^◌, ◌-◌, Bool, true, false, nat_lt, not, List, [], ◌∷◌, Option, Some, None, Result, Ok, Err}
+use Rattle.std.specs.Prelude.{◌≡◌, ◌⊎◌, ℕ, ◌^◌, ◌-◌, Bool, true, false, nat_lt, not, [], ◌∷◌, Option, Some, None, Result, Ok, Err}
 use Rattle.gate_core.specs.declared.refusal.AskRefusal.{AskRefusal}
 use Rattle.gate_core.specs.declared.refusal.AskRefusal.TheVariants as ask
 use Rattle.gate_core.specs.declared.refusal.BeginRefusal.{BeginRefusal}
@@ -9,7 +9,6 @@ use Rattle.gate_core.specs.declared.refusal.NoMemory.{NoMemory}
 use Rattle.gate_core.specs.declared.state.Standing.{Standing}
 use Rattle.gate_lock.specs.Bags.{BagView}
 use Rattle.gate_lock.specs.Desks.{DeskView}
-use Rattle.crawl_job.specs.declared.hop.Hop.{Hop}
 use Rattle.crawl_job.specs.declared.hop.Hop.TheVariants as hops
 use Rattle.crawl_job.specs.declared.hop.Refusal.TheVariants as refusals
 use Rattle.crawl_job.specs.declared.job.Outcome.{Outcome}

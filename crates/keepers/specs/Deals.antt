@@ -12,10 +12,12 @@ use Rattle.gate_core.specs.declared.state.Standing.{Standing}
 use Rattle.gate_core.specs.declared.state.State.{State}
 use Rattle.crawl_job.specs.declared.job.Job.{Job}
 use Rattle.crawl_job.specs.declared.job.Outcome.{Outcome}
+use Rattle.path_normal.specs.declared.schemes.Schemes.{Schemes}
 
 -- the readings of a clock are the argument of a refresh and of a fetch, since these read it as they go
 pub record Deals (S : Type 0) : Type 1 where
   pub can_fetch : S → Bool
+  pub schemes : S → Schemes
   pub asks : S → (token url : List ℕ) (moment : ℕ) → Result ℕ AskRefusal → S → Type 0
   pub starts : S → (number : ℕ) (token url : List ℕ) (moment : ℕ) → Result Reason Denial → S → Type 0
   pub returns : S → (number : ℕ) → Result Unit NotOut → S → Type 0

@@ -6,7 +6,7 @@ use crawl_job::{Job, Outcome};
 use crawl_workers::Clock;
 use gate_core::{AskRefusal, BeginRefusal, Book, Denial, NoMemory, Standing, Started, State};
 use gate_history::{Reason, Segment};
-use path_normal::{Authority, PageUrl};
+use path_normal::{Authority, PageUrl, Schemes};
 use permit_book::{NotOut, PermitNo};
 use robots_text::Token;
 use std::alloc::Global;
@@ -31,10 +31,12 @@ impl<'a> Keeper for BookKeeper<'a> {
     ghost use Rattle.std.specs.Prelude.{◌≡◌, false};
     ghost use Rattle.gate_core.specs.Replies.{Asks, Finishes, Returns};
     ghost use Rattle.gate_core.specs.Sealing.{Seals};
+    ghost use Rattle.path_normal.specs.declared.schemes.Schemes.TheVariants.{Http};
     ghost use Rattle.keepers.specs.BookKeeping.{BookReads, BookStarts, OffersNone};
 
     ghost deals = { record {
       can_fetch = λ _. false;
+      schemes = λ _. Http;
       asks = λ k token url m result k2. (k2.book.ghost_name ≡ k.book.ghost_name) × Asks k.book.now token url m result k2.book.now;
       starts = λ k number token url m result k2. (k2.book.ghost_name ≡ k.book.ghost_name) × BookStarts k.book.now number token url m result k2.book.now;
       returns = λ k number result k2. (k2.book.ghost_name ≡ k.book.ghost_name) × Returns k.book.now number result k2.book.now;
@@ -48,6 +50,10 @@ impl<'a> Keeper for BookKeeper<'a> {
 
     fn can_fetch(&self) -> bool {
         false
+    }
+
+    fn schemes(&self) -> Schemes {
+        Schemes::Http
     }
 
     fn ask(&mut self, token: Token, url: PageUrl, moment: u64) -> Result<PermitNo, AskRefusal> {

@@ -15,7 +15,7 @@ use crawl_workers::{Clock, Fetcher, refresh, work};
 use gate_core::{AskRefusal, BeginRefusal, Denial, NoMemory, Standing, State};
 use gate_history::{Reason, Segment};
 use gate_lock::{Bag, Desk, DesksFull, Gate, GateLock, Receipts};
-use path_normal::{Authority, PageUrl};
+use path_normal::{Authority, PageUrl, Schemes};
 use permit_book::{NotOut, PermitNo};
 use robots_text::Token;
 use std::alloc::Global;
@@ -151,7 +151,7 @@ impl<'a, 'g, G: Gate, F: Fetcher, R: Wait> DeskKeeper<'a, 'g, G, F, R> {
         ensures fetcher { self.new.fetcher ≡ self.old.fetcher }
         ensures bounds { self.new.bounds ≡ self.old.bounds }
         ensures refreshes { Behind self.old.desk (λ d. KeeperRefreshes
-            (world_of (F.gives self.old.fetcher.now) (C.reads clock.now))
+            (world_of (F.gives self.old.fetcher.now) (F.follows self.old.fetcher.now) (C.reads clock.now))
             d self.old.bag authority.now (Some result) self.new.desk self.new.bag) }
     {
         self.make_way();
@@ -171,7 +171,7 @@ impl<'a, 'g, G: Gate, F: Fetcher, R: Wait> DeskKeeper<'a, 'g, G, F, R> {
         ensures fetcher { self.new.fetcher ≡ self.old.fetcher }
         ensures bounds { self.new.bounds ≡ self.old.bounds }
         ensures fetches { Behind self.old.desk (λ d. KeeperFetches
-            (world_of (F.gives self.old.fetcher.now) (C.reads clock.now))
+            (world_of (F.gives self.old.fetcher.now) (F.follows self.old.fetcher.now) (C.reads clock.now))
             d self.old.bag job (Some result) self.new.desk self.new.bag) }
     {
         self.make_way();
@@ -212,19 +212,24 @@ impl<'a, 'g, G: Gate, F: Fetcher, R: Wait> Keeper for DeskKeeper<'a, 'g, G, F, R
 
     ghost deals = { record {
       can_fetch = λ _. true;
+      schemes = λ k. F.follows k.fetcher.now;
       asks = λ k token url m result k2. ((k2.fetcher ≡ k.fetcher) × (k2.bounds ≡ k.bounds) × (k2.newcomers ≡ k.newcomers)) × Bounded (has_enough k.bounds.permits (out_of k.desk)) (RefusesAsk k.desk k.bag result k2.desk k2.bag) (Behind k.desk (λ d. KeeperAsks d k.bag token url m result k2.desk k2.bag));
       starts = λ k number token url m result k2. ((k2.fetcher ≡ k.fetcher) × (k2.bounds ≡ k.bounds) × (k2.newcomers ≡ k.newcomers)) × BagStarts k.bag k.desk number token url m result k2.bag k2.desk;
       returns = λ k number result k2. ((k2.fetcher ≡ k.fetcher) × (k2.bounds ≡ k.bounds) × (k2.newcomers ≡ k.newcomers)) × BagReturns k.bag k.desk number result k2.bag k2.desk;
       finishes = λ k number result k2. ((k2.fetcher ≡ k.fetcher) × (k2.bounds ≡ k.bounds) × (k2.newcomers ≡ k.newcomers)) × BagFinishes k.bag k.desk number result k2.bag k2.desk;
       reads = λ k authority m state k2. ((k2.fetcher ≡ k.fetcher) × (k2.bounds ≡ k.bounds) × (k2.newcomers ≡ k.newcomers)) × KeeperReads k.desk k.bag authority m state k2.desk k2.bag;
-      refreshes = λ reads k authority told k2. ((k2.fetcher ≡ k.fetcher) × (k2.bounds ≡ k.bounds)) × Bounded (has_enough k.bounds.authorities k.newcomers) (RefusesRefresh k.desk k.bag told k2.desk k2.bag) (Behind k.desk (λ d. KeeperRefreshes (world_of (F.gives k.fetcher.now) reads) d k.bag authority told k2.desk k2.bag));
-      fetches = λ reads k job told k2. ((k2.fetcher ≡ k.fetcher) × (k2.bounds ≡ k.bounds)) × Bounded (has_enough k.bounds.authorities k.newcomers) (RefusesFetch k.desk k.bag told k2.desk k2.bag) (Behind k.desk (λ d. KeeperFetches (world_of (F.gives k.fetcher.now) reads) d k.bag job told k2.desk k2.bag));
+      refreshes = λ reads k authority told k2. ((k2.fetcher ≡ k.fetcher) × (k2.bounds ≡ k.bounds)) × Bounded (has_enough k.bounds.authorities k.newcomers) (RefusesRefresh k.desk k.bag told k2.desk k2.bag) (Behind k.desk (λ d. KeeperRefreshes (world_of (F.gives k.fetcher.now) (F.follows k.fetcher.now) reads) d k.bag authority told k2.desk k2.bag));
+      fetches = λ reads k job told k2. ((k2.fetcher ≡ k.fetcher) × (k2.bounds ≡ k.bounds)) × Bounded (has_enough k.bounds.authorities k.newcomers) (RefusesFetch k.desk k.bag told k2.desk k2.bag) (Behind k.desk (λ d. KeeperFetches (world_of (F.gives k.fetcher.now) (F.follows k.fetcher.now) reads) d k.bag job told k2.desk k2.bag));
       seals = λ k result k2. ((k2.fetcher ≡ k.fetcher) × (k2.bounds ≡ k.bounds) × (k2.newcomers ≡ k.newcomers)) × KeeperSeals k.desk k.bag result k2.desk k2.bag;
       ends = λ k k2. ((k2.fetcher ≡ k.fetcher) × (k2.bounds ≡ k.bounds) × (k2.newcomers ≡ 0)) × KeeperEnds k.desk k.bag k2.desk k2.bag;
     } };
 
     fn can_fetch(&self) -> bool {
         true
+    }
+
+    fn schemes(&self) -> Schemes {
+        self.fetcher.schemes()
     }
 
     fn ask(&mut self, token: Token, url: PageUrl, moment: u64) -> Result<PermitNo, AskRefusal> {

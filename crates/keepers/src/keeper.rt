@@ -5,7 +5,7 @@ use crawl_job::{Job, Outcome};
 use crawl_workers::Clock;
 use gate_core::{AskRefusal, BeginRefusal, Denial, NoMemory, Standing, State};
 use gate_history::{Reason, Segment};
-use path_normal::{Authority, PageUrl};
+use path_normal::{Authority, PageUrl, Schemes};
 use permit_book::{NotOut, PermitNo};
 use robots_text::Token;
 use std::alloc::Global;
@@ -20,6 +20,10 @@ pub trait Keeper {
     /// Whether it refreshes and fetches.
     fn can_fetch(&self) -> bool
         ensures { result ≡ deals.can_fetch self.now };
+
+    /// The schemes of the pages and of the authorities that it is asked about.
+    fn schemes(&self) -> Schemes
+        ensures { result ≡ deals.schemes self.now };
 
     /// Asks for a permit to fetch the page once under the token.
     fn ask(&mut self, token: Token, url: PageUrl, moment: u64) -> Result<PermitNo, AskRefusal>

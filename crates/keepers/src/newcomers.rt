@@ -7,6 +7,7 @@ use fetchers::{PageLeave, RobotsLeave};
 use gate_core::Standing;
 use gate_lock::{Gate, GateLock};
 use http_wire::{HttpReply, WireFault};
+use path_normal::Schemes;
 use std::cell::Cell;
 use std::sync::Wait;
 use tcp_wire::{Deadline, Failure};
@@ -59,6 +60,12 @@ impl<'a, 'g, G: Gate, F: Fetcher, R: Wait> Newcomers<'a, 'g, G, F, R> {
 
 impl<'a, 'g, G: Gate, F: Fetcher, R: Wait> Fetcher for Newcomers<'a, 'g, G, F, R> {
     ghost gives = { λ newcomers. F.gives newcomers.fetcher.now };
+
+    ghost follows = { λ newcomers. F.follows newcomers.fetcher.now };
+
+    fn schemes(&self) -> Schemes {
+        self.fetcher.schemes()
+    }
 
     fn begin_walk(&self) -> Option<Deadline> {
         self.is_at_file.set(true);

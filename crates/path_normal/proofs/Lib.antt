@@ -3,4 +3,5 @@
 pub mod NormalLemmas
 pub mod PageLemmas
 pub mod AuthorityLemmas
+pub mod SchemeLemmas
 pub mod CallerLemmas

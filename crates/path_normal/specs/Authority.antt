@@ -1,6 +1,6 @@
 -- What a text by itself names as an authority.
 -- RFC 3986, section 3.2, in the words of the URL Standard.
-use Rattle.std.specs.Prelude.{◌≡◌, ◌<◌, ◌≤◌, ◌++◌, ℕ, All, IsAscii, Bool, List, None, Result, Ok, Err, codes, length, if◌then◌else◌}
+use Rattle.std.specs.Prelude.{◌≡◌, ◌<◌, ◌≤◌, ◌++◌, ℕ, All, IsAscii, Bool, List, None, Result, Ok, Err, codes, drop, length, if◌then◌else◌}
 use Rattle.std.specs.List.{list_any}
 use Rattle.url.specs.Parts.{Parts}
 use Rattle.path_normal.specs.declared.fault.AuthorityFault.{AuthorityFault}
@@ -8,8 +8,10 @@ use Rattle.path_normal.specs.declared.fault.UrlFault.{UrlFault}
 use Rattle.path_normal.specs.declared.fault.UrlFault.TheVariants as urls
 use Rattle.path_normal.specs.Limits.{max_authority}
 use Rattle.path_normal.specs.Octets.{is_one_of}
-use Rattle.path_normal.specs.PageText.{authority_of}
-use Rattle.path_normal.specs.PageUrl.{authority_of_parts, page_url_from, IsPageParts}
+use Rattle.path_normal.specs.declared.schemes.Schemes.{Schemes}
+use Rattle.path_normal.specs.declared.schemes.Schemes.TheVariants.{Http, HttpAndHttps}
+use Rattle.path_normal.specs.PageText.{authority_of, is_https, scheme_of}
+use Rattle.path_normal.specs.PageUrl.{authority_of_parts, page_url_among, IsPageParts}
 use Rattle.path_normal.specs.Capacity.{Capacity, Enough, unless_refused}
 use Rattle.url.specs.Ascii.{space}
 
@@ -29,23 +31,32 @@ authority_of_read (Err fault) = Err (authority_fault_of fault)
 
 -- the root of the authority that the text writes
 abbrev pub root_of : List ℕ → List ℕ
-root_of text = codes "http://" ++ text ++ codes "/"
+root_of text = scheme_of text ++ (text ++ codes "/")
 
--- the authority of the page at that root, or the fault
-abbrev pub authority_from : List ℕ → Capacity → Result (List ℕ) AuthorityFault
-authority_from text capacity =
-    if list_any is_delimiter text then Err AuthorityFault.BadAuthority
+-- the host that the text writes as an authority where these schemes are read
+abbrev pub written_host : Schemes → List ℕ → List ℕ
+written_host Http text = text
+written_host HttpAndHttps text = if is_https text then drop 8 text else text
+
+-- the authority of the page at that root where these schemes are read, or the fault
+abbrev pub authority_among : Schemes → List ℕ → Capacity → Result (List ℕ) AuthorityFault
+authority_among schemes text capacity =
+    if list_any is_delimiter (written_host schemes text) then Err AuthorityFault.BadAuthority
     else unless_refused AuthorityFault.NoMemory
-    (authority_of_read (page_url_from None (root_of text) capacity)) capacity
+    (authority_of_read (page_url_among schemes None (root_of text) capacity)) capacity
+
+-- the authority of the page at that root where `http` alone is read, or the fault
+abbrev pub authority_from : List ℕ → Capacity → Result (List ℕ) AuthorityFault
+authority_from = authority_among Http
 
 -- a valid URL has the authority
 unfoldable pub IsWrittenAuthority : List ℕ → Type 0
 IsWrittenAuthority authority = (url : Parts) × IsPageParts url × (authority_of_parts url ≡ authority)
 
--- the authority reads as itself, and is that of a valid URL within the limit, in ASCII with no octet
+-- the authority reads as itself where both schemes are read, and is that of a valid URL within the limit, in ASCII with no octet
 -- that is a space or a control before it
 pub record IsAuthority (authority : List ℕ) : Type 0 where
-  pub own : authority_from authority Enough ≡ Ok authority
+  pub own : authority_among HttpAndHttps authority Enough ≡ Ok authority
   pub written : IsWrittenAuthority authority
   pub limit : length authority ≤ max_authority
   pub ascii : IsAscii authority

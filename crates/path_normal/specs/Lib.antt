@@ -6,5 +6,7 @@ pub mod Octets
 pub mod Normal
 pub mod Capacity
 pub mod PageText
+pub mod Schemes
 pub mod PageUrl
 pub mod Authority
+pub mod Laws

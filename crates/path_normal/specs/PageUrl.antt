@@ -1,6 +1,6 @@
 -- What a text reads as, as the URL of a page, and why it is refused.
 -- URL Standard, sections 4.4 and 4.5.
-use Rattle.std.specs.Prelude.{◌≡◌, ◌<◌, ◌≤◌, ◌++◌, ℕ, All, IsAscii, slice_index, take, Bool, not, ◌||◌, List, [], Option, Some, None, Result, Ok, Err, bytes_eq, codes, decimal, length, nat_lt, if◌then◌else◌}
+use Rattle.std.specs.Prelude.{◌≡◌, ◌<◌, ◌≤◌, ◌++◌, ℕ, All, IsAscii, slice_index, take, Bool, true, not, ◌||◌, List, [], Option, Some, None, Result, Ok, Err, bytes_eq, codes, decimal, length, nat_lt, if◌then◌else◌}
 use Rattle.std.specs.Result.{result_ok}
 use Rattle.url.specs.declared.error.ParseError.{ParseError}
 use Rattle.url.specs.declared.error.ParseError.TheVariants.{Overflow, OutOfMemory}
@@ -12,7 +12,10 @@ use Rattle.path_normal.specs.declared.fault.Unread.{Unread}
 use Rattle.path_normal.specs.declared.fault.Unread.TheVariants as unread
 use Rattle.path_normal.specs.declared.fault.UrlFault.{UrlFault}
 use Rattle.path_normal.specs.declared.fault.UrlFault.TheVariants.{BadUrl, HasUser, NotHttp, TooLong}
-use Rattle.path_normal.specs.PageText.{authority_of, target_of}
+use Rattle.path_normal.specs.declared.schemes.Schemes.{Schemes}
+use Rattle.path_normal.specs.declared.schemes.Schemes.TheVariants.{Http, HttpAndHttps}
+use Rattle.path_normal.specs.PageText.{authority_of, host_of, host_start, named, start_of, target_of}
+use Rattle.path_normal.specs.Schemes.{IsScheme, reads}
 use Rattle.path_normal.specs.Capacity.{Capacity, Enough, Overflows, Refused, fault_of_unread}
 use Rattle.url.specs.Ascii.{slash, space}
 
@@ -26,9 +29,13 @@ abbrev pub query_text : Option (List ℕ) → List ℕ
 query_text None = []
 query_text (Some query) = codes "?" ++ query
 
--- the host, and the port where one is written
+-- the host, and the port where one is written: where it is not that of the scheme
+abbrev pub host_of_parts : Parts → List ℕ
+host_of_parts url = host_text (host_or_empty url) ++ port_text url.port
+
+-- the authority: that host, behind `https://` where that is the scheme
 abbrev pub authority_of_parts : Parts → List ℕ
-authority_of_parts url = host_text (host_or_empty url) ++ port_text url.port
+authority_of_parts url = named (bytes_eq url.scheme (codes "https")) (host_of_parts url)
 
 -- the path, and the query where there is one
 abbrev pub target_of_parts : Parts → List ℕ
@@ -43,10 +50,10 @@ abbrev pub is_too_long : Parts → Bool
 is_too_long url =
     nat_lt max_url (length (page_of_parts url)) || nat_lt max_authority (length (authority_of_parts url))
 
--- the page of a URL, or the first fault that it has
-abbrev pub page_url_of_parts : Parts → Result (List ℕ) UrlFault
-page_url_of_parts url =
-    if not (bytes_eq url.scheme (codes "http")) then Err NotHttp
+-- the page of a URL, where these schemes are read, or the first fault that it has
+abbrev pub page_url_of_parts : Schemes → Parts → Result (List ℕ) UrlFault
+page_url_of_parts schemes url =
+    if not (reads schemes url.scheme) then Err NotHttp
     else (if has_credentials url then Err HasUser
     else (if is_too_long url then Err TooLong
     else Ok (page_of_parts url)))
@@ -62,9 +69,9 @@ abbrev pub fault_of : ParseError → UrlFault
 fault_of error = fault_of_unread (unread_of error)
 
 -- the page of what the parser gave, or the fault
-abbrev pub page_url_of_parsed : Parsed Parts → Result (List ℕ) UrlFault
-page_url_of_parsed (Ok url) = page_url_of_parts url
-page_url_of_parsed (Err error) = Err (fault_of error)
+abbrev pub page_url_of_parsed : Schemes → Parsed Parts → Result (List ℕ) UrlFault
+page_url_of_parsed schemes (Ok url) = page_url_of_parts schemes url
+page_url_of_parsed schemes (Err error) = Err (fault_of error)
 
 -- what the parser gives for a text, beside a base or by itself: what the standard does, with enough capacity
 abbrev pub parsed_in : Option Parts → List ℕ → Capacity → Parsed Parts
@@ -72,18 +79,31 @@ parsed_in base text Enough = parse_url base text
 parsed_in base text Overflows = Err Overflow
 parsed_in base text Refused = Err OutOfMemory
 
--- the page that the text reads as, beside a base or by itself, or the first fault that it has
-abbrev pub page_url_from : Option Parts → List ℕ → Capacity → Result (List ℕ) UrlFault
-page_url_from base text capacity =
-    if nat_lt max_url (length text) then Err TooLong else page_url_of_parsed (parsed_in base text capacity)
+-- the page that the text reads as where these schemes are read, beside a base or by itself, or the first
+-- fault that it has
+abbrev pub page_url_among : Schemes → Option Parts → List ℕ → Capacity → Result (List ℕ) UrlFault
+page_url_among schemes base text capacity =
+    if nat_lt max_url (length text) then Err TooLong
+    else page_url_of_parsed schemes (parsed_in base text capacity)
 
--- the page that the text reads as by itself, with enough capacity, or the first fault that it has
+-- the page that the text names on a page, which has no fragment, where these schemes are read, or the first
+-- fault that it has
+abbrev pub page_url_on_among : Schemes → List ℕ → List ℕ → Capacity → Result (List ℕ) UrlFault
+page_url_on_among schemes page text capacity =
+    page_url_among schemes (result_ok (parse_url None page)) text capacity
+
+-- the page that the text reads as where `http` alone is read, beside a base or by itself, or the first fault
+abbrev pub page_url_from : Option Parts → List ℕ → Capacity → Result (List ℕ) UrlFault
+page_url_from = page_url_among Http
+
+-- the page that the text names on a page where `http` alone is read, or the first fault
+abbrev pub page_url_on : List ℕ → List ℕ → Capacity → Result (List ℕ) UrlFault
+page_url_on = page_url_on_among Http
+
+-- the page that the text reads as by itself, with enough capacity, where `http` alone is read, or the first
+-- fault that it has
 abbrev pub page_url_of : List ℕ → Result (List ℕ) UrlFault
 page_url_of text = page_url_from None text Enough
-
--- the page that the text names on a page, which has no fragment, or the first fault that it has
-abbrev pub page_url_on : List ℕ → List ℕ → Capacity → Result (List ℕ) UrlFault
-page_url_on page text capacity = page_url_from (result_ok (parse_url None page)) text capacity
 
 -- the result is the expected one, unless there was no memory
 abbrev pub IsAnswer : Result (List ℕ) Unread → Result (List ℕ) UrlFault → Type 0
@@ -92,9 +112,10 @@ IsAnswer (Err (unread.Fault fault)) expected = expected ≡ Err fault
 IsAnswer (Err unread.Overflow) expected = ⊥
 IsAnswer (Err unread.NoMemory) expected = Unit {0}
 
--- the page's authority and target are those of the URL
+-- the page's authority, host and target are those of the URL
 pub record HasPartsOf (page : List ℕ) (url : Parts) : Type 0 where
   pub authority : authority_of page ≡ authority_of_parts url
+  pub host : host_of page ≡ host_of_parts url
   pub target : target_of page ≡ target_of_parts url
 
 -- the page has the authority and target of the URL that the text names on another page
@@ -103,16 +124,17 @@ IsNamedOn page text named =
     (base url : Parts) × (parse_url None page ≡ Ok base) × (parse_url (Some base) text ≡ Ok url)
     × HasPartsOf named url
 
--- a valid `http` URL without user
+-- a valid URL of `http` or `https` without user
 pub record IsPageParts (url : Parts) : Type 0 where
   pub valid : IsValid url
-  pub scheme : url.scheme ≡ codes "http"
+  pub scheme : IsScheme url.scheme
   pub username : url.username ≡ []
   pub password : url.password ≡ []
 
--- a valid `http` URL without user, within the limits
-pub record IsFaultless (url : Parts) : Type 0 where
+-- a valid URL of one of these schemes without user, within the limits
+pub record IsFaultless (schemes : Schemes) (url : Parts) : Type 0 where
   pub parts : IsPageParts url
+  pub is_read : reads schemes url.scheme ≡ true
   pub limit : length (page_of_parts url) ≤ max_url
   pub authority_limit : length (authority_of_parts url) ≤ max_authority
 
@@ -120,12 +142,13 @@ pub record IsFaultless (url : Parts) : Type 0 where
 unfoldable pub IsWritten : List ℕ → Type 0
 IsWritten page = (url : Parts) × IsPageParts url × (page_of_parts url ≡ page)
 
--- the text reads as itself, and is that of a valid URL within the limits: `http://`, an authority
--- and a target that begins with `/`, with no octet that is a space or a control before it
+-- the text reads as itself where both schemes are read, and is that of a valid URL within the limits:
+-- `http://` or `https://`, a host and a target that begins with `/`, with no octet that is a space or a
+-- control before it
 pub record IsPage (page : List ℕ) : Type 0 where
-  pub own : page_url_of page ≡ Ok page
+  pub own : page_url_among HttpAndHttps None page Enough ≡ Ok page
   pub written : IsWritten page
-  pub scheme : take 7 page ≡ codes "http://"
+  pub scheme : take (host_start page) page ≡ start_of page
   pub limit : length page ≤ max_url
   pub authority_limit : length (authority_of page) ≤ max_authority
   pub rooted : slice_index (target_of page) 0 ≡ slash

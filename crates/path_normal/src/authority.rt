@@ -1,20 +1,22 @@
-//! The authority of a page's URL: its host, and its port where that is not 80.
-//! RFC 3986, section 3.2.
+//! The authority of a page's URL: its host, and its port where that is not the scheme's; behind
+//! `https://` where that is the scheme. RFC 3986, section 3.2; RFC 9309, section 2.3.
 ghost use Rattle.std.specs.Prelude.{◌≡◌, Some, Err, IfOk, bytes_eq, string_bytes};
 ghost use Rattle.std.specs.Cmp.{partial_equiv_from_equiv};
 ghost use Rattle.std.specs.Cmp.Lexicographic.{nat_list_eq_equiv};
 ghost use Rattle.std.specs.List.{list_any};
 ghost use Rattle.path_normal.specs.PageText.{authority_of};
-ghost use Rattle.path_normal.specs.Authority.{IsAuthority, authority_from, is_delimiter, root_of};
+ghost use Rattle.path_normal.specs.Authority.{IsAuthority, authority_among, authority_from, is_delimiter, root_of, written_host};
 ghost use Rattle.path_normal.specs.Capacity.{IsRead};
 
 use crate::fault::AuthorityFault;
-use crate::page_url::PageUrl;
+use crate::page_url::{PageUrl, scheme_of};
+use crate::schemes::Schemes;
 use std::alloc::{AllocError, Global};
 use std::fmt;
 use std::marker::Model;
 
-/// The authority of a page's URL: the host in lower case, and `:` and the port where it is not 80.
+/// The authority of a page's URL: the host in lower case, and `:` and the port where it is not that
+/// of the scheme, 80 or 443; behind `https://` where that is the scheme.
 #[derive(Drop)]
 pub struct Authority {
     text: String,
@@ -36,15 +38,28 @@ impl Model for Authority {
 }
 
 impl Authority {
-    /// Reads an authority as it stands in a URL: the port may be 80, and letters of either case.
+    /// Reads an authority of pages of `http` as it stands in a URL: the port may be 80, and letters
+    /// of either case.
     pub fn new(alloc: Global, text: &str) -> Result<Authority, AuthorityFault>
         ensures { IsRead result (authority_from text.now) }
     {
-        if has_delimiter(text.as_bytes()) {
+        Authority::new_among(alloc, Schemes::Http, text)
+    }
+
+    /// Reads an authority of pages of these schemes: the host and port as they stand in a URL, behind
+    /// `https://` in lower case where that is the scheme.
+    pub fn new_among(
+        alloc: Global,
+        schemes: Schemes,
+        text: &str,
+    ) -> Result<Authority, AuthorityFault>
+        ensures { IsRead result (authority_among schemes text.now) }
+    {
+        if has_delimiter(written_host(schemes, text).as_bytes()) {
             return Err(AuthorityFault::BadAuthority);
         }
         let root = root_text(alloc, text)?;
-        let url = PageUrl::parse(alloc, root.as_str())?;
+        let url = PageUrl::parse_among(alloc, schemes, root.as_str())?;
         Ok(Authority::of(&url)?)
     }
 
@@ -90,6 +105,16 @@ impl Authority {
     }
 }
 
+// The host that a text writes as an authority of pages of these schemes.
+fn written_host(schemes: Schemes, text: &str) -> &str
+    ensures { result.now ≡ written_host schemes text.now }
+{
+    match schemes {
+        Schemes::Http => text,
+        Schemes::HttpAndHttps => text.strip_prefix("https://").unwrap_or(text),
+    }
+}
+
 fn has_delimiter(octets: &[u8]) -> bool
     ensures { result ≡ list_any is_delimiter octets.now }
 {
@@ -100,7 +125,7 @@ fn has_delimiter(octets: &[u8]) -> bool
 pub fn root_text(alloc: Global, text: &str) -> Result<String, AllocError>
     ensures { IfOk result (λ page. string_bytes page ≡ root_of text.now) }
 {
-    let mut page = String::from_str(alloc, "http://")?;
+    let mut page = String::from_str(alloc, scheme_of(text))?;
     page.push_str(text)?;
     page.push_str("/")?;
     Ok(page)

@@ -13,7 +13,7 @@ pub enum UrlFault {
     TooLong,
     /// The URL Standard's parser refuses the text.
     BadUrl,
-    /// The scheme is not `http`.
+    /// The scheme is none of those that are read: `http`, and `https` where that is asked for.
     NotHttp,
     /// There is a user name or a password that is not empty.
     HasUser,
@@ -124,7 +124,8 @@ impl Error for Unread {}
 /// Why a text was not taken as an authority.
 #[derive(Clone, Copy, Debug, PartialEq, Eq)]
 pub enum AuthorityFault {
-    /// The text has one of `/ \ ? # @`, or does not make a page's URL between `http://` and `/`.
+    /// The text has one of `/ \ ? # @`, but for `https://` before the rest where that scheme is read, or
+    /// does not make a page's URL with `http://` before it, where it has no scheme, and `/` behind it.
     BadAuthority,
     /// The allocator had no memory.
     NoMemory,

@@ -4,10 +4,13 @@
 
 mod authority;
 mod fault;
+pub mod laws;
 mod normal;
 mod page_url;
+mod schemes;
 
 pub use authority::{Authority, root_text};
 pub use fault::{AuthorityFault, Unread, UrlFault};
 pub use normal::{is_unreserved, normal_path, normal_pattern, push_normal_pattern, split_anchor};
 pub use page_url::{MAX_AUTHORITY, MAX_URL, PageUrl};
+pub use schemes::Schemes;

@@ -1,4 +1,4 @@
-//! The URL of a page: an `http` URL with no user and no fragment.
+//! The URL of a page: an `http` or `https` URL with no user and no fragment.
 //! URL Standard, sections 4.4 and 4.5.
 ghost use Rattle.std.specs.Prelude.{◌≡◌, ◌<◌, None, Some, Ok, Err, IfOk, IsAscii, MatchOption, bytes_eq, length, nat_lt, string_bytes};
 ghost use Rattle.std.specs.Cmp.{partial_equiv_from_equiv};
@@ -7,13 +7,15 @@ ghost use Rattle.url.specs.Parser.{parse_url};
 ghost use Rattle.url.specs.Parts.{IsValid, Parts};
 ghost use Rattle.path_normal.specs.Limits.{max_url};
 ghost use Rattle.path_normal.specs.Normal.{normal_path};
-ghost use Rattle.path_normal.specs.PageText.{authority_of, robots_url_of, target_of};
-ghost use Rattle.path_normal.specs.PageUrl.{HasPartsOf, IsAnswer, IsFaultless, IsNamedOn, IsPage, authority_of_parts, page_of_parts, page_url_from, page_url_of_parts, page_url_on, target_of_parts};
+ghost use Rattle.path_normal.specs.PageText.{authority_of, host_of, host_start, is_https, robots_url_of, scheme_of, target_of};
+ghost use Rattle.path_normal.specs.PageUrl.{HasPartsOf, IsAnswer, IsFaultless, IsNamedOn, IsPage, authority_of_parts, host_of_parts, page_of_parts, page_url_among, page_url_from, page_url_of_parts, page_url_on, page_url_on_among, target_of_parts};
+ghost use Rattle.path_normal.specs.Authority.{IsAuthority};
 ghost use Rattle.path_normal.specs.Capacity.{IsRead, IsReadWith};
 
 use crate::authority::Authority;
 use crate::fault::{Unread, UrlFault};
 use crate::normal::normal_path;
+use crate::schemes::{Schemes, is_https};
 use std::alloc::{AllocError, Global};
 use std::fmt;
 use std::marker::Model;
@@ -28,13 +30,15 @@ pub const MAX_AUTHORITY: usize = 4_000;
 // Where a site keeps its robots file, in normal form.
 const ROBOTS_PATH: &str = "/robots.txt";
 
-/// The URL of a page, as the URL Standard writes it: `http`, no user, no fragment.
+/// The URL of a page, as the URL Standard writes it: `http` or `https`, no user, no fragment.
 ///
 /// A clause sees it as its text, of which `authority_of` and `target_of` give the parts.
 #[derive(Drop)]
 pub struct PageUrl {
     text: String,
-    authority_end: usize,
+    // Where the host begins, and where it ends with its port.
+    start: usize,
+    end: usize,
     path: Vec<u8>,
 }
 
@@ -47,30 +51,50 @@ impl Model for PageUrl {
     ghost coded = { coded_list coded_ℕ };
 
     ghost use Rattle.path_normal.specs.Normal.{normal_path};
-    ghost use Rattle.path_normal.specs.PageText.{authority_of, target_of};
+    ghost use Rattle.path_normal.specs.PageText.{host_of, host_start, target_of};
     ghost use Rattle.path_normal.specs.PageUrl.{IsPage};
 
     ghost view = { λ url. string_bytes url.text };
 
     ghost invariant = { λ url. IsPage (string_bytes url.text)
-        × (url.authority_end ≡ 7 + length (authority_of (string_bytes url.text)))
+        × (url.start ≡ host_start (string_bytes url.text))
+        × (url.end ≡ host_start (string_bytes url.text) + length (host_of (string_bytes url.text)))
         × (url.path.items ≡ normal_path (target_of (string_bytes url.text))) };
 }
 
 impl PageUrl {
-    /// Reads the URL of a page, and drops its fragment.
+    /// Reads the URL of a page of `http`, and drops its fragment.
     pub fn parse(alloc: Global, text: &str) -> Result<PageUrl, UrlFault>
         ensures answer { IsRead result (page_url_from None text.now) }
         ensures parts { IfOk result (λ page. (url : Parts) × (parse_url None text.now ≡ Ok url)
             × HasPartsOf page url) }
     {
-        Ok(PageUrl::read(alloc, text)?)
+        PageUrl::parse_among(alloc, Schemes::Http, text)
     }
 
-    /// Reads the URL of a page as `parse` does, and tells an overflow of the crate `url`, which is
-    /// no fault of the text, from a text that is too long.
+    /// Reads the URL of a page of these schemes, and drops its fragment.
+    pub fn parse_among(alloc: Global, schemes: Schemes, text: &str) -> Result<PageUrl, UrlFault>
+        ensures answer { IsRead result (page_url_among schemes None text.now) }
+        ensures parts { IfOk result (λ page. (url : Parts) × (parse_url None text.now ≡ Ok url)
+            × HasPartsOf page url) }
+    {
+        Ok(PageUrl::read_among(alloc, schemes, text)?)
+    }
+
+    /// Reads the URL of a page of `http` as `parse` does, and tells an overflow of the crate `url`,
+    /// which is no fault of the text, from a text that is too long.
     pub fn read(alloc: Global, text: &str) -> Result<PageUrl, Unread>
         ensures answer { IsReadWith result (page_url_from None text.now) }
+        ensures parts { IfOk result (λ page. (url : Parts) × (parse_url None text.now ≡ Ok url)
+            × HasPartsOf page url) }
+    {
+        PageUrl::read_among(alloc, Schemes::Http, text)
+    }
+
+    /// Reads the URL of a page of these schemes as `parse_among` does, and tells an overflow of the
+    /// crate `url`, which is no fault of the text, from a text that is too long.
+    pub fn read_among(alloc: Global, schemes: Schemes, text: &str) -> Result<PageUrl, Unread>
+        ensures answer { IsReadWith result (page_url_among schemes None text.now) }
         ensures parts { IfOk result (λ page. (url : Parts) × (parse_url None text.now ≡ Ok url)
             × HasPartsOf page url) }
     {
@@ -78,11 +102,11 @@ impl PageUrl {
             return Err(Unread::Fault(UrlFault::TooLong));
         }
         let url = Url::parse(alloc, text)?;
-        PageUrl::of_parsed(alloc, &url)
+        PageUrl::of_parsed(alloc, schemes, &url)
     }
 
-    /// Reads the URL of the page that a text names on this one, as a link or a redirect does
-    /// (RFC 3986, 5.2).
+    /// Reads the URL of the page of `http` that a text names on this one, as a link or a redirect
+    /// does (RFC 3986, 5.2).
     pub fn join(&self, text: &str) -> Result<PageUrl, UrlFault>
         ensures answer { IsRead result (page_url_on self.now text.now) }
         ensures parts { IfOk result (IsNamedOn self.now text.now) }
@@ -90,10 +114,19 @@ impl PageUrl {
         Ok(self.read_on(text)?)
     }
 
-    /// Reads the URL of the page that a text names on this one as `join` does, and tells an
-    /// overflow of the crate `url`, which is no fault of the text, from a text that is too long.
+    /// Reads the URL of the page of `http` that a text names on this one as `join` does, and tells
+    /// an overflow of the crate `url`, which is no fault of the text, from a text that is too long.
     pub fn read_on(&self, text: &str) -> Result<PageUrl, Unread>
         ensures answer { IsReadWith result (page_url_on self.now text.now) }
+        ensures parts { IfOk result (IsNamedOn self.now text.now) }
+    {
+        self.read_on_among(Schemes::Http, text)
+    }
+
+    /// Reads the URL of the page of these schemes that a text names on this one, as a link or a
+    /// redirect does (RFC 3986, 5.2), and tells an overflow as `read_on` does.
+    pub fn read_on_among(&self, schemes: Schemes, text: &str) -> Result<PageUrl, Unread>
+        ensures answer { IsReadWith result (page_url_on_among schemes self.now text.now) }
         ensures parts { IfOk result (IsNamedOn self.now text.now) }
     {
         if is_long(text) {
@@ -101,7 +134,7 @@ impl PageUrl {
         }
         let base = Url::parse(self.allocator(), self.text())?;
         let url = base.join(text)?;
-        PageUrl::of_parsed(self.allocator(), &url)
+        PageUrl::of_parsed(self.allocator(), schemes, &url)
     }
 
     /// The URL of an authority's robots file (RFC 9309, 2.3). It fails for want of memory alone.
@@ -110,25 +143,32 @@ impl PageUrl {
         ensures authority { IfOk result (λ url. authority_of url ≡ authority.now) }
     {
         let alloc = authority.allocator();
+        let text = robots_text(alloc, authority)?;
+        let page = text.as_str();
+        let start = host_start(page);
+        let end = page.len() - ROBOTS_PATH.len();
         Ok(PageUrl {
-            text: robots_text(alloc, authority)?,
-            authority_end: "http://".len() + authority.text().len(),
+            text,
+            start,
+            end,
             path: Vec::from_slice(alloc, ROBOTS_PATH.as_bytes())?,
         })
     }
 
-    fn of_parsed(alloc: Global, url: &Url) -> Result<PageUrl, Unread>
-        ensures answer { IsAnswer result (page_url_of_parts url.now) }
+    fn of_parsed(alloc: Global, schemes: Schemes, url: &Url) -> Result<PageUrl, Unread>
+        ensures answer { IsAnswer result (page_url_of_parts schemes url.now) }
         ensures parts { IfOk result (λ page. HasPartsOf page url.now) }
     {
-        if let Some(fault) = fault_in(url) {
+        if let Some(fault) = fault_in(schemes, url) {
             return Err(Unread::Fault(fault));
         }
-        let authority = authority_in(url);
+        let start = host_start(page_in(url));
+        let end = start + host_in(url).len();
         let path = normal_path(alloc, target_in(url).as_bytes())?;
         Ok(PageUrl {
             text: String::from_str(alloc, page_in(url))?,
-            authority_end: "http://".len() + authority.len(),
+            start,
+            end,
             path,
         })
     }
@@ -139,7 +179,8 @@ impl PageUrl {
     {
         Ok(PageUrl {
             text: self.text.clone()?,
-            authority_end: self.authority_end,
+            start: self.start,
+            end: self.end,
             path: self.path.clone()?,
         })
     }
@@ -152,12 +193,33 @@ impl PageUrl {
         self.text.as_str()
     }
 
-    /// The host, and `:` and the port where it is not 80 (RFC 3986, 3.2).
+    /// The scheme is `https` (RFC 9110, 4.2.2).
+    pub fn is_https(&self) -> bool
+        ensures value { result ≡ is_https self.now }
+        ensures page { IsPage self.now }
+    {
+        self.start > "http://".len()
+    }
+
+    /// The host, and `:` and the port where it is not that of the scheme, 80 or 443 (RFC 3986, 3.2).
+    pub fn host(&self) -> &str
+        ensures value { result.now ≡ host_of self.now }
+        ensures page { IsPage self.now }
+    {
+        &self.text.as_str()[self.start..self.end]
+    }
+
+    /// The host and port as `host` tells them, behind `https://` where that is the scheme: that for
+    /// which a robots file holds (RFC 9309, 2.3).
     pub fn authority(&self) -> &str
         ensures value { result.now ≡ authority_of self.now }
         ensures page { IsPage self.now }
     {
-        &self.text.as_str()["http://".len()..self.authority_end]
+        if self.is_https() {
+            &self.text.as_str()[..self.end]
+        } else {
+            self.host()
+        }
     }
 
     /// The path, and `?` and the query where there is one (RFC 3986, 3.3 and 3.4).
@@ -165,7 +227,7 @@ impl PageUrl {
         ensures value { result.now ≡ target_of self.now }
         ensures page { IsPage self.now }
     {
-        &self.text.as_str()[self.authority_end..]
+        &self.text.as_str()[self.end..]
     }
 
     /// The path that patterns are matched with: the target in normal form (RFC 9309, 2.2.2).
@@ -184,12 +246,32 @@ impl PageUrl {
 
 // The text of the URL of an authority's robots file.
 fn robots_text(alloc: Global, authority: &Authority) -> Result<String, AllocError>
-    ensures { IfOk result (λ text. string_bytes text ≡ robots_url_of authority.now) }
+    ensures value { IfOk result (λ text. string_bytes text ≡ robots_url_of authority.now) }
+    ensures authority { IsAuthority authority.now }
 {
-    let mut text = String::from_str(alloc, "http://")?;
-    text.push_str(authority.text())?;
+    let authority = authority.text();
+    let mut text = String::from_str(alloc, scheme_of(authority))?;
+    text.push_str(authority)?;
     text.push_str(ROBOTS_PATH)?;
     Ok(text)
+}
+
+/// What stands before an authority in the URLs of its pages.
+pub(crate) fn scheme_of(authority: &str) -> &'static str
+    ensures { result.now ≡ scheme_of authority.now }
+{
+    if is_https(authority) { "" } else { "http://" }
+}
+
+// Where the host of a page begins.
+fn host_start(page: &str) -> usize
+    ensures { result ≡ host_start page.now }
+{
+    if is_https(page) {
+        "https://".len()
+    } else {
+        "http://".len()
+    }
 }
 
 fn is_long(text: &str) -> bool
@@ -198,21 +280,34 @@ fn is_long(text: &str) -> bool
     text.len() > MAX_URL
 }
 
-// The first fault that a URL has as that of a page.
-fn fault_in(url: &Url) -> Option<UrlFault>
-    ensures { MatchOption result (IsFaultless url.now)
-        (λ fault. page_url_of_parts url.now ≡ Err fault) }
+// The first fault that a URL has as that of a page of these schemes.
+fn fault_in(schemes: Schemes, url: &Url) -> Option<UrlFault>
+    ensures { MatchOption result (IsFaultless schemes url.now)
+        (λ fault. page_url_of_parts schemes url.now ≡ Err fault) }
 {
-    if url.scheme() != "http" {
+    if !schemes.reads(url.scheme()) {
         return Some(UrlFault::NotHttp);
     }
     if !url.username().is_empty() || url.password().is_some() {
         return Some(UrlFault::HasUser);
     }
-    if page_in(url).len() > MAX_URL || authority_in(url).len() > MAX_AUTHORITY {
+    if page_in(url).len() > MAX_URL || authority_len(url) > MAX_AUTHORITY {
         return Some(UrlFault::TooLong);
     }
     None
+}
+
+// How many octets the authority has.
+fn authority_len(url: &Url) -> usize
+    ensures value { result ≡ length (authority_of_parts url.now) }
+    ensures valid { IsValid url.now }
+{
+    let host = host_in(url).len();
+    if url.scheme() == "https" {
+        "https://".len() + host
+    } else {
+        host
+    }
 }
 
 fn page_in(url: &Url) -> &str
@@ -228,8 +323,8 @@ fn target_in(url: &Url) -> &str
     url.slice(Position::BeforePath, Position::AfterQuery)
 }
 
-fn authority_in(url: &Url) -> &str
-    ensures value { result.now ≡ authority_of_parts url.now }
+fn host_in(url: &Url) -> &str
+    ensures value { result.now ≡ host_of_parts url.now }
     ensures valid { IsValid url.now }
 {
     url.slice(Position::BeforeHost, Position::AfterPort)

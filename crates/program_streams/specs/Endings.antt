@@ -1,6 +1,8 @@
 -- How the program ends: the exit status of each ending, and what is told on standard error.
 -- docs/crawlgate.1.md has the same table.
-use Rattle.std.specs.Prelude.{ℕ, List, Option, Some, None, codes, Result, Ok, Err}
+use Rattle.std.specs.Prelude.{ℕ, List, ◌++◌, Option, Some, None, codes, Result, Ok, Err}
+use Rattle.std.specs.Net.Text.{socket_text}
+use Rattle.std.specs.declared.net.socket_addr.SocketAddr.{SocketAddr}
 use Rattle.command_server.specs.declared.session_fault.SessionFault.{SessionFault}
 use Rattle.command_server.specs.declared.session_fault.SessionFault.TheVariants as faults
 use Rattle.robots_check.specs.declared.fault.CheckFault.{CheckFault}
@@ -9,6 +11,8 @@ use Rattle.robots_check.specs.declared.outcome.Outcome.{Outcome}
 use Rattle.robots_check.specs.declared.outcome.Outcome.TheVariants as outcomes
 use Rattle.program_streams.specs.declared.ending.Ending.{Ending}
 use Rattle.program_streams.specs.declared.ending.Ending.TheVariants as endings
+use Rattle.program_streams.specs.declared.message.Message.{Message}
+use Rattle.program_streams.specs.declared.message.Message.TheVariants as messages
 
 -- the exit status
 abbrev pub exit_status : Ending → ℕ
@@ -23,6 +27,16 @@ exit_status endings.BadFile = 3
 exit_status endings.BadWords = 2
 exit_status endings.NoMemory = 3
 exit_status endings.Device = 3
+exit_status (endings.NoTlsProgram at) = 3
+
+-- that nobody takes connections where the program that opens TLS should be
+abbrev pub no_tls_text : SocketAddr → List ℕ
+no_tls_text at = codes "device: no TLS program at " ++ socket_text at
+
+-- the text of a message
+abbrev pub message_text : Message → List ℕ
+message_text (messages.Words words) = words.now
+message_text (messages.NoTlsProgram at) = no_tls_text at
 
 -- what is told behind the program's name; what is wrong with the words, or with a file, is told by
 -- their reader
@@ -38,6 +52,7 @@ message_of endings.BadFile = None
 message_of endings.BadWords = None
 message_of endings.NoMemory = Some (codes "no memory")
 message_of endings.Device = Some (codes "device")
+message_of (endings.NoTlsProgram at) = Some (no_tls_text at)
 
 -- how the program ends where its work came to this
 abbrev pub ending_of : Result (Unit {0}) SessionFault → Ending

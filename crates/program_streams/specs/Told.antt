@@ -1,8 +1,10 @@
 -- What an audit and a replay tell, by what they read, and how the program ends then.
--- The contracts of `audit_over`, `replay_over` and `export_over`; docs/FORMATS.md has the lines.
+-- The contracts of `audit_over`, `replay_over` and `export_over`; docs/FORMATS.md has the lines. Each takes the schemes of
+-- the pages that may be named first.
 use Rattle.std.specs.Prelude.{◌≡◌, ◌⊎◌, ℕ, List, Option, Result}
 use Rattle.std.specs.Io.KnownBytes.{Appends}
 use Rattle.counted_io.specs.Device.{AppendsPrefix, one_more}
+use Rattle.path_normal.specs.declared.schemes.Schemes.{Schemes}
 use Rattle.gate_core.specs.Gate.{Gate}
 use Rattle.crawl_audit.specs.declared.fault.Audited.{Audited}
 use Rattle.crawl_audit.specs.declared.fault.AuditFault.TheVariants as audit
@@ -12,7 +14,7 @@ use Rattle.crawl_audit.specs.Exports.{present_segment}
 use Rattle.crawl_audit.specs.SpellBase.{spell_segment}
 use Rattle.command_server.specs.declared.session_fault.SessionFault.{SessionFault}
 use Rattle.command_server.specs.Limits.{max_lines}
-use Rattle.command_server.specs.Replay.{AnswersLine}
+use Rattle.command_server.specs.Replay.{AnswersLineAmong}
 use Rattle.command_server.specs.Session.{Session}
 use Rattle.line_text.specs.Limits.{max_long_line}
 use Rattle.program_streams.specs.declared.ending.Ending.{Ending}
@@ -32,24 +34,24 @@ CountsWrite ending old new result =
     (result ≡ ending) ⊎ ((result ≡ endings.Device) × (new ≡ one_more old)) ⊎ (result ≡ endings.NoMemory)
 
 -- the line of an audit that found each line right
-abbrev pub TellsRight : List ℕ → Option (List ℕ) → Option (List ℕ) → Type 0
-TellsRight text old new =
+abbrev pub TellsRight : Schemes → List ℕ → Option (List ℕ) → Option (List ℕ) → Type 0
+TellsRight schemes text old new =
     (audited : Audited)
-    × (IsChainAudited text audited × Appends old new (found_text (Right audited.events audited.starts)))
+    × (IsChainAudited schemes text audited × Appends old new (found_text (Right audited.events audited.starts)))
 
 -- the line of an audit that found a bad one
-abbrev pub TellsBadLine : List ℕ → Option (List ℕ) → Option (List ℕ) → Type 0
-TellsBadLine text old new =
-    (line : ℕ) × (IsFault text (audit.BadLine line) × Appends old new (found_text (BadLine line)))
+abbrev pub TellsBadLine : Schemes → List ℕ → Option (List ℕ) → Option (List ℕ) → Type 0
+TellsBadLine schemes text old new =
+    (line : ℕ) × (IsFault schemes text (audit.BadLine line) × Appends old new (found_text (BadLine line)))
 
 -- what was written, and how the program ends, is what an audit of the text found; or a device failed, or memory
 -- was refused
-abbrev pub TellsAudit : List ℕ → Option (List ℕ) → Option (List ℕ) → Ending → Type 0
-TellsAudit text old new endings.Done = TellsRight text old new
-TellsAudit text old new endings.BadLine = TellsBadLine text old new
-TellsAudit text old new endings.Device = Unit {0}
-TellsAudit text old new endings.NoMemory = Unit {0}
-TellsAudit text old new _ = ⊥
+abbrev pub TellsAudit : Schemes → List ℕ → Option (List ℕ) → Option (List ℕ) → Ending → Type 0
+TellsAudit schemes text old new endings.Done = TellsRight schemes text old new
+TellsAudit schemes text old new endings.BadLine = TellsBadLine schemes text old new
+TellsAudit schemes text old new endings.Device = Unit {0}
+TellsAudit schemes text old new endings.NoMemory = Unit {0}
+TellsAudit schemes text old new _ = ⊥
 
 -- a device is blamed only where a read or a write failed
 abbrev pub BlamesDevice : ℕ → ℕ → ℕ → ℕ → Ending → Type 0
@@ -58,10 +60,10 @@ BlamesDevice reads reads_new writes writes_new endings.Device =
 BlamesDevice reads reads_new writes writes_new _ = Unit {0}
 
 -- a session of the lines that were read ended so; what was written are the replies
-abbrev pub TellsReplay : Gate → Gate → Option (List ℕ) → Option (List ℕ) → Option (List ℕ) → Option (List ℕ) → Ending → Type 0
-TellsReplay old new input left written written_new ending =
+abbrev pub TellsReplay : Schemes → Gate → Gate → Option (List ℕ) → Option (List ℕ) → Option (List ℕ) → Option (List ℕ) → Ending → Type 0
+TellsReplay schemes old new input left written written_new ending =
     (end : Result (Unit {0}) SessionFault)
-    × (Session AnswersLine max_long_line max_lines old new input left written written_new end
+    × (Session (AnswersLineAmong schemes) max_long_line max_lines old new input left written written_new end
     × (ending ≡ ending_of end))
 
 -- the text of the gate's history was written behind a session that ended so, and the program ends so too; or a part
@@ -78,7 +80,7 @@ WritesBehind gate old new endings.NoMemory ending = (ending ≡ endings.NoMemory
 WritesBehind gate old new ended ending = WritesPresent gate old new ended ending
 
 -- the lines were answered, and what was written is the history that they led to
-abbrev pub TellsExport : Gate → Gate → Option (List ℕ) → Option (List ℕ) → Option (List ℕ) → Option (List ℕ) → Option (List ℕ) → Option (List ℕ) → Ending → Type 0
-TellsExport old new input left replies replies_new written written_new ending =
+abbrev pub TellsExport : Schemes → Gate → Gate → Option (List ℕ) → Option (List ℕ) → Option (List ℕ) → Option (List ℕ) → Option (List ℕ) → Option (List ℕ) → Ending → Type 0
+TellsExport schemes old new input left replies replies_new written written_new ending =
     (ended : Ending)
-    × (TellsReplay old new input left replies replies_new ended × WritesBehind new written written_new ended ending)
+    × (TellsReplay schemes old new input left replies replies_new ended × WritesBehind new written written_new ended ending)

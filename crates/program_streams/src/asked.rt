@@ -8,7 +8,8 @@ use crate::audits::audit_streams;
 use crate::checks::check_streams;
 use crate::ending::Ending;
 use crate::next::Next;
-use crate::replays::{export_streams, lines_streams, replay_streams};
+use crate::records::lines_streams;
+use crate::replays::{export_streams, replay_streams};
 use crate::streams::are_open;
 use clap::error::ErrorKind;
 use program_words::{Subcommand, options};
@@ -85,11 +86,11 @@ fn run_subcommand(rt: &HostRuntime, subcommand: Subcommand) -> Next
         return Next::Ends(Ending::Device);
     }
     match subcommand {
-        Subcommand::Replay(limits) => Next::Ends(replay_streams(rt, limits)),
-        Subcommand::Export(limits) => Next::Ends(export_streams(rt, limits)),
-        Subcommand::Lines => Next::Ends(lines_streams(rt)),
+        Subcommand::Replay(options) => Next::Ends(replay_streams(rt, options)),
+        Subcommand::Export(options) => Next::Ends(export_streams(rt, options)),
+        Subcommand::Lines(notes) => Next::Ends(lines_streams(rt, notes)),
         Subcommand::Check(options) => Next::Ends(check_streams(rt, options)),
-        Subcommand::Audit => Next::Ends(audit_streams(rt)),
+        Subcommand::Audit(schemes) => Next::Ends(audit_streams(rt, schemes)),
         Subcommand::Shift(options) => Next::Shift(options),
         Subcommand::Serve(options) => Next::Serve(options),
     }

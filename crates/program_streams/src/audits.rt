@@ -7,33 +7,36 @@ use crate::ending::Ending;
 use crate::found::Found;
 use crate::telling::tell_to;
 use counted_io::{Counted, Sink, Source};
-use crawl_audit::{AuditFault, Audited, audit};
+use crawl_audit::{AuditFault, Audited, audit_among};
+use path_normal::Schemes;
 use std::alloc::Global;
 use std::hash::RandomState;
 
-/// Audits standard input. The keys of the audit's tables are drawn anew.
-pub(crate) fn audit_streams(rt: &HostRuntime) -> Ending {
+/// Audits standard input, whose lines may name pages of these schemes. The keys of the audit's tables are
+/// drawn anew.
+pub(crate) fn audit_streams(rt: &HostRuntime, schemes: Schemes) -> Ending {
     let Ok(keys) = RandomState::new(rt) else {
         return Ending::Device;
     };
     let mut reader = Counted::new(rt.stdin());
     let mut writer = Counted::new(rt.stdout());
-    audit_over(rt.alloc(), keys, &mut reader, &mut writer)
+    audit_over(rt.alloc(), keys, schemes, &mut reader, &mut writer)
 }
 
 // Audits a source, and tells what was found.
 fn audit_over<R: Source, W: Sink>(
     alloc: Global,
     keys: RandomState,
+    schemes: Schemes,
     reader: &mut R,
     writer: &mut W,
 ) -> Ending
     ensures tells { (text : List ℕ) → R.left reader.old ≡ Some text
-        → TellsAudit text (W.written writer.old) (W.written writer.new) result }
+        → TellsAudit schemes text (W.written writer.old) (W.written writer.new) result }
     ensures blames { BlamesDevice (R.failures reader.old) (R.failures reader.new)
         (W.failures writer.old) (W.failures writer.new) result }
 {
-    match audit(alloc, keys, reader) {
+    match audit_among(alloc, keys, schemes, reader) {
         Ok(Audited { events, starts }) => {
             let found = Found::Right { events, starts };
             tell_to(alloc, writer, found.pieces(), Ending::Done)

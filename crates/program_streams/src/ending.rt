@@ -1,10 +1,12 @@
 //! How the program ends: its exit status, and what it tells on standard error.
 //! docs/crawlgate.1.md has the table.
 ghost use Rattle.std.specs.Prelude.{◌≡◌, option_map};
-ghost use Rattle.program_streams.specs.Endings.{ending_of, ending_of_check, message_of, exit_status};
+ghost use Rattle.program_streams.specs.Endings.{ending_of, ending_of_check, message_of, message_text, exit_status};
 
+use crate::message::Message;
 use command_server::SessionFault;
 use robots_check::{CheckFault, Outcome};
+use std::net::SocketAddr;
 
 /// How a run of the program ended.
 #[derive(Clone, Copy, Debug, PartialEq, Eq)]
@@ -31,6 +33,8 @@ pub enum Ending {
     NoMemory,
     /// A standard stream failed.
     Device,
+    /// Nobody takes connections where the program that opens TLS should be.
+    NoTlsProgram(SocketAddr),
 }
 
 impl Ending {
@@ -69,13 +73,13 @@ impl Ending {
             Ending::Done => 0,
             Ending::LongLine | Ending::ManyLines | Ending::BadLine | Ending::DeniedUrl => 1,
             Ending::BadUrl | Ending::NoUrls | Ending::BadWords => 2,
-            Ending::BadFile | Ending::NoMemory | Ending::Device => 3,
+            Ending::BadFile | Ending::NoMemory | Ending::Device | Ending::NoTlsProgram(_) => 3,
         }
     }
 
     /// What is told on standard error behind the program's name, where that isn't told already.
-    pub fn message(self) -> Option<&'static str>
-        ensures { option_map (λ text. text.now) result ≡ message_of self }
+    pub fn message(self) -> Option<Message>
+        ensures { option_map message_text result ≡ message_of self }
     {
         match self {
             Ending::Done
@@ -84,11 +88,12 @@ impl Ending {
             | Ending::BadUrl
             | Ending::BadFile
             | Ending::BadWords => None,
-            Ending::NoUrls => Some("no URL in the input"),
-            Ending::LongLine => Some("line too long"),
-            Ending::ManyLines => Some("too many lines"),
-            Ending::NoMemory => Some("no memory"),
-            Ending::Device => Some("device"),
+            Ending::NoUrls => Some(Message::Words("no URL in the input")),
+            Ending::LongLine => Some(Message::Words("line too long")),
+            Ending::ManyLines => Some(Message::Words("too many lines")),
+            Ending::NoMemory => Some(Message::Words("no memory")),
+            Ending::Device => Some(Message::Words("device")),
+            Ending::NoTlsProgram(at) => Some(Message::NoTlsProgram(at)),
         }
     }
 }

@@ -9,7 +9,9 @@ mod books;
 mod checks;
 mod ending;
 mod found;
+mod message;
 mod next;
+mod records;
 mod replays;
 mod robots_file;
 mod server_line;
@@ -19,6 +21,7 @@ mod telling;
 pub use asked::run;
 pub use books::new_book;
 pub use ending::Ending;
+pub use message::Message;
 pub use next::Next;
 pub use server_line::ServerLine;
 pub use telling::{

@@ -1,4 +1,4 @@
-//! `replay`, `replay --export` and `lines` over the standard streams.
+//! `replay` and `replay --export` over the standard streams.
 //! docs/FORMATS.md has what they read and write.
 ghost use Rattle.std.specs.Prelude.{◌≡◌, []};
 ghost use Rattle.gate_core.specs.Limits.{AreLimits};
@@ -6,77 +6,94 @@ ghost use Rattle.program_streams.specs.Told.{BlamesDevice, CountsWrite, TellsExp
 
 use crate::books::new_book;
 use crate::ending::Ending;
-use command_server::replay;
+use command_server::replay_among;
 use counted_io::{Counted, Output, Sink, Source};
 use crawl_audit::export;
-use gate_core::{Book, Limits};
-use robots_lines::lines;
+use gate_core::Book;
+use path_normal::Schemes;
+use program_words::ReplayOptions;
 use std::alloc::Global;
 use std::io;
 
 /// Replays standard input to standard output.
-pub(crate) fn replay_streams(rt: &HostRuntime, limits: Limits) -> Ending
-    requires { AreLimits limits }
+pub(crate) fn replay_streams(rt: &HostRuntime, options: ReplayOptions) -> Ending
+    requires { AreLimits options.limits }
 {
-    match new_book(rt, limits) {
-        Ok(mut book) => replay_from(rt, &mut book),
+    match new_book(rt, options.limits) {
+        Ok(mut book) => replay_from(rt, options.schemes, &mut book),
         Err(ending) => ending,
     }
 }
 
-fn replay_from(rt: &HostRuntime, book: &mut Book) -> Ending {
+fn replay_from(rt: &HostRuntime, schemes: Schemes, book: &mut Book) -> Ending {
     let mut reader = Counted::new(rt.stdin());
     let mut writer = Counted::new(rt.stdout());
-    replay_over(rt.alloc(), &mut reader, &mut writer, book)
+    replay_over(rt.alloc(), schemes, &mut reader, &mut writer, book)
 }
 
 // Replays a source over a book, and writes the replies.
 fn replay_over<R: Source, W: Sink>(
     alloc: Global,
+    schemes: Schemes,
     reader: &mut R,
     replies: &mut W,
     book: &mut Book,
 ) -> Ending
-    ensures tells { TellsReplay book.old book.new (R.left reader.old) (R.left reader.new)
+    ensures tells { TellsReplay schemes book.old book.new
+        (R.left reader.old) (R.left reader.new)
         (W.written replies.old) (W.written replies.new) result }
     ensures blames { BlamesDevice (R.failures reader.old) (R.failures reader.new)
         (W.failures replies.old) (W.failures replies.new) result }
 {
-    Ending::of(replay(alloc, reader, replies, book))
+    Ending::of(replay_among(alloc, schemes, reader, replies, book))
 }
 
 /// Replays standard input, and writes the history at the end to standard output, where no device
 /// failed and memory sufficed.
-pub(crate) fn export_streams(rt: &HostRuntime, limits: Limits) -> Ending
-    requires { AreLimits limits }
+pub(crate) fn export_streams(rt: &HostRuntime, options: ReplayOptions) -> Ending
+    requires { AreLimits options.limits }
 {
-    match new_book(rt, limits) {
-        Ok(mut book) => export_from(rt, &mut book),
+    match new_book(rt, options.limits) {
+        Ok(mut book) => export_from(rt, options.schemes, &mut book),
         Err(ending) => ending,
     }
 }
 
 // The room of the export's output is taken before a line is.
-fn export_from(rt: &HostRuntime, book: &mut Book) -> Ending {
+fn export_from(rt: &HostRuntime, schemes: Schemes, book: &mut Book) -> Ending {
     match Output::new(rt.alloc()) {
-        Ok(mut output) => export_through(rt, book, &mut output),
+        Ok(mut output) => export_through(rt, schemes, book, &mut output),
         Err(_) => Ending::NoMemory,
     }
 }
 
-fn export_through(rt: &HostRuntime, book: &mut Book, output: &mut Output) -> Ending
+fn export_through(
+    rt: &HostRuntime,
+    schemes: Schemes,
+    book: &mut Book,
+    output: &mut Output,
+) -> Ending
     requires { output.old ≡ [] }
 {
     let mut reader = Counted::new(rt.stdin());
     let mut nowhere = Counted::new(io::sink());
     let mut writer = Counted::new(rt.stdout());
     let alloc = rt.alloc();
-    export_over(alloc, &mut reader, &mut nowhere, &mut writer, book, output)
+    export_over(
+        alloc,
+        schemes,
+        &mut reader,
+        &mut nowhere,
+        &mut writer,
+        book,
+        output,
+    )
 }
 
 // Replays a source over a book, and writes the history at the end.
 fn export_over<R: Source, N: Sink, W: Sink>(
     alloc: Global,
+    schemes: Schemes,
     reader: &mut R,
     replies: &mut N,
     writer: &mut W,
@@ -84,11 +101,11 @@ fn export_over<R: Source, N: Sink, W: Sink>(
     output: &mut Output,
 ) -> Ending
     requires { output.old ≡ [] }
-    ensures { TellsExport book.old book.new (R.left reader.old) (R.left reader.new)
+    ensures { TellsExport schemes book.old book.new (R.left reader.old) (R.left reader.new)
         (N.written replies.old) (N.written replies.new)
         (W.written writer.old) (W.written writer.new) result }
 {
-    let ended = replay_over(alloc, reader, replies, book);
+    let ended = replay_over(alloc, schemes, reader, replies, book);
     write_behind(book, output, writer, ended)
 }
 
@@ -113,11 +130,4 @@ fn write_present<W: Sink>(book: &Book, output: &mut Output, writer: &mut W, ende
         Ok(()) => ended,
         Err(_) => Ending::Device,
     }
-}
-
-/// Writes the records of standard input to standard output.
-pub(crate) fn lines_streams(rt: &HostRuntime) -> Ending {
-    let mut reader = Counted::new(rt.stdin());
-    let mut writer = Counted::new(rt.stdout());
-    Ending::of(lines(rt.alloc(), &mut reader, &mut writer))
 }

@@ -1,2 +1,3 @@
 -- What contracts say of the program's words.
 pub mod Options
+pub mod Tls

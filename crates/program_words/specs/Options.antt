@@ -1,18 +1,22 @@
 -- What the program's words may ask for: where they are taken, each option is a number in its range, and
 -- the one that was matched under its own name. docs/crawlgate.1.md has the ranges.
-use Rattle.std.specs.Prelude.{◌≡◌, ℕ, ◌^◌, ◌-◌, List, Option, Some, None, codes, string_bytes}
+use Rattle.std.specs.Prelude.{◌≡◌, ℕ, ◌^◌, ◌-◌, IfSome, List, Option, Some, None, codes, string_bytes}
 use Rattle.std.specs.Str.Parse.{digits_value, without_leading_plus}
 use Rattle.clap.specs.Words.{first_value, one_text}
 use Rattle.clap.specs.declared.parser.matches.Found.{Found}
-use Rattle.program_words.specs.declared.words.CheckOptions.{CheckOptions}
-use Rattle.program_words.specs.declared.words.CheckedText.{CheckedText}
-use Rattle.program_words.specs.declared.words.CheckedText.TheVariants.{Input, File}
-use Rattle.program_words.specs.declared.words.Place.{Place}
-use Rattle.program_words.specs.declared.words.Place.TheVariants as places
-use Rattle.program_words.specs.declared.words.ServeOptions.{ServeOptions}
-use Rattle.program_words.specs.declared.words.ShiftOptions.{ShiftOptions}
-use Rattle.program_words.specs.declared.words.Subcommand.{Subcommand}
-use Rattle.program_words.specs.declared.words.Subcommand.TheVariants.{Replay, Export, Lines, Check, Audit, Shift, Serve}
+use Rattle.program_words.specs.declared.subcommand.CheckOptions.{CheckOptions}
+use Rattle.program_words.specs.declared.subcommand.CheckedText.{CheckedText}
+use Rattle.program_words.specs.declared.subcommand.CheckedText.TheVariants.{Input, File}
+use Rattle.program_words.specs.Tls.{IsLoopback, IsTlsByOf}
+use Rattle.program_words.specs.declared.subcommand.Notes.{Notes}
+use Rattle.program_words.specs.declared.subcommand.Notes.TheVariants as notes
+use Rattle.program_words.specs.declared.subcommand.Place.{Place}
+use Rattle.program_words.specs.declared.subcommand.Place.TheVariants as places
+use Rattle.program_words.specs.declared.subcommand.ReplayOptions.{ReplayOptions}
+use Rattle.program_words.specs.declared.subcommand.ServeOptions.{ServeOptions}
+use Rattle.program_words.specs.declared.subcommand.ShiftOptions.{ShiftOptions}
+use Rattle.program_words.specs.declared.subcommand.Subcommand.{Subcommand}
+use Rattle.program_words.specs.declared.subcommand.Subcommand.TheVariants.{Replay, Export, Lines, Check, Audit, Shift, Serve}
 use Rattle.program_words.specs.declared.words.Chosen.{Chosen}
 use Rattle.program_words.specs.declared.words.Chosen.TheVariants.{Taken, Refused}
 use Rattle.robots_check.specs.declared.detail.Detail.{Detail}
@@ -23,18 +27,21 @@ use Rattle.client_wire.specs.declared.connections.Connections.{Connections}
 use Rattle.client_wire.specs.declared.connections.Connections.TheVariants.{AtMost, Endless}
 use Rattle.gate_core.specs.Limits.{AreLimits}
 use Rattle.job_line.specs.Limits.{IsCrew}
+use Rattle.path_normal.specs.declared.schemes.Schemes.{Schemes}
+use Rattle.path_normal.specs.declared.schemes.Schemes.TheVariants.{Http, HttpAndHttps}
 use Rattle.gate_core.specs.declared.config.Limits.{Limits}
 use Rattle.tcp_wire.specs.TimeLimits.{AreOfSeconds, AreWithin}
 use Rattle.tcp_wire.specs.declared.reach.Reach.{Reach}
 use Rattle.tcp_wire.specs.declared.reach.Reach.TheVariants.{Anywhere, PublicOnly}
 use Rattle.tcp_wire.specs.declared.time_limits.TimeLimits.{TimeLimits}
 
--- a shift has as many workers as may share it, its book's limits are in their ranges, and its fetches take no
--- longer than those of crawlers
+-- a shift has as many workers as may share it, its book's limits are in their ranges, its fetches take no
+-- longer than those of crawlers, and what opens TLS for them is a program of this machine
 pub record AreForShift (options : ShiftOptions) : Type 0 where
   pub crew : IsCrew options.workers
   pub limits : AreLimits options.limits
   pub times : AreWithin options.times
+  pub tls : IfSome options.tls_by IsLoopback
 
 -- a server has as many workers as may share a gate, takes as many connections as may be, and waits for a client
 -- no longer than may be; its book's limits and its fetches are as those of a shift
@@ -43,15 +50,16 @@ pub record AreForServe (options : ServeOptions) : Type 0 where
   pub connections : AreServed options.connections
   pub limits : AreLimits options.limits
   pub times : AreWithin options.times
+  pub tls : IfSome options.tls_by IsLoopback
   pub patience : IsPatience options.patience
 
 -- the subcommand's options are in their ranges
 abbrev pub IsInRange : Subcommand → Type 0
-IsInRange (Replay limits) = AreLimits limits
-IsInRange (Export limits) = AreLimits limits
-IsInRange Lines = Unit {0}
+IsInRange (Replay options) = AreLimits options.limits
+IsInRange (Export options) = AreLimits options.limits
+IsInRange (Lines notes) = Unit {0}
 IsInRange (Check options) = Unit {0}
-IsInRange Audit = Unit {0}
+IsInRange (Audit schemes) = Unit {0}
 IsInRange (Shift options) = AreForShift options
 IsInRange (Serve options) = AreForServe options
 
@@ -96,9 +104,20 @@ pub record IsReachOf (words : Found) (reach : Reach) : Type 0 where
   pub public : one_text words (codes "public") ≡ Some (codes "true") → reach ≡ PublicOnly
   pub anywhere : one_text words (codes "public") ≡ Some (codes "false") → reach ≡ Anywhere
 
+-- pages of `https` are read too where the flag says so, and else not
+pub record AreSchemesOf (words : Found) (schemes : Schemes) : Type 0 where
+  pub both : one_text words (codes "https") ≡ Some (codes "true") → schemes ≡ HttpAndHttps
+  pub http : one_text words (codes "https") ≡ Some (codes "false") → schemes ≡ Http
+
+-- notes are told where the flag says so, and else not
+pub record AreNotesOf (words : Found) (asked : Notes) : Type 0 where
+  pub told : one_text words (codes "notes") ≡ Some (codes "true") → asked ≡ notes.Told
+  pub untold : one_text words (codes "notes") ≡ Some (codes "false") → asked ≡ notes.Untold
+
 -- the options of a shift are those that were matched
 pub record AreShiftOf (words : Found) (options : ShiftOptions) : Type 0 where
   pub reach : IsReachOf words options.reach
+  pub tls : IsTlsByOf words options.tls_by
   pub workers : IsNumberOf words (codes "workers") options.workers
   pub limits : AreLimitsOf words options.limits
   pub times : AreTimesOf words options.times
@@ -121,6 +140,7 @@ IsPlaceOf words (places.Socket path) = first_value words (codes "socket") ≡ So
 -- the options of a server are those that were matched
 pub record AreServeOf (words : Found) (options : ServeOptions) : Type 0 where
   pub reach : IsReachOf words options.reach
+  pub tls : IsTlsByOf words options.tls_by
   pub place : IsPlaceOf words options.place
   pub workers : IsNumberOf words (codes "workers") options.workers
   pub connections : AreConnectionsOf words options.connections
@@ -130,10 +150,11 @@ pub record AreServeOf (words : Found) (options : ServeOptions) : Type 0 where
   pub client_permits : IsBoundOf words (codes "client-permits") options.client_permits
   pub client_authorities : IsBoundOf words (codes "client-authorities") options.client_authorities
 
--- the limits of a replay are those that were matched
-pub record AreReplayOf (words : Found) (limits : Limits) : Type 0 where
-  pub limits_are : AreLimitsOf words limits
-  pub generation : IsNumberOf words (codes "generation") limits.first_generation
+-- the options of a replay are those that were matched
+pub record AreReplayOf (words : Found) (options : ReplayOptions) : Type 0 where
+  pub limits_are : AreLimitsOf words options.limits
+  pub generation : IsNumberOf words (codes "generation") options.limits.first_generation
+  pub schemes_are : AreSchemesOf words options.schemes
 
 -- the robots text is the file whose name was matched under `robots`, and without one the input
 abbrev pub IsTextOf : Found → CheckedText → Type 0
@@ -152,11 +173,11 @@ pub record AreCheckOf (words : Found) (options : CheckOptions) : Type 0 where
 
 -- the options of the subcommand are those that were matched, each under its own name
 abbrev pub IsSetBy : Found → Subcommand → Type 0
-IsSetBy words (Replay limits) = AreReplayOf words limits
-IsSetBy words (Export limits) = AreReplayOf words limits
-IsSetBy words Lines = Unit {0}
+IsSetBy words (Replay options) = AreReplayOf words options
+IsSetBy words (Export options) = AreReplayOf words options
+IsSetBy words (Lines asked) = AreNotesOf words asked
 IsSetBy words (Check options) = AreCheckOf words options
-IsSetBy words Audit = Unit {0}
+IsSetBy words (Audit schemes) = AreSchemesOf words schemes
 IsSetBy words (Shift options) = AreShiftOf words options
 IsSetBy words (Serve options) = AreServeOf words options
 

@@ -18,10 +18,16 @@ pub(crate) fn program<'a>(
     let check = check_words(alloc)?;
     let lines = Command::new(alloc, "lines")
         .about("Writes what each line of the robots.txt on standard input says")
-        .after_help(help::LINES);
+        .after_help(help::LINES)
+        .arg(flag(
+            alloc,
+            "notes",
+            "Tells on standard error what in the robots.txt may surprise",
+        ))?;
     let audit = Command::new(alloc, "audit")
         .about("Checks every decision in the history, or in the segments, on standard input")
-        .after_help(help::AUDIT);
+        .after_help(help::AUDIT)
+        .arg(flag(alloc, "https", "Takes lines that name https pages too"))?;
     Command::new(alloc, "crawlgate")
         .about("A gate for web crawlers, under every site's robots.txt (RFC 9309)")
         .version(help::VERSION)
@@ -41,6 +47,7 @@ fn replay_words<'a>(alloc: Global, defaults: &'a Defaults) -> Result<Command<'a>
         .after_help(help::REPLAY);
     limit_words(alloc, defaults, replay)?
         .arg(number(alloc, "generation", &defaults.book.generation))?
+        .arg(flag(alloc, "https", "Reads https URLs too"))?
         .arg(flag(
             alloc,
             "export",
@@ -135,7 +142,7 @@ fn check_words<'a>(alloc: Global) -> Result<Command<'a>, AllocError> {
         ))
 }
 
-// The limits of time of fetches, in seconds, and where they lead.
+// The limits of time of fetches, in seconds, where they lead, and by which program to https sites.
 fn time_words<'a>(
     alloc: Global,
     defaults: &'a Defaults,
@@ -149,7 +156,16 @@ fn time_words<'a>(
             alloc,
             "public",
             "Connects to addresses of the public internet alone",
-        ))
+        ))?
+        .arg(
+            Arg::new(alloc, "tls-by")
+                .long("tls-by")
+                .value_name("ADDRESS:PORT")
+                .action(ArgAction::Set)
+                .help(
+                    "Reads https URLs too, by the TLS program that listens at this address of the loopback",
+                ),
+        )
 }
 
 // The limits of the gate.

@@ -2,12 +2,16 @@
 //! docs/crawlgate.1.md has them all.
 #![tactic(auto)]
 
+mod checked;
 mod command;
 mod defaults;
 mod help;
+mod subcommand;
+mod tls;
 mod words;
 
-pub use words::{
-    CheckOptions, CheckedText, CheckedUrls, Place, ServeOptions, ShiftOptions, Subcommand, Told,
-    options,
+pub use subcommand::{
+    CheckOptions, CheckedText, CheckedUrls, Notes, Place, ReplayOptions, ServeOptions,
+    ShiftOptions, Subcommand, Told,
 };
+pub use words::options;

@@ -5,20 +5,26 @@ ghost use Rattle.permit_book.specs.Numbers.{last_generation};
 ghost use Rattle.gate_core.specs.Limits.{AreLimits};
 ghost use Rattle.clap.specs.Words.{found_of};
 ghost use Rattle.client_wire.specs.Accepts.{AreServed};
-ghost use Rattle.program_words.specs.Options.{AreConnectionsOf, AreLimitsOf, AreTimesOf, IsBoundOf, IsChosen, IsChosenBy, IsDetailOf, IsInRange, IsNumberOf, IsPlaceOf, IsReachOf, IsSetBy, IsTextOf};
+ghost use Rattle.program_words.specs.Options.{AreConnectionsOf, AreLimitsOf, AreNotesOf, AreSchemesOf, AreTimesOf, IsBoundOf, IsChosen, IsChosenBy, IsInRange, IsNumberOf, IsPlaceOf, IsReachOf, IsSetBy};
+ghost use Rattle.program_words.specs.Tls.{IsLoopback, IsTlsByOf};
 ghost use Rattle.tcp_wire.specs.TimeLimits.{AreWithin};
 
+use crate::checked::check_of;
 use crate::command::program;
 use crate::defaults::Defaults;
+use crate::subcommand::{
+    Notes, Place, ReplayOptions, ServeOptions, ShiftOptions, Subcommand, Told,
+};
+use crate::tls::{NotLoopback, tls_by_of};
 use clap::error::ErrorKind;
 use clap::{ArgMatches, Command, Error};
 use client_wire::{Connections, MAX_CONNECTIONS, PATIENCE_SECONDS};
 use gate_core::{Limits, MAX_AUTHORITIES, MAX_LOG, MAX_PLACES};
 use job_line::MAX_WORKERS;
+use path_normal::Schemes;
 use permit_book::{LAST_GENERATION, MAX_SLOTS};
-use robots_check::Detail;
-use robots_text::{Token, TokenFault};
 use std::alloc::{AllocError, Global};
+use std::net::SocketAddr;
 use tcp_wire::{CONNECT_SECONDS, Reach, STEP_SECONDS, TimeLimits, WHOLE_SECONDS};
 
 // Why words that `clap` takes are refused.
@@ -26,121 +32,18 @@ const BAD_NUMBER: &str = "a number is written in digits alone";
 
 const BAD_PATH: &str = "a socket's path has 1 to 96 octets, and no control characters";
 
-const BAD_TOKEN: &str = "a product token has 1 to 64 letters, - and _";
+const BAD_TLS_BY: &str =
+    "--tls-by names an address of this machine and a port, as 127.0.0.1:3131 or [::1]:3131";
 
 // The most octets of a socket's path. (Linux takes 107, and the socket is made at a path with 11 more.)
 const MAX_PATH: usize = 96;
 
-/// What the program is asked to do.
+/// What the words come to.
 #[derive(Drop)]
-pub enum Subcommand {
-    /// Reads replay lines from standard input, on a book of these limits, and writes their replies
-    /// to standard output.
-    Replay(Limits),
-    /// The same, but what is written is the text of the book's history at the end.
-    Export(Limits),
-    /// Reads a robots text from standard input, and writes what each of its lines says.
-    Lines,
-    /// Says of URLs whether a robots text allows them.
-    Check(CheckOptions),
-    /// Audits the text of a history, or those of its segments, on standard input.
-    Audit,
-    /// Has workers do the jobs on standard input, and writes what is told of them to standard output.
-    Shift(ShiftOptions),
-    /// Has workers serve clients of this machine.
-    Serve(ServeOptions),
-}
-
-/// How a shift is done.
-#[derive(Clone, Copy)]
-pub struct ShiftOptions {
-    /// How many jobs are done at a time.
-    pub workers: u64,
-    /// The limits of its book.
-    pub limits: Limits,
-    /// The limits of time of its fetches.
-    pub times: TimeLimits,
-    /// To which addresses they connect.
-    pub reach: Reach,
-    pub told: Told,
-}
-
-/// Where clients connect.
-#[derive(Drop)]
-pub enum Place {
-    /// At this port of the loopback; for 0 at one that is free.
-    Port(u16),
-    /// At a socket that is a file of this path.
-    Socket(String),
-}
-
-/// How clients are served.
-#[derive(Drop)]
-pub struct ServeOptions {
-    pub place: Place,
-    /// How many are served at a time.
-    pub workers: u64,
-    /// How many connections are taken in all.
-    pub connections: Connections,
-    /// The limits of the book.
-    pub limits: Limits,
-    /// The limits of time of fetches.
-    pub times: TimeLimits,
-    /// To which addresses they connect.
-    pub reach: Reach,
-    /// The seconds that a client is waited for between two ends of lines.
-    pub patience: u64,
-    /// How many permits a client may have out; the greatest number, where it may have all.
-    pub client_permits: u64,
-    /// How many authorities may become known by a client; the greatest number, where all may.
-    pub client_authorities: u64,
-}
-
-/// What is checked.
-#[derive(Drop)]
-pub struct CheckOptions {
-    /// The crawler for which it is.
-    pub token: Token,
-    pub text: CheckedText,
-    pub urls: CheckedUrls,
-    pub detail: Detail,
-}
-
-/// Where the robots text of a check comes from.
-#[derive(Drop)]
-pub enum CheckedText {
-    /// It is the input, or where the URLs are lines of that, what stands before them.
-    Input,
-    /// It is the content of the file of this name.
-    File(String),
-}
-
-/// Where the URLs of a check come from.
-#[derive(Drop)]
-pub enum CheckedUrls {
-    /// They are words of the command line.
-    Words(Vec<String>),
-    /// They are lines of the input: all, or where the robots text is there too, those behind it.
-    Input,
-}
-
-// What the words come to.
-#[derive(Drop)]
-enum Chosen {
+pub(crate) enum Chosen {
     Taken(Subcommand),
-    // They are refused for this reason, though `clap` takes them.
+    /// They are refused for this reason, though `clap` takes them.
     Refused(&'static str),
-}
-
-/// What is written of a shift.
-#[derive(Clone, Copy, Debug, PartialEq, Eq)]
-pub enum Told {
-    /// What came of its jobs.
-    Outcomes,
-    /// A table of its hops.
-    Table,
-    /// The text of its book's history.
-    History,
 }
 
 /// Reads the program's words, of which the first is its own name. The error has what `clap`
@@ -185,6 +88,9 @@ fn chosen_by<'a>(
     if let Some(("serve", serve)) = matches.subcommand() {
         return Ok(serve_of(alloc, serve)?);
     }
+    if let Some(("shift", shift)) = matches.subcommand() {
+        return Ok(shift_of(shift));
+    }
     Ok(chosen_of(&matches))
 }
 
@@ -214,61 +120,11 @@ fn subcommand_of(matches: &ArgMatches<'_>) -> Option<Subcommand>
 {
     match matches.subcommand() {
         Some(("replay", replay)) => replay_of(replay),
-        Some(("shift", shift)) => shift_of(shift),
-        Some(("audit", _)) => Some(Subcommand::Audit),
-        // There is no other subcommand, and one is required.
-        _ => Some(Subcommand::Lines),
+        Some(("audit", audit)) => Some(audit_of(audit)),
+        Some((_, lines)) => Some(lines_of(lines)),
+        // One is required.
+        None => Some(Subcommand::Lines(Notes::Untold)),
     }
-}
-
-fn check_of(alloc: Global, matches: &ArgMatches<'_>) -> Result<Chosen, AllocError>
-    ensures range { IfOk result IsChosen }
-    ensures words { IfOk result (IsChosenBy (found_of matches.now)) }
-{
-    let token = matches.get_str("token").unwrap_or("");
-    match Token::new(alloc, token.as_bytes()) {
-        Ok(token) => Ok(Chosen::Taken(Subcommand::Check(CheckOptions {
-            token,
-            text: text_of(alloc, matches)?,
-            urls: urls_of(alloc, matches)?,
-            detail: detail_of(matches),
-        }))),
-        Err(TokenFault::BadToken) => Ok(Chosen::Refused(BAD_TOKEN)),
-        Err(TokenFault::NoMemory) => Err(AllocError),
-    }
-}
-
-// The robots text of a check: the file that the option names, and without it the input.
-fn text_of(alloc: Global, matches: &ArgMatches<'_>) -> Result<CheckedText, AllocError>
-    ensures { IfOk result (IsTextOf (found_of matches.now)) }
-{
-    match matches.get_str("robots") {
-        Some(name) => Ok(CheckedText::File(String::from_str(alloc, name)?)),
-        None => Ok(CheckedText::Input),
-    }
-}
-
-fn detail_of(matches: &ArgMatches<'_>) -> Detail
-    ensures { IsDetailOf (found_of matches.now) result }
-{
-    if matches.get_flag("explain") {
-        Detail::Explained
-    } else {
-        Detail::Plain
-    }
-}
-
-// The URLs of a check: `-` alone stands for lines of the input.
-fn urls_of(alloc: Global, matches: &ArgMatches<'_>) -> Result<CheckedUrls, AllocError> {
-    let words = matches.get_strs("url").unwrap_or(&[]);
-    if words.len() == 1 && words[0] == "-" {
-        return Ok(CheckedUrls::Input);
-    }
-    let mut urls = Vec::new(alloc);
-    for word in words {
-        urls.push(String::from_str(alloc, word)?)?;
-    }
-    Ok(CheckedUrls::Words(urls))
 }
 
 fn replay_of(matches: &ArgMatches<'_>) -> Option<Subcommand>
@@ -276,15 +132,69 @@ fn replay_of(matches: &ArgMatches<'_>) -> Option<Subcommand>
     ensures words { IfSome result (IsSetBy (found_of matches.now)) }
 {
     let first_generation = number_of(matches, "generation", LAST_GENERATION)?;
-    let limits = limits_of(matches, first_generation)?;
+    let options = ReplayOptions {
+        limits: limits_of(matches, first_generation)?,
+        schemes: schemes_of(matches),
+    };
     if matches.get_flag("export") {
-        Some(Subcommand::Export(limits))
+        Some(Subcommand::Export(options))
     } else {
-        Some(Subcommand::Replay(limits))
+        Some(Subcommand::Replay(options))
     }
 }
 
-fn shift_of(matches: &ArgMatches<'_>) -> Option<Subcommand>
+fn audit_of(matches: &ArgMatches<'_>) -> Subcommand
+    ensures range { IsInRange result }
+    ensures words { IsSetBy (found_of matches.now) result }
+{
+    Subcommand::Audit(schemes_of(matches))
+}
+
+fn lines_of(matches: &ArgMatches<'_>) -> Subcommand
+    ensures range { IsInRange result }
+    ensures words { IsSetBy (found_of matches.now) result }
+{
+    Subcommand::Lines(notes_of(matches))
+}
+
+// The schemes of the pages that are read.
+fn schemes_of(matches: &ArgMatches<'_>) -> Schemes
+    ensures { AreSchemesOf (found_of matches.now) result }
+{
+    if matches.get_flag("https") {
+        Schemes::HttpAndHttps
+    } else {
+        Schemes::Http
+    }
+}
+
+// Whether notes are told.
+fn notes_of(matches: &ArgMatches<'_>) -> Notes
+    ensures { AreNotesOf (found_of matches.now) result }
+{
+    if matches.get_flag("notes") {
+        Notes::Told
+    } else {
+        Notes::Untold
+    }
+}
+
+fn shift_of(matches: &ArgMatches<'_>) -> Chosen
+    ensures range { IsChosen result }
+    ensures words { IsChosenBy (found_of matches.now) result }
+{
+    match tls_by_of(matches) {
+        Ok(tls_by) => match shift_by(tls_by, matches) {
+            Some(subcommand) => Chosen::Taken(subcommand),
+            None => Chosen::Refused(BAD_NUMBER),
+        },
+        Err(NotLoopback) => Chosen::Refused(BAD_TLS_BY),
+    }
+}
+
+fn shift_by(tls_by: Option<SocketAddr>, matches: &ArgMatches<'_>) -> Option<Subcommand>
+    requires loopback { IfSome tls_by IsLoopback }
+    requires named { IsTlsByOf (found_of matches.now) tls_by }
     ensures range { IfSome result IsInRange }
     ensures words { IfSome result (IsSetBy (found_of matches.now)) }
 {
@@ -293,24 +203,43 @@ fn shift_of(matches: &ArgMatches<'_>) -> Option<Subcommand>
         limits: limits_of(matches, Limits::usual().first_generation)?,
         times: times_of(matches)?,
         reach: reach_of(matches),
+        tls_by,
         told: told_by(matches),
     }))
 }
 
 fn serve_of(alloc: Global, matches: &ArgMatches<'_>) -> Result<Chosen, AllocError>
-    ensures { IfOk result IsChosen }
+    ensures range { IfOk result IsChosen }
+    ensures words { IfOk result (IsChosenBy (found_of matches.now)) }
 {
-    let Some(place) = place_of(alloc, matches)? else {
-        return Ok(Chosen::Refused(BAD_PATH));
-    };
-    match served_at(place, matches) {
-        Some(subcommand) => Ok(Chosen::Taken(subcommand)),
-        None => Ok(Chosen::Refused(BAD_NUMBER)),
+    match place_of(alloc, matches)? {
+        Some(place) => Ok(serve_at(place, matches)),
+        None => Ok(Chosen::Refused(BAD_PATH)),
     }
 }
 
-fn served_at(place: Place, matches: &ArgMatches<'_>) -> Option<Subcommand>
+fn serve_at(place: Place, matches: &ArgMatches<'_>) -> Chosen
     requires { IsPlaceOf (found_of matches.now) place }
+    ensures range { IsChosen result }
+    ensures words { IsChosenBy (found_of matches.now) result }
+{
+    match tls_by_of(matches) {
+        Ok(tls_by) => match served_at(place, tls_by, matches) {
+            Some(subcommand) => Chosen::Taken(subcommand),
+            None => Chosen::Refused(BAD_NUMBER),
+        },
+        Err(NotLoopback) => Chosen::Refused(BAD_TLS_BY),
+    }
+}
+
+fn served_at(
+    place: Place,
+    tls_by: Option<SocketAddr>,
+    matches: &ArgMatches<'_>,
+) -> Option<Subcommand>
+    requires place { IsPlaceOf (found_of matches.now) place }
+    requires loopback { IfSome tls_by IsLoopback }
+    requires named { IsTlsByOf (found_of matches.now) tls_by }
     ensures range { IfSome result IsInRange }
     ensures words { IfSome result (IsSetBy (found_of matches.now)) }
 {
@@ -321,6 +250,7 @@ fn served_at(place: Place, matches: &ArgMatches<'_>) -> Option<Subcommand>
         limits: limits_of(matches, Limits::usual().first_generation)?,
         times: times_of(matches)?,
         reach: reach_of(matches),
+        tls_by,
         patience: number_of(matches, "patience", PATIENCE_SECONDS)?,
         client_permits: bound_of(matches, "client-permits", MAX_SLOTS)?,
         client_authorities: bound_of(matches, "client-authorities", MAX_AUTHORITIES)?,

@@ -1,6 +1,7 @@
 -- What is true of the answers that replies decide, and of steps over them.
 -- Cited by the laws of the crate.
 use Rattle.std.specs.Prelude.{◌≡◌, ◌≢◌, ◌≤◌, ◌++◌, [], ℕ, List, length}
+use Rattle.path_normal.specs.declared.schemes.Schemes.{Schemes}
 use Rattle.path_normal.specs.PageText.{robots_url_of}
 use Rattle.robots_verdict.specs.declared.said.Said.{Said}
 use Rattle.authority_cache.specs.Lives.{Timed}
@@ -9,23 +10,27 @@ use Rattle.robots_fetch.specs.declared.walk.Step.{Step}
 use Rattle.robots_fetch.specs.declared.walk.Step.TheVariants.{Go, Done, NoMemory}
 use Rattle.robots_fetch.specs.declared.walk.Walk.{Walk}
 use Rattle.robots_fetch.specs.Redirects.{most_redirects}
-use Rattle.robots_fetch.specs.Steps.{IsBegun, StepsOver}
-use Rattle.robots_fetch.specs.Walk.{AnswerOf, LeadsOver}
+use Rattle.robots_fetch.specs.Steps.{IsBegun, StepsOverAmong}
+use Rattle.robots_fetch.specs.Walk.{AnswerOfAmong, LeadsOverAmong}
 
--- a list decides one answer at most, of one life
+-- a list decides one answer at most, of one life, whichever schemes are read
 abbrev pub OneAnswer : Type 0
-OneAnswer = (authority : List ℕ) (replies : List RobotsReply) (one other : Said) (life life' : ℕ) →
-    AnswerOf authority replies one life → AnswerOf authority replies other life' → (one ≡ other) × (life ≡ life')
+OneAnswer = (schemes : Schemes) (authority : List ℕ) (replies : List RobotsReply) (one other : Said) (life life' : ℕ) →
+    AnswerOfAmong schemes authority replies one life → AnswerOfAmong schemes authority replies other life' → (one ≡ other) × (life ≡ life')
 
 -- a list that decides goes no further than a front of it that decides
 abbrev pub DecidedOnce : Type 0
-DecidedOnce = (authority : List ℕ) (front rest : List RobotsReply) (one other : Said) (life life' : ℕ) →
-    AnswerOf authority front one life → AnswerOf authority (front ++ rest) other life' → rest ≡ []
+DecidedOnce = (schemes : Schemes) (authority : List ℕ) (front rest : List RobotsReply) (one other : Said) (life life' : ℕ) →
+    AnswerOfAmong schemes authority front one life → AnswerOfAmong schemes authority (front ++ rest) other life' → rest ≡ []
 
--- a walk over a list is done with the answer that the list decides
+-- a walk over a list is done with the answer that the list decides, where these schemes are read
+abbrev pub IsDoneAmong : Schemes → Type 0
+IsDoneAmong schemes = (authority : List ℕ) (walk : Walk) (replies : List RobotsReply) (answer : Timed) →
+    IsBegun authority walk → StepsOverAmong schemes walk replies (Done answer) → AnswerOfAmong schemes authority replies answer.says answer.life
+
+-- it is so whichever schemes are read
 abbrev pub IsDoneWithAnswer : Type 0
-IsDoneWithAnswer = (authority : List ℕ) (walk : Walk) (replies : List RobotsReply) (answer : Timed) →
-    IsBegun authority walk → StepsOver walk replies (Done answer) → AnswerOf authority replies answer.says answer.life
+IsDoneWithAnswer = (schemes : Schemes) → IsDoneAmong schemes
 
 -- a step behind a front of replies that decide, where these replies are left: done with the answer where
 -- none is left, and on where one is
@@ -34,18 +39,22 @@ IsAsDecided rest says life (Go next) = rest ≢ []
 IsAsDecided rest says life (Done answer) = (rest ≡ []) × (answer.says ≡ says) × (answer.life ≡ life)
 IsAsDecided rest says life (NoMemory kept) = Unit {0}
 
--- a walk over a front of replies that decide steps as they decide
-abbrev pub StepsAsDecided : Type 0
-StepsAsDecided = (authority : List ℕ) (walk : Walk) (front rest : List RobotsReply) (says : Said) (life : ℕ) (step : Step) →
-    IsBegun authority walk → AnswerOf authority (front ++ rest) says life → StepsOver walk front step →
+-- a walk over a front of replies that decide steps as they decide, where these schemes are read
+abbrev pub DecideSteps : Schemes → Type 0
+DecideSteps schemes = (authority : List ℕ) (walk : Walk) (front rest : List RobotsReply) (says : Said) (life : ℕ) (step : Step) →
+    IsBegun authority walk → AnswerOfAmong schemes authority (front ++ rest) says life → StepsOverAmong schemes walk front step →
     IsAsDecided rest says life step
+
+-- it is so whichever schemes are read
+abbrev pub StepsAsDecided : Type 0
+StepsAsDecided = (schemes : Schemes) → DecideSteps schemes
 
 -- a walk over redirects goes on where they lead
 abbrev pub GoesWhereTheyLead : Type 0
-GoesWhereTheyLead = (authority : List ℕ) (walk next : Walk) (replies : List RobotsReply) →
-    IsBegun authority walk → StepsOver walk replies (Go next) → LeadsOver (robots_url_of authority) replies next.url
+GoesWhereTheyLead = (schemes : Schemes) (authority : List ℕ) (walk next : Walk) (replies : List RobotsReply) →
+    IsBegun authority walk → StepsOverAmong schemes walk replies (Go next) → LeadsOverAmong schemes (robots_url_of authority) replies next.url
 
 -- a walk goes on behind five replies at most
 abbrev pub GoesOnFiveTimes : Type 0
-GoesOnFiveTimes = (authority : List ℕ) (walk next : Walk) (replies : List RobotsReply) →
-    IsBegun authority walk → StepsOver walk replies (Go next) → length replies ≤ most_redirects
+GoesOnFiveTimes = (schemes : Schemes) (authority : List ℕ) (walk next : Walk) (replies : List RobotsReply) →
+    IsBegun authority walk → StepsOverAmong schemes walk replies (Go next) → length replies ≤ most_redirects

@@ -3,8 +3,10 @@
 use Rattle.std.specs.Prelude.{◌≡◌, ℕ, List, Option, None, Some, Result, Ok, Err, nat_lt, if◌then◌else◌}
 use Rattle.path_normal.specs.declared.fault.UrlFault.{UrlFault}
 use Rattle.path_normal.specs.declared.fault.UrlFault.TheVariants as faults
+use Rattle.path_normal.specs.declared.schemes.Schemes.{Schemes}
+use Rattle.path_normal.specs.declared.schemes.Schemes.TheVariants.{Http}
 use Rattle.path_normal.specs.Capacity.{Enough}
-use Rattle.path_normal.specs.PageUrl.{page_url_on}
+use Rattle.path_normal.specs.PageUrl.{page_url_on_among}
 use Rattle.robots_fetch.specs.declared.redirect.Nowhere.{Nowhere}
 use Rattle.robots_fetch.specs.declared.redirect.Nowhere.TheVariants as nowhere
 use Rattle.robots_fetch.specs.declared.redirect.Stop.{Stop}
@@ -20,15 +22,23 @@ followed_page (Ok page) = Ok page
 followed_page (Err faults.NotHttp) = Err Scheme
 followed_page (Err fault) = Err BadRedirect
 
--- where a redirect leads from a URL, whatever was followed before it
-abbrev pub location_target : List ℕ → Option (List ℕ) → Result (List ℕ) Stop
-location_target url None = Err BadRedirect
-location_target url (Some location) = followed_page (page_url_on url location Enough)
+-- where a redirect leads from a URL, whatever was followed before it, where these schemes are read
+abbrev pub location_target_among : Schemes → List ℕ → Option (List ℕ) → Result (List ℕ) Stop
+location_target_among schemes url None = Err BadRedirect
+location_target_among schemes url (Some location) = followed_page (page_url_on_among schemes url location Enough)
 
--- where a redirect leads from a URL, with so many followed before it
+-- where a redirect leads from a URL, with so many followed before it, where these schemes are read
+abbrev pub redirect_target_among : Schemes → ℕ → List ℕ → Option (List ℕ) → Result (List ℕ) Stop
+redirect_target_among schemes followed url location =
+    if nat_lt followed most_redirects then location_target_among schemes url location else Err TooManyRedirects
+
+-- where a redirect leads from a URL, whatever was followed before it, where `http` alone is read
+abbrev pub location_target : List ℕ → Option (List ℕ) → Result (List ℕ) Stop
+location_target = location_target_among Http
+
+-- where a redirect leads from a URL, with so many followed before it, where `http` alone is read
 abbrev pub redirect_target : ℕ → List ℕ → Option (List ℕ) → Result (List ℕ) Stop
-redirect_target followed url location =
-    if nat_lt followed most_redirects then location_target url location else Err TooManyRedirects
+redirect_target = redirect_target_among Http
 
 -- the result is the expected one, unless there was no memory or the crate `url` overflowed
 abbrev pub IsTarget : Result (List ℕ) Nowhere → Result (List ℕ) Stop → Type 0

@@ -5,14 +5,14 @@ ghost use Rattle.std.specs.Option.{option_map};
 ghost use Rattle.robots_text.specs.Lines.{kept};
 ghost use Rattle.robots_verdict.specs.Answer.{said, spares_of};
 ghost use Rattle.robots_verdict.specs.declared.said.Said.{Said};
-ghost use Rattle.robots_fetch.specs.Steps.{FollowsRedirect, GivesRules, IsBegun, Steps, for_a_day, next_url};
+ghost use Rattle.robots_fetch.specs.Steps.{FollowsRedirect, GivesRules, IsBegun, Steps, StepsAmong, for_a_day, next_url};
 ghost use Rattle.robots_fetch.specs.declared.walk.Step.{Step as StepValue};
 
-use crate::redirect::{Nowhere, Stop, redirect_target};
+use crate::redirect::{Nowhere, Stop, redirect_target_among};
 use crate::reply::RobotsReply;
 use crate::status::{StatusClass, class_of};
 use authority_cache::{LIFE, TimedAnswer};
-use path_normal::{Authority, PageUrl};
+use path_normal::{Authority, PageUrl, Schemes};
 use robots_text::RobotsText;
 use robots_verdict::{Answer, Closure, Opening};
 use std::alloc::{AllocError, Global};
@@ -55,10 +55,17 @@ impl Walk {
         &self.url
     }
 
-    /// Takes the reply to a request for the walk's URL. The answer holds for the authority at which
-    /// the walk began, wherever redirects led (RFC 9309, 2.3.1.2).
+    /// Takes the reply to a request for the walk's URL, where `http` alone is read. The answer holds
+    /// for the authority at which the walk began, wherever redirects led (RFC 9309, 2.3.1.2).
     pub fn step(self, alloc: Global, reply: &RobotsReply) -> Step
         ensures { Steps self reply.now result }
+    {
+        self.step_among(alloc, Schemes::Http, reply)
+    }
+
+    /// Takes the reply as `step` does, where these schemes are read.
+    pub fn step_among(self, alloc: Global, schemes: Schemes, reply: &RobotsReply) -> Step
+        ensures { StepsAmong schemes self reply.now result }
     {
         match reply {
             RobotsReply::CodingFault => closed(Closure::Coding),
@@ -70,7 +77,7 @@ impl Walk {
                 max_age,
             } => match class_of(*code) {
                 StatusClass::Successful => self.rules(alloc, body.as_slice(), *max_age),
-                StatusClass::Redirect => self.follow(location),
+                StatusClass::Redirect => self.follow(schemes, location),
                 StatusClass::Unavailable => open(Opening::Unavailable),
                 StatusClass::Unreachable => closed(Closure::Server),
                 StatusClass::Other => closed(Closure::Other),
@@ -89,10 +96,10 @@ impl Walk {
     }
 
     // Goes on where a redirect leads, or ends with the answer where it leads nowhere.
-    fn follow(self, location: &Option<String>) -> Step
-        ensures { FollowsRedirect self (option_map string_bytes location.now) result }
+    fn follow(self, schemes: Schemes, location: &Option<String>) -> Step
+        ensures { FollowsRedirect schemes self (option_map string_bytes location.now) result }
     {
-        match redirect_target(self.followed, &self.url, location) {
+        match redirect_target_among(schemes, self.followed, &self.url, location) {
             Ok(url) => Step::Go(Walk {
                 url,
                 followed: self.followed + 1,

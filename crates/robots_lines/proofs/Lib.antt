@@ -1,2 +1,4 @@
 -- The lemmas of this crate's proofs.
-mod Reading
+pub mod Reading
+pub mod Printing
+pub mod CallerLemmas

@@ -1,5 +1,5 @@
 -- What `lines` read and wrote, by its result.
--- The contract of `lines` cites it.
+-- The contracts of `lines` and `lines_of` cite it.
 use Rattle.std.specs.Prelude.{◌≡◌, ◌⊎◌, ◌≤◌, ◌<◌, ◌+◌, ℕ, List, [], length, Option, Result, Ok, Err}
 use Rattle.std.specs.Io.KnownBytes.{Consumes, Appends, IsAtEnd}
 use Rattle.counted_io.specs.Device.{AppendsPrefix}
@@ -24,6 +24,16 @@ pub record ReadsPart (old new : Option (List ℕ)) : Type 0 where
 -- the fault is one of reading
 abbrev pub IsReadFault : SessionFault → Type 0
 IsReadFault fault = (fault ≡ Read) ⊎ (fault ≡ NoMemory)
+
+-- the text of the body was written; or memory was refused, and nothing was written; or a write failed, and no more
+-- than a front of the text was written
+abbrev pub WritesLines : (body : List ℕ) (written new : Option (List ℕ)) → Result (Unit {0}) SessionFault → Type 0
+WritesLines body written new (Ok _) = Appends written new (lines_text body)
+WritesLines body written new (Err Write) = AppendsPrefix written new (lines_text body)
+WritesLines body written new (Err NoMemory) = Appends written new []
+WritesLines body written new (Err Read) = ⊥
+WritesLines body written new (Err LongLine) = ⊥
+WritesLines body written new (Err Lines) = ⊥
 
 -- the body was read, and its text was written; or a read failed or memory was refused, and nothing was
 -- written; or a write failed, and no more than a front of the text was written

@@ -1,5 +1,5 @@
 //! The body of a robots text, read from a source in large pieces.
-//! `lines` reads its input with it.
+//! `lines` reads its input with it, and whoever writes the lines of a body that is also needed for something else.
 ghost use Rattle.std.specs.Prelude.{◌≡◌, IfOk, IfErr, OnErr};
 ghost use Rattle.robots_lines.specs.Prints.{IsReadFault, ReadsBody, ReadsPart};
 ghost use Rattle.command_server.specs.Session.{failures_after_reads};
@@ -13,7 +13,7 @@ use std::alloc::Global;
 pub const MAX_BODY: usize = MAX_TEXT + 1;
 
 /// Reads a source to its end, but no more than `MAX_BODY` octets.
-pub(crate) fn read_body<R: Source>(alloc: Global, reader: &mut R) -> Result<Vec<u8>, SessionFault>
+pub fn read_body<R: Source>(alloc: Global, reader: &mut R) -> Result<Vec<u8>, SessionFault>
     ensures body { IfOk result (λ body.
         ReadsBody (R.left reader.old) (R.left reader.new) body.items) }
     ensures part { OnErr result (ReadsPart (R.left reader.old) (R.left reader.new)) }

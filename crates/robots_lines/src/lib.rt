@@ -6,5 +6,5 @@ mod body;
 mod lines_text;
 mod writing;
 
-pub use body::MAX_BODY;
-pub use writing::lines;
+pub use body::{MAX_BODY, read_body};
+pub use writing::{lines, lines_of};

@@ -4,7 +4,7 @@ ghost use Rattle.std.specs.Prelude.{◌≡◌, flat_map};
 ghost use Rattle.counted_io.specs.Output.{Pushes};
 ghost use Rattle.robots_text.specs.Left.{records_left};
 ghost use Rattle.robots_lines.specs.LinesText.{numbered_text};
-ghost use Rattle.robots_lines.specs.Prints.{Prints};
+ghost use Rattle.robots_lines.specs.Prints.{Prints, WritesLines};
 ghost use Rattle.command_server.specs.Session.{failures_after_reads, failures_after_writes};
 
 use crate::body::read_body;
@@ -28,7 +28,17 @@ pub fn lines<R: Source, W: Sink>(
         ≡ failures_after_writes (W.failures writer.old) result }
 {
     let body = read_body(alloc, reader)?;
-    let text = RobotsText::read(alloc, body.as_slice())?;
+    lines_of(alloc, body.as_slice(), writer)
+}
+
+/// Writes what each line of a body says, as `lines` does behind its reading. It answers `Write` or
+/// `NoMemory` alone.
+pub fn lines_of<W: Sink>(alloc: Global, body: &[u8], writer: &mut W) -> Result<(), SessionFault>
+    ensures lines { WritesLines body.now (W.written writer.old) (W.written writer.new) result }
+    ensures writes { W.failures writer.new
+        ≡ failures_after_writes (W.failures writer.old) result }
+{
+    let text = RobotsText::read(alloc, body)?;
     let mut output = Output::new(alloc)?;
     push_records(text.records(), &mut output, writer)?;
     output.flush(writer)?;

@@ -7,3 +7,5 @@ mod line;
 mod servers;
 mod stalls;
 mod test_server;
+mod tls_headers;
+mod tls_programs;

@@ -1,6 +1,10 @@
--- What an exchange tells of a reader whose octets nobody knows.
-use Rattle.std.proofs.Common.{◌≡◌, ℕ, List, [], Option, None, Result, Err, subst, sym}
+-- What an exchange writes behind a header, and what it tells of a reader whose octets nobody knows.
+use Rattle.std.proofs.Common.{◌≡◌, ℕ, ◌+◌, List, [], ◌++◌, length, take, Option, None, Result, Err, subst, sym}
 use Rattle.std.proofs.Common.{inl, inr}
+use Rattle.std.proofs.KnownBytes.{Appends-trans}
+use Rattle.std.proofs.Math.Seq.{take-append-add}
+use Rattle.std.specs.Io.KnownBytes.{Appends}
+use Rattle.counted_io.specs.Device.{AppendsPrefix}
 use Rattle.http_wire.specs.declared.fault.WireFault.{WireFault}
 use Rattle.http_wire.specs.declared.fault.WireFault.TheVariants.{Device}
 use Rattle.http_wire.specs.declared.response.HttpReply.{HttpReply}
@@ -21,3 +25,11 @@ pub exchange_tells :
 exchange_tells request limit written written' writes writes' reads reads' result (inl unsent) =
     device_tells limit result unsent.fault
 exchange_tells request limit written written' writes writes' reads reads' result (inr answered) = answered.tells
+
+-- ---- a header before the request
+
+-- a prefix of the request behind the header is one of both
+pub prefix_behind : (old mid new : Option (List ℕ)) (header request : List ℕ) → Appends old mid header → AppendsPrefix mid new request
+    → AppendsPrefix old new (header ++ request)
+prefix_behind old mid new header request before part =
+    (length header + part.0, subst (Appends old new) (sym (take-append-add header request part.0)) (Appends-trans old mid new header (take part.0 request) before part.1))

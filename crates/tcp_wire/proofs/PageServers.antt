@@ -1,7 +1,7 @@
 -- The server of a page is that of the URL which it reads as.
 -- Used by the answers of `server_of`.
-use Rattle.std.proofs.Common.{◌≡◌, ℕ, ◌<◌, ◌^◌, List, [], ◌++◌, Option, None, Some, sym, refl, ap, ◌∙◌, subst, true≢false}
-use Rattle.std.specs.Prelude.{false, IfSome, MatchOption, codes, unwrap_or}
+use Rattle.std.proofs.Common.{◌≡◌, ℕ, ◌<◌, ◌^◌, List, [], ◌++◌, Option, None, Some, sym, ap, ◌∙◌, subst, true≢false}
+use Rattle.std.specs.Prelude.{false, IfSome, MatchOption, unwrap_or}
 use Rattle.url.specs.declared.host.Host.{Host}
 use Rattle.url.specs.declared.host.Host.TheVariants.{Domain}
 use Rattle.url.specs.declared.scheme.SchemeType.{SchemeType}
@@ -9,12 +9,12 @@ use Rattle.url.specs.declared.scheme.SchemeType.TheVariants.{SpecialNotFile}
 use Rattle.url.specs.Host.{host_text, IsHostOf}
 use Rattle.url.specs.Parser.{parse_url}
 use Rattle.url.specs.Parts.{Parts, kind_of, host_or_empty, IsPortOf, IsValid}
-use Rattle.url.specs.Scheme.{scheme_type, default_port, is_special}
+use Rattle.url.specs.Scheme.{is_special}
 use Rattle.url.proofs.Theorems.{parse_url-serialize_special}
-use Rattle.path_normal.specs.PageText.{authority_of}
+use Rattle.path_normal.specs.PageText.{host_of, is_https}
 use Rattle.path_normal.specs.PageUrl.{page_of_parts, port_text, IsPage, IsPageParts, IsWritten}
-use Rattle.path_normal.proofs.CallerLemmas.{page_splits}
-use Rattle.tcp_wire.specs.Server.{IsServerOf, bare_host, http_port}
+use Rattle.path_normal.proofs.CallerLemmas.{page_kind, page_splits}
+use Rattle.tcp_wire.specs.Server.{IsServerOf, bare_host, scheme_port}
 
 -- what is known of the parts of a text that were cut out of it
 abbrev pub Cuts : List ℕ → List ℕ → List ℕ → Type 0
@@ -23,9 +23,9 @@ Cuts text host tail =
     → text ≡ host_text own ++ port_text port → (host ≡ bare_host own) × (tail ≡ port_text port)
 
 -- what is known of the number that was read of a tail
-abbrev pub ReadsPort : List ℕ → ℕ → Type 0
-ReadsPort tail port =
-    (own : Option ℕ) → IfSome own (λ n. n < 2 ^ 16) → tail ≡ port_text own → port ≡ unwrap_or own http_port
+abbrev pub ReadsPort : List ℕ → ℕ → ℕ → Type 0
+ReadsPort tail port default =
+    (own : Option ℕ) → IfSome own (λ n. n < 2 ^ 16) → tail ≡ port_text own → port ≡ unwrap_or own default
 
 abbrev without_fragment : Parts → Parts
 without_fragment url = record url { fragment = None }
@@ -45,10 +45,6 @@ valid_without_fragment url valid = record {
   fragment = tt;
 }
 
-http_kind : scheme_type (codes "http") ≡ SpecialNotFile
-unfolding scheme_type default_port
-http_kind = refl
-
 own_host_is_valid :
     (kind : SchemeType) (host : Option (Host (List ℕ))) → kind ≡ SpecialNotFile
     → MatchOption host (is_special kind ≡ false) (IsHostOf kind) → IsHostOf SpecialNotFile (unwrap_or host (Domain []))
@@ -61,11 +57,11 @@ port_is_small scheme (Some port) valid = valid.0
 
 server_of_parts :
     (url : Parts) (page host tail : List ℕ) (port : ℕ) → IsPageParts url → page_of_parts url ≡ page
-    → Cuts (authority_of page) host tail → ReadsPort tail port → IsServerOf page host port
+    → Cuts (host_of page) host tail → ReadsPort tail port (scheme_port (is_https page)) → IsServerOf page host port
 server_of_parts url page host tail port parts spelled cuts reads =
-    let kind : kind_of url ≡ SpecialNotFile = ap scheme_type parts.scheme ∙ http_kind in
+    let kind : kind_of url ≡ SpecialNotFile = page_kind url parts.scheme in
     let split = page_splits url parts.valid parts.scheme parts.username parts.password in
-    let named = ap authority_of (sym spelled) ∙ split.parts.authority in
+    let named = ap host_of (sym spelled) ∙ split.parts.host in
     let cut = cuts (host_or_empty url) url.port (own_host_is_valid (kind_of url) url.host kind parts.valid.head.host) named in
     record {
       url = without_fragment url;
@@ -74,10 +70,10 @@ server_of_parts url page host tail port parts spelled cuts reads =
       own_port = reads url.port (port_is_small url.scheme url.port parts.valid.head.port) cut.1;
     }
 
--- the parts of a page's authority, and the number that was read, are those of its server
+-- the parts of a page's host, and the number that was read, are those of its server
 pub page_server :
-    (page host tail : List ℕ) (port : ℕ) → IsPage page → Cuts (authority_of page) host tail → ReadsPort tail port
-    → IsServerOf page host port
+    (page host tail : List ℕ) (port : ℕ) → IsPage page → Cuts (host_of page) host tail
+    → ReadsPort tail port (scheme_port (is_https page)) → IsServerOf page host port
 unfolding IsWritten
 page_server page host tail port is_page cuts reads =
     let written = is_page.written in

@@ -24,7 +24,7 @@ use Rattle.url.specs.declared.sets.TheConstants.{FORBIDDEN_DOMAIN}
 use Rattle.url.specs.Host.{host_text, IsDomain, IsHostOf}
 use Rattle.url.proofs.InputLemmas.{IsNot}
 use Rattle.url.proofs.SetLemmas.{All_kept_differs}
-use Rattle.tcp_wire.specs.Server.{bare_host, http_port}
+use Rattle.tcp_wire.specs.Server.{bare_host}
 
 -- the octets of a list, but the first
 abbrev rest_of : List ℕ → List ℕ
@@ -32,21 +32,21 @@ rest_of octets = drop 1 octets
 
 -- digits behind a colon are those of the port, and what they read as is the port
 pub port_parsed :
-    {E : Type 0} (tail digits : List ℕ) (parsed : Result ℕ E) (port : Option ℕ)
+    {E : Type 0} (tail digits : List ℕ) (own : ℕ) (parsed : Result ℕ E) (port : Option ℕ)
     → tail ≡ 58 ∷ digits → ParsesUnsigned 16 10 digits parsed
     → IfSome port (λ n. n < 2 ^ 16) → tail ≡ port_text port
-    → result_unwrap_or parsed 80 ≡ unwrap_or port http_port
-port_parsed tail digits parsed None starts reads small written =
+    → result_unwrap_or parsed own ≡ unwrap_or port own
+port_parsed tail digits own parsed None starts reads small written =
     absurd (omega (arith, ap length (sym starts ∙ written)))
-port_parsed tail digits parsed (Some port) starts reads small written =
-    ap (λ r. result_unwrap_or r 80) (parse-decimal 16 port digits parsed small (omega (arith, small)) (ap rest_of (sym starts ∙ written)) reads)
+port_parsed tail digits own parsed (Some port) starts reads small written =
+    ap (λ r. result_unwrap_or r own) (parse-decimal 16 port digits parsed small (omega (arith, small)) (ap rest_of (sym starts ∙ written)) reads)
 
 -- where no colon stands first no port is written
 pub port_missing :
-    (tail : List ℕ) (port : Option ℕ) → ((rest : List ℕ) → tail ≢ 58 ∷ rest) → tail ≡ port_text port
-    → 80 ≡ unwrap_or port http_port
-port_missing tail None other written = refl
-port_missing tail (Some port) other written = absurd (other (decimal port) written)
+    (tail : List ℕ) (own : ℕ) (port : Option ℕ) → ((rest : List ℕ) → tail ≢ 58 ∷ rest) → tail ≡ port_text port
+    → own ≡ unwrap_or port own
+port_missing tail own None other written = refl
+port_missing tail own (Some port) other written = absurd (other (decimal port) written)
 
 -- ---- the host
 

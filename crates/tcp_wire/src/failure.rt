@@ -20,6 +20,11 @@ pub enum Failure {
     Silent(Duration),
     /// The whole fetch took this long.
     TooLong(Duration),
+    /// No TLS connection came about: the program that opens them ended its own before the first octet came back.
+    /// The site takes no connection, its certificate is bad, or it speaks no TLS.
+    NoTls,
+    /// Nobody takes connections where the program that opens TLS should be, or there is none.
+    NoTlsProgram,
     /// Its client was told to stop.
     Stopped,
     /// The system tells another fault.

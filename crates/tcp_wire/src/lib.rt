@@ -4,18 +4,21 @@
 
 mod deadline;
 mod failure;
+mod heard;
 mod http_exchange;
 mod reach;
 mod server;
 mod tcp_client;
 mod time_limits;
 mod timed_stream;
+mod tls_header;
 
 pub use deadline::Deadline;
 pub use failure::Failure;
-pub use http_exchange::exchange;
+pub use http_exchange::{exchange, exchange_behind};
 pub use reach::Reach;
 pub use server::{Server, server_of};
 pub use tcp_client::TcpClient;
 pub use time_limits::{CONNECT_SECONDS, STEP_SECONDS, TimeLimits, WHOLE_SECONDS};
 pub use timed_stream::{TimedStream, Waits};
+pub use tls_header::{TlsHeaderFault, tls_header_of};

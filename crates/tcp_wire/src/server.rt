@@ -4,13 +4,17 @@ ghost use Rattle.std.specs.Prelude.{◌≡◌, ◌++◌, ℕ, List, Option, ◌^
 ghost use Rattle.url.specs.declared.host.Host.{Host};
 ghost use Rattle.url.specs.declared.scheme.SchemeType.TheVariants.{SpecialNotFile};
 ghost use Rattle.url.specs.Host.{host_text, IsHostOf};
+ghost use Rattle.path_normal.specs.PageText.{is_https};
 ghost use Rattle.path_normal.specs.PageUrl.{port_text};
-ghost use Rattle.tcp_wire.specs.Server.{IsServerOf, bare_host, http_port};
+ghost use Rattle.tcp_wire.specs.Server.{IsServerOf, bare_host, scheme_port};
 
 use path_normal::PageUrl;
 
 /// The port of `http`, where none is written.
 const HTTP_PORT: u16 = 80;
+
+/// The port of `https`, where none is written.
+const HTTPS_PORT: u16 = 443;
 
 /// The host and the port of a page.
 #[derive(Clone, Copy, PartialEq, Eq)]
@@ -24,14 +28,25 @@ pub struct Server<'a> {
 pub fn server_of(url: &PageUrl) -> Server<'_>
     ensures { IsServerOf url.now result.host.now result.port }
 {
-    let (host, tail) = split_host(url.authority());
+    let (host, tail) = split_host(url.host());
     Server {
         host,
-        port: port_of(tail),
+        port: port_of(tail, scheme_port(url)),
     }
 }
 
-// The host of an authority, without brackets, and what stands behind it.
+// The port of a page's scheme.
+fn scheme_port(url: &PageUrl) -> u16
+    ensures { result ≡ scheme_port (is_https url.now) }
+{
+    if url.is_https() {
+        HTTPS_PORT
+    } else {
+        HTTP_PORT
+    }
+}
+
+// The host, without brackets, and what stands behind it.
 fn split_host(authority: &str) -> (&str, &str)
     ensures { (host : Host (List ℕ)) (port : Option ℕ) → IsHostOf SpecialNotFile host
         → authority.now ≡ host_text host ++ port_text port
@@ -46,13 +61,13 @@ fn split_host(authority: &str) -> (&str, &str)
     }
 }
 
-// The port that is written behind a host.
-fn port_of(tail: &str) -> u16
+// The port that is written behind a host, or that of the scheme.
+fn port_of(tail: &str, own: u16) -> u16
     ensures { (port : Option ℕ) → IfSome port (λ n. n < 2 ^ 16) → tail.now ≡ port_text port
-        → result ≡ unwrap_or port http_port }
+        → result ≡ unwrap_or port own }
 {
     match tail.strip_prefix(':') {
-        Some(digits) => digits.parse().unwrap_or(HTTP_PORT),
-        None => HTTP_PORT,
+        Some(digits) => digits.parse().unwrap_or(own),
+        None => own,
     }
 }

@@ -9,3 +9,4 @@ mod line_ends;
 mod octets;
 mod policies;
 mod ratios;
+mod schemes;

@@ -9,6 +9,7 @@ mod overlap;
 mod pages;
 mod readings;
 mod refreshes;
+mod schemes;
 mod scripts;
 mod shift;
 mod waits;

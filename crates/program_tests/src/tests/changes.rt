@@ -6,6 +6,7 @@ use counted_io::{Counted, FailAt};
 use crawl_shift::NotShifted;
 use crawl_workers::{Clock, Deadline, Failure, Fetcher, PageLeave, RobotsLeave};
 use http_wire::{HttpReply, WireFault, read_response};
+use path_normal::Schemes;
 use std::alloc::Global;
 use std::random::RandomSource;
 use std::sync::Wait;
@@ -27,7 +28,15 @@ struct Changing<'a> {
 }
 
 impl Fetcher for Changing<'_> {
+    ghost use Rattle.path_normal.specs.declared.schemes.Schemes.TheVariants.{Http};
+
     ghost gives = { λ _ _ _ _. Unit {0} };
+
+    ghost follows = { λ _. Http };
+
+    fn schemes(&self) -> Schemes {
+        Schemes::Http
+    }
 
     fn load_page(
         &self,

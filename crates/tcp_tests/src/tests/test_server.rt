@@ -104,9 +104,19 @@ pub(super) fn fetch<R: Net<Stream = TcpStream> + time::Clock>(
     limits: TimeLimits,
     limit: usize,
 ) -> io::Result<Timed> {
+    fetch_by(rt, alloc, &TcpClient::new(rt, limits), url, limit)
+}
+
+/// The same by a client.
+pub(super) fn fetch_by<R: Net<Stream = TcpStream> + time::Clock>(
+    rt: &impl time::Clock,
+    alloc: Global,
+    client: &TcpClient<R>,
+    url: &PageUrl,
+    limit: usize,
+) -> io::Result<Timed> {
     let begun = Instant::now(rt)?;
     let mut failure = None;
-    let client = TcpClient::new(rt, limits);
     let given = client.fetch(alloc, url, b"crawlgate", limit, &mut failure);
     told_since(rt, alloc, begun, &given, failure)
 }
@@ -172,8 +182,8 @@ fn read_and_send(stream: &mut TcpStream, request: &mut Vec<u8>, reply: &str) -> 
     send(stream, reply)
 }
 
-// Accepts one connection, whose reads and writes here wait for 10 seconds at most.
-fn accept(listener: &TcpListener) -> io::Result<TcpStream> {
+/// Accepts one connection, whose reads and writes here wait for 10 seconds at most.
+pub(super) fn accept(listener: &TcpListener) -> io::Result<TcpStream> {
     let (stream, _) = listener.accept()?;
     limit_waits(&stream)?;
     Ok(stream)
@@ -221,8 +231,8 @@ fn stall(stream: &mut TcpStream) -> io::Result<()> {
     Ok(())
 }
 
-// Reads up to the empty line behind a request's head.
-fn read_head(stream: &mut TcpStream, request: &mut Vec<u8>) -> io::Result<()> {
+/// Reads up to the empty line behind a request's head.
+pub(super) fn read_head(stream: &mut TcpStream, request: &mut Vec<u8>) -> io::Result<()> {
     for _ in 0..8_192 {
         let mut octet = [0];
         stream.read_exact(&mut octet)?;
@@ -234,8 +244,8 @@ fn read_head(stream: &mut TcpStream, request: &mut Vec<u8>) -> io::Result<()> {
     Ok(())
 }
 
-// Sends a text, in which `|` stands for CR LF.
-fn send(stream: &mut TcpStream, text: &str) -> io::Result<()> {
+/// Sends a text, in which `|` stands for CR LF.
+pub(super) fn send(stream: &mut TcpStream, text: &str) -> io::Result<()> {
     for line in text.as_bytes().split_inclusive(|octet| *octet == b'|') {
         match line.strip_suffix(b"|") {
             Some(line) => {

@@ -4,7 +4,7 @@ use super::pages::{job, jobs_of};
 use super::shift::given_of;
 use crawl_workers::{Deadline, Failure, Fetcher, Job, PageLeave, RobotsLeave};
 use http_wire::{HttpReply, WireFault};
-use path_normal::PageUrl;
+use path_normal::{PageUrl, Schemes};
 use std::alloc::{AllocError, Global};
 use std::process::Abort;
 use std::random::RandomSource;
@@ -35,7 +35,15 @@ struct Together<'r, R: time::Clock> {
 }
 
 impl<R: time::Clock> Fetcher for Together<'_, R> {
+    ghost use Rattle.path_normal.specs.declared.schemes.Schemes.TheVariants.{Http};
+
     ghost gives = { λ _ _ _ _. Unit {0} };
+
+    ghost follows = { λ _. Http };
+
+    fn schemes(&self) -> Schemes {
+        Schemes::Http
+    }
 
     fn load_page(
         &self,
@@ -119,7 +127,15 @@ struct Counting {
 }
 
 impl Fetcher for Counting {
+    ghost use Rattle.path_normal.specs.declared.schemes.Schemes.TheVariants.{Http};
+
     ghost gives = { λ _ _ _ _. Unit {0} };
+
+    ghost follows = { λ _. Http };
+
+    fn schemes(&self) -> Schemes {
+        Schemes::Http
+    }
 
     fn load_page(
         &self,

@@ -9,6 +9,7 @@ use crawl_workers::{Clock, Deadline, Failure, Fetcher, Job, PageLeave, RobotsLea
 use gate_core::Limits;
 use gate_lock::{Gate, GateLock, Mark, Visit, with_gate};
 use http_wire::{HttpReply, WireFault};
+use path_normal::Schemes;
 use std::alloc::{AllocError, Global};
 use std::process::Abort;
 use std::random::RandomSource;
@@ -58,7 +59,15 @@ struct Open {
 }
 
 impl Fetcher for Open {
+    ghost use Rattle.path_normal.specs.declared.schemes.Schemes.TheVariants.{Http};
+
     ghost gives = { λ _ _ _ _. Unit {0} };
+
+    ghost follows = { λ _. Http };
+
+    fn schemes(&self) -> Schemes {
+        Schemes::Http
+    }
 
     fn load_page(
         &self,

@@ -7,25 +7,25 @@ use Rattle.command_server.proofs.Walking.{begin_walk, ends_early, ends_late, end
 use Rattle.command_server.proofs.arrival.decide.Goals as goal
 
 pub loop-walk-init : goal.loop-walk-init
-loop-walk-init c = begin_walk _ _ _ c.in_ok-walk.ensures
+loop-walk-init c = begin_walk c.args.schemes _ _ _ c.in_ok-walk.ensures
 
 pub loop-walk-preserved-in-Go : goal.loop-walk-preserved-in-Go
 loop-walk-preserved-in-Go c =
     let takes = subst (λ (r : Option RobotsReply). TakesReply c.loop-walk.replies r c.next.new.self) c.in-Some.is c.in_ok-reply.ensures in
-    go_on _ _ _ _ _ _ _ c.loop-walk.invariant takes c.in-Go.ensures
+    go_on c.args.schemes _ _ _ _ _ _ _ c.loop-walk.invariant takes c.in-Go.ensures
 
 pub returns-in-Done-clause-brings : goal.returns-in-Done-clause-brings
 returns-in-Done-clause-brings c =
     let takes = subst (λ (r : Option RobotsReply). TakesReply c.loop-walk.replies r c.next.new.self) c.in-Some.is c.in_ok-reply.ensures in
-    ends_well _ _ _ _ _ _ _ c.loop-walk.invariant takes c.in-Done.ensures (c.is_empty.ensures.0 c.if-is_empty.true)
+    ends_well c.args.schemes _ _ _ _ _ _ _ c.loop-walk.invariant takes c.in-Done.ensures (c.is_empty.ensures.0 c.if-is_empty.true)
 
 pub returns-in-Done-2-clause-brings : goal.returns-in-Done-2-clause-brings
 returns-in-Done-2-clause-brings c =
     let takes = subst (λ (r : Option RobotsReply). TakesReply c.loop-walk.replies r c.next.new.self) c.in-Some.is c.in_ok-reply.ensures in
-    ends_early _ _ _ _ _ _ _ c.loop-walk.invariant takes c.in-Done-2.ensures
+    ends_early c.args.schemes _ _ _ _ _ _ _ c.loop-walk.invariant takes c.in-Done-2.ensures
     (λ none. true≢false (sym (c.is_empty.ensures.1 none) ∙ c.if-is_empty.false))
 
 pub returns-clause-brings : goal.returns-clause-brings
 returns-clause-brings c =
     let none = subst (λ (r : Option RobotsReply). TakesReply c.loop-walk.replies r c.next.new.self) c.in_default.is c.in_ok-reply.ensures in
-    ends_late _ _ _ _ _ c.loop-walk.invariant none
+    ends_late c.args.schemes _ _ _ _ _ c.loop-walk.invariant none

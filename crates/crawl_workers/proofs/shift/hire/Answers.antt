@@ -3,7 +3,6 @@
 use Rattle.std.proofs.Common.{◌∙◌, ◌++◌, ◌∷◌, [], ap, arith, length, sym, append_assoc}
 use Rattle.std.specs.Prelude.{None}
 use Rattle.std.proofs.lemmas.List.{length-append, map-append}
-use Rattle.job_line.specs.Covers.{SeatView}
 use Rattle.crawl_workers.specs.Crews.{newcomer}
 use Rattle.crawl_workers.proofs.shift.hire.Goals as goal
 

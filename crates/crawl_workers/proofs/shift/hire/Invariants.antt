@@ -1,6 +1,6 @@
 -- The seats so far have a worker each, and there is room for the others.
 -- Used by `hire`.
-use Rattle.std.proofs.Common.{◌≡◌, ◌≤◌, ◌++◌, ◌+◌, List, length}
+use Rattle.std.proofs.Common.{◌≡◌, ◌≤◌, ◌++◌, List, length}
 use Rattle.std.specs.Prelude.{map, vec_capacity, vec_len}
 use Rattle.job_line.specs.Covers.{SeatView}
 use Rattle.crawl_workers.specs.Crews.{newcomer}

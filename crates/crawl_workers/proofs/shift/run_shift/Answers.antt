@@ -12,7 +12,7 @@ use Rattle.crawl_workers.proofs.shift.run_shift.Goals as goal
 
 pub place_all-requires : goal.place_all-requires
 place_all-requires g c n =
-    let world = world_of (g.F.Fetcher.gives c.args.fetcher.now) (g.C.Clock.reads c.args.clock.now) in
+    let world = world_of (g.F.Fetcher.gives c.args.fetcher.now) (g.F.Fetcher.follows c.args.fetcher.now) (g.C.Clock.reads c.args.clock.now) in
     let jobs = c.args.jobs.now in
     let order = c.deref-3.result.now in
     let counts = c.deref-4.result.now in
@@ -29,7 +29,7 @@ place_all-requires g c n =
 
 pub returns : goal.returns
 returns g c =
-    let world = world_of (g.F.Fetcher.gives c.args.fetcher.now) (g.C.Clock.reads c.args.clock.now) in
+    let world = world_of (g.F.Fetcher.gives c.args.fetcher.now) (g.F.Fetcher.follows c.args.fetcher.now) (g.C.Clock.reads c.args.clock.now) in
     let jobs = c.args.jobs.now in
     let order = c.deref-3.result.now in
     let counts = c.deref-4.result.now in

@@ -1,5 +1,6 @@
 -- The base is empty, and each entry's facts compute.
 use Rattle.std.proofs.Common.{refl, lit≤, arith}
+use Rattle.path_normal.specs.PageText.{authority_of}
 use Rattle.gate_history.specs.declared.outcome.Reason.TheVariants.{Open}
 use Rattle.gate_history.specs.Base.{IsBase, empty_base}
 use Rattle.gate_history.specs.Rows.{foobot, page}
@@ -22,6 +23,7 @@ is_base = record {
 }
 
 pub returns-clause-legal : goal.returns-clause-legal
+unfolding authority_of
 returns-clause-legal c = (
   (((is_base, (lit≤ tt, refl, refl)), (lit≤ tt, refl, refl)), (lit≤ tt, refl, (Open, refl))),
   (lit≤ tt, (foobot, (page, (refl, refl)))),

@@ -1,51 +1,13 @@
--- The text of what was read passes to the output, and is written or cut there.
-use Rattle.std.proofs.Common.{◌≡◌, ℕ, List, [], ◌++◌, Option, flat_map, sym, subst, ap, ◌∙◌}
-use Rattle.std.specs.Io.KnownBytes.{Appends}
-use Rattle.std.proofs.KnownBytes.{Appends-nil, Appends-trans}
-use Rattle.std.proofs.lemmas.Result.{err_from_is_err_and}
-use Rattle.counted_io.specs.Device.{AppendsPrefix}
-use Rattle.counted_io.specs.Output.{Passes}
-use Rattle.counted_io.proofs.CallerLemmas.{Passes-cut-all}
-use Rattle.robots_text.specs.Lines.{kept}
-use Rattle.robots_text.specs.Records.{Numbered, numbered_records}
-use Rattle.robots_lines.specs.LinesText.{numbered_text, lines_text}
-use Rattle.robots_lines.specs.Prints.{ReadsBody, ReadsPart}
+-- What was written of the body that was read.
+-- The lemmas of `Printing` say so.
+use Rattle.std.proofs.Common.{◌∙◌, sym}
+use Rattle.robots_lines.proofs.Printing.{prints_of, reads_none}
 use Rattle.robots_lines.proofs.writing.lines.Goals as goal
-
-as_part : (a b : Option (List ℕ)) (body : List ℕ) → ReadsBody a b body → ReadsPart a b
-as_part a b body reads = record { part = body; consumed = reads.consumed; fits = reads.fits }
-
--- what was pushed is the text of the body
-pushed_text : (pending text slice body : List ℕ) (records : List Numbered) → pending ≡ [] → records ≡ numbered_records text → text ≡ kept slice → slice ≡ body →
-    pending ++ flat_map numbered_text records ≡ lines_text body
-pushed_text pending text slice body records none are text_is slice_is =
-    ap (λ l. l ++ flat_map numbered_text records) none
-    ∙ ap (flat_map numbered_text) (are ∙ ap numbered_records (text_is ∙ ap kept slice_is))
-
-all_written : (a b c : Option (List ℕ)) (text pending : List ℕ) → Passes a b text pending → Appends b c pending → Appends a c text
-all_written a b c text pending p wrote = subst (Appends a c) (sym p.split) (Appends-trans a b c p.front pending p.wrote wrote)
-
-pub returns-in_err-output-clause-prints : goal.returns-in_err-output-clause-prints
-returns-in_err-output-clause-prints g c =
-    let p = err_from_is_err_and c.from_residual-in_err-output.result c.from_residual-in_err-output.ensures.1 in
-    rw (p.1, p.2) (as_part _ _ _ c.in_ok-body.ensures.body, Appends-nil _)
-
-pub returns-in_err-flush-clause-prints : goal.returns-in_err-flush-clause-prints
-returns-in_err-flush-clause-prints g c =
-    let p = err_from_is_err_and c.from_residual-in_err-flush.result c.from_residual-in_err-flush.ensures.1 in
-    let text = pushed_text _ _ _ c.in_ok-body.body.items _ c.in_ok-output.ensures.empty c.records.ensures.records c.in_ok-text.ensures.kept c.as_slice.ensures.value in
-    rw (p.1, p.2) (
-      c.in_ok-body.body.items,
-      c.in_ok-body.ensures.body,
-      subst (λ l. AppendsPrefix (g.W.Sink.written c.args.writer.now) (g.W.Sink.written c.flush.new.sink) l) text
-          (Passes-cut-all _ _ _ _ _ c.in_ok-push_records.ensures.ok c.in_err-flush.ensures.err),
-    )
 
 pub returns-clause-prints : goal.returns-clause-prints
 returns-clause-prints g c =
-    let text = pushed_text _ _ _ c.in_ok-body.body.items _ c.in_ok-output.ensures.empty c.records.ensures.records c.in_ok-text.ensures.kept c.as_slice.ensures.value in (
-      c.in_ok-body.body.items,
-      c.in_ok-body.ensures.body,
-      subst (λ l. Appends (g.W.Sink.written c.args.writer.now) (g.W.Sink.written c.flush.new.sink) l) text
-          (all_written _ _ _ _ _ c.in_ok-push_records.ensures.ok c.in_ok-flush.ensures.ok),
-    )
+    prints_of _ _ c.in_ok-body.body.items _ _ _ c.lines_of.result c.in_ok-body.ensures.body c.as_slice.ensures.value c.lines_of.ensures.lines
+
+pub returns-clause-reads : goal.returns-clause-reads
+returns-clause-reads g c =
+    c.in_ok-body.ensures.reads ∙ sym (reads_none (g.R.Source.failures c.args.reader.now) c.as_slice.result.now (g.W.Sink.written c.args.writer.now) (g.W.Sink.written c.lines_of.new.writer) c.lines_of.result c.lines_of.ensures.lines)

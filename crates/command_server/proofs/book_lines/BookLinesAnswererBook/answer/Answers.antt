@@ -15,6 +15,6 @@ returns-in_err-push-in-Ok-Quit-clause-err g c =
     on_err c.from_residual-in_err-push-in-Ok-Quit.result (record {
       reply = text;
       ended = true;
-      answered = inl (subst (λ (r : Result Command LineFault). AnswersCommand c.args.book.now r text true c.args.book.now) (sym e) (c.bye_pieces.ensures, refl, refl));
+      answered = inl (subst (λ (r : Result Command LineFault). AnswersCommand c.args.self.now.schemes c.args.book.now r text true c.args.book.now) (sym e) (c.bye_pieces.ensures, refl, refl));
       cut = c.in_err-push-in-Ok-Quit.ensures.err;
     })

@@ -14,7 +14,7 @@ employ_all-requires-clause-new g c κs within =
 
 pub returns : goal.returns
 returns g c =
-    let world = world_of (g.F.Fetcher.gives c.args.self.now.fetcher.now) (g.C.Clock.reads c.args.self.now.clock.now) in
+    let world = world_of (g.F.Fetcher.gives c.args.self.now.fetcher.now) (g.F.Fetcher.follows c.args.self.now.fetcher.now) (g.C.Clock.reads c.args.self.now.clock.now) in
     let crew = c.args.self.now in
     let seats = c.args.seats.items in
     let new = c.employ_all.new.members in

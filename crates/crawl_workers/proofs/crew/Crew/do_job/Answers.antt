@@ -20,7 +20,7 @@ returns-clause-ok g c =
           outcome = outcome;
           job_is = c.requires;
           hops_are = refl;
-          told = subst (λ (j : Job). IsOutcome (world_of (g.F.Fetcher.gives c.args.self.now.fetcher.now) (g.C.Clock.reads c.args.self.now.clock.now)) j outcome works.0) same works.1.1;
+          told = subst (λ (j : Job). IsOutcome (world_of (g.F.Fetcher.gives c.args.self.now.fetcher.now) (g.F.Fetcher.follows c.args.self.now.fetcher.now) (g.C.Clock.reads c.args.self.now.clock.now)) j outcome works.0) same works.1.1;
         },
       ),
     )

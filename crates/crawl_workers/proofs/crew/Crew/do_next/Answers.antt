@@ -16,7 +16,7 @@ returns-clause-ok g c =
     let work = c.args.work.now in
     let did = c.in_ok-did.did in
     let this = (c.in_ok-did.ensures {u = tt}).ok in
-    let world = world_of (g.F.Fetcher.gives c.args.self.now.fetcher.now) (g.C.Clock.reads c.args.self.now.clock.now) in
+    let world = world_of (g.F.Fetcher.gives c.args.self.now.fetcher.now) (g.F.Fetcher.follows c.args.self.now.fetcher.now) (g.C.Clock.reads c.args.self.now.clock.now) in
     let items : c.push_reserved-2.new.self.items ≡ work.done ++ did ∷ [] =
     c.push_reserved-2.ensures.items ∙ ap (λ xs. xs ++ did ∷ []) (c.reserve-2.ensures.items ∙ ap (λ (w : WorkView). w.done) c.work.view_is) in
     let numbers : c.push_reserved.new.self.items ≡ work.drawn ++ c.args.number ∷ [] =

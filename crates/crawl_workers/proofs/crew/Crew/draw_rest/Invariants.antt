@@ -11,6 +11,6 @@ abbrev pub invariant-loop-site : goal.invariant-loop-site
 invariant-loop-site g l = record {
   out : KeepsOut l.fn.desk l.desk;
   stays : StaysAt l.fn.work.seat l.work.seat;
-  worked : HasWorked (world_of (g.F.Fetcher.gives l.self.fetcher.now) (g.C.Clock.reads l.self.clock.now)) l.self.jobs.now l.self.order.now l.work (receipt_of l.desk);
+  worked : HasWorked (world_of (g.F.Fetcher.gives l.self.fetcher.now) (g.F.Fetcher.follows l.self.fetcher.now) (g.C.Clock.reads l.self.clock.now)) l.self.jobs.now l.self.order.now l.work (receipt_of l.desk);
   found : (site : ℕ) → site < l.site → ended_at site l.work.seat ≡ true;
 }

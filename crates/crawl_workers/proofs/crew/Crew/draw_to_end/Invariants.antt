@@ -11,5 +11,5 @@ invariant-draws g l = record {
   ends : (goal.iterator-draws g).is_finite l.iterator';
   out : KeepsOut l.fn.desk l.desk;
   stays : StaysAt l.fn.work.seat l.work.seat;
-  worked : HasWorked (world_of (g.F.Fetcher.gives l.self.fetcher.now) (g.C.Clock.reads l.self.clock.now)) l.self.jobs.now l.self.order.now l.work (receipt_of l.desk);
+  worked : HasWorked (world_of (g.F.Fetcher.gives l.self.fetcher.now) (g.F.Fetcher.follows l.self.fetcher.now) (g.C.Clock.reads l.self.clock.now)) l.self.jobs.now l.self.order.now l.work (receipt_of l.desk);
 }

@@ -8,7 +8,7 @@ use Rattle.crawl_workers.proofs.worker.Worker.hop_at.Goals as goal
 
 pub returns-in-Err-clause-tells : goal.returns-in-Err-clause-tells
 returns-in-Err-clause-tells g c =
-    let world = world_of (g.F.Fetcher.gives c.args.self.now.fetcher.now) (g.C.Clock.reads c.args.self.now.clock.now) in
+    let world = world_of (g.F.Fetcher.gives c.args.self.now.fetcher.now) (g.F.Fetcher.follows c.args.self.now.fetcher.now) (g.C.Clock.reads c.args.self.now.clock.now) in
     let desk = c.see_to_answer-seen.new.desk in
     behind_refresh world c.args.url (IsLastHop world c.args.token.now c.args.url (hops.Refused c.in-Err.refusal) c.new.result.items)
     c.args.desk.now desk desk c.see_to_answer-seen.ensures.refreshed
@@ -16,7 +16,7 @@ returns-in-Err-clause-tells g c =
 
 pub returns-in-Err-copy-clause-tells : goal.returns-in-Err-copy-clause-tells
 returns-in-Err-copy-clause-tells g c =
-    let world = world_of (g.F.Fetcher.gives c.args.self.now.fetcher.now) (g.C.Clock.reads c.args.self.now.clock.now) in
+    let world = world_of (g.F.Fetcher.gives c.args.self.now.fetcher.now) (g.F.Fetcher.follows c.args.self.now.fetcher.now) (g.C.Clock.reads c.args.self.now.clock.now) in
     let desk = c.see_to_answer-seen.new.desk in
     behind_refresh world c.args.url (IsLastHop world c.args.token.now c.args.url (hops.Refused refusals.NoMemory) c.new-in-Err-copy.result.items)
     c.args.desk.now desk desk c.see_to_answer-seen.ensures.refreshed

@@ -8,7 +8,7 @@ use Rattle.crawl_workers.proofs.worker.Worker.hops_from.Given as goal
 
 abbrev pub invariant-loop-hop : goal.invariant-loop-hop
 invariant-loop-hop g l = record {
-  come : HasCome (world_of (g.F.Fetcher.gives l.self.fetcher.now) (g.C.Clock.reads l.self.clock.now)) l.token l.fn.url l.hops.items l.url l.fn.desk l.desk;
+  come : HasCome (world_of (g.F.Fetcher.gives l.self.fetcher.now) (g.F.Fetcher.follows l.self.fetcher.now) (g.C.Clock.reads l.self.clock.now)) l.token l.fn.url l.hops.items l.url l.fn.desk l.desk;
   same : l.desk.no ≡ l.fn.desk.no;
   out : KeepsOut l.fn.desk l.desk;
   room : max_hops ≤ vec_capacity l.hops;

@@ -10,7 +10,7 @@ use Rattle.crawl_workers.proofs.worker.Worker.see_to_answer.Goals as goal
 
 pub returns-in-Ok-Some-clause-refreshed : goal.returns-in-Ok-Some-clause-refreshed
 returns-in-Ok-Some-clause-refreshed g c =
-    let world = world_of (g.F.Fetcher.gives c.args.self.now.fetcher.now) (g.C.Clock.reads c.args.self.now.clock.now) in
+    let world = world_of (g.F.Fetcher.gives c.args.self.now.fetcher.now) (g.F.Fetcher.follows c.args.self.now.fetcher.now) (g.C.Clock.reads c.args.self.now.clock.now) in
     let P : Option Errand → Type 0 = λ may. MayBeginErrand world (authority_of c.args.url.now) (Ok may) c.args.desk.now c.begin_stale.new.desk in
     refreshed world (authority_of c.args.url.now)
     c.in-Ok-Some.turn c.bring_answer.result c.args.desk.now c.begin_stale.new.desk c.bring_answer.new.desk

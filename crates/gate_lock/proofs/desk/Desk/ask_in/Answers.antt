@@ -2,7 +2,8 @@
 -- The lemmas of `Replying` say so of the mark and of the latter; each other part is found by itself.
 use Rattle.std.proofs.Common.{◌∙◌, rules, arith}
 use Rattle.std.proofs.lemmas.Grind.{common_steps}
-use Rattle.gate_lock.proofs.Replying.{granted_mark, refused}
+use Rattle.gate_lock.proofs.Starts.{starts_in_push}
+use Rattle.gate_lock.proofs.Replying.{denied_mark, granted_mark, refused}
 use Rattle.gate_lock.proofs.desk.Desk.ask_in.Goals as goal
 
 pub returns-in-Ok : goal.returns-in-Ok
@@ -17,6 +18,29 @@ returns-in-Ok g c = (
     marks_are = c.push_reserved.ensures.items
         ∙ granted_mark c.args.held.now _ c.args.ask.token c.args.ask.url c.args.moment _ c.last.result c.ask.inside.fetch c.args.self.now.marks _ c.granted.result
         (search rules) c.last.ensures (search rules) c.granted.ensures (search rules);
+  },
+)
+
+pub invariant_of-self-in-Err-Denied : goal.invariant_of-self-in-Err-Denied
+invariant_of-self-in-Err-Denied g c = record {
+  entries_are = grind (arith, common_steps);
+  starts_are = grind (arith, common_steps, starts_in_push);
+  handed_are = grind (arith, common_steps);
+  few = grind (arith, common_steps);
+  fits = grind (arith, common_steps);
+}
+
+pub returns-in-Err-Denied : goal.returns-in-Err-Denied
+returns-in-Err-Denied g c = (
+  search rules,
+  record {
+    limits_are = search rules;
+    no_is = search rules;
+    seen_is = grind (arith, common_steps);
+    out_is = search rules;
+    marks_are = c.push_reserved-in-Err-Denied.ensures.items
+        ∙ denied_mark c.args.held.now _ c.args.ask.token c.args.ask.url c.args.moment _ c.last-in-Err-Denied.result c.ask.inside.fetch c.args.self.now.marks _ c.ask_denied-mark.result
+        (search rules) c.last-in-Err-Denied.ensures (search rules) (search rules) (search rules);
   },
 )
 

@@ -1,16 +1,16 @@
 -- Where the bag has room it keeps the permit, so that none is given back.
 -- What the desk refuses the keeper does, by the lemma `refused` of `Refusing`.
-use Rattle.std.proofs.Common.{◌≡◌, ℕ, ◌<◌, Result, Err, subst, sym, rules}
+use Rattle.std.proofs.Common.{◌≡◌, ◌∙◌, ℕ, ◌<◌, Result, Err, subst, sym, rules}
 use Rattle.std.proofs.lemmas.Bool.{false≢true}
 use Rattle.gate_core.specs.declared.refusal.AskRefusal.{AskRefusal}
 use Rattle.gate_lock.specs.Bags.{HoldsSame}
 use Rattle.keepers.specs.DeskKeeping.{KeeperAsks}
-use Rattle.keepers.proofs.Refusing.{refused}
+use Rattle.keepers.proofs.Refusing.{refused, unrefused}
 use Rattle.keepers.proofs.desk_keeper.DeskKeeper.ask_desk.Goals as goal
 
 pub returns-in-Err-clause-asks : goal.returns-in-Err-clause-asks
 returns-in-Err-clause-asks g c =
-    let room : 0 < c.make_room.new.self.room = search rules in
+    let room : 0 < c.make_room.new.self.room = unrefused c.make_room.result (sym c.is_err.ensures.value ∙ c.if-is_err.false) c.make_room.ensures.ok in
     absurd (false≢true (c.in-Err.ensures.succeeds room))
 
 pub returns-in_err-permit-clause-asks : goal.returns-in_err-permit-clause-asks

@@ -1,22 +1,24 @@
 -- What has no fault is a page, and has the parts of the URL.
 -- Used by `PageUrl::of_parsed`.
-use Rattle.std.proofs.Common.{◌∙◌, ◌+◌, length, sym, ap, subst, IsAscii}
+use Rattle.std.proofs.Common.{◌∙◌, sym, ap, subst, IsAscii}
 use Rattle.path_normal.specs.Normal.{normal_path}
+use Rattle.path_normal.specs.PageText.{host_start}
 use Rattle.path_normal.specs.PageUrl.{IsPage}
-use Rattle.path_normal.proofs.PageLemmas.{faultless_page, faultless_splits, Splits}
+use Rattle.path_normal.proofs.PageLemmas.{faultless_page, faultless_splits, host_end, Splits}
 use Rattle.path_normal.proofs.page_url.PageUrl.of_parsed.Goals as goal
 
 pub invariant_of-result : goal.invariant_of-result
 invariant_of-result c =
-    let spelled = sym ((c.in_ok-from_str.ensures {u = tt}).ok ∙ c.page_in.ensures.value) in
-    let splits = subst (λ page. Splits page c.args.url.now) spelled (faultless_splits c.args.url.now c.in_default.ensures) in
+    let spelled = sym ((c.in_ok-from_str.ensures {u = tt}).ok ∙ c.page_in-2.ensures.value) in
+    let splits = subst (λ page. Splits page c.args.url.now) spelled (faultless_splits c.args.schemes c.args.url.now c.in_default.ensures) in
     let ascii = subst IsAscii c.page_in.ensures.value c.page_in.ensures.ascii in (
-      subst IsPage spelled (faultless_page c.args.url.now c.in_default.ensures ascii),
-      ap (λ n. 7 + n) (ap length (c.authority_in-authority.ensures.value ∙ sym splits.parts.authority)),
+      subst IsPage spelled (faultless_page c.args.schemes c.args.url.now c.in_default.ensures ascii),
+      c.host_start-start.ensures ∙ ap host_start (c.page_in.ensures.value ∙ spelled),
+      host_end _ _ _ _ (c.page_in.ensures.value ∙ spelled) c.host_start-start.ensures (c.host_in.ensures.value ∙ sym splits.parts.host),
       (c.in_ok-path.ensures {u = tt}).value ∙ ap normal_path (c.as_bytes.ensures.value ∙ c.target_in.ensures ∙ sym splits.parts.target),
     )
 
 pub returns-clause-parts : goal.returns-clause-parts
 returns-clause-parts c =
-    let spelled = sym ((c.in_ok-from_str.ensures {u = tt}).ok ∙ c.page_in.ensures.value) in
-    (subst (λ page. Splits page c.args.url.now) spelled (faultless_splits c.args.url.now c.in_default.ensures)).parts
+    let spelled = sym ((c.in_ok-from_str.ensures {u = tt}).ok ∙ c.page_in-2.ensures.value) in
+    (subst (λ page. Splits page c.args.url.now) spelled (faultless_splits c.args.schemes c.args.url.now c.in_default.ensures)).parts

@@ -1,4 +1,4 @@
--- What follows the stored end of the authority is the target.
+-- What follows the stored end of the host is the target.
 -- Used by `PageUrl::target`.
 use Rattle.std.proofs.Common.{◌∙◌, ap, drop}
 use Rattle.path_normal.proofs.PageLemmas.{target_at}
@@ -6,4 +6,4 @@ use Rattle.path_normal.proofs.page_url.PageUrl.target.Goals as goal
 
 pub returns-clause-value : goal.returns-clause-value
 returns-clause-value c =
-    target_at _ _ _ _ c.self.view_is c.self.invariant.1 (c.range_from.ensures.value ∙ ap (drop c.self.inside.authority_end) c.as_str.ensures.value)
+    target_at _ _ _ _ c.self.view_is c.self.invariant.2 (c.range_from.ensures.value ∙ ap (drop c.self.inside.end) c.as_str.ensures.value)

@@ -1,0 +1,273 @@
+"""Crawls of https, by way of each program that opens TLS: the stand-in, and haproxy with the configuration that is shipped, but
+for its port and its authorities, where it is installed. Both have the same sites and the same lines of a table."""
+import asyncio
+import contextlib
+import socket
+import subprocess
+import sys
+import tempfile
+
+from headers import https_headers
+from loopback import NO_ROBOTS, PAGE, ROOT, RULES, Replies, Site, Skipped, answer, crawl, redirect
+
+sys.path.insert(0, f"{ROOT}/checks")
+import tls
+
+# what the table says of a job: outcome, status, octets, cause
+GOOD = ("PAGE", "200", "5", "norule")
+OPEN = ("PAGE", "200", "5", "open")
+NO_TLS = ("NO", "", "", "robots: no TLS connection")
+MUTE = ("NO", "", "", "robots: silent 2 s")
+CUT = ("FAULT", "", "", "ended early")
+DENIED = ("NO", "", "", "line 2")
+LARGE = 300_000
+LINES = "lines of a table of https"
+DENY_ALL = RULES.replace(b"/private", b"/")
+# starts a program under another /etc/hosts that nobody else sees, which needs no rights but those to make a namespace
+UNDER_HOSTS = ["unshare", "--map-root-user", "--mount", "sh", "-c", 'mount --bind "$1" /etc/hosts && shift && exec "$@"', "sh"]
+
+
+def moved(hop):
+    return ("PAGE", "301", "0", hop[3])
+
+
+class Ended(Replies):
+    """A site whose page breaks off without TLS's own end of a connection."""
+
+    async def __call__(self, site, writer, target):
+        await super().__call__(site, writer, target)
+        if target != "/robots.txt":
+            await writer.drain()
+            writer.transport.abort()
+
+
+class Moved:
+    """A site whose pages and robots file have all moved to another site, each to the target that it has here."""
+
+    def __init__(self, to):
+        self.to = to
+
+    async def __call__(self, site, writer, target):
+        writer.write(redirect(f"{self.to.scheme}://{self.to.address}{target}".encode()))
+
+
+class Mute(Site):
+    """A site that takes connections and never answers what opens TLS."""
+
+    async def serve(self, reader, writer):
+        self.robots += 1
+        with contextlib.suppress(asyncio.CancelledError):
+            await reader.read()
+        writer.close()
+
+
+class TwoSchemes:
+    """A site of http and one of https at one port, so that their authorities differ in nothing but the scheme. What begins
+    as TLS does goes to the latter."""
+
+    def __init__(self, plain, secure, context):
+        self.sites = {"http": Site(plain), "https": Site(secure)}
+        self.context = context
+
+    def listen(self):
+        self.server = socket.create_server(("127.0.0.1", 0), backlog=512)
+        self.server.setblocking(False)
+        for scheme, site in self.sites.items():
+            site.scheme, site.address = scheme, f"localhost:{self.server.getsockname()[1]}"
+            site.server = self.server
+        self.task = asyncio.create_task(self.take())
+
+    async def take(self):
+        while True:
+            peer, _ = await asyncio.get_running_loop().sock_accept(self.server)
+            asyncio.create_task(self.hand_over(peer))
+
+    async def hand_over(self, peer):
+        loop = asyncio.get_running_loop()
+        peer.setblocking(True)
+        first = await loop.run_in_executor(None, peer.recv, 1, socket.MSG_PEEK)
+        # 22 begins a record of a handshake
+        is_tls = first == b"\x16"
+        site = self.sites["https" if is_tls else "http"]
+        reader = asyncio.StreamReader()
+        protocol = asyncio.StreamReaderProtocol(reader, site.serve)
+        await loop.connect_accepted_socket(lambda: protocol, peer, ssl=self.context if is_tls else None)
+
+
+def asked(site):
+    """Returns how often a site was asked for its robots file, and the targets of pages that it was asked for."""
+    return site.robots, sorted(site.targets)
+
+
+def differing(text, ends):
+    """Returns how many lines a table has, and how many differ from the hops that end each job."""
+    rows = [tuple(line.split("\t")) for line in text.splitlines()[1:]]
+    found = {(row[0], row[1]): (row[4], row[5], row[6], row[8]) for row in rows}
+    wanted = {(str(job), str(hop)): end for job, (_, _, *hops) in enumerate(ends, 1) for hop, end in enumerate(hops, 1)}
+    places = [it for it in sorted(found.keys() | wanted.keys()) if found.get(it) != wanted.get(it)]
+    for place in places:
+        print("  differs:", place, found.get(place), wanted.get(place))
+    return len(rows), len(places)
+
+
+async def table_of(ends, opener, folder, before=()):
+    """Crawls the pages of ends, each a site, a target and its hops, and returns the lines and those that differ."""
+    with opener(folder) as address:
+        words = ["--tsv", "--workers", "16", "--read-timeout", "2", "--tls-by", address]
+        text, _, _ = await crawl(words, [(site, target) for site, target, *_ in ends], before)
+    return differing(text, ends)
+
+
+def through(opener, *names):
+    """Makes a crawl of a case: by this program that opens TLS, with certificates in a folder of its own. It is skipped where
+    a program of these names is missing."""
+
+    def made(case, what):
+        async def crawled():
+            why = tls.missing(*names)
+            if why:
+                raise Skipped(why)
+            with tempfile.TemporaryDirectory() as folder:
+                count, differ = await case(opener, folder, tls.make_certificates(folder))
+            return f"of {count} {what}, those that differ", differ, 0
+
+        crawled.__name__ = "_by_".join([case.__name__, *names])
+        return crawled
+
+    return made
+
+
+async def take_one(listener):
+    """Takes the connection that is made at the start, and no other."""
+    peer, _ = await asyncio.get_running_loop().sock_accept(listener)
+    listener.close()
+    peer.close()
+
+
+async def https_opener_gone():
+    """What opens TLS is gone once the crawl has begun: the site of https is closed, and that of http is crawled."""
+    secure, plain = Site(answer), Site(answer)
+    await plain.listen()
+    secure.scheme, secure.address, secure.server = "https", "localhost:1", plain.server
+    listener = socket.create_server(("127.0.0.1", 0))
+    listener.setblocking(False)
+    words = ["--tsv", "--tls-by", f"127.0.0.1:{listener.getsockname()[1]}"]
+    ends = [(secure, "/x", ("NO", "", "", "robots: no TLS program")), (plain, "/x", OPEN), (plain, "/y", OPEN)]
+    jobs = [(site, target) for site, target, _ in ends]
+    text, _, _ = await crawl(words, jobs, meanwhile=asyncio.wait_for(take_one(listener), 10))
+    count, differ = differing(text, ends)
+    return f"of {count} {LINES}, those that differ", differ, 0
+
+
+async def site_of(behave, context=None, kind=Site):
+    """A site of 127.0.0.1 that is called localhost. Where that has another address too, nobody listens there."""
+    site = kind(behave)
+    await site.listen(context=context, name="localhost")
+    return site
+
+
+async def https(opener, folder, contexts):
+    """Certificates that are good and bad, TLS that is too old, and sites that are silent or gone. No site saw a request whose
+    certificate or whose TLS is bad."""
+    good = await site_of(Replies(RULES, PAGE), contexts["good"])
+    bad = [await site_of(Replies(RULES, PAGE), context) for kind, context in contexts.items() if kind != "good"]
+    bad.append(await site_of(Replies(RULES, PAGE), tls.old_context(folder)))
+    mute = await site_of(None, kind=Mute)
+    mute.scheme = "https"
+    gone = await site_of(answer, contexts["good"])
+    gone.server.close()
+    ends = [(good, "/x", GOOD), (good, "/private", DENIED), (mute, "/x", MUTE)]
+    counts = await table_of(ends + [(site, "/x", NO_TLS) for site in [*bad, gone]], opener, folder)
+    assert [asked(site) for site in bad] == [(0, [])] * 4, [asked(site) for site in bad]
+    assert asked(good) == (1, ["/x"]), asked(good)
+    # (one connection, and no other once it was silent)
+    assert mute.robots == 1, mute.robots
+    return counts
+
+
+async def https_pages(opener, folder, contexts):
+    """A large page, pages that break off, with TLS's own end and without, and pages that lead from one scheme to the other."""
+    page = b"HTTP/1.1 200 OK\r\nContent-Length: %d\r\n\r\n" % LARGE + bytes(LARGE)
+    large = await site_of(Replies(NO_ROBOTS, page), contexts["good"])
+    cut = [await site_of(kind(NO_ROBOTS, PAGE[:-2]), contexts["good"]) for kind in (Replies, Ended)]
+    targets = [await site_of(answer), await site_of(answer, contexts["good"])]
+    leads = [redirect(f"{it.scheme}://{it.address}/from-other".encode()) for it in targets]
+    secure, plain = await site_of(Replies(NO_ROBOTS, leads[0]), contexts["good"]), await site_of(Replies(NO_ROBOTS, leads[1]))
+    ends = [(large, "/x", ("PAGE", "200", str(LARGE), "open"))] + [(site, "/x", CUT) for site in cut]
+    ends += [(site, "/y", moved(OPEN), OPEN) for site in (secure, plain)]
+    counts = await table_of(ends, opener, folder)
+    for site in targets:
+        site.server.close()
+    found = [asked(site) for site in (*cut, secure, plain, *targets)]
+    assert found == [(1, ["/x"])] * 2 + [(1, ["/y"])] * 2 + [(1, ["/from-other"])] * 2, found
+    return counts
+
+
+async def https_moved(opener, folder, contexts):
+    """A site of http that has moved to https, its robots file and each page. Its file is fetched once, and leads to that of
+    https, which is fetched once more when its own pages come. Rules behind the redirect are those of the site of http too."""
+    secure = await site_of(Replies(RULES, PAGE), contexts["good"])
+    plain = await site_of(Moved(secure))
+    targets = ["/", "/a", "/b?c=d"]
+    ends = [(plain, target, moved(GOOD), GOOD) for target in targets]
+    ends += [(plain, "/private", DENIED), (secure, "/private", DENIED)]
+    counts = await table_of(ends, opener, folder)
+    assert (asked(plain), asked(secure)) == ((1, targets), (2, targets)), (asked(plain), asked(secure))
+    return counts
+
+
+async def https_apart(opener, folder, contexts):
+    """Two hosts, each of both schemes at one port: the robots file of one scheme allows, and that of the other denies. Each
+    page is decided by the file of its own scheme."""
+    files = [(NO_ROBOTS, DENY_ALL), (DENY_ALL, NO_ROBOTS)]
+    hosts = [TwoSchemes(Replies(it, PAGE), Replies(other, PAGE), contexts["good"]) for it, other in files]
+    for host in hosts:
+        host.listen()
+    (first, second), (third, fourth) = [host.sites.values() for host in hosts]
+    ends = [(first, "/x", OPEN), (second, "/x", DENIED), (third, "/x", DENIED), (fourth, "/x", OPEN)]
+    try:
+        counts = await table_of(ends, opener, folder)
+    finally:
+        for host in hosts:
+            host.task.cancel()
+    found = [asked(site) for site in (first, second, third, fourth)]
+    assert found == [(1, ["/x"]), (1, []), (1, []), (1, ["/x"])], found
+    return counts
+
+
+async def https_two_addresses(opener, folder, contexts):
+    """A name with two addresses, by a hosts file that the program alone sees: at one of them nobody listens, the first or the
+    second, whichever the system tries first; or there is another certificate, and no request comes there."""
+    hosts = f"{folder}/hosts"
+    with open(hosts, "w") as file:
+        file.write("127.0.0.1 localhost\n" + "".join(f"{it} {tls.TWO}\n" for it in ("127.0.0.1", "127.0.0.9")))
+    before = [*UNDER_HOSTS, hosts]
+    try:
+        able = subprocess.run([*before, "true"], capture_output=True).returncode == 0
+    except OSError:
+        able = False
+    if not able:
+        raise Skipped("no namespace can be made for a hosts file")
+    sites, others = [], []
+    for address in ("127.0.0.1", "127.0.0.9"):
+        sites.append(Site(Replies(RULES, PAGE)))
+        await sites[-1].listen(address, context=contexts["good"], name=tls.TWO)
+    for address, other in (("127.0.0.1", "127.0.0.9"), ("127.0.0.9", "127.0.0.1")):
+        sites.append(Site(Replies(RULES, PAGE)))
+        await sites[-1].listen(address, context=contexts["good"], name=tls.TWO)
+        others.append(Site(Replies(RULES, PAGE)))
+        await others[-1].listen(other, sites[-1].port, contexts["self-signed"])
+    counts = await table_of([(site, "/x", GOOD) for site in sites], opener, folder, before)
+    for other in others:
+        other.server.close()
+    found = [asked(site) for site in sites + others]
+    assert found == [(1, ["/x"])] * 4 + [(0, [])] * 2, found
+    return counts
+
+
+CASES = {
+    https: LINES, https_pages: LINES, https_moved: LINES, https_apart: LINES, https_two_addresses: LINES,
+    https_headers: "headers to what opens TLS",
+}
+OPENERS = [through(tls.by_stand_in), through(tls.by_haproxy, "haproxy")]
+CRAWLS = [https_opener_gone] + [made(case, what) for made in OPENERS for case, what in CASES.items()]

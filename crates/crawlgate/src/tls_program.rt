@@ -1,0 +1,26 @@
+//! Whether the program that opens TLS is there.
+//! It is connected to once, before anything else is done: without it every site of https would be closed for a day.
+ghost use Rattle.std.specs.Prelude.{◌≡◌, IfErr, Some, option_map};
+ghost use Rattle.program_streams.specs.declared.ending.Ending.TheVariants as endings;
+
+use program_streams::Ending;
+use std::net::{SocketAddr, TcpStream};
+use std::time::Duration;
+
+/// Connects to the program at this address, where there is to be one. Where nobody takes the connection within this
+/// time, the program ends so.
+pub(crate) fn find_tls_program(
+    host: &HostRuntime,
+    tls_by: Option<SocketAddr>,
+    most: Duration,
+) -> Result<(), Ending>
+    ensures { IfErr result (λ ending. option_map endings.NoTlsProgram tls_by ≡ Some ending) }
+{
+    let Some(at) = tls_by else {
+        return Ok(());
+    };
+    match TcpStream::connect_timeout(host, &at, most) {
+        Ok(_) => Ok(()),
+        Err(_) => Err(Ending::NoTlsProgram(at)),
+    }
+}

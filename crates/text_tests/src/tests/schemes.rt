@@ -1,0 +1,142 @@
+//! What pages and authorities of both schemes are read as, where `https` is read and where it is not.
+//! RFC 9110, sections 4.2.1 and 4.2.2; RFC 9309, section 2.3.
+
+use path_normal::{Authority, AuthorityFault, PageUrl, Schemes, UrlFault};
+use std::alloc::Global;
+use std::test::Fail;
+
+// A text, and what it reads as: the URL, its authority, host and target, and the URL of its robots file.
+const PAGES: [(&str, &str, &str, &str, &str, &str); 7] = [
+    (
+        "http://a.example/x?q",
+        "http://a.example/x?q",
+        "a.example",
+        "a.example",
+        "/x?q",
+        "http://a.example/robots.txt",
+    ),
+    (
+        "http://a.example:443/",
+        "http://a.example:443/",
+        "a.example:443",
+        "a.example:443",
+        "/",
+        "http://a.example:443/robots.txt",
+    ),
+    (
+        "https://a.example/x",
+        "https://a.example/x",
+        "https://a.example",
+        "a.example",
+        "/x",
+        "https://a.example/robots.txt",
+    ),
+    (
+        "https://a.example:80/",
+        "https://a.example:80/",
+        "https://a.example:80",
+        "a.example:80",
+        "/",
+        "https://a.example:80/robots.txt",
+    ),
+    (
+        "https://a.example:443/#f",
+        "https://a.example/",
+        "https://a.example",
+        "a.example",
+        "/",
+        "https://a.example/robots.txt",
+    ),
+    (
+        "https:a.example",
+        "https://a.example/",
+        "https://a.example",
+        "a.example",
+        "/",
+        "https://a.example/robots.txt",
+    ),
+    (
+        "HTTPS://[::1]:8443/",
+        "https://[::1]:8443/",
+        "https://[::1]:8443",
+        "[::1]:8443",
+        "/",
+        "https://[::1]:8443/robots.txt",
+    ),
+];
+
+#[test]
+fn both_schemes_are_read(rt: HostRuntime) -> Result<(), Fail> {
+    for (text, url, authority, host, target, robots) in PAGES {
+        let page = PageUrl::parse_among(rt.alloc(), Schemes::HttpAndHttps, text)?;
+        assert_eq!(rt; page.text(), url, "{text}");
+        assert_eq!(rt; page.authority(), authority, "{text}");
+        assert_eq!(rt; page.host(), host, "{text}");
+        assert_eq!(rt; page.target(), target, "{text}");
+        let site = Authority::of(&page)?;
+        let file = PageUrl::of_robots(&site)?;
+        assert_eq!(rt; file.text(), robots, "{text}");
+        assert_eq!(rt; file.authority(), authority, "{text}");
+        let named = Authority::new_among(rt.alloc(), Schemes::HttpAndHttps, authority)?;
+        assert_eq!(rt; named.text(), authority, "{text}");
+    }
+    Ok(())
+}
+
+#[test]
+fn http_alone_is_read(rt: HostRuntime) -> Result<(), Fail> {
+    for (text, url, authority, _host, _target, _robots) in PAGES {
+        let as_wanted = if url.starts_with("https://") {
+            are_refused(rt.alloc(), text, authority)
+        } else {
+            are_read(rt.alloc(), text, url, authority)?
+        };
+        assert!(rt; as_wanted, "{text}");
+    }
+    Ok(())
+}
+
+// The text is no page's URL, and the authority none, where `http` alone is read.
+fn are_refused(alloc: Global, text: &str, authority: &str) -> bool {
+    is_fault(PageUrl::parse(alloc, text), UrlFault::NotHttp)
+        && is_bad(Authority::new(alloc, authority))
+}
+
+// They are read as this URL and this authority.
+fn are_read(alloc: Global, text: &str, url: &str, authority: &str) -> Result<bool, Fail> {
+    let page = PageUrl::parse(alloc, text)?;
+    let named = Authority::new(alloc, authority)?;
+    Ok(page.text() == url && named.text() == authority)
+}
+
+fn is_fault(page: Result<PageUrl, UrlFault>, want: UrlFault) -> bool {
+    match page {
+        Ok(_) => false,
+        Err(fault) => fault == want,
+    }
+}
+
+fn is_bad(authority: Result<Authority, AuthorityFault>) -> bool {
+    match authority {
+        Ok(_) => false,
+        Err(fault) => fault == AuthorityFault::BadAuthority,
+    }
+}
+
+// What is no authority, wherever `https` is read.
+const NO_AUTHORITIES: [&str; 5] = [
+    "https://",
+    "https://a.example/",
+    "HTTPS://a.example",
+    "https:a.example",
+    "https://u@a.example",
+];
+
+#[test]
+fn no_authorities(rt: HostRuntime) -> Result<(), Fail> {
+    for text in NO_AUTHORITIES {
+        let named = Authority::new_among(rt.alloc(), Schemes::HttpAndHttps, text);
+        assert!(rt; is_bad(named), "{text}");
+    }
+    Ok(())
+}
