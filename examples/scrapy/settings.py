@@ -10,5 +10,7 @@ USER_AGENT = CRAWLGATE_TOKEN
 DOWNLOAD_HANDLERS = {
     "http": "crawlgate_scrapy.GateHandler", "https": "crawlgate_scrapy.GateHandler", "ftp": None, "s3": None,
 }
+# (Scrapy by itself takes any certificate)
+DOWNLOADER_CLIENTCONTEXTFACTORY = "scrapy.core.downloader.contextfactory.BrowserLikeContextFactory"
 # the gate reads the robots files
 ROBOTSTXT_OBEY = False
