@@ -28,12 +28,12 @@ class Skipped(Exception):
 
 
 class Site:
-    """A site on a port of its own, and the moments at which it was asked for its pages and its robots file."""
+    """A site on a port of its own, the moments at which it was asked for its pages and its robots file, and by which agents."""
 
     scheme = "http"
 
     def __init__(self, behave):
-        self.behave, self.pages, self.targets, self.robots = behave, [], [], 0
+        self.behave, self.pages, self.targets, self.robots, self.agents = behave, [], [], 0, set()
 
     async def listen(self, host="127.0.0.1", port=0, context=None, name=None):
         """With a context of TLS it is a site of https. Its URLs have a name, where one is given, in place of the address."""
@@ -46,6 +46,7 @@ class Site:
         try:
             head = await reader.readuntil(b"\r\n\r\n")
             target = head.split(b" ")[1].decode()
+            self.agents.add((target, head.partition(b"User-Agent: ")[2].partition(b"\r\n")[0].decode()))
             if target == "/robots.txt":
                 self.robots += 1
             else:

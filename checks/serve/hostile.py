@@ -168,6 +168,34 @@ def fetches_for_nobody():
     return f"{fetched} of 2,000 pages were fetched"
 
 
+def lines_sent_ahead():
+    """With `--ahead 2` a client whose lines are all there before it reads keeps its worker for little more than two seconds;
+    one that waits for each reply keeps it for as long as it likes."""
+    site = open_site({"/slow": (0.4, response(200, b"hello"))})
+    line = f"FETCH foobot {site.url('/slow')}\n".encode()
+    reply = [f"HOP 1 PAGE open 200 5 whole", "BODY 5", "hello"]
+    with Server("--workers", "1", "--ahead", "2") as server:
+        with Session(server) as it:
+            same(it.say(f"REFRESH {site.authority}"), f"TAKEN {site.authority} open")
+            began = time.monotonic()
+            it.send(line * 2000)
+            # each reply that there is comes whole
+            replies = it.rest().decode().splitlines()
+            took = time.monotonic() - began
+        count = len(replies) // 3
+        same((replies, count in range(4, 8)), (reply * count, True))
+        same(site.asked.count("/slow"), count)
+        with Session(server) as it:
+            for _ in range(8):
+                it.send(line)
+                same(it.lines(3), reply)
+            same(it.say("STATE a.example"), "STATE a.example unknown idle")
+            # lines for which the gate fetches nothing do not count
+            same(it.say_all(["STATE a.example"] * 2000), ["STATE a.example unknown idle"] * 2000)
+    in_time(took, 5)
+    return f"{count} of 2,000 pages were fetched, in {took:.1f} s"
+
+
 def turned_away(server, head):
     """Returns what comes back to a browser that sends this head, with a page's lines as its body."""
     with Session(server) as it:
@@ -337,6 +365,6 @@ def refreshed_again_and_again():
 
 CASES = [
     numbers_of_others, killed_clients, unread_behind_the_end, nobody_holds_a_worker, gone_during_a_fetch, fetches_for_nobody,
-    browser_is_turned_away, client_with_bounds, patience_with_good_clients, few_descriptors, full_history, closed_streams, memory,
-    refreshed_again_and_again,
+    lines_sent_ahead, browser_is_turned_away, client_with_bounds, patience_with_good_clients, few_descriptors, full_history,
+    closed_streams, memory, refreshed_again_and_again,
 ]

@@ -6,3 +6,4 @@ mod loopback;
 mod partings;
 mod patience;
 mod scripted;
+mod turns;

@@ -2,6 +2,7 @@
 //! docs/crawlgate.1.md is its manual page.
 #![tactic(auto)]
 
+mod fetching;
 mod serving;
 mod tls_program;
 
@@ -10,11 +11,12 @@ ghost use Rattle.gate_history.specs.Base.{empty_base};
 ghost use Rattle.job_line.specs.Limits.{IsCrew};
 ghost use Rattle.program_words.specs.Options.{AreForShift};
 
+use crate::fetching::new_fetcher;
 use crate::serving::serve;
 use crate::tls_program::find_tls_program;
 use counted_io::{Counted, Sink};
 use crawl_shift::{NotShifted, Shift, StatusLine};
-use crawl_workers::{Clock, Fetcher, SystemClock, TcpFetcher};
+use crawl_workers::{Clock, Fetcher, SystemClock};
 use gate_core::Book;
 use gate_lock::{Blanks, Gate, GateLock};
 use program_streams::{Ending, Next, new_book, run, tell_bad_line, tell_ending};
@@ -25,9 +27,6 @@ use std::process::ExitCode;
 use std::sync::Wait;
 use std::thread::Threads;
 use std::time;
-
-// Robots files are fetched under this name, pages under the token of their job (RFC 9309, 2.2.1).
-pub(crate) const AGENT: &[u8] = b"crawlgate";
 
 fn main(rt: HostRuntime) -> ExitCode {
     let ending = match run(&rt) {
@@ -50,13 +49,12 @@ fn shift<R: Threads + Wait + time::Clock + Sync>(
     if let Err(ending) = find_tls_program(host, options.tls_by, options.times.connect) {
         return ending;
     }
-    match TcpFetcher::with_tls(
-        host.alloc(),
-        *host,
-        AGENT,
+    match new_fetcher(
+        host,
         options.times,
         options.reach,
         options.tls_by,
+        &options.contact,
     ) {
         Ok(fetcher) => {
             let clock = SystemClock::new(*host);

@@ -4,10 +4,10 @@ ghost use Rattle.gate_history.specs.Base.{empty_base};
 ghost use Rattle.job_line.specs.Limits.{IsCrew};
 ghost use Rattle.program_words.specs.Options.{AreForServe};
 
-use crate::AGENT;
+use crate::fetching::new_fetcher;
 use crate::tls_program::find_tls_program;
 use client_wire::Listener;
-use crawl_workers::{SystemClock, TcpFetcher};
+use crawl_workers::SystemClock;
 use gate_core::Book;
 use gate_lock::{Blanks, Gate, GateLock, SettleFault};
 use keepers::Bounds;
@@ -15,7 +15,7 @@ use line_server::{Alarm, ServeFault, Served, Server};
 use program_streams::{
     Ending, new_book, tell_full_log, tell_listening, tell_listening_at, tell_served,
 };
-use program_words::{Place, ServeOptions};
+use program_words::{Ahead, Place, ServeOptions};
 use std::marker::Brand;
 use std::sync::Wait;
 use std::thread::Threads;
@@ -112,13 +112,12 @@ fn serve_clients<R: Threads + Wait + time::Clock + Sync>(
     requires options { AreForServe options.now }
     requires book { (book.base ≡ empty_base) × (book.entries ≡ []) }
 {
-    match TcpFetcher::with_tls(
-        host.alloc(),
-        *host,
-        AGENT,
+    match new_fetcher(
+        host,
         options.times,
         options.reach,
         options.tls_by,
+        &options.contact,
     ) {
         Ok(fetcher) => {
             let server = Server {
@@ -131,6 +130,7 @@ fn serve_clients<R: Threads + Wait + time::Clock + Sync>(
                 workers: options.workers,
                 connections: options.connections,
                 patience: Duration::from_secs(options.patience),
+                ahead: ahead_of(options.ahead),
                 bounds: Bounds {
                     permits: options.client_permits,
                     authorities: options.client_authorities,
@@ -139,6 +139,14 @@ fn serve_clients<R: Threads + Wait + time::Clock + Sync>(
             run_over::<Brand, _, _, _, _>(host, &server, book, Blanks::new())
         }
         Err(_) => Ending::NoMemory,
+    }
+}
+
+// How long the gate fetches for lines that were sent ahead, where that has a bound.
+fn ahead_of(ahead: Ahead) -> Option<Duration> {
+    match ahead {
+        Ahead::Unbounded => None,
+        Ahead::Seconds(seconds) => Some(Duration::from_secs(seconds)),
     }
 }
 

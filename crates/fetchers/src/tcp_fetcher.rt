@@ -1,16 +1,16 @@
 //! Pages and robots files fetched over TCP, each under its agent.
 //! RFC 9309, section 2.2.1; RFC 9110, section 10.1.5.
-ghost use Rattle.std.specs.Prelude.{◌≡◌, IfOk, IfSome, None};
+ghost use Rattle.std.specs.Prelude.{◌≡◌, IfOk, IfSome, None, Some};
 ghost use Rattle.path_normal.specs.declared.schemes.Schemes.TheVariants.{Http};
 ghost use Rattle.http_wire.specs.Response.{Tells};
 ghost use Rattle.tcp_wire.specs.Agent.{IsAgent};
 ghost use Rattle.tcp_wire.specs.TimeLimits.{AreStandard};
 ghost use Rattle.fetchers.specs.Limits.{robots_limit};
-ghost use Rattle.fetchers.specs.Network.{schemes_by};
+ghost use Rattle.fetchers.specs.Network.{agent_with, schemes_by};
 
 use crate::fetcher::{Fetcher, PageLeave, RobotsLeave};
 use http_wire::{HttpReply, WireFault};
-use path_normal::Schemes;
+use path_normal::{PageUrl, Schemes};
 use robots_text::MAX_TEXT;
 use std::alloc::{AllocError, Global};
 use std::marker::Model;
@@ -24,28 +24,30 @@ pub(crate) const ROBOTS_LIMIT: usize = MAX_TEXT + 1;
 
 /// What fetches pages under the tokens of crawlers, and robots files under an agent of its own.
 ///
-/// A clause sees it as that agent, the value of User-Agent, its limits of time, and the schemes of the pages that it
-/// fetches.
+/// A clause sees it as that agent, the value of User-Agent, what stands behind the token of a crawler there, its limits of
+/// time, and the schemes of the pages that it fetches.
 #[derive(Drop)]
 pub struct TcpFetcher<R: Net<Stream = TcpStream> + time::Clock> {
     client: TcpClient<R>,
     agent: Vec<u8>,
+    contact: Option<Vec<u8>>,
     schemes: Schemes,
 }
 
 impl<R: Net<Stream = TcpStream> + time::Clock> Model for TcpFetcher<R> {
     ghost use Rattle.tcp_wire.specs.Agent.{IsAgent};
-    ghost use Rattle.fetchers.specs.Network.{TcpView};
+    ghost use Rattle.fetchers.specs.Network.{TcpView, contact_of, IsContact};
 
     ghost Value = { TcpView };
 
     ghost view = { λ fetcher. record {
       agent = fetcher.agent.items;
+      contact = contact_of fetcher.contact;
       limits = fetcher.client;
       schemes = fetcher.schemes;
     } };
 
-    ghost invariant = { λ fetcher. IsAgent fetcher.agent.items };
+    ghost invariant = { λ fetcher. IsAgent fetcher.agent.items × IsContact (contact_of fetcher.contact) };
 }
 
 impl<R: Net<Stream = TcpStream> + time::Clock> TcpFetcher<R> {
@@ -95,16 +97,65 @@ impl<R: Net<Stream = TcpStream> + time::Clock> TcpFetcher<R> {
         ensures agent { IfOk result (λ fetcher. fetcher.agent ≡ agent.now) }
         ensures limits { IfOk result (λ fetcher. fetcher.limits ≡ limits) }
         ensures schemes { IfOk result (λ fetcher. fetcher.schemes ≡ schemes_by tls_by) }
+        ensures contact { IfOk result (λ fetcher. fetcher.contact ≡ None) }
     {
         Ok(TcpFetcher {
             agent: Vec::from_slice(alloc, agent)?,
+            contact: None,
             client: TcpClient::with_tls(rt, limits, reach, tls_by),
             schemes: schemes_by(tls_by),
         })
     }
 
+    /// The same fetcher, which tells a contact in each request: a comment behind the agent, and behind a crawler's token.
+    pub fn with_contact(self, contact: &[u8]) -> Result<TcpFetcher<R>, AllocError>
+    where
+        R: Drop,
+        requires { IsAgent contact.now }
+        ensures agent { IfOk result (λ fetcher. fetcher.agent ≡ agent_with self.agent (Some contact.now)) }
+        ensures contact { IfOk result (λ fetcher. fetcher.contact ≡ Some contact.now) }
+        ensures limits { IfOk result (λ fetcher. fetcher.limits ≡ self.limits) }
+        ensures schemes { IfOk result (λ fetcher. fetcher.schemes ≡ self.schemes) }
+    {
+        let alloc = self.allocator();
+        let TcpFetcher {
+            client,
+            agent,
+            contact: _,
+            schemes,
+        } = self;
+        Ok(TcpFetcher {
+            client,
+            agent: with_comment(alloc, agent.as_slice(), contact)?,
+            contact: Some(Vec::from_slice(alloc, contact)?),
+            schemes,
+        })
+    }
+
     fn allocator(&self) -> Global {
         *self.agent.allocator()
+    }
+
+    // Fetches a page under a crawler's agent, with the contact behind it.
+    fn fetch_under(
+        &self,
+        agent: &[u8],
+        url: &PageUrl,
+        limit: usize,
+        failure: &mut Option<Failure>,
+    ) -> Result<HttpReply, WireFault>
+        requires { IsAgent agent.now }
+        ensures { Tells None limit result }
+    {
+        let alloc = self.allocator();
+        match &self.contact {
+            None => self.client.fetch(alloc, url, agent, limit, failure),
+            Some(contact) => {
+                let agent = with_comment(alloc, agent, contact.as_slice())?;
+                self.client
+                    .fetch(alloc, url, agent.as_slice(), limit, failure)
+            }
+        }
     }
 }
 
@@ -139,10 +190,7 @@ impl<R: Net<Stream = TcpStream> + time::Clock> Fetcher for TcpFetcher<R> {
     ) -> Result<HttpReply, WireFault>
         ensures { Tells None limit result }
     {
-        let agent = leave.token().text().as_bytes();
-        let given = self
-            .client
-            .fetch(self.allocator(), leave.url(), agent, limit, failure);
+        let given = self.fetch_under(leave.token().text().as_bytes(), leave.url(), limit, failure);
         leave.spend();
         given
     }
@@ -167,6 +215,19 @@ impl<R: Net<Stream = TcpStream> + time::Clock> Fetcher for TcpFetcher<R> {
         leave.spend();
         given
     }
+}
+
+// The agent with the comment behind it. RFC 9110, section 5.6.5.
+fn with_comment(alloc: Global, agent: &[u8], comment: &[u8]) -> Result<Vec<u8>, AllocError>
+    requires { IsAgent agent.now × IsAgent comment.now }
+    ensures text { IfOk result (λ made. made.items ≡ agent_with agent.now (Some comment.now)) }
+    ensures line { IfOk result (λ made. IsAgent made.items) }
+{
+    let mut made = Vec::from_slice(alloc, agent)?;
+    made.extend_from_slice(b" (")?;
+    made.extend_from_slice(comment)?;
+    made.push(b')')?;
+    Ok(made)
 }
 
 // The schemes of the pages that are fetched, where a program opens TLS at an address.

@@ -5,13 +5,14 @@ use crate::fault::ServeFault;
 use crate::numbers::{Numbers, share_of};
 use crate::server::Server;
 use crate::warden::Alarm;
-use client_wire::{AcceptFault, ClientStream, Waiting, close};
+use client_wire::{AcceptFault, ClientStream, LinesInTurn, RepliesInTurn, Turn, Waiting, close};
 use command_server::{FirstLine, NumberedClock, serve_from};
 use counted_io::{Counted, DeviceFault};
 use crawl_workers::Fetcher;
 use gate_lock::{Gate, GateLock, Receipts};
 use keepers::DeskKeeper;
 use std::cell::Cell;
+use std::io::{Read, Write};
 use std::net::TcpStream;
 use std::sync::Wait;
 use std::sync::atomic::{AtomicU64, Ordering};
@@ -99,8 +100,30 @@ impl<F: Fetcher, C: NumberedClock, A: Alarm, R: Wait + time::Clock> Server<'_, F
     // Serves a client to its end, where it is no browser. A fault of its session ends its connection alone.
     fn serve_client<G: Gate>(&self, stream: TcpStream, keeper: &mut DeskKeeper<'_, '_, G, F, R>) {
         let waiting = Cell::new(Waiting::new(self.patience));
-        let mut reader = Counted::new(ClientStream::new(self.rt, &stream, &waiting));
-        let mut writer = Counted::new(ClientStream::new(self.rt, &stream, &waiting));
+        let reader = ClientStream::new(self.rt, &stream, &waiting);
+        let writer = ClientStream::new(self.rt, &stream, &waiting);
+        match self.ahead {
+            Some(most) => {
+                let turn = Cell::new(Turn::new(most));
+                // (without memory for its lines the connection is closed)
+                if let Ok(lines) = LinesInTurn::new(self.alloc, reader, &turn) {
+                    self.serve_lines(lines, RepliesInTurn::new(writer, &turn), keeper);
+                }
+            }
+            None => self.serve_lines(reader, writer, keeper),
+        }
+        close(self.rt, stream);
+    }
+
+    // Serves what a client says to its end, and writes to it.
+    fn serve_lines<G: Gate, I: Read + Drop, O: Write + Drop>(
+        &self,
+        reader: I,
+        writer: O,
+        keeper: &mut DeskKeeper<'_, '_, G, F, R>,
+    ) {
+        let mut reader = Counted::new(reader);
+        let mut writer = Counted::new(writer);
         let first = FirstLine::NoRequest;
         let _ = serve_from(
             self.alloc,
@@ -110,6 +133,5 @@ impl<F: Fetcher, C: NumberedClock, A: Alarm, R: Wait + time::Clock> Server<'_, F
             self.clock,
             first,
         );
-        close(self.rt, stream);
     }
 }

@@ -36,6 +36,8 @@ pub struct Server<'a, F, C, A, R> {
     pub connections: Connections,
     /// How long a client is waited for.
     pub patience: Duration,
+    /// How long the gate fetches for lines that a client has sent ahead, where that has a bound.
+    pub ahead: Option<Duration>,
     /// What a client may have of the gate.
     pub bounds: Bounds,
 }

@@ -4,9 +4,12 @@ use Rattle.std.specs.Prelude.{◌≡◌, ℕ, ◌^◌, ◌-◌, IfSome, List, Op
 use Rattle.std.specs.Str.Parse.{digits_value, without_leading_plus}
 use Rattle.clap.specs.Words.{first_value, one_text}
 use Rattle.clap.specs.declared.parser.matches.Found.{Found}
+use Rattle.program_words.specs.declared.subcommand.Ahead.{Ahead}
+use Rattle.program_words.specs.declared.subcommand.Ahead.TheVariants as aheads
 use Rattle.program_words.specs.declared.subcommand.CheckOptions.{CheckOptions}
 use Rattle.program_words.specs.declared.subcommand.CheckedText.{CheckedText}
 use Rattle.program_words.specs.declared.subcommand.CheckedText.TheVariants.{Input, File}
+use Rattle.program_words.specs.Contacts.{IsAllowedContact, IsContactOf}
 use Rattle.program_words.specs.Tls.{IsLoopback, IsTlsByOf}
 use Rattle.program_words.specs.declared.subcommand.Notes.{Notes}
 use Rattle.program_words.specs.declared.subcommand.Notes.TheVariants as notes
@@ -22,6 +25,7 @@ use Rattle.program_words.specs.declared.words.Chosen.TheVariants.{Taken, Refused
 use Rattle.robots_check.specs.declared.detail.Detail.{Detail}
 use Rattle.robots_check.specs.declared.detail.Detail.TheVariants.{Plain, Explained}
 use Rattle.client_wire.specs.Accepts.{AreServed}
+use Rattle.client_wire.specs.Ahead.{IsAhead}
 use Rattle.client_wire.specs.Waiting.{IsPatience}
 use Rattle.client_wire.specs.declared.connections.Connections.{Connections}
 use Rattle.client_wire.specs.declared.connections.Connections.TheVariants.{AtMost, Endless}
@@ -42,6 +46,12 @@ pub record AreForShift (options : ShiftOptions) : Type 0 where
   pub limits : AreLimits options.limits
   pub times : AreWithin options.times
   pub tls : IfSome options.tls_by IsLoopback
+  pub contact : IsAllowedContact options.contact
+
+-- the gate may fetch for lines that are sent ahead as long as may be allowed
+abbrev pub IsAllowedAhead : Ahead → Type 0
+IsAllowedAhead aheads.Unbounded = Unit {0}
+IsAllowedAhead (aheads.Seconds seconds) = IsAhead seconds
 
 -- a server has as many workers as may share a gate, takes as many connections as may be, and waits for a client
 -- no longer than may be; its book's limits and its fetches are as those of a shift
@@ -51,7 +61,9 @@ pub record AreForServe (options : ServeOptions) : Type 0 where
   pub limits : AreLimits options.limits
   pub times : AreWithin options.times
   pub tls : IfSome options.tls_by IsLoopback
+  pub contact : IsAllowedContact options.contact
   pub patience : IsPatience options.patience
+  pub ahead : IsAllowedAhead options.ahead
 
 -- the subcommand's options are in their ranges
 abbrev pub IsInRange : Subcommand → Type 0
@@ -118,6 +130,7 @@ pub record AreNotesOf (words : Found) (asked : Notes) : Type 0 where
 pub record AreShiftOf (words : Found) (options : ShiftOptions) : Type 0 where
   pub reach : IsReachOf words options.reach
   pub tls : IsTlsByOf words options.tls_by
+  pub contact : IsContactOf words options.contact
   pub workers : IsNumberOf words (codes "workers") options.workers
   pub limits : AreLimitsOf words options.limits
   pub times : AreTimesOf words options.times
@@ -137,16 +150,23 @@ abbrev pub IsPlaceOf : Found → Place → Type 0
 IsPlaceOf words (places.Port port) = (first_value words (codes "socket") ≡ None) × IsNumberOf words (codes "port") port
 IsPlaceOf words (places.Socket path) = first_value words (codes "socket") ≡ Some (string_bytes path)
 
+-- the seconds are the number that was matched, and without the option there is no bound
+abbrev pub IsAheadOf : Found → Ahead → Type 0
+IsAheadOf words aheads.Unbounded = first_value words (codes "ahead") ≡ None
+IsAheadOf words (aheads.Seconds seconds) = IsNumberOf words (codes "ahead") seconds
+
 -- the options of a server are those that were matched
 pub record AreServeOf (words : Found) (options : ServeOptions) : Type 0 where
   pub reach : IsReachOf words options.reach
   pub tls : IsTlsByOf words options.tls_by
+  pub contact : IsContactOf words options.contact
   pub place : IsPlaceOf words options.place
   pub workers : IsNumberOf words (codes "workers") options.workers
   pub connections : AreConnectionsOf words options.connections
   pub limits : AreLimitsOf words options.limits
   pub times : AreTimesOf words options.times
   pub patience : IsNumberOf words (codes "patience") options.patience
+  pub ahead : IsAheadOf words options.ahead
   pub client_permits : IsBoundOf words (codes "client-permits") options.client_permits
   pub client_authorities : IsBoundOf words (codes "client-authorities") options.client_authorities
 

@@ -98,6 +98,7 @@ fn serve_words<'a>(alloc: Global, defaults: &'a Defaults) -> Result<Command<'a>,
     let serve = limit_words(alloc, defaults, serve)?;
     time_words(alloc, defaults, serve)?
         .arg(number(alloc, "patience", &defaults.clients.patience))?
+        .arg(bound(alloc, "ahead", &defaults.clients.ahead))?
         .arg(bound(alloc, "client-permits", &defaults.clients.permits))?
         .arg(bound(alloc, "client-authorities", &defaults.clients.authorities))?
         .arg(flag(
@@ -165,6 +166,13 @@ fn time_words<'a>(
                 .help(
                     "Reads https URLs too, by the TLS program that listens at this address of the loopback",
                 ),
+        )?
+        .arg(
+            Arg::new(alloc, "contact")
+                .long("contact")
+                .value_name("TEXT")
+                .action(ArgAction::Set)
+                .help("Tells sites whom to write to: User-Agent is the product token and (TEXT)"),
         )
 }
 

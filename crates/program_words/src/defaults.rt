@@ -3,7 +3,7 @@
 ghost use Rattle.std.specs.Prelude.{◌≤◌};
 ghost use Rattle.permit_book.specs.Numbers.{last_generation};
 
-use client_wire::{MAX_CONNECTIONS, PATIENCE_SECONDS};
+use client_wire::{AHEAD_SECONDS, MAX_CONNECTIONS, PATIENCE_SECONDS};
 use gate_core::{Limits, MAX_AUTHORITIES, MAX_LOG, MAX_PLACES};
 use job_line::MAX_WORKERS;
 use permit_book::{LAST_GENERATION, MAX_SLOTS};
@@ -58,6 +58,7 @@ pub(crate) struct ClientOptions {
     pub(crate) workers: NumberOption,
     pub(crate) connections: NumberOption,
     pub(crate) patience: NumberOption,
+    pub(crate) ahead: NumberOption,
     pub(crate) permits: NumberOption,
     pub(crate) authorities: NumberOption,
 }
@@ -137,6 +138,8 @@ impl ClientOptions {
         let workers = "Clients that are served at a time";
         let connections = "Connections that are taken in all";
         let patience = "Seconds that a client is waited for between two ends of lines";
+        let ahead =
+            "Seconds of fetches for lines that a client sends ahead; no bound, where it is left out";
         let permits = "Permits that one client may have out; all, where it is left out";
         let authorities =
             "Authorities that may become known by one client; all, where it is left out";
@@ -146,6 +149,7 @@ impl ClientOptions {
             workers: NumberOption::new(alloc, workers, USUAL_WORKERS, MAX_WORKERS)?,
             connections: NumberOption::new(alloc, connections, usual, most)?,
             patience: NumberOption::new(alloc, patience, PATIENCE_SECONDS, PATIENCE_SECONDS)?,
+            ahead: NumberOption::new(alloc, ahead, AHEAD_SECONDS, AHEAD_SECONDS)?,
             permits: NumberOption::new(alloc, permits, MAX_SLOTS, MAX_SLOTS)?,
             authorities: NumberOption::new(alloc, authorities, MAX_AUTHORITIES, MAX_AUTHORITIES)?,
         })

@@ -4,6 +4,7 @@
 
 mod checked;
 mod command;
+mod contact;
 mod defaults;
 mod help;
 mod subcommand;
@@ -11,7 +12,7 @@ mod tls;
 mod words;
 
 pub use subcommand::{
-    CheckOptions, CheckedText, CheckedUrls, Notes, Place, ReplayOptions, ServeOptions,
-    ShiftOptions, Subcommand, Told,
+    Ahead, CheckOptions, CheckedText, CheckedUrls, Contact, Notes, Place, ReplayOptions,
+    ServeOptions, ShiftOptions, Subcommand, Told,
 };
 pub use words::options;

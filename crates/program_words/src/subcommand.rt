@@ -46,7 +46,7 @@ pub enum Notes {
 }
 
 /// How a shift is done.
-#[derive(Clone, Copy)]
+#[derive(Drop)]
 pub struct ShiftOptions {
     /// How many jobs are done at a time.
     pub workers: u64,
@@ -58,6 +58,8 @@ pub struct ShiftOptions {
     pub reach: Reach,
     /// Where the program listens that opens TLS for them; without one they are of `http` alone.
     pub tls_by: Option<SocketAddr>,
+    /// Whom requests name behind the agent.
+    pub contact: Contact,
     pub told: Told,
 }
 
@@ -68,6 +70,25 @@ pub enum Place {
     Port(u16),
     /// At a socket that is a file of this path.
     Socket(String),
+}
+
+/// Whom a site may write to about a crawl.
+#[derive(Drop)]
+pub enum Contact {
+    /// Requests don't tell.
+    Untold,
+    /// Requests have this comment behind the agent, in parentheses: 1 to 256 octets from 32 to 126, with no parenthesis and no
+    /// backslash.
+    Text(String),
+}
+
+/// How long the gate fetches for lines that a client has sent ahead of the replies.
+#[derive(Clone, Copy, Debug, PartialEq, Eq)]
+pub enum Ahead {
+    /// As long as it takes.
+    Unbounded,
+    /// So many seconds, from 1 to 3,600, between two times that the client had to be waited for.
+    Seconds(u64),
 }
 
 /// How clients are served.
@@ -86,8 +107,12 @@ pub struct ServeOptions {
     pub reach: Reach,
     /// Where the program listens that opens TLS for them; without one they are of `http` alone.
     pub tls_by: Option<SocketAddr>,
+    /// Whom requests name behind the agent.
+    pub contact: Contact,
     /// The seconds that a client is waited for between two ends of lines.
     pub patience: u64,
+    /// How long a client may have the gate fetch for lines that it has sent ahead.
+    pub ahead: Ahead,
     /// How many permits a client may have out; the greatest number, where it may have all.
     pub client_permits: u64,
     /// How many authorities may become known by a client; the greatest number, where all may.

@@ -5,20 +5,22 @@ ghost use Rattle.permit_book.specs.Numbers.{last_generation};
 ghost use Rattle.gate_core.specs.Limits.{AreLimits};
 ghost use Rattle.clap.specs.Words.{found_of};
 ghost use Rattle.client_wire.specs.Accepts.{AreServed};
-ghost use Rattle.program_words.specs.Options.{AreConnectionsOf, AreLimitsOf, AreNotesOf, AreSchemesOf, AreTimesOf, IsBoundOf, IsChosen, IsChosenBy, IsInRange, IsNumberOf, IsPlaceOf, IsReachOf, IsSetBy};
+ghost use Rattle.program_words.specs.Contacts.{IsAllowedContact, IsContactOf};
+ghost use Rattle.program_words.specs.Options.{AreConnectionsOf, AreLimitsOf, AreNotesOf, AreSchemesOf, AreTimesOf, IsAheadOf, IsAllowedAhead, IsBoundOf, IsChosen, IsChosenBy, IsInRange, IsNumberOf, IsPlaceOf, IsReachOf, IsSetBy};
 ghost use Rattle.program_words.specs.Tls.{IsLoopback, IsTlsByOf};
 ghost use Rattle.tcp_wire.specs.TimeLimits.{AreWithin};
 
 use crate::checked::check_of;
 use crate::command::program;
+use crate::contact::contact_of;
 use crate::defaults::Defaults;
 use crate::subcommand::{
-    Notes, Place, ReplayOptions, ServeOptions, ShiftOptions, Subcommand, Told,
+    Ahead, Contact, Notes, Place, ReplayOptions, ServeOptions, ShiftOptions, Subcommand, Told,
 };
 use crate::tls::{NotLoopback, tls_by_of};
 use clap::error::ErrorKind;
 use clap::{ArgMatches, Command, Error};
-use client_wire::{Connections, MAX_CONNECTIONS, PATIENCE_SECONDS};
+use client_wire::{AHEAD_SECONDS, Connections, MAX_CONNECTIONS, PATIENCE_SECONDS};
 use gate_core::{Limits, MAX_AUTHORITIES, MAX_LOG, MAX_PLACES};
 use job_line::MAX_WORKERS;
 use path_normal::Schemes;
@@ -31,6 +33,9 @@ use tcp_wire::{CONNECT_SECONDS, Reach, STEP_SECONDS, TimeLimits, WHOLE_SECONDS};
 const BAD_NUMBER: &str = "a number is written in digits alone";
 
 const BAD_PATH: &str = "a socket's path has 1 to 96 octets, and no control characters";
+
+const BAD_CONTACT: &str =
+    "a contact has 1 to 256 characters of ASCII, and no parenthesis or backslash";
 
 const BAD_TLS_BY: &str =
     "--tls-by names an address of this machine and a port, as 127.0.0.1:3131 or [::1]:3131";
@@ -89,18 +94,20 @@ fn chosen_by<'a>(
         return Ok(serve_of(alloc, serve)?);
     }
     if let Some(("shift", shift)) = matches.subcommand() {
-        return Ok(shift_of(shift));
+        return Ok(shift_of(alloc, shift)?);
     }
     Ok(chosen_of(&matches))
 }
 
-// Whether a word, or what stands behind its `=`, begins with a plus sign. (Rust reads `+5` as a number.)
+// Whether a word, or what stands behind its `=`, begins with a plus sign. (Rust reads `+5` as a number.) A contact may.
 fn has_sign(words: &[&str]) -> bool {
+    let mut before = "";
     for word in words {
-        let value = word.split_once('=').map_or(*word, |(_, value)| value);
-        if value.starts_with('+') {
+        let (name, value) = word.split_once('=').unwrap_or((before, *word));
+        if value.starts_with('+') && name != "--contact" {
             return true;
         }
+        before = *word;
     }
     false
 }
@@ -179,12 +186,24 @@ fn notes_of(matches: &ArgMatches<'_>) -> Notes
     }
 }
 
-fn shift_of(matches: &ArgMatches<'_>) -> Chosen
+fn shift_of(alloc: Global, matches: &ArgMatches<'_>) -> Result<Chosen, AllocError>
+    ensures range { IfOk result IsChosen }
+    ensures words { IfOk result (IsChosenBy (found_of matches.now)) }
+{
+    match contact_of(alloc, matches)? {
+        Some(contact) => Ok(shift_with(contact, matches)),
+        None => Ok(Chosen::Refused(BAD_CONTACT)),
+    }
+}
+
+fn shift_with(contact: Contact, matches: &ArgMatches<'_>) -> Chosen
+    requires allowed { IsAllowedContact contact }
+    requires named { IsContactOf (found_of matches.now) contact }
     ensures range { IsChosen result }
     ensures words { IsChosenBy (found_of matches.now) result }
 {
     match tls_by_of(matches) {
-        Ok(tls_by) => match shift_by(tls_by, matches) {
+        Ok(tls_by) => match shift_by(contact, tls_by, matches) {
             Some(subcommand) => Chosen::Taken(subcommand),
             None => Chosen::Refused(BAD_NUMBER),
         },
@@ -192,7 +211,13 @@ fn shift_of(matches: &ArgMatches<'_>) -> Chosen
     }
 }
 
-fn shift_by(tls_by: Option<SocketAddr>, matches: &ArgMatches<'_>) -> Option<Subcommand>
+fn shift_by(
+    contact: Contact,
+    tls_by: Option<SocketAddr>,
+    matches: &ArgMatches<'_>,
+) -> Option<Subcommand>
+    requires contact { IsAllowedContact contact }
+    requires told { IsContactOf (found_of matches.now) contact }
     requires loopback { IfSome tls_by IsLoopback }
     requires named { IsTlsByOf (found_of matches.now) tls_by }
     ensures range { IfSome result IsInRange }
@@ -204,6 +229,7 @@ fn shift_by(tls_by: Option<SocketAddr>, matches: &ArgMatches<'_>) -> Option<Subc
         times: times_of(matches)?,
         reach: reach_of(matches),
         tls_by,
+        contact,
         told: told_by(matches),
     }))
 }
@@ -212,19 +238,24 @@ fn serve_of(alloc: Global, matches: &ArgMatches<'_>) -> Result<Chosen, AllocErro
     ensures range { IfOk result IsChosen }
     ensures words { IfOk result (IsChosenBy (found_of matches.now)) }
 {
-    match place_of(alloc, matches)? {
-        Some(place) => Ok(serve_at(place, matches)),
-        None => Ok(Chosen::Refused(BAD_PATH)),
+    let Some(place) = place_of(alloc, matches)? else {
+        return Ok(Chosen::Refused(BAD_PATH));
+    };
+    match contact_of(alloc, matches)? {
+        Some(contact) => Ok(serve_at(place, contact, matches)),
+        None => Ok(Chosen::Refused(BAD_CONTACT)),
     }
 }
 
-fn serve_at(place: Place, matches: &ArgMatches<'_>) -> Chosen
-    requires { IsPlaceOf (found_of matches.now) place }
+fn serve_at(place: Place, contact: Contact, matches: &ArgMatches<'_>) -> Chosen
+    requires place { IsPlaceOf (found_of matches.now) place }
+    requires contact { IsAllowedContact contact }
+    requires told { IsContactOf (found_of matches.now) contact }
     ensures range { IsChosen result }
     ensures words { IsChosenBy (found_of matches.now) result }
 {
     match tls_by_of(matches) {
-        Ok(tls_by) => match served_at(place, tls_by, matches) {
+        Ok(tls_by) => match served_at(place, contact, tls_by, matches) {
             Some(subcommand) => Chosen::Taken(subcommand),
             None => Chosen::Refused(BAD_NUMBER),
         },
@@ -234,10 +265,13 @@ fn serve_at(place: Place, matches: &ArgMatches<'_>) -> Chosen
 
 fn served_at(
     place: Place,
+    contact: Contact,
     tls_by: Option<SocketAddr>,
     matches: &ArgMatches<'_>,
 ) -> Option<Subcommand>
     requires place { IsPlaceOf (found_of matches.now) place }
+    requires contact { IsAllowedContact contact }
+    requires told { IsContactOf (found_of matches.now) contact }
     requires loopback { IfSome tls_by IsLoopback }
     requires named { IsTlsByOf (found_of matches.now) tls_by }
     ensures range { IfSome result IsInRange }
@@ -251,10 +285,26 @@ fn served_at(
         times: times_of(matches)?,
         reach: reach_of(matches),
         tls_by,
+        contact,
         patience: number_of(matches, "patience", PATIENCE_SECONDS)?,
+        ahead: ahead_of(matches)?,
         client_permits: bound_of(matches, "client-permits", MAX_SLOTS)?,
         client_authorities: bound_of(matches, "client-authorities", MAX_AUTHORITIES)?,
     }))
+}
+
+// How long the gate fetches for lines sent ahead, and no bound where the option was left out.
+fn ahead_of(matches: &ArgMatches<'_>) -> Option<Ahead>
+    ensures range { IfSome result IsAllowedAhead }
+    ensures words { IfSome result (IsAheadOf (found_of matches.now)) }
+{
+    match matches.get_str("ahead") {
+        Some(_) => {
+            let seconds = number_of(matches, "ahead", AHEAD_SECONDS)?;
+            Some(Ahead::Seconds(seconds))
+        }
+        None => Some(Ahead::Unbounded),
+    }
 }
 
 // So many connections as the option says, or no end of them.

@@ -85,6 +85,7 @@ fn serve_two<G: Gate + Send + Sync, R: Threads + Wait + time::Clock + Sync>(
         workers: 1,
         connections: Connections::AtMost(2),
         patience: Duration::from_millis(PATIENCE),
+        ahead: None,
         bounds: Bounds::none(),
     };
     match server.run(&gate) {
