@@ -4,6 +4,7 @@ import os
 import socket
 import subprocess
 import sys
+import tempfile
 import threading
 import time
 
@@ -290,6 +291,81 @@ def fetches_what_was_decided():
     side_by_side(play, ["sh", "py"])
 
 
+def look_inside():
+    """INFO counts what there is in the gate, of all sessions; it makes no entry, and a seal leaves what is open."""
+
+    def info(entries, ever, starts, permits, running, authorities, room):
+        return (f"INFO entries {entries} ever {ever} starts {starts} permits {permits} running {running} turns 0 "
+                f"authorities {authorities} room {room}")
+
+    site = open_site()
+    a, x = site.authority, site.url("/x")
+    with Server("--log", "100") as server, Session(server) as it, Session(server) as other:
+        same(it.say("INFO"), info(0, 0, 0, 0, 0, 0, 100))
+        same(it.say(f"REFRESH {a}"), f"TAKEN {a} open")
+        same(it.say_all([f"ASK foobot {x}", f"ASK foobot {x}", f"START 65536 foobot {x}"]), ["PERMIT 65536", "PERMIT 65537", "GO 65536 open"])
+        # two entries of the robots file, two grants, a start; a start and an end are promised to a permit, an end to a fetch
+        same([each.say("INFO") for each in (other, it)], [info(5, 5, 1, 1, 1, 1, 92)] * 2)
+        head, *_ = it.say("SEAL").split(" ")
+        same(head, "SEALED")
+        same(other.say("INFO"), info(0, 5, 1, 1, 1, 1, 97))
+        same([other.say("INFO x"), other.say("info")], ["ERR words", "ERR verb"])
+
+
+def client_looks_inside():
+    """The client in Python has the numbers of INFO by name, and a script writes them for Prometheus."""
+    site = open_site()
+    with Server() as server, tempfile.TemporaryDirectory() as folder:
+        with python_client().Gate(HOST, server.port, SECONDS) as gate, gate.permit("foobot", site.url("/x")):
+            told = {"entries": 5, "ever": 5, "starts": 1, "permits": 0, "running": 1, "turns": 0, "authorities": 1, "room": 999_994}
+            same(gate.info(), told)
+            subprocess.run([f"{CLIENTS}/prometheus.py", str(server.port), f"{folder}/gate.prom"], check=True, timeout=SECONDS)
+        with open(f"{folder}/gate.prom", encoding="utf-8") as file:
+            text = file.read()
+        same(os.listdir(folder), ["gate.prom"])
+        same(text.count("\n"), 24)
+        assert "# TYPE crawlgate_starts_total counter\ncrawlgate_starts_total 1\n" in text, text
+        assert "# TYPE crawlgate_room gauge\ncrawlgate_room 999994\n" in text, text
+
+
+def client_goes_on():
+    """The client in Python connects anew where the server has ended its session and nothing was out."""
+    site = open_site()
+    with Server("--patience", "1") as server, python_client().Gate(HOST, server.port, SECONDS) as gate:
+        same(gate.refresh(site.authority), "open")
+        time.sleep(1.5)
+        with gate.permit("foobot", site.url("/x")) as permit:
+            same(permit.reason, "open")
+        number = gate.ask("foobot", site.url("/x"))
+        time.sleep(1.5)
+        # (with a permit out it is told)
+        try:
+            same(gate.start(number, "foobot", site.url("/x")), "an error")
+        except ConnectionError:
+            pass
+        same(gate.state(site.authority), ("open", False))
+
+
+def closed_site_is_tried_again():
+    """The client in Python has the robots file of a closed site fetched again for a permit, once its time has come."""
+    client = python_client()
+
+    def play(retry_closed, wanted):
+        site = open_site({"/robots.txt": response(503)})
+        with Server() as server, client.Gate(HOST, server.port, SECONDS, retry_closed) as gate:
+            same(gate.refresh(site.authority), "closed")
+            site.pages["/robots.txt"] = response(404)
+            time.sleep(1.0)
+            try:
+                with gate.permit("foobot", site.url("/x")) as permit:
+                    told = permit.reason
+            except client.Denied as denied:
+                told = denied.cause
+            same((retry_closed, told), (retry_closed, wanted))
+
+    side_by_side(lambda row: play(*row), [(None, "closed"), (600, "closed"), (0.5, "open")])
+
+
 def clients_wait_for_a_robots_fetch():
     """A client that has no answer while another session has the robots file fetched does without a fetch of its own."""
 
@@ -360,5 +436,6 @@ def ends_of_lines():
 
 CASES = [
     quits, connections_are_counted, without_end, two_sessions, segments_are_what_was_served, fetches, faults_of_lines, site_is_down, one_robots_fetch_at_a_time,
-    client_in_python, client_in_bash, urls_as_written, fetches_what_was_decided, clients_wait_for_a_robots_fetch, thousand_lines_at_once, million_lines, line_by_octets, ends_of_lines,
+    client_in_python, client_in_bash, urls_as_written, look_inside, client_looks_inside, client_goes_on,
+    closed_site_is_tried_again, fetches_what_was_decided, clients_wait_for_a_robots_fetch, thousand_lines_at_once, million_lines, line_by_octets, ends_of_lines,
 ]

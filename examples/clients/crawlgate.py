@@ -82,6 +82,13 @@ class Permit:
         return _OPENER.open(request, timeout=timeout)
 
 
+def _connected_to(host, port, timeout):
+    """Returns a connection to a port."""
+    peer = socket.create_connection((host, port), timeout)
+    peer.setsockopt(socket.IPPROTO_TCP, socket.TCP_NODELAY, 1)
+    return peer
+
+
 def _connected(path, timeout):
     """Returns a connection to a socket that is a file."""
     peer = socket.socket(socket.AF_UNIX)
@@ -94,23 +101,36 @@ def _connected(path, timeout):
     return peer
 
 
-class Gate:
-    """A session of a line server. It raises an OSError where the connection ends or nothing comes for `timeout` seconds;
-    without a timeout it waits as long as the server does: a fetch may take an hour."""
+# how long a reply may take, in seconds: a page with its robots file and five redirects takes an hour at most
+TIMEOUT = 3_900
+# how long a site stays closed before its robots file is fetched again for a permit, in seconds
+RETRY_CLOSED = 600
 
-    def __init__(self, host, port, timeout=None):
-        peer = socket.create_connection((host, port), timeout)
-        peer.setsockopt(socket.IPPROTO_TCP, socket.TCP_NODELAY, 1)
-        self._take(peer)
+
+class Gate:
+    """A session of a line server. It raises an OSError where the connection ends or nothing comes for `timeout` seconds.
+
+    Where the server has ended a session that has nothing out, as one that was silent for long, the next line connects
+    anew. A site that is closed, as one whose robots file could not be fetched, is tried again for a permit once
+    `retry_closed` seconds have passed since this Gate fetched its robots file; with None never."""
+
+    def __init__(self, host, port, timeout=TIMEOUT, retry_closed=RETRY_CLOSED):
+        self._begin(lambda: _connected_to(host, port, timeout), retry_closed)
 
     @classmethod
-    def at(cls, place, timeout=None):
+    def at(cls, place, timeout=TIMEOUT, retry_closed=RETRY_CLOSED):
         """A session at a port of this machine, or at the socket of a path, which has a `/` in it."""
         if "/" not in place:
-            return cls("127.0.0.1", int(place), timeout)
+            return cls("127.0.0.1", int(place), timeout, retry_closed)
         gate = cls.__new__(cls)
-        gate._take(_connected(place, timeout))
+        gate._begin(lambda: _connected(place, timeout), retry_closed)
         return gate
+
+    def _begin(self, connect, retry_closed):
+        self._connect, self._retry_closed = connect, retry_closed
+        # the numbers of permits that are out, and when robots files were fetched
+        self._out, self._refreshed = set(), {}
+        self._take(connect())
 
     def _take(self, peer):
         self._peer = peer
@@ -139,20 +159,28 @@ class Gate:
 
     def ask(self, token, url):
         """Asks for a permit to fetch a page, and returns its number."""
-        return int(self._say("PERMIT", "ASK", token, url))
+        number = int(self._say("PERMIT", "ASK", token, url))
+        self._out.add(number)
+        return number
 
     def start(self, number, token, url):
         """Starts the fetch of a permit, which is spent by it, and returns the reason: 'open', 'line <n>', 'norule' or
         'robots'. A permit whose start is denied is spent too."""
-        return self._say("GO", "START", number, token, url).partition(" ")[2]
+        try:
+            return self._say("GO", "START", number, token, url).partition(" ")[2]
+        except Denied:
+            self._out.discard(number)
+            raise
 
     def back(self, number):
         """Gives an unspent permit back."""
         self._say("BACK", "BACK", number)
+        self._out.discard(number)
 
     def done(self, number):
         """Says that the fetch that was started under this number has ended."""
         self._say("DONE", "DONE", number)
+        self._out.discard(number)
 
     def state(self, authority):
         """Returns what stands for an authority ('unknown', 'expired', 'closed', 'open' or 'rules'), and whether its robots
@@ -163,7 +191,9 @@ class Gate:
     def refresh(self, authority):
         """Has the robots file of an authority fetched, and returns 'rules', 'open' or 'closed'. It is Refused as
         'inflight' while another session has it fetched."""
-        return self._say("TAKEN", "REFRESH", authority).partition(" ")[2]
+        word = self._say("TAKEN", "REFRESH", authority).partition(" ")[2]
+        self._refreshed[authority] = time.monotonic()
+        return word
 
     def fetch(self, token, url):
         """Has the gate fetch a page, the robots file before it where none is in force, and the pages to which it leads."""
@@ -177,6 +207,12 @@ class Gate:
         if len(octets) <= length:
             raise ConnectionError("the connection ended in a body")
         return Fetched(hops, octets[:-1])
+
+    def info(self):
+        """Returns how much there is in the gate, of all sessions together, by name: 'entries', 'ever', 'starts', 'permits',
+        'running', 'turns', 'authorities' and 'room'."""
+        words = self._say("INFO", "INFO").split(" ")
+        return dict(zip(words[::2], map(int, words[1::2])))
 
     def seal(self):
         """Returns the text of the history since the last seal, b"" where nothing was entered. Nobody else keeps it."""
@@ -211,10 +247,21 @@ class Gate:
         try:
             return self.ask(token, url)
         except Denied as denied:
-            if denied.cause not in ("unknown", "expired"):
+            if denied.cause not in ("unknown", "expired") and not self._is_to_be_retried(denied):
                 raise
             self._inform(denied.authority)
             return self.ask(token, url)
+
+    def _is_to_be_retried(self, denied):
+        """Whether the site is closed, and its robots file was not fetched by this Gate of late."""
+        if denied.cause != "closed" or self._retry_closed is None:
+            return False
+        refreshed = self._refreshed.get(denied.authority)
+        if refreshed is None:
+            # (its answer may be of another session; it counts as of now)
+            self._refreshed[denied.authority] = time.monotonic()
+            return False
+        return time.monotonic() - refreshed >= self._retry_closed
 
     def _inform(self, authority):
         """Has a robots file fetched, or waits until another session has done so."""
@@ -235,7 +282,20 @@ class Gate:
             # another octet would end the word, or the line
             if not all("!" <= it <= "~" for it in str(word)):
                 raise ValueError(f"no word of a line: {word!r}")
-        self._peer.sendall(" ".join(map(str, words)).encode() + b"\n")
+        line = " ".join(map(str, words)).encode() + b"\n"
+        try:
+            return self._exchange(line)
+        except ConnectionError:
+            # what was out has gone back; and a segment that was on its way is lost
+            out, self._out = self._out, set()
+            if out or words[0] in ("SEAL", "QUIT") or self._replies.closed:
+                raise
+        self.close()
+        self._take(self._connect())
+        return self._exchange(line)
+
+    def _exchange(self, line):
+        self._peer.sendall(line)
         return self._reply()
 
     def _reply(self):

@@ -105,6 +105,7 @@ arguments_of schemes verbs.Refresh moment words capacity =
     read_on (authority_alone schemes words capacity) (λ authority. Ok (commands.Refresh authority))
 arguments_of schemes verbs.Fetch moment words capacity = read_on (job_words_of schemes words capacity) (λ job. Ok (commands.Fetch job))
 arguments_of schemes verbs.Url moment words capacity = read_on (page_alone schemes words capacity) (λ url. Ok (commands.Url url))
+arguments_of schemes verbs.Info moment words capacity = Ok commands.Info
 arguments_of schemes verbs.Quit moment words capacity = Ok commands.Quit
 
 -- the verb takes so many words

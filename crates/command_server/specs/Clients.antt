@@ -11,6 +11,7 @@ use Rattle.gate_core.specs.declared.state.Standing.{Standing}
 use Rattle.gate_core.specs.declared.state.State.{State}
 use Rattle.crawl_job.specs.declared.job.Outcome.{Outcome}
 use Rattle.keepers.specs.Deals.{Deals}
+use Rattle.keepers.specs.declared.counts.Counts.{Counts}
 use Rattle.command_server.specs.CallOf.{command_of_among}
 use Rattle.command_server.specs.FirstLines.{is_turned_away}
 use Rattle.command_server.specs.Limits.{max_client_line, max_lines}
@@ -78,6 +79,8 @@ module _ {S : Type 0} (deals : Deals S) where
   DoesCommand reads old (Ok (commands.Fetch job)) told new =
       (result : Option (Result Outcome NoMemory)) × (deals.fetches reads old job result new × (told ≡ fetched result))
   DoesCommand reads old (Ok (commands.Url url)) told new = (told ≡ tolds.Written url) × (new ≡ old)
+  DoesCommand reads old (Ok commands.Info) told new =
+      (counts : Counts) × (deals.counts old counts × (told ≡ tolds.Counted counts) × (new ≡ old))
   DoesCommand reads old (Ok commands.Quit) told new = deals.ends old new × (told ≡ tolds.Bye)
   DoesCommand reads old (Err fault) told new = TellsFault old fault told new
 

@@ -14,6 +14,7 @@ pub mod Session
 pub mod Steps
 pub mod Replay
 pub mod HopText
+pub mod InfoText
 pub mod ToldText
 pub mod Readings
 pub mod FirstLines

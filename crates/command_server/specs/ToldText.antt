@@ -11,6 +11,7 @@ use Rattle.counted_io.specs.Lines.{line_feed}
 use Rattle.line_text.specs.Pieces.{line_of}
 use Rattle.command_server.specs.FaultText.{line_fault_text}
 use Rattle.command_server.specs.HopText.{hops_text}
+use Rattle.command_server.specs.InfoText.{info_text}
 use Rattle.command_server.specs.RefusalText.{refusal_text}
 use Rattle.command_server.specs.ReplyText.{arrive_text, ask_text, back_text, begin_text, bye_text, denial_text, finish_text, go_text, state_text, url_text}
 use Rattle.command_server.specs.SealText.{seal_text}
@@ -47,5 +48,6 @@ told_text (tolds.Sealed result) = seal_text result
 told_text (tolds.Refreshed authority result) = refresh_text authority result
 told_text (tolds.Fetched outcome) = fetched_text outcome
 told_text (tolds.Written url) = url_text url
+told_text (tolds.Counted counts) = info_text counts
 told_text tolds.NoMemory = refusal_text refusals.NoMemory
 told_text tolds.Bye = bye_text

@@ -36,13 +36,14 @@ row_of verbs.Seal = row (codes "SEAL") 0 0
 row_of verbs.Refresh = row (codes "REFRESH") 1 1
 row_of verbs.Fetch = row (codes "FETCH") 2 2
 row_of verbs.Url = row (codes "URL") 1 1
+row_of verbs.Info = row (codes "INFO") 0 0
 row_of verbs.Quit = row (codes "QUIT") 0 0
 
 -- all verbs
 abbrev pub all_verbs : List Verb
 all_verbs =
     verbs.Begin ∷ verbs.Arrive ∷ verbs.Ask ∷ verbs.Start ∷ verbs.Back ∷ verbs.Done
-    ∷ verbs.State ∷ verbs.Sweep ∷ verbs.Seal ∷ verbs.Refresh ∷ verbs.Fetch ∷ verbs.Url ∷ verbs.Quit ∷ []
+    ∷ verbs.State ∷ verbs.Sweep ∷ verbs.Seal ∷ verbs.Refresh ∷ verbs.Fetch ∷ verbs.Url ∷ verbs.Info ∷ verbs.Quit ∷ []
 
 -- whether the dialogue is that of a replay
 abbrev pub is_replay : Dialogue → Bool
@@ -63,6 +64,7 @@ is_in dialogue verbs.Sweep = is_replay dialogue
 is_in dialogue verbs.Refresh = has_fetches dialogue
 is_in dialogue verbs.Fetch = has_fetches dialogue
 is_in dialogue verbs.Url = not (is_replay dialogue)
+is_in dialogue verbs.Info = not (is_replay dialogue)
 is_in dialogue _ = true
 
 -- the verb of this name, if the dialogue has one

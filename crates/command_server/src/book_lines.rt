@@ -61,7 +61,7 @@ impl Answerer<Book> for BookLines {
                 answer_seal(book, output, sink)?;
                 Ok(Flow::Goes)
             }
-            Ok(Command::Refresh { .. } | Command::Fetch(_) | Command::Url(_)) => {
+            Ok(Command::Refresh { .. } | Command::Fetch(_) | Command::Url(_) | Command::Info) => {
                 fault_pieces(LineFault::Verb).push(output, sink)?;
                 Ok(Flow::Goes)
             }

@@ -110,6 +110,7 @@ fn told_of<K: Keeper, C: NumberedClock>(
         },
         // The keeper has no part in it.
         Ok(Command::Url(url)) => Told::Written(url),
+        Ok(Command::Info) => Told::Counted(keeper.counts()),
         Ok(Command::Quit) => {
             keeper.end();
             Told::Bye

@@ -37,6 +37,8 @@ pub enum Command<'a> {
     Fetch(Job),
     /// How the URL of a page is written.
     Url(PageUrl),
+    /// How much there is of what the gate keeps.
+    Info,
     /// The end of the session.
     Quit,
 }
@@ -178,6 +180,7 @@ fn read_arguments(
         }
         Verb::Fetch => return Ok(Command::Fetch(read_job_words(alloc, schemes, words)?)),
         Verb::Url => return Ok(Command::Url(read_page_alone(alloc, schemes, words)?)),
+        Verb::Info => return Ok(Command::Info),
         Verb::Quit => return Ok(Command::Quit),
     }))
 }

@@ -15,6 +15,7 @@ mod fault;
 mod first_line;
 mod hop_lines;
 mod hop_text;
+mod info_text;
 mod job_words;
 mod numbered_clock;
 mod refusal_text;

@@ -10,6 +10,7 @@ ghost use Rattle.command_server.specs.ToldText.{body_text, fetched_text, refresh
 use crate::answerer::Flow;
 use crate::fault::LineFault;
 use crate::hop_lines::push_hops;
+use crate::info_text::push_info;
 use crate::refusal_text::refusal_pieces;
 use crate::reply_text::{
     arrive_pieces, ask_pieces, back_pieces, begin_pieces, bye_pieces, denial_pieces, fault_pieces,
@@ -20,6 +21,7 @@ use counted_io::{DeviceFault, Output, Sink};
 use crawl_job::{Outcome, Refusal};
 use gate_core::{AskRefusal, BeginRefusal, Denial, NoMemory, Standing, State};
 use gate_history::{Reason, Segment};
+use keepers::Counts;
 use line_text::{Piece, Pieces};
 use path_normal::{Authority, PageUrl};
 use permit_book::{NotOut, PermitNo};
@@ -55,6 +57,8 @@ pub(crate) enum Told {
     Sealed(Result<Segment, NoMemory>),
     /// How the URL of a page is written.
     Written(PageUrl),
+    /// How much there is of what the gate keeps.
+    Counted(Counts),
     /// There was no memory to fetch.
     NoMemory,
     /// The session ends.
@@ -110,6 +114,7 @@ impl Told {
                 refreshed_pieces(authority, result).push(output, sink)
             }
             Told::Written(url) => url_pieces(url).push(output, sink),
+            Told::Counted(counts) => push_info(*counts, output, sink),
             Told::NoMemory => refusal_pieces(Refusal::NoMemory).push(output, sink),
             Told::Bye => bye_pieces().push(output, sink),
         }

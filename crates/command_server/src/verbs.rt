@@ -18,10 +18,11 @@ pub enum Verb {
     Refresh,
     Fetch,
     Url,
+    Info,
     Quit,
 }
 
-const VERBS: [Verb; 13] = [
+const VERBS: [Verb; 14] = [
     Verb::Begin,
     Verb::Arrive,
     Verb::Ask,
@@ -34,6 +35,7 @@ const VERBS: [Verb; 13] = [
     Verb::Refresh,
     Verb::Fetch,
     Verb::Url,
+    Verb::Info,
     Verb::Quit,
 ];
 
@@ -82,7 +84,7 @@ impl Verb {
             | Verb::Seal
             | Verb::Quit => true,
             Verb::Begin | Verb::Arrive | Verb::Sweep => dialogue == Dialogue::Replay,
-            Verb::Url => dialogue != Dialogue::Replay,
+            Verb::Url | Verb::Info => dialogue != Dialogue::Replay,
             Verb::Refresh | Verb::Fetch => match dialogue {
                 Dialogue::Replay => false,
                 Dialogue::Client { fetches, .. } => fetches,
@@ -109,6 +111,7 @@ impl Verb {
             Verb::Refresh => row("REFRESH", 1, 1),
             Verb::Fetch => row("FETCH", 2, 2),
             Verb::Url => row("URL", 1, 1),
+            Verb::Info => row("INFO", 0, 0),
             Verb::Quit => row("QUIT", 0, 0),
         }
     }

@@ -12,6 +12,7 @@ use Rattle.gate_core.specs.declared.state.Standing.{Standing}
 use Rattle.gate_core.specs.declared.state.State.{State}
 use Rattle.crawl_job.specs.declared.job.Job.{Job}
 use Rattle.crawl_job.specs.declared.job.Outcome.{Outcome}
+use Rattle.keepers.specs.declared.counts.Counts.{Counts}
 use Rattle.path_normal.specs.declared.schemes.Schemes.{Schemes}
 
 -- the readings of a clock are the argument of a refresh and of a fetch, since these read it as they go
@@ -22,6 +23,7 @@ pub record Deals (S : Type 0) : Type 1 where
   pub starts : S → (number : ℕ) (token url : List ℕ) (moment : ℕ) → Result Reason Denial → S → Type 0
   pub returns : S → (number : ℕ) → Result Unit NotOut → S → Type 0
   pub finishes : S → (number : ℕ) → Result Unit NotOut → S → Type 0
+  pub counts : S → Counts → Type 0
   pub reads : S → (authority : List ℕ) (moment : ℕ) → State → S → Type 0
   pub refreshes : (reads : ℕ → Type 0) → S → (authority : List ℕ) → Option (Result Standing BeginRefusal) → S → Type 0
   pub fetches : (reads : ℕ → Type 0) → S → Job → Option (Result Outcome NoMemory) → S → Type 0

@@ -3,3 +3,4 @@ pub mod Deals
 pub mod BookKeeping
 pub mod DeskKeeping
 pub mod Bounding
+pub mod Counting

@@ -1,6 +1,7 @@
 //! `BookKeeper`: a book alone keeps the permits, and nothing is fetched.
 ghost use Rattle.std.specs.Prelude.{◌≡◌};
 
+use crate::counts::{Counts, counts_of};
 use crate::keeper::Keeper;
 use crawl_job::{Job, Outcome};
 use crawl_workers::Clock;
@@ -33,6 +34,7 @@ impl<'a> Keeper for BookKeeper<'a> {
     ghost use Rattle.gate_core.specs.Sealing.{Seals};
     ghost use Rattle.path_normal.specs.declared.schemes.Schemes.TheVariants.{Http};
     ghost use Rattle.keepers.specs.BookKeeping.{BookReads, BookStarts, OffersNone};
+    ghost use Rattle.keepers.specs.Counting.{counts_of};
 
     ghost deals = { record {
       can_fetch = λ _. false;
@@ -41,6 +43,7 @@ impl<'a> Keeper for BookKeeper<'a> {
       starts = λ k number token url m result k2. (k2.book.ghost_name ≡ k.book.ghost_name) × BookStarts k.book.now number token url m result k2.book.now;
       returns = λ k number result k2. (k2.book.ghost_name ≡ k.book.ghost_name) × Returns k.book.now number result k2.book.now;
       finishes = λ k number result k2. (k2.book.ghost_name ≡ k.book.ghost_name) × Finishes k.book.now number result k2.book.now;
+      counts = λ k counts. counts ≡ counts_of k.book.now;
       reads = λ k authority m state k2. (k2.book.ghost_name ≡ k.book.ghost_name) × BookReads k.book.now authority m state k2.book.now;
       refreshes = λ _ k _ result k2. (k2.book.ghost_name ≡ k.book.ghost_name) × OffersNone k.book.now result k2.book.now;
       fetches = λ _ k _ result k2. (k2.book.ghost_name ≡ k.book.ghost_name) × OffersNone k.book.now result k2.book.now;
@@ -77,6 +80,10 @@ impl<'a> Keeper for BookKeeper<'a> {
 
     fn finish(&mut self, number: PermitNo) -> Result<(), NotOut> {
         self.book.finish(number)
+    }
+
+    fn counts(&self) -> Counts {
+        counts_of(self.book)
     }
 
     fn state(&mut self, authority: &Authority, moment: u64) -> State {

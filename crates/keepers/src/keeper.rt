@@ -1,6 +1,7 @@
 //! `Keeper`: what makes the calls of a session, and knows which permits the session has out.
 ghost use Rattle.std.specs.Prelude.{◌≡◌};
 
+use crate::counts::Counts;
 use crawl_job::{Job, Outcome};
 use crawl_workers::Clock;
 use gate_core::{AskRefusal, BeginRefusal, Denial, NoMemory, Standing, State};
@@ -46,6 +47,10 @@ pub trait Keeper {
     /// Ends the fetch that the session started under this number.
     fn finish(&mut self, number: PermitNo) -> Result<(), NotOut>
         ensures { deals.finishes self.old number result self.new };
+
+    /// How much there is of what the gate keeps.
+    fn counts(&self) -> Counts
+        ensures { deals.counts self.now result };
 
     /// What is known of an authority.
     fn state(&mut self, authority: &Authority, moment: u64) -> State

@@ -4,11 +4,13 @@
 
 mod book_keeper;
 mod bounds;
+mod counts;
 mod desk_keeper;
 mod keeper;
 mod newcomers;
 
 pub use book_keeper::BookKeeper;
 pub use bounds::Bounds;
+pub use counts::Counts;
 pub use desk_keeper::{DeskKeeper, NoKeeper};
 pub use keeper::Keeper;

@@ -1,0 +1,51 @@
+//! What an operator may see of a gate: how much there is of what it keeps.
+//! Read by each `Keeper`, for the verb INFO.
+ghost use Rattle.std.specs.Prelude.{◌≡◌};
+ghost use Rattle.keepers.specs.Counting.{counts_of};
+
+use gate_core::Book;
+
+/// How much there is of what a gate keeps, at one moment.
+#[derive(Clone, Copy, Debug, PartialEq, Eq)]
+pub struct Counts {
+    /// The entries of the history since the last seal.
+    pub entries: u64,
+    /// All entries, the sealed ones among them.
+    pub ever: u64,
+    /// All fetches that were started, the sealed ones among them.
+    pub starts: u64,
+    /// The permits that are out and not spent.
+    pub permits: u64,
+    /// The fetches of pages under way.
+    pub running: u64,
+    /// The fetches of robots files under way.
+    pub turns: u64,
+    /// The authorities that have an answer or a turn.
+    pub authorities: u64,
+    /// The entries that the history has room for, beside those that it has promised to what is out and under way.
+    pub room: u64,
+}
+
+/// The counts of a book.
+pub(crate) fn counts_of(book: &Book) -> Counts
+    ensures { result ≡ counts_of book.now }
+{
+    let entries = book.history().len() as u64;
+    let permits = book.unspent_count();
+    let running = book.running_count();
+    let turns = book.flight_count();
+    let most = book
+        .limits()
+        .log_limit
+        .min(u64::MAX - book.base().entries());
+    Counts {
+        entries,
+        ever: book.entry_count(),
+        starts: book.started_count(),
+        permits,
+        running,
+        turns,
+        authorities: book.known_count(),
+        room: most.saturating_sub(entries + (turns + 2 * permits + running)),
+    }
+}

@@ -1,0 +1,47 @@
+#!/usr/bin/env python3
+"""Writes what `INFO` says of a `crawlgate serve` for the textfile collector of Prometheus' node exporter.
+
+usage: prometheus.py PORT|SOCKET FILE.prom
+
+FILE.prom is written beside its place and renamed into it, as the collector wants it. Run it each minute, by cron or a timer.
+"""
+import os
+import sys
+
+from crawlgate import Gate
+
+# the numbers that only grow, and what each says
+COUNTERS = {
+    "ever": ("entries_total", "Entries of the history, the sealed ones among them."),
+    "starts": ("starts_total", "Fetches of pages that were started."),
+}
+GAUGES = {
+    "entries": ("entries", "Entries of the history since the last seal."),
+    "permits": ("permits", "Permits that are out and not spent."),
+    "running": ("running", "Fetches of pages under way."),
+    "turns": ("turns", "Fetches of robots files under way."),
+    "authorities": ("authorities", "Authorities that have an answer or a turn."),
+    "room": ("room", "Entries that the history has room for."),
+}
+
+
+def lines_of(info):
+    """Returns the lines of the exposition format for these numbers."""
+    for kind, rows in ("counter", COUNTERS), ("gauge", GAUGES):
+        for key, (name, about) in rows.items():
+            yield f"# HELP crawlgate_{name} {about}\n# TYPE crawlgate_{name} {kind}\ncrawlgate_{name} {info[key]}\n"
+
+
+def main(given):
+    if len(given) != 2:
+        sys.exit("usage: prometheus.py PORT|SOCKET FILE.prom")
+    place, path = given
+    with Gate.at(place, timeout=30) as gate:
+        text = "".join(lines_of(gate.info()))
+    with open(f"{path}.new", "w", encoding="utf-8") as file:
+        file.write(text)
+    os.replace(f"{path}.new", path)
+
+
+if __name__ == "__main__":
+    main(sys.argv[1:])
