@@ -4,6 +4,7 @@
 
 mod blocks;
 pub mod laws;
+mod order;
 mod path;
 mod pattern;
 mod places;
