@@ -7,3 +7,4 @@ pub mod BlockLemmas
 pub mod CallerLemmas
 pub mod SortedLemmas
 pub mod OrderLemmas
+pub mod KeptLemmas

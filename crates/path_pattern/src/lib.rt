@@ -3,6 +3,7 @@
 #![tactic(auto)]
 
 mod blocks;
+mod kept;
 pub mod laws;
 mod order;
 mod path;
@@ -11,6 +12,7 @@ mod places;
 mod ranks;
 mod runs;
 
+pub use kept::empty_room;
 pub use path::Path;
 pub use pattern::{Pattern, matches};
 pub use places::Places;

@@ -30,9 +30,9 @@ returns-then-groups-index c =
     let at = c.loop-index.index in
     elim c.then-groups-index.branch [
       | then-groups-index-via-then-groups-index w ↦ at_other_group rows places groups index c.args.group c.args.path.now c.count_below-start.result c.count_below-start.ensures c.args.found at
-          c.loop-index.auto.index c.loop-index.invariant c.loop-index-test.true w.if-groups-index.true
+          c.loop-index.auto.index c.loop-index.invariant.1 c.loop-index-test.true w.if-groups-index.true
       | then-groups-index-via-else-groups-index+then-is_above w ↦ at_weaker rows places groups index c.args.group c.args.path.now c.count_below-start.result c.count_below-start.ensures c.args.found at
-          c.loop-index.auto.index c.loop-index.invariant c.loop-index-test.true (w.is_above.ensures.0 w.if-is_above.true)
+          c.loop-index.auto.index c.loop-index.invariant.1 c.loop-index-test.true (w.is_above.ensures.0 w.if-is_above.true)
     ]
 
 pub returns-then-matches : goal.returns-then-matches
@@ -42,9 +42,9 @@ returns-then-matches c =
     let groups = c.as_slice-groups.result.now in
     let index = same_index rows places _ groups _ c.as_slice-places.ensures.value c.as_slice-groups.ensures.value c.requires in
     at_hit rows places groups index c.args.group c.args.path.now c.count_below-start.result c.count_below-start.ensures c.args.found c.loop-index.index
-    c.loop-index.auto.index c.loop-index.invariant c.loop-index-test.true c.if-groups-index.false
+    c.loop-index.auto.index c.loop-index.invariant.1 c.loop-index-test.true c.if-groups-index.false
     (λ above. true≢false (sym (c.is_above.ensures.1 above) ∙ c.if-is_above.false))
-    (subst (λ (form : List ℕ). Matches form c.args.path.now) c.form.ensures (c.matches.ensures.0 c.if-matches.true))
+    (subst (λ (form : List ℕ). Matches form c.args.path.now) c.form.ensures (subst (Matches c.form.result.now) c.loop-index.invariant.0 (c.matches.ensures.tells.0 c.if-matches.true)))
 
 pub returns : goal.returns
 returns c =
@@ -53,4 +53,4 @@ returns c =
     let groups = c.as_slice-groups.result.now in
     let index = same_index rows places _ groups _ c.as_slice-places.ensures.value c.as_slice-groups.ensures.value c.requires in
     at_end rows places groups index c.args.group c.args.path.now c.count_below-start.result c.count_below-start.ensures c.args.found c.loop-index.index
-    c.loop-index.auto.index c.loop-index.invariant c.loop-index-test.false
+    c.loop-index.auto.index c.loop-index.invariant.1 c.loop-index-test.false
