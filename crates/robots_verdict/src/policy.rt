@@ -182,11 +182,7 @@ impl Policy {
     }
 
     /// The weight of the strongest line that applies, by a walk over the text.
-    pub(crate) fn strongest_by_text(
-        &self,
-        token: &Token,
-        path: &mut Path<'_, '_>,
-    ) -> Option<Weight>
+    pub(crate) fn strongest_by_text(&self, token: &Token, path: &mut Path<'_, '_>) -> Option<Weight>
         ensures { IsBest (numbered_records self.now) token.now path.old result }
     {
         self.text.strongest(token, path)

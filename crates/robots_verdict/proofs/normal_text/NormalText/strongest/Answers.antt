@@ -43,9 +43,11 @@ loop-rule-preserved c =
     let left = rules_left c.next.new.self in
     let best = c.loop-rule.best in
     let first = rule_seen c.in-Some.rule in
-    let walked = subst (λ rules. IsWalked path all rules best) c.in-Some.ensures.steps c.loop-rule.invariant.1 in
-    (c.matches.ensures.stays ∙ c.loop-rule.invariant.0, pass_over path all left best first
-    (λ hits. true≢false (sym (c.matches.ensures.tells.1 (subst (Matches c.form-form.result.now) (sym c.loop-rule.invariant.0) (subst (λ p. Matches p path) (sym c.form-form.ensures) hits))) ∙ c.if-matches.false)) walked)
+    let walked = subst (λ rules. IsWalked path all rules best) c.in-Some.ensures.steps c.loop-rule.invariant.1 in (
+      c.matches.ensures.stays ∙ c.loop-rule.invariant.0,
+      pass_over path all left best first
+          (λ hits. true≢false (sym (c.matches.ensures.tells.1 (subst (Matches c.form-form.result.now) (sym c.loop-rule.invariant.0) (subst (λ p. Matches p path) (sym c.form-form.ensures) hits))) ∙ c.if-matches.false)) walked,
+    )
 
 pub returns : goal.returns
 returns c =
