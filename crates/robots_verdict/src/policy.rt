@@ -127,9 +127,7 @@ impl Policy {
             return Verdict::Allow(Allowed::RobotsPath);
         }
         if self.wants_places(path) {
-            self.count_dear();
-            let (places, mut room) = (Places::of(path), empty_room());
-            self.verdict_elsewhere(token, &mut Path::with(path, &places, &mut room))
+            self.dear_verdict(token, path)
         } else {
             self.verdict_elsewhere(token, &mut Path::new(path))
         }
@@ -146,6 +144,18 @@ impl Policy {
                     text.len() > LONG_TEXT && has_more_stars(text, FEW_STARS)
                 }
             }
+    }
+
+    // The same where many patterns may be tried on a long path. What is kept of the path takes much of the stack,
+    // which other verdicts need not have.
+    #[inline(never)]
+    fn dear_verdict(&self, token: &Token, path: &[u8]) -> Verdict
+        requires { path.now ≢ robots_path }
+        ensures { IsVerdict (numbered_records self.now) token.now path.now result }
+    {
+        self.count_dear();
+        let (places, mut room) = (Places::of(path), empty_room());
+        self.verdict_elsewhere(token, &mut Path::with(path, &places, &mut room))
     }
 
     // Counts a walk that tries very many patterns as all those after which an index pays.
