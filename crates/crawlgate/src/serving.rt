@@ -13,7 +13,7 @@ use gate_lock::{Blanks, Gate, GateLock, SettleFault};
 use keepers::Bounds;
 use line_server::{Alarm, ServeFault, Served, Server};
 use program_streams::{
-    Ending, new_book, tell_full_log, tell_listening, tell_listening_at, tell_served,
+    Ending, new_book, tell_full_log, tell_listening, tell_listening_at, tell_no_place, tell_served,
 };
 use program_words::{Place, ServeOptions};
 use std::marker::Brand;
@@ -52,7 +52,7 @@ pub(crate) fn serve<R: Threads + Wait + time::Clock + Sync>(
                 leave(host, &options.place);
                 ending
             }
-            Err(_) => Ending::Device,
+            Err(error) => tell_no_place(host, &options.place, &error),
         },
         Err(ending) => ending,
     }
@@ -90,7 +90,7 @@ fn tell_place(host: &HostRuntime, place: &Place, listener: &Listener) -> Ending 
     }
     match listener.port() {
         Ok(port) => tell_listening(host, port),
-        Err(_) => Ending::Device,
+        Err(error) => tell_no_place(host, place, &error),
     }
 }
 

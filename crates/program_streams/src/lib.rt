@@ -11,6 +11,7 @@ mod ending;
 mod found;
 mod message;
 mod next;
+mod reasoned;
 mod records;
 mod replays;
 mod robots_file;
@@ -23,7 +24,10 @@ pub use books::new_book;
 pub use ending::Ending;
 pub use message::Message;
 pub use next::Next;
+pub use reasoned::Reasoned;
 pub use server_line::ServerLine;
+pub use streams::Stream;
 pub use telling::{
-    tell_bad_line, tell_ending, tell_full_log, tell_listening, tell_listening_at, tell_served,
+    tell_bad_line, tell_ending, tell_failed, tell_full_log, tell_listening, tell_listening_at,
+    tell_no_place, tell_served,
 };

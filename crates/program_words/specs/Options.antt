@@ -4,6 +4,8 @@ use Rattle.std.specs.Prelude.{◌≡◌, ℕ, ◌^◌, ◌-◌, IfSome, List, Op
 use Rattle.std.specs.Str.Parse.{digits_value, without_leading_plus}
 use Rattle.clap.specs.Words.{first_value, one_text}
 use Rattle.clap.specs.declared.parser.matches.Found.{Found}
+use Rattle.program_words.specs.declared.subcommand.BadJobs.{BadJobs}
+use Rattle.program_words.specs.declared.subcommand.BadJobs.TheVariants as bad_jobs
 use Rattle.program_words.specs.declared.subcommand.CheckOptions.{CheckOptions}
 use Rattle.program_words.specs.declared.subcommand.CheckedText.{CheckedText}
 use Rattle.program_words.specs.declared.subcommand.CheckedText.TheVariants.{Input, File}
@@ -114,6 +116,11 @@ pub record AreNotesOf (words : Found) (asked : Notes) : Type 0 where
   pub told : one_text words (codes "notes") ≡ Some (codes "true") → asked ≡ notes.Told
   pub untold : one_text words (codes "notes") ≡ Some (codes "false") → asked ≡ notes.Untold
 
+-- lines that are no jobs are skipped where the flag says so, and else end the shift
+pub record AreBadJobsOf (words : Found) (asked : BadJobs) : Type 0 where
+  pub skip : one_text words (codes "skip") ≡ Some (codes "true") → asked ≡ bad_jobs.Skip
+  pub end : one_text words (codes "skip") ≡ Some (codes "false") → asked ≡ bad_jobs.End
+
 -- the options of a shift are those that were matched
 pub record AreShiftOf (words : Found) (options : ShiftOptions) : Type 0 where
   pub reach : IsReachOf words options.reach
@@ -121,6 +128,7 @@ pub record AreShiftOf (words : Found) (options : ShiftOptions) : Type 0 where
   pub workers : IsNumberOf words (codes "workers") options.workers
   pub limits : AreLimitsOf words options.limits
   pub times : AreTimesOf words options.times
+  pub skips : AreBadJobsOf words options.bad_jobs
 
 -- a number that was matched under its own name, and no end
 abbrev pub AreCounted : Found → Connections → Type 0

@@ -72,7 +72,12 @@ fn shift_words<'a>(alloc: Global, defaults: &'a Defaults) -> Result<Command<'a>,
             "tsv",
             "Writes a table of the hops, each as soon as it has ended",
         )
-        .conflicts_with("export")?)
+        .conflicts_with("export")?)?
+        .arg(flag(
+            alloc,
+            "skip",
+            "Tells lines that are no jobs on standard error, and does the others",
+        ))
 }
 
 // The words of `serve`.

@@ -11,7 +11,7 @@ mod tls;
 mod words;
 
 pub use subcommand::{
-    CheckOptions, CheckedText, CheckedUrls, Notes, Place, ReplayOptions, ServeOptions,
+    BadJobs, CheckOptions, CheckedText, CheckedUrls, Notes, Place, ReplayOptions, ServeOptions,
     ShiftOptions, Subcommand, Told,
 };
 pub use words::options;

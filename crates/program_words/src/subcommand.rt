@@ -59,6 +59,16 @@ pub struct ShiftOptions {
     /// Where the program listens that opens TLS for them; without one they are of `http` alone.
     pub tls_by: Option<SocketAddr>,
     pub told: Told,
+    pub bad_jobs: BadJobs,
+}
+
+/// What a line that is no job does to a shift.
+#[derive(Clone, Copy, Debug, PartialEq, Eq)]
+pub enum BadJobs {
+    /// It ends the shift before anything is fetched.
+    End,
+    /// It is told, and the other jobs are done.
+    Skip,
 }
 
 /// Where clients connect.

@@ -5,7 +5,7 @@ ghost use Rattle.permit_book.specs.Numbers.{last_generation};
 ghost use Rattle.gate_core.specs.Limits.{AreLimits};
 ghost use Rattle.clap.specs.Words.{found_of};
 ghost use Rattle.client_wire.specs.Accepts.{AreServed};
-ghost use Rattle.program_words.specs.Options.{AreConnectionsOf, AreLimitsOf, AreNotesOf, AreSchemesOf, AreTimesOf, IsBoundOf, IsChosen, IsChosenBy, IsInRange, IsNumberOf, IsPlaceOf, IsReachOf, IsSetBy};
+ghost use Rattle.program_words.specs.Options.{AreBadJobsOf, AreConnectionsOf, AreLimitsOf, AreNotesOf, AreSchemesOf, AreTimesOf, IsBoundOf, IsChosen, IsChosenBy, IsInRange, IsNumberOf, IsPlaceOf, IsReachOf, IsSetBy};
 ghost use Rattle.program_words.specs.Tls.{IsLoopback, IsTlsByOf};
 ghost use Rattle.tcp_wire.specs.TimeLimits.{AreWithin};
 
@@ -13,7 +13,7 @@ use crate::checked::check_of;
 use crate::command::program;
 use crate::defaults::Defaults;
 use crate::subcommand::{
-    Notes, Place, ReplayOptions, ServeOptions, ShiftOptions, Subcommand, Told,
+    BadJobs, Notes, Place, ReplayOptions, ServeOptions, ShiftOptions, Subcommand, Told,
 };
 use crate::tls::{NotLoopback, tls_by_of};
 use clap::error::ErrorKind;
@@ -205,6 +205,7 @@ fn shift_by(tls_by: Option<SocketAddr>, matches: &ArgMatches<'_>) -> Option<Subc
         reach: reach_of(matches),
         tls_by,
         told: told_by(matches),
+        bad_jobs: bad_jobs_of(matches),
     }))
 }
 
@@ -317,6 +318,17 @@ fn reach_of(matches: &ArgMatches<'_>) -> Reach
         Reach::PublicOnly
     } else {
         Reach::Anywhere
+    }
+}
+
+// What a line that is no job does.
+fn bad_jobs_of(matches: &ArgMatches<'_>) -> BadJobs
+    ensures { AreBadJobsOf (found_of matches.now) result }
+{
+    if matches.get_flag("skip") {
+        BadJobs::Skip
+    } else {
+        BadJobs::End
     }
 }
 
