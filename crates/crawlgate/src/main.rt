@@ -2,6 +2,7 @@
 //! docs/crawlgate.1.md is its manual page.
 #![tactic(auto)]
 
+mod journal;
 mod serving;
 mod tls_program;
 

@@ -28,6 +28,7 @@ exit_status endings.BadWords = 2
 exit_status endings.NoMemory = 3
 exit_status endings.Device = 3
 exit_status (endings.NoTlsProgram at) = 3
+exit_status endings.NoJournal = 3
 
 -- that nobody takes connections where the program that opens TLS should be
 abbrev pub no_tls_text : SocketAddr → List ℕ
@@ -53,6 +54,7 @@ message_of endings.BadWords = None
 message_of endings.NoMemory = Some (codes "no memory")
 message_of endings.Device = Some (codes "device")
 message_of (endings.NoTlsProgram at) = Some (no_tls_text at)
+message_of endings.NoJournal = None
 
 -- how the program ends where its work came to this
 abbrev pub ending_of : Result (Unit {0}) SessionFault → Ending

@@ -35,6 +35,8 @@ pub enum Ending {
     Device,
     /// Nobody takes connections where the program that opens TLS should be.
     NoTlsProgram(SocketAddr),
+    /// The folder of a journal can't be one, or the journal has failed, which was told.
+    NoJournal,
 }
 
 impl Ending {
@@ -73,7 +75,11 @@ impl Ending {
             Ending::Done => 0,
             Ending::LongLine | Ending::ManyLines | Ending::BadLine | Ending::DeniedUrl => 1,
             Ending::BadUrl | Ending::NoUrls | Ending::BadWords => 2,
-            Ending::BadFile | Ending::NoMemory | Ending::Device | Ending::NoTlsProgram(_) => 3,
+            Ending::BadFile
+            | Ending::NoMemory
+            | Ending::Device
+            | Ending::NoTlsProgram(_)
+            | Ending::NoJournal => 3,
         }
     }
 
@@ -87,7 +93,8 @@ impl Ending {
             | Ending::DeniedUrl
             | Ending::BadUrl
             | Ending::BadFile
-            | Ending::BadWords => None,
+            | Ending::BadWords
+            | Ending::NoJournal => None,
             Ending::NoUrls => Some(Message::Words("no URL in the input")),
             Ending::LongLine => Some(Message::Words("line too long")),
             Ending::ManyLines => Some(Message::Words("too many lines")),

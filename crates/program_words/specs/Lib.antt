@@ -1,3 +1,4 @@
 -- What contracts say of the program's words.
+pub mod Journals
 pub mod Options
 pub mod Tls

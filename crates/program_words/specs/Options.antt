@@ -7,6 +7,7 @@ use Rattle.clap.specs.declared.parser.matches.Found.{Found}
 use Rattle.program_words.specs.declared.subcommand.CheckOptions.{CheckOptions}
 use Rattle.program_words.specs.declared.subcommand.CheckedText.{CheckedText}
 use Rattle.program_words.specs.declared.subcommand.CheckedText.TheVariants.{Input, File}
+use Rattle.program_words.specs.Journals.{IsJournalOf}
 use Rattle.program_words.specs.Tls.{IsLoopback, IsTlsByOf}
 use Rattle.program_words.specs.declared.subcommand.Notes.{Notes}
 use Rattle.program_words.specs.declared.subcommand.Notes.TheVariants as notes
@@ -149,6 +150,7 @@ pub record AreServeOf (words : Found) (options : ServeOptions) : Type 0 where
   pub patience : IsNumberOf words (codes "patience") options.patience
   pub client_permits : IsBoundOf words (codes "client-permits") options.client_permits
   pub client_authorities : IsBoundOf words (codes "client-authorities") options.client_authorities
+  pub journal : IsJournalOf words options.journal
 
 -- the options of a replay are those that were matched
 pub record AreReplayOf (words : Found) (options : ReplayOptions) : Type 0 where

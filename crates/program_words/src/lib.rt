@@ -6,12 +6,13 @@ mod checked;
 mod command;
 mod defaults;
 mod help;
+mod journal;
 mod subcommand;
 mod tls;
 mod words;
 
 pub use subcommand::{
-    CheckOptions, CheckedText, CheckedUrls, Notes, Place, ReplayOptions, ServeOptions,
-    ShiftOptions, Subcommand, Told,
+    CheckOptions, CheckedText, CheckedUrls, JournalOptions, Notes, Place, ReplayOptions,
+    ServeOptions, ShiftOptions, Subcommand, Told,
 };
 pub use words::options;

@@ -2,6 +2,7 @@
 //! docs/crawlgate.1.md has them all.
 use client_wire::Connections;
 use gate_core::Limits;
+use journal_files::SyncPolicy;
 use path_normal::Schemes;
 use robots_check::Detail;
 use robots_text::Token;
@@ -70,6 +71,14 @@ pub enum Place {
     Socket(String),
 }
 
+/// Where a gate's journal stands, and when it is synced.
+#[derive(Drop)]
+pub struct JournalOptions {
+    /// The folder of its files.
+    pub folder: String,
+    pub sync: SyncPolicy,
+}
+
 /// How clients are served.
 #[derive(Drop)]
 pub struct ServeOptions {
@@ -92,6 +101,8 @@ pub struct ServeOptions {
     pub client_permits: u64,
     /// How many authorities may become known by a client; the greatest number, where all may.
     pub client_authorities: u64,
+    /// What the gate's history is written to before anything of it is told, if anything.
+    pub journal: Option<JournalOptions>,
 }
 
 /// What is checked.

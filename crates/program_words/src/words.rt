@@ -6,14 +6,16 @@ ghost use Rattle.gate_core.specs.Limits.{AreLimits};
 ghost use Rattle.clap.specs.Words.{found_of};
 ghost use Rattle.client_wire.specs.Accepts.{AreServed};
 ghost use Rattle.program_words.specs.Options.{AreConnectionsOf, AreLimitsOf, AreNotesOf, AreSchemesOf, AreTimesOf, IsBoundOf, IsChosen, IsChosenBy, IsInRange, IsNumberOf, IsPlaceOf, IsReachOf, IsSetBy};
+ghost use Rattle.program_words.specs.Journals.{IsJournalOf};
 ghost use Rattle.program_words.specs.Tls.{IsLoopback, IsTlsByOf};
 ghost use Rattle.tcp_wire.specs.TimeLimits.{AreWithin};
 
 use crate::checked::check_of;
 use crate::command::program;
 use crate::defaults::Defaults;
+use crate::journal::{NoSync, journal_of, sync_of};
 use crate::subcommand::{
-    Notes, Place, ReplayOptions, ServeOptions, ShiftOptions, Subcommand, Told,
+    JournalOptions, Notes, Place, ReplayOptions, ServeOptions, ShiftOptions, Subcommand, Told,
 };
 use crate::tls::{NotLoopback, tls_by_of};
 use clap::error::ErrorKind;
@@ -31,6 +33,8 @@ use tcp_wire::{CONNECT_SECONDS, Reach, STEP_SECONDS, TimeLimits, WHOLE_SECONDS};
 const BAD_NUMBER: &str = "a number is written in digits alone";
 
 const BAD_PATH: &str = "a socket's path has 1 to 96 octets, and no control characters";
+
+const BAD_SYNC: &str = "a journal is synced always, each second or never";
 
 const BAD_TLS_BY: &str =
     "--tls-by names an address of this machine and a port, as 127.0.0.1:3131 or [::1]:3131";
@@ -212,19 +216,26 @@ fn serve_of(alloc: Global, matches: &ArgMatches<'_>) -> Result<Chosen, AllocErro
     ensures range { IfOk result IsChosen }
     ensures words { IfOk result (IsChosenBy (found_of matches.now)) }
 {
-    match place_of(alloc, matches)? {
-        Some(place) => Ok(serve_at(place, matches)),
-        None => Ok(Chosen::Refused(BAD_PATH)),
+    let Some(place) = place_of(alloc, matches)? else {
+        return Ok(Chosen::Refused(BAD_PATH));
+    };
+    match sync_of(matches) {
+        Ok(sync) => {
+            let journal = journal_of(alloc, sync, matches)?;
+            Ok(serve_at(place, journal, matches))
+        }
+        Err(NoSync) => Ok(Chosen::Refused(BAD_SYNC)),
     }
 }
 
-fn serve_at(place: Place, matches: &ArgMatches<'_>) -> Chosen
-    requires { IsPlaceOf (found_of matches.now) place }
+fn serve_at(place: Place, journal: Option<JournalOptions>, matches: &ArgMatches<'_>) -> Chosen
+    requires place { IsPlaceOf (found_of matches.now) place }
+    requires journal { IsJournalOf (found_of matches.now) journal }
     ensures range { IsChosen result }
     ensures words { IsChosenBy (found_of matches.now) result }
 {
     match tls_by_of(matches) {
-        Ok(tls_by) => match served_at(place, tls_by, matches) {
+        Ok(tls_by) => match served_at(place, journal, tls_by, matches) {
             Some(subcommand) => Chosen::Taken(subcommand),
             None => Chosen::Refused(BAD_NUMBER),
         },
@@ -234,10 +245,12 @@ fn serve_at(place: Place, matches: &ArgMatches<'_>) -> Chosen
 
 fn served_at(
     place: Place,
+    journal: Option<JournalOptions>,
     tls_by: Option<SocketAddr>,
     matches: &ArgMatches<'_>,
 ) -> Option<Subcommand>
     requires place { IsPlaceOf (found_of matches.now) place }
+    requires journal { IsJournalOf (found_of matches.now) journal }
     requires loopback { IfSome tls_by IsLoopback }
     requires named { IsTlsByOf (found_of matches.now) tls_by }
     ensures range { IfSome result IsInRange }
@@ -254,6 +267,7 @@ fn served_at(
         patience: number_of(matches, "patience", PATIENCE_SECONDS)?,
         client_permits: bound_of(matches, "client-permits", MAX_SLOTS)?,
         client_authorities: bound_of(matches, "client-authorities", MAX_AUTHORITIES)?,
+        journal,
     }))
 }
 
