@@ -72,12 +72,13 @@ async def crawl(words, jobs, before=(), meanwhile=None):
     happen meanwhile has happened before it is told the jobs."""
     began = time.monotonic()
     process = await asyncio.create_subprocess_exec(
-        *before, PROGRAM, "shift", *words, stdin=asyncio.subprocess.PIPE, stdout=asyncio.subprocess.PIPE
+        *before, PROGRAM, "shift", *words, stdin=asyncio.subprocess.PIPE, stdout=asyncio.subprocess.PIPE, stderr=asyncio.subprocess.PIPE
     )
     if meanwhile:
         await meanwhile
     lines = "".join(f"foobot {site.scheme}://{site.address}{target}\n" for site, target in jobs)
-    report, _ = await process.communicate(lines.encode())
+    report, told = await process.communicate(lines.encode())
+    assert all(" is closed: robots: " in line for line in told.decode().splitlines()), told
     for site in {id(site): site for site, _ in jobs}.values():
         site.server.close()
     return report.decode(), time.monotonic() - began, began

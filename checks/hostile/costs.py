@@ -8,7 +8,7 @@ import time
 from auditor import TEXT_LIMIT, spelled
 
 # how long a line may take that is no ARRIVE, in milliseconds; what takes longer is measured again, since the machine may be busy
-MOST, ATTEMPTS = 50, 3
+MOST, ATTEMPTS = 25, 3
 # how many times as long it may take on this machine
 slower = 1.0
 SIZE = 500_000
@@ -27,6 +27,18 @@ def filled(line, head=b"user-agent: *\n"):
     return b"".join(lines)[:SIZE].rpartition(b"\n")[0] + b"\n"
 
 
+def distinct(signs, seed, most=15):
+    """Returns rules of five runs each that all stand in a path, and that path. No two runs are the same."""
+    dice = random.Random(seed)
+    path = "".join(dice.choices(signs, k=4_060))
+    runs = {path[at : at + count]: at for count in range(2, most) for at in range(len(path) - count)}
+    order = sorted(runs)
+    dice.shuffle(order)
+    fives = [sorted(order[at : at + 5], key=runs.get) for at in range(0, len(order), 5)]
+    text = b"user-agent: *\n" + "".join(f"allow:{''.join(f'*{it}' for it in five)}*~~\n" for five in fives).encode()
+    return text[:SIZE].rpartition(b"\n")[0] + b"\n", "/?" + path
+
+
 def stairs(piece, sign=b""):
     """Rules each of which is longer than the one before."""
     lines, size, at = [b"user-agent: *\n"], 14, 0
@@ -36,6 +48,21 @@ def stairs(piece, sign=b""):
         size += len(lines[-1])
     return b"".join(lines[:-1])
 
+
+def stairs_of_runs(sign):
+    """Rules of one run, each one sign longer than that of the one before."""
+    lines, size, at = [b"user-agent: *\n"], 14, 0
+    while size < SIZE:
+        at += 1
+        lines.append(b"allow:*" + sign * at + b"*~\n")
+        size += len(lines[-1])
+    return b"".join(lines[:-1])
+
+
+# a path of which each 64 octets nearly hold an escape, with any two of its three octets, and some that hold it
+NEARLY = "\\{" * 4 + "a7C" + "\\{" * 5
+MANY_RUNS, MANY_PATH = distinct("^|{}`", 9309)
+FEW_RUNS, FEW_PATH = distinct("^|", 9309, 22)
 
 TEXTS = {
     "plain rules": filled(b"disallow: /part{n}/page\n"),
@@ -57,6 +84,13 @@ TEXTS = {
     "rules that leave the path in their midst": filled(b"allow:*" + b"^|" * 6 + b"{^|\n"),
     "rules that follow the path for 69 signs": filled(b"allow:*" + b"^|" * 34 + b"\n"),
     "rules that follow the path for 900 signs": filled(b"allow:*" + b"^|" * 454 + b"\n"),
+    "rules of one sign that nearly stands in each block": filled(b"allow:*~" + b"*|" * 19 + b"*`\n"),
+    "rules of one sign, each from a place of its own": filled(b"allow:*^^|{n}" + b"*|" * 40 + b"*~\n"),
+    "rules of one letter that is nowhere": filled(b"allow:*z\n"),
+    "rules of runs of one sign, each longer": stairs_of_runs(b"|"),
+    "rules of runs of which no two are the same": MANY_RUNS,
+    "rules of such runs of two signs": FEW_RUNS,
+    "70 rules of one letter, and a long comment": b"user-agent: *\n" + b"allow:*q~\n" * 70 + b"#" + b"c" * 20_000 + b"\n",
     "long rules that match to their end": filled(b"allow:*" + b"a" * 10 + b"b" + b"a" * 31 + b"b" + b"a" * 5 + b"ba\n"),
     "rules of two stars": filled(b"disallow:*a*b{n}\n"),
     "rules of 1,000 stars": filled(b"disallow: /" + b"a*" * 1_000 + b"x{n}\n"),
@@ -88,6 +122,7 @@ PATHS = [
     "/?" + "".join("".join(DICE.choices("{|", k=197)) + it for it in "<>" * 10), "/?" + "^|" * 1_990, "/?" + "^" * 2_000 + "<" + "^^^|" * 490,
     "/?" + "".join("".join(DICE.choices(["{||", "{{}", "||}"], k=64)) + "{|}" for _ in range(20)),
     "/?" + ("^|" * 30 + "{|") * 64, "/?" + ("^|" * 450 + "{|") * 4,
+    "/?" + "|" * 2_000 + "~" + (NEARLY * 5 + "|") * 19, "/?" + "".join(DICE.choices("^|{}", k=2_030)) * 2, MANY_PATH, FEW_PATH,
     # (all but these are asked before there is an index, too)
     "/", "/ab", "/%7e%7e%7e7",
 ]

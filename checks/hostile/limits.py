@@ -103,7 +103,7 @@ def full_file(tried, size=4_096):
         ran = subprocess.run([tried.program, "replay"], input=lines, stdout=file, stderr=subprocess.PIPE, timeout=SECONDS, preexec_fn=limit)
         file.seek(0)
         found = file.read()
-    is_told = (ran.returncode, ran.stderr) == (3, b"crawlgate: device\n") and whole.startswith(found)
+    is_told = (ran.returncode, ran.stderr) == (3, b"crawlgate: device: standard output: file too large\n") and whole.startswith(found)
     tried.expect("a full file", lines, is_told, f"status {ran.returncode}, {short(ran.stderr)}, {len(found)} octets")
 
 

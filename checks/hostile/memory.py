@@ -87,7 +87,7 @@ class Export:
 
     def fault(self, tried, found, status, error):
         if status:
-            return None if (status, error) == NO_MEMORY else f"its status is {status}, and it tells {short(error)}"
+            return None if is_for_memory(status, error) else f"its status is {status}, and it tells {short(error)}"
         told, ended, _ = tried.run(["audit"], found)
         if ended or not told.startswith(b"OK ") or told.decode() != audit(found) + "\n":
             return f"its history is {short(told)}, and {audit(found)} by auditor.py"
@@ -113,6 +113,11 @@ class Same:
 HOP = "(PAGE (line 1|norule) (200 5|302 0|200 1048576|404 0) (whole|cut)|NO SITE (line 2|closed|unknown)|FAULT H[89]|ERR memory)"
 
 
+def is_for_memory(status, error):
+    """Returns whether a shift ended for want of memory. Sites that were closed may be told before that."""
+    return status == NO_MEMORY[0] and error.endswith(NO_MEMORY[1])
+
+
 class Shift:
     """A shift over a site on the loopback: each hop is one that it may have, or tells of memory."""
 
@@ -122,7 +127,7 @@ class Shift:
         self.given = "".join(f"foobot http://{self.site}{it}\n" for it in JOBS).encode()
 
     def fault(self, tried, found, status, error):
-        if status and (status, error) != NO_MEMORY:
+        if status and not is_for_memory(status, error):
             return f"its status is {status}, and it tells {short(error)}"
         *lines, rest = found.decode().split("\n")
         if not status:
@@ -194,7 +199,7 @@ class Serve:
         return wrong, first + output, process.returncode, error
 
     def fault(self, tried, found, status, error):
-        if status and (status, error) != NO_MEMORY and error != b"crawlgate: device\n":
+        if status and (status, error) != NO_MEMORY and not error.startswith(b"crawlgate: device"):
             return f"its status is {status}, and it tells {short(error)}"
         if not status and not re.fullmatch(rb"LISTEN 127\.0\.0\.1:\d+\nSERVED connections 1 events \d+\n", found):
             return f"it wrote {short(found)}"

@@ -17,7 +17,7 @@ SECONDS = 20
 # the exit statuses that docs/FORMATS.md lists
 STATUSES = (0, 1, 2, 3)
 # the last line of standard error where the status is 3
-FAULT = re.compile(rb'(?m)^crawlgate: (no memory|device|cannot read ".*": .+)\n\Z')
+FAULT = re.compile(rb'(?m)^crawlgate: (no memory|device(: .+)?|cannot read ".*": .+)\n\Z')
 MOST_TOLD = 20
 
 

@@ -313,7 +313,8 @@ def served_without(streams):
                 assert status in (0, 3), f"{streams}: it serves, and its status is {status}"
                 return f"{streams} serves, status {status}"
             time.sleep(0.01)
-        same(server.end(), (b"", 3, b"" if streams == "2>&-" else b"crawlgate: device\n"))
+        name = {"<&-": b"input", ">&-": b"output", "<&- >&-": b"input"}.get(streams)
+        same(server.end(), (b"", 3, b"crawlgate: device: standard %s: closed\n" % name if name else b""))
         return f"{streams} is told"
 
 

@@ -21,13 +21,14 @@ def loopback_alone():
 def port_that_is_taken():
     with Server() as server:
         ran = subprocess.run([Server.program, "serve", "--port", str(server.port)], capture_output=True, timeout=SECONDS)
-        same((ran.stdout, ran.returncode, ran.stderr), (b"", 3, b"crawlgate: device\n"))
+        told = f"crawlgate: device: port {server.port}: address in use\n".encode()
+        same((ran.stdout, ran.returncode, ran.stderr), (b"", 3, told))
 
 
-def refused(path):
-    """Returns whether no server listens at a path, and says so."""
+def refused(path, reason):
+    """Returns whether no server listens at a path, and says so, for this reason."""
     ran = subprocess.run([Server.program, "serve", "--socket", path], capture_output=True, timeout=SECONDS)
-    return (ran.stdout, ran.returncode, ran.stderr) == (b"", 3, b"crawlgate: device\n")
+    return (ran.stdout, ran.returncode, ran.stderr) == (b"", 3, f"crawlgate: device: socket {path}: {reason}\n".encode())
 
 
 # What stands for OpenBSD's nc, which a machine may not have: octets go to a socket and come from it.
@@ -69,7 +70,8 @@ def socket_of_its_owner():
         with Server(path=path) as server, Session(server) as it:
             same(stat.filemode(os.stat(path).st_mode), "srw-------")
             same(sorted(os.listdir(folder)), ["gate", "other"])
-            same((refused(path), refused(other), refused(f"{folder}/none/gate")), (True, True, True))
+            same((refused(path, "address in use"), refused(other, "address in use")), (True, True))
+            same(refused(f"{folder}/none/gate", "entity not found"), True)
             same(it.say("STATE a.example"), "STATE a.example unknown idle")
         same(os.path.exists(path), True)
         with Server("--connections", "1", path=path) as server:

@@ -5,7 +5,7 @@ use crate::socket_file;
 use std::alloc::Global;
 use std::fs::Files;
 use std::io::ErrorKind;
-use std::net::{Ipv4Addr, Net, SocketAddr, TcpListener, TcpStream};
+use std::net::{Ipv4Addr, Net, Shutdown, SocketAddr, TcpListener, TcpStream};
 use std::os::fd::OwnedFd;
 use std::os::unix::net::UnixListener;
 use std::{io, thread, time};
@@ -44,6 +44,17 @@ impl Listener {
             Place::Port(listener) => Ok(listener.local_addr()?.port()),
             Place::File(_) => Err(io::Error::from(ErrorKind::Unsupported)),
         }
+    }
+
+    /// Takes no client from now on: whoever waits for one is told that the device has failed. It fails where no
+    /// descriptor can be had.
+    pub fn shut(&self) -> io::Result<()> {
+        // A shutdown is a call of a descriptor, and wakes each `accept` of it.
+        let descriptor = match &self.0 {
+            Place::Port(listener) => OwnedFd::from(listener.try_clone()?),
+            Place::File(listener) => OwnedFd::from(listener.try_clone()?),
+        };
+        TcpStream::from(descriptor).shutdown(Shutdown::Both)
     }
 
     /// Waits for a client and gives its connection, as `accept_from` does. One over a file has the type of the other:

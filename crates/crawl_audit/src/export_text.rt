@@ -11,7 +11,7 @@ ghost use Rattle.crawl_audit.specs.declared.version.Version.TheVariants.{Two};
 ghost use Rattle.crawl_audit.specs.BaseFields.{HasBaseFields};
 ghost use Rattle.crawl_audit.specs.Entries.{HasFields};
 ghost use Rattle.crawl_audit.specs.Exports.{IsExport, IsSegmentText, present_segment};
-ghost use Rattle.crawl_audit.specs.Spell.{spell};
+ghost use Rattle.crawl_audit.specs.Spell.{entry_lines, spell};
 ghost use Rattle.crawl_audit.specs.SpellBase.{spell_segment};
 
 use crate::parts::{push_base, push_rows};
@@ -66,6 +66,21 @@ pub fn push_segment_text<W: Sink>(
         (spell_segment segment.now) result }
 {
     push_segment(segment.base(), segment.entries(), output, sink)
+}
+
+/// Pushes the lines of entries, as they stand behind those of entries before them. It takes no memory. What fits
+/// the output stays pending there.
+pub fn push_entries<W: Sink>(
+    entries: &[Entry],
+    output: &mut Output,
+    sink: &mut W,
+) -> Result<(), DeviceFault>
+    ensures pushes { Pushes (W.written sink.old) (W.written sink.new)
+        (W.failures sink.old) (W.failures sink.new) output.old output.new
+        (entry_lines Two entries.now) result }
+    ensures fields { OnOk result (All HasFields entries.now) }
+{
+    push_rows("", entries, output, sink)
 }
 
 // Pushes the text of a base and the entries that follow it.

@@ -28,6 +28,6 @@ mod version;
 
 pub use audit_text::{audit, audit_among};
 pub use auditor::{MAX_LINE, MAX_LINES};
-pub use export_text::{export, export_segment, push_segment_text};
+pub use export_text::{export, export_segment, push_entries, push_segment_text};
 pub use fault::{AuditFault, Audited};
 pub use version::Version;

@@ -24,6 +24,12 @@ pub record WritesReceipts (receipts : List Receipt) (old new : Option (List ℕ)
   pub are : AreWholeHistory gate receipts
   pub wrote : Appends old new (spell_segment (present_segment gate))
 
+-- a shift of so many workers did these jobs, and the history that its receipts tell was written
+pub record WritesJobs (world : World) (workers : ℕ) (jobs : List Job) (old new : Option (List ℕ)) : Type 0 where
+  pub report : ReportView
+  pub shift : IsShift world jobs workers report
+  pub wrote : WritesReceipts report.receipts old new
+
 -- a shift of so many workers did the jobs of the input, and the history that its receipts tell was written
 pub record WritesShift (world : World) (workers : ℕ) (input left old new : Option (List ℕ)) : Type 0 where
   pub jobs : List Job

@@ -4,12 +4,12 @@ use crawl_workers::{Event, Watcher};
 
 /// Both are told of each job.
 #[derive(Drop)]
-pub(crate) struct Both<'a, A: Watcher, B: Watcher> {
+pub(crate) struct Both<'a, 'b, A: Watcher, B: Watcher> {
     pub(crate) first: &'a A,
-    pub(crate) second: &'a B,
+    pub(crate) second: &'b B,
 }
 
-impl<A: Watcher, B: Watcher> Watcher for Both<'_, A, B> {
+impl<A: Watcher, B: Watcher> Watcher for Both<'_, '_, A, B> {
     fn sees(&self, number: u64, event: Event<'_>) {
         self.first.sees(number, event);
         self.second.sees(number, event);

@@ -114,8 +114,8 @@ pub(crate) fn stop_words(stop: Stop) -> Words
     }
 }
 
-// What closed a site.
-fn closing_words(by: ClosedBy) -> Words
+/// What closed a site.
+pub(crate) fn closing_words(by: ClosedBy) -> Words
     ensures { words_text result ≡ closing_text by }
 {
     let of = "robots: ";

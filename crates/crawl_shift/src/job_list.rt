@@ -1,5 +1,5 @@
 //! The jobs of a shift, a line for each (docs/FORMATS.md, jobs).
-ghost use Rattle.std.specs.Prelude.{◌≡◌, IfErr, IfOk};
+ghost use Rattle.std.specs.Prelude.{◌≡◌, [], IfErr, IfOk, None};
 ghost use Rattle.path_normal.specs.declared.schemes.Schemes.TheVariants.{Http};
 ghost use Rattle.crawl_shift.specs.JobLists.{AddsJob, AreAllJobs, EndsBadly, EndsWell, FailsToReadJobs, IsJobsFault};
 
@@ -27,14 +27,30 @@ pub enum JobsFault {
 
 // The jobs of the lines so far, and the fault of the last line, if it has one.
 #[derive(Drop)]
-struct JobList {
-    jobs: Vec<Job>,
-    fault: Option<LineFault>,
+pub(crate) struct JobList {
+    pub(crate) jobs: Vec<Job>,
+    pub(crate) fault: Option<LineFault>,
 }
 
 impl JobList {
+    // No line was read.
+    pub(crate) fn new(alloc: Global) -> JobList
+        ensures jobs { result.jobs.items ≡ [] }
+        ensures fault { result.fault ≡ None }
+    {
+        JobList {
+            jobs: Vec::new(alloc),
+            fault: None,
+        }
+    }
+
     // Adds the job of a line.
-    fn take(&mut self, alloc: Global, schemes: Schemes, line: &[u8]) -> Result<(), LineFault>
+    pub(crate) fn take(
+        &mut self,
+        alloc: Global,
+        schemes: Schemes,
+        line: &[u8],
+    ) -> Result<(), LineFault>
         ensures { AddsJob schemes self.old line.now result self.new }
     {
         self.jobs.reserve(1)?;
@@ -66,11 +82,11 @@ impl JobList {
 
 /// A line is answered with nothing, and the first line with a fault is the last.
 #[derive(Drop)]
-struct JobLines {
+struct JobTaker {
     schemes: Schemes,
 }
 
-impl Answerer<JobList> for JobLines {
+impl Answerer<JobList> for JobTaker {
     ghost use Rattle.crawl_shift.specs.JobLists.{TakesJob};
 
     ghost answers = { λ lines _. TakesJob lines.schemes };
@@ -115,16 +131,13 @@ pub fn read_jobs_among<R: Source>(
     ensures fault { IfErr result (IsJobsFault schemes (R.left reader.old) (R.left reader.new)) }
     ensures reads { IfErr result (FailsToReadJobs (R.failures reader.old) (R.failures reader.new)) }
 {
-    let mut list = JobList {
-        jobs: Vec::new(alloc),
-        fault: None,
-    };
+    let mut list = JobList::new(alloc);
     let mut nowhere = Counted::new(io::sink());
     let end = run_session(
         alloc,
         reader,
         &mut nowhere,
-        &JobLines { schemes },
+        &JobTaker { schemes },
         &mut list,
         MAX_JOB_LINE,
         MAX_JOBS,

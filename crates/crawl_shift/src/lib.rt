@@ -4,6 +4,8 @@
 
 mod both;
 mod causes;
+mod closed_sites;
+mod job_lines;
 mod job_list;
 mod not_shifted;
 mod progress;
@@ -12,9 +14,13 @@ mod row;
 mod shifting;
 mod status_line;
 mod table;
+mod told_lines;
 mod under_way;
 
+pub use closed_sites::ClosedSites;
+pub use job_lines::{BadJobLine, BadLines, JobLines, JobLinesFault, read_job_lines};
 pub use job_list::{JobsFault, MAX_JOB_LINE, read_jobs, read_jobs_among};
 pub use not_shifted::NotShifted;
 pub use shifting::Shift;
 pub use status_line::StatusLine;
+pub use told_lines::tell_bad_lines;

@@ -4,7 +4,7 @@ ghost use Rattle.std.specs.Prelude.{◌≡◌, ◌≤◌, [], IfOk, OnOk, length
 ghost use Rattle.crawl_workers.specs.Shifts.{IsShift};
 ghost use Rattle.crawl_workers.specs.World.{world_of};
 ghost use Rattle.job_line.specs.Limits.{IsCrew, max_jobs};
-ghost use Rattle.crawl_shift.specs.Histories.{AreWholeHistory, WritesReceipts, WritesShift};
+ghost use Rattle.crawl_shift.specs.Histories.{AreWholeHistory, WritesJobs, WritesReceipts, WritesShift};
 
 use crate::both::Both;
 use crate::job_list::read_jobs_among;
@@ -50,8 +50,23 @@ impl<
         requires { IsCrew self.now.workers }
     {
         let jobs = read_jobs_among(self.alloc, self.fetcher.schemes(), reader)?;
+        self.report_jobs(jobs.as_slice(), writer, gate, &())
+    }
+
+    /// Has the workers do these jobs over the gate, and writes the report; the watcher is told of them too. Once
+    /// a write of the report has failed nothing more is fetched.
+    pub fn report_jobs<G: Gate + Send + Sync, W: Sink + Send, V: Watcher + Sync>(
+        &self,
+        jobs: &[Job],
+        writer: &mut W,
+        gate: &GateLock<G>,
+        watcher: &V,
+    ) -> Result<(), NotShifted>
+        requires jobs { length jobs.now ≤ max_jobs }
+        requires workers { IsCrew self.now.workers }
+    {
         let progress = Progress::new(self.rt, self.alloc, writer, self.fetcher, jobs.len())?;
-        let report = self.run_told(jobs.as_slice(), gate, &progress)?;
+        let report = self.run_both(jobs, gate, &progress, watcher)?;
         progress.finish(report.outcomes.as_slice(), report.settled.starts)?;
         Ok(())
     }
@@ -66,8 +81,21 @@ impl<
         requires { IsCrew self.now.workers }
     {
         let jobs = read_jobs_among(self.alloc, self.fetcher.schemes(), reader)?;
+        self.table_jobs(jobs.as_slice(), writer, gate)
+    }
+
+    /// Has the workers do these jobs over the gate, and writes the table.
+    pub fn table_jobs<G: Gate + Send + Sync, W: Sink + Send>(
+        &self,
+        jobs: &[Job],
+        writer: &mut W,
+        gate: &GateLock<G>,
+    ) -> Result<(), NotShifted>
+        requires jobs { length jobs.now ≤ max_jobs }
+        requires workers { IsCrew self.now.workers }
+    {
         let table = Table::new(self.rt, self.alloc, writer, self.fetcher)?;
-        self.run_told(jobs.as_slice(), gate, &table)?;
+        self.run_told(jobs, gate, &table)?;
         table.finish()?;
         Ok(())
     }
@@ -88,10 +116,45 @@ impl<
             (W.written writer.old) (W.written writer.new)) }
     {
         let jobs = read_jobs_among(self.alloc, self.fetcher.schemes(), reader)?;
+        self.history_jobs(jobs.as_slice(), writer, gate, &())
+    }
+
+    /// Has the workers do these jobs over the gate, and writes its history; the watcher is told of the jobs.
+    pub fn history_jobs<G: Gate + Send + Sync, W: Sink, V: Watcher + Sync>(
+        &self,
+        jobs: &[Job],
+        writer: &mut W,
+        gate: &GateLock<G>,
+        watcher: &V,
+    ) -> Result<(), NotShifted>
+        requires jobs { length jobs.now ≤ max_jobs }
+        requires workers { IsCrew self.now.workers }
+        ensures { OnOk result (WritesJobs
+            (world_of (F.gives self.now.fetcher.now) (F.follows self.now.fetcher.now) (C.reads self.now.clock.now))
+            self.now.workers jobs.now (W.written writer.old) (W.written writer.new)) }
+    {
         let mut output = Output::new(self.alloc)?;
-        let report = self.run_told(jobs.as_slice(), gate, &())?;
+        let report = self.run_told(jobs, gate, watcher)?;
         let held = gate.lend(self.rt);
         write_receipts(self.alloc, &held, &report.receipts, &mut output, writer)
+    }
+
+    // Does the jobs, and has both watchers and the status line told of them.
+    fn run_both<G: Gate + Send + Sync, A: Watcher + Sync, B: Watcher + Sync>(
+        &self,
+        jobs: &[Job],
+        gate: &GateLock<G>,
+        first: &A,
+        second: &B,
+    ) -> Result<Report<G>, ShiftFault>
+        requires jobs { length jobs.now ≤ max_jobs }
+        requires workers { IsCrew self.now.workers }
+        ensures { IfOk result (IsShift
+            (world_of (F.gives self.now.fetcher.now) (F.follows self.now.fetcher.now) (C.reads self.now.clock.now))
+            jobs.now self.now.workers) }
+    {
+        let both = Both { first, second };
+        self.run_told(jobs, gate, &both)
     }
 
     // Does the jobs, and has the watcher and the status line told of them.

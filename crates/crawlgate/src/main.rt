@@ -3,24 +3,31 @@
 #![tactic(auto)]
 
 mod fetching;
+mod journal;
 mod serving;
 mod tls_program;
 
-ghost use Rattle.std.specs.Prelude.{◌≡◌, []};
+ghost use Rattle.std.specs.Prelude.{◌≡◌, ◌≤◌, [], IfOk, length};
 ghost use Rattle.gate_history.specs.Base.{empty_base};
-ghost use Rattle.job_line.specs.Limits.{IsCrew};
+ghost use Rattle.job_line.specs.Limits.{IsCrew, max_jobs};
 ghost use Rattle.program_words.specs.Options.{AreForShift};
 
 use crate::fetching::new_fetcher;
 use crate::serving::serve;
 use crate::tls_program::find_tls_program;
 use counted_io::{Counted, Sink};
-use crawl_shift::{NotShifted, Shift, StatusLine};
+use crawl_job::Job;
+use crawl_shift::{
+    BadJobLine, BadLines, ClosedSites, JobLines, JobLinesFault, NotShifted, Shift, StatusLine,
+    read_job_lines, tell_bad_lines,
+};
 use crawl_workers::{Clock, Fetcher, SystemClock};
 use gate_core::Book;
 use gate_lock::{Blanks, Gate, GateLock};
-use program_streams::{Ending, Next, new_book, run, tell_bad_line, tell_ending};
-use program_words::{ShiftOptions, Told};
+use program_streams::{
+    Ending, Next, Reasoned, Stream, new_book, run, tell_bad_line, tell_ending, tell_failed,
+};
+use program_words::{BadJobs, ShiftOptions, Told};
 use std::io::IsTerminal;
 use std::marker::Brand;
 use std::process::ExitCode;
@@ -58,8 +65,7 @@ fn shift<R: Threads + Wait + time::Clock + Sync>(
     ) {
         Ok(fetcher) => {
             let clock = SystemClock::new(*host);
-            let end = shift_by(rt, host, options, &fetcher, &clock);
-            shift_ending(host, end)
+            shift_by(rt, host, options, &fetcher, &clock)
         }
         Err(_) => Ending::NoMemory,
     }
@@ -72,13 +78,12 @@ fn shift_by<F: Fetcher + Sync, C: Clock + Sync, R: Threads + Wait + time::Clock 
     options: ShiftOptions,
     fetcher: &F,
     clock: &C,
-) -> Result<(), NotShifted>
+) -> Ending
     requires { AreForShift options }
 {
     match new_book(host, options.limits) {
         Ok(book) => shift_shown(rt, host, options, book, fetcher, clock),
-        Err(Ending::NoMemory) => Err(NotShifted::NoMemory),
-        Err(_) => Err(NotShifted::Device),
+        Err(ending) => ending,
     }
 }
 
@@ -90,7 +95,7 @@ fn shift_shown<F: Fetcher + Sync, C: Clock + Sync, R: Threads + Wait + time::Clo
     book: Book,
     fetcher: &F,
     clock: &C,
-) -> Result<(), NotShifted>
+) -> Ending
     requires workers { IsCrew options.workers }
     requires book { (book.base ≡ empty_base) × (book.entries ≡ []) }
 {
@@ -107,7 +112,7 @@ fn shift_shown<F: Fetcher + Sync, C: Clock + Sync, R: Threads + Wait + time::Clo
                 rt, host, options, book, blanks, &status, fetcher, clock,
             )
         }
-        Err(_) => Err(NotShifted::NoMemory),
+        Err(_) => Ending::NoMemory,
     }
 }
 
@@ -116,7 +121,7 @@ fn is_watched(host: &HostRuntime) -> bool {
     host.stderr().is_terminal() && !host.stdout().is_terminal()
 }
 
-// Does it over a new gate, and writes what is to be told of it to standard output.
+// Reads the jobs, and does them over a new gate.
 fn shift_told<
     G: Gate + Send + Sync,
     E: Sink + Send,
@@ -132,7 +137,7 @@ fn shift_told<
     status: &StatusLine<'_, E, R>,
     fetcher: &F,
     clock: &C,
-) -> Result<(), NotShifted>
+) -> Ending
     requires workers { IsCrew options.workers }
     requires book { (book.base ≡ empty_base) × (book.entries ≡ []) }
     requires blanks { blanks ≡ G.ledgers }
@@ -146,20 +151,86 @@ fn shift_told<
         status,
     };
     let gate: GateLock<G> = GateLock::new(book, blanks);
-    let mut reader = Counted::new(host.stdin());
-    let mut writer = Counted::new(host.stdout());
-    match options.told {
-        Told::Outcomes => shift.report(&mut reader, &mut writer, &gate),
-        Told::Table => shift.table(&mut reader, &mut writer, &gate),
-        Told::History => shift.history(&mut reader, &mut writer, &gate),
+    match read_jobs(host, fetcher, options.bad_jobs) {
+        Ok(lines) => {
+            tell_lines(host, lines.bad.as_slice());
+            match do_jobs(host, &shift, lines.jobs.as_slice(), &gate, options.told) {
+                // Lines that were skipped are told already.
+                Ending::Done if !lines.bad.is_empty() => Ending::BadLine,
+                ending => ending,
+            }
+        }
+        Err(ending) => ending,
     }
 }
 
-// Tells the line at which the jobs of a shift could not be read.
-fn shift_ending(rt: &HostRuntime, end: Result<(), NotShifted>) -> Ending {
+// Reads the jobs on standard input, or tells why they can't be read.
+fn read_jobs<F: Fetcher>(
+    host: &HostRuntime,
+    fetcher: &F,
+    bad_jobs: BadJobs,
+) -> Result<JobLines, Ending>
+    ensures { IfOk result (λ lines. length lines.jobs.items ≤ max_jobs) }
+{
+    let bad_lines = match bad_jobs {
+        BadJobs::End => BadLines::End,
+        BadJobs::Skip => BadLines::Skip,
+    };
+    let mut reader = Counted::new(Reasoned::new(host.stdin()));
+    match read_job_lines(host.alloc(), fetcher.schemes(), bad_lines, &mut reader) {
+        Ok(lines) => Ok(lines),
+        Err(JobLinesFault::BadLine(line)) => {
+            tell_lines(host, &[line]);
+            Err(tell_bad_line(host, line.number))
+        }
+        Err(JobLinesFault::Read) => {
+            Err(tell_failed(host, Ending::Device, Stream::Input, reader))
+        }
+        Err(JobLinesFault::NoMemory) => Err(Ending::NoMemory),
+    }
+}
+
+// Tells lines that are no jobs. A standard error that fails leaves the shift alone.
+fn tell_lines(host: &HostRuntime, lines: &[BadJobLine]) {
+    let mut errors = Counted::new(host.stderr());
+    let _ = tell_bad_lines(host.alloc(), lines, &mut errors);
+}
+
+// Does these jobs, and writes what is to be told of them to standard output; and, where that is no table, the sites
+// that were closed to standard error.
+fn do_jobs<
+    G: Gate + Send + Sync,
+    E: Sink + Send,
+    F: Fetcher + Sync,
+    C: Clock + Sync,
+    R: Threads + Wait + time::Clock + Sync,
+>(
+    host: &HostRuntime,
+    shift: &Shift<'_, '_, E, F, C, R>,
+    jobs: &[Job],
+    gate: &GateLock<G>,
+    told: Told,
+) -> Ending
+    requires jobs { length jobs.now ≤ max_jobs }
+    requires workers { IsCrew shift.now.workers }
+{
+    let mut writer = Counted::new(Reasoned::new(host.stdout()));
+    let closed = ClosedSites::new(shift.rt, host.alloc());
+    let end = match told {
+        Told::Outcomes => shift.report_jobs(jobs, &mut writer, gate, &closed),
+        Told::Table => shift.table_jobs(jobs, &mut writer, gate),
+        Told::History => shift.history_jobs(jobs, &mut writer, gate, &closed),
+    };
+    // (a standard error that fails leaves the status alone)
+    let _ = closed.tell(&mut Counted::new(host.stderr()));
+    tell_failed(host, shift_ending(end), Stream::Output, writer)
+}
+
+// How a shift ends whose jobs were read.
+fn shift_ending(end: Result<(), NotShifted>) -> Ending {
     match end {
         Ok(()) => Ending::Done,
-        Err(NotShifted::BadLine(line)) => tell_bad_line(rt, line),
+        Err(NotShifted::BadLine(_)) => Ending::BadLine,
         Err(NotShifted::NoMemory) => Ending::NoMemory,
         Err(NotShifted::Device) => Ending::Device,
     }

@@ -5,15 +5,19 @@ ghost use Rattle.job_line.specs.Limits.{IsCrew};
 ghost use Rattle.program_words.specs.Options.{AreForServe};
 
 use crate::fetching::new_fetcher;
+use crate::journal::{OpenJournal, open_journal};
 use crate::tls_program::find_tls_program;
 use client_wire::Listener;
 use crawl_workers::SystemClock;
 use gate_core::Book;
+use gate_journal::Recording;
 use gate_lock::{Blanks, Gate, GateLock, SettleFault};
+use journal_files::{GroupJournal, Records, Unrecorded};
 use keepers::Bounds;
 use line_server::{Alarm, ServeFault, Served, Server};
 use program_streams::{
-    Ending, new_book, tell_full_log, tell_listening, tell_listening_at, tell_served,
+    Ending, new_book, tell_failed_journal, tell_full_log, tell_listening, tell_listening_at,
+    tell_no_place, tell_served,
 };
 use program_words::{Ahead, Place, ServeOptions};
 use std::marker::Brand;
@@ -45,33 +49,31 @@ pub(crate) fn serve<R: Threads + Wait + time::Clock + Sync>(
     if let Err(ending) = find_tls_program(host, options.tls_by, options.times.connect) {
         return ending;
     }
-    match new_book(host, options.limits) {
-        Ok(book) => match listen(host, &options.place) {
-            Ok(listener) => {
-                let ending = serve_at(rt, host, &options, book, &listener);
-                leave(host, &options.place);
-                ending
-            }
-            Err(_) => Ending::Device,
-        },
+    match open_journal(host, &options.journal) {
+        Ok(journal) => serve_over(rt, host, &options, journal),
         Err(ending) => ending,
     }
 }
 
-// Tells where it listens, and serves.
-fn serve_at<R: Threads + Wait + time::Clock + Sync>(
+// Listens, and serves with this journal, if there is one.
+fn serve_over<R: Threads + Wait + time::Clock + Sync>(
     rt: &R,
     host: &HostRuntime,
     options: &ServeOptions,
-    book: Book,
-    listener: &Listener,
+    journal: Option<OpenJournal<'_>>,
 ) -> Ending
-    requires options { AreForServe options.now }
-    requires book { (book.base ≡ empty_base) × (book.entries ≡ []) }
+    requires { AreForServe options.now }
 {
-    match tell_place(host, &options.place, listener) {
-        Ending::Done => serve_clients(rt, host, options, book, listener),
-        ending => ending,
+    match new_book(host, options.limits) {
+        Ok(book) => match listen(host, &options.place) {
+            Ok(listener) => {
+                let ending = serve_clients(rt, host, options, book, &listener, journal);
+                leave(host, &options.place);
+                ending
+            }
+            Err(error) => tell_no_place(host, &options.place, &error),
+        },
+        Err(ending) => ending,
     }
 }
 
@@ -90,7 +92,7 @@ fn tell_place(host: &HostRuntime, place: &Place, listener: &Listener) -> Ending 
     }
     match listener.port() {
         Ok(port) => tell_listening(host, port),
-        Err(_) => Ending::Device,
+        Err(error) => tell_no_place(host, place, &error),
     }
 }
 
@@ -108,6 +110,7 @@ fn serve_clients<R: Threads + Wait + time::Clock + Sync>(
     options: &ServeOptions,
     book: Book,
     listener: &Listener,
+    journal: Option<OpenJournal<'_>>,
 ) -> Ending
     requires options { AreForServe options.now }
     requires book { (book.base ≡ empty_base) × (book.entries ≡ []) }
@@ -136,7 +139,8 @@ fn serve_clients<R: Threads + Wait + time::Clock + Sync>(
                     authorities: options.client_authorities,
                 },
             };
-            run_over::<Brand, _, _, _, _>(host, &server, book, Blanks::new())
+            let blanks = Blanks::new();
+            run_over::<Brand, _, _, _, _>(host, &options.place, &server, book, blanks, journal)
         }
         Err(_) => Ending::NoMemory,
     }
@@ -150,20 +154,87 @@ fn ahead_of(ahead: Ahead) -> Option<Duration> {
     }
 }
 
-// Runs a server over a new gate, and tells what it has done.
+// Runs a server over a new gate, behind a journal that is begun, if there is one.
 fn run_over<
     G: Gate + Send + Sync,
     F: crawl_workers::Fetcher + Sync,
     C: crawl_workers::Clock + Sync,
     A: Alarm + Sync,
     R: Threads + Wait + time::Clock + Sync,
->(host: &HostRuntime, server: &Server<'_, F, C, A, R>, book: Book, blanks: Blanks) -> Ending
+>(
+    host: &HostRuntime,
+    place: &Place,
+    server: &Server<'_, F, C, A, R>,
+    book: Book,
+    blanks: Blanks,
+    journal: Option<OpenJournal<'_>>,
+) -> Ending
     requires workers { IsCrew server.now.workers }
     requires book { (book.base ≡ empty_base) × (book.entries ≡ []) }
     requires blanks { blanks ≡ G.ledgers }
 {
     let gate: GateLock<G> = GateLock::new(book, blanks);
-    ending(host, server.run(&gate))
+    match journal {
+        Some(journal) => run_recorded(host, place, server, &gate, journal),
+        None => run_behind(host, place, server, &gate, &Unrecorded),
+    }
+}
+
+// Begins the journal of a gate, and runs a server behind it. Where the journal has failed it tells why.
+fn run_recorded<
+    G: Gate + Send + Sync,
+    F: crawl_workers::Fetcher + Sync,
+    C: crawl_workers::Clock + Sync,
+    A: Alarm + Sync,
+    R: Threads + Wait + time::Clock + Sync,
+>(
+    host: &HostRuntime,
+    place: &Place,
+    server: &Server<'_, F, C, A, R>,
+    gate: &GateLock<G>,
+    journal: OpenJournal<'_>,
+) -> Ending
+    requires { IsCrew server.now.workers }
+{
+    let OpenJournal { name, folder, sync } = journal;
+    let chronicle = Recording {
+        alloc: server.alloc,
+        rt: server.rt,
+        gate,
+    };
+    match GroupJournal::begin(server.alloc, &chronicle, folder, sync) {
+        Ok(journal) => {
+            let ending = run_behind(host, place, server, gate, &journal);
+            match journal.fault(server.rt) {
+                Some(fault) => tell_failed_journal(host, name, fault),
+                None => ending,
+            }
+        }
+        Err(fault) => tell_failed_journal(host, name, fault),
+    }
+}
+
+// Tells where it listens, and runs a server behind what records its gate, and tells what it has done.
+fn run_behind<
+    G: Gate + Send + Sync,
+    F: crawl_workers::Fetcher + Sync,
+    C: crawl_workers::Clock + Sync,
+    A: Alarm + Sync,
+    R: Threads + Wait + time::Clock + Sync,
+    J: Records + Sync,
+>(
+    host: &HostRuntime,
+    place: &Place,
+    server: &Server<'_, F, C, A, R>,
+    gate: &GateLock<G>,
+    journal: &J,
+) -> Ending
+    requires { IsCrew server.now.workers }
+{
+    match tell_place(host, place, server.listener) {
+        Ending::Done => ending(host, server.run_recorded(gate, journal)),
+        ending => ending,
+    }
 }
 
 // Tells what a server has done.

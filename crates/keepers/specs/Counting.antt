@@ -1,6 +1,6 @@
 -- What an operator may see of a gate: how much there is of what it keeps.
 -- The contracts of `Keeper::counts` and of `counts_of`.
-use Rattle.std.specs.Prelude.{◌≡◌, ◌-◌, List, length}
+use Rattle.std.specs.Prelude.{◌≡◌, ◌-◌, length}
 use Rattle.gate_history.specs.History.{entry_count, started_count}
 use Rattle.gate_history.specs.Outstanding.{running, unspent}
 use Rattle.gate_history.specs.Standing.{in_flight, known_count}

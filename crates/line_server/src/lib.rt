@@ -2,8 +2,10 @@
 //! docs/crawlgate.1.md has what an operator knows of it.
 #![tactic(auto)]
 
+mod clerk;
 mod fault;
 mod numbers;
+mod recorded;
 mod servant;
 mod server;
 mod warden;

@@ -3,14 +3,18 @@ ghost use Rattle.std.specs.Prelude.{◌≡◌};
 
 use crate::fault::ServeFault;
 use crate::numbers::{Numbers, share_of};
+use crate::recorded::Recorded;
 use crate::server::Server;
 use crate::warden::Alarm;
 use client_wire::{AcceptFault, ClientStream, LinesInTurn, RepliesInTurn, Turn, Waiting, close};
 use command_server::{FirstLine, NumberedClock, serve_from};
 use counted_io::{Counted, DeviceFault};
 use crawl_workers::Fetcher;
-use gate_lock::{Gate, GateLock, Receipts};
-use keepers::DeskKeeper;
+use gate_lock::{Gate, Receipts};
+use journal_files::Records;
+use journal_keepers::{FetchesBehind, RecordedKeeper};
+use journal_tape::Behind;
+use keepers::{DeskKeeper, Keeper};
 use std::cell::Cell;
 use std::io::{Read, Write};
 use std::net::TcpStream;
@@ -29,58 +33,67 @@ pub(crate) struct Servant<'l, G: Gate> {
 
 impl<F: Fetcher, C: NumberedClock, A: Alarm, R: Wait + time::Clock> Server<'_, F, C, A, R> {
     /// Lets a worker serve until no number is left to be drawn.
-    pub(crate) fn employ<G: Gate>(
+    pub(crate) fn employ<G: Gate, J: Records>(
         &self,
-        gate: &GateLock<G>,
+        recorded: &Recorded<'_, G, J, R>,
         left: &AtomicU64,
         servant: &mut Servant<'_, G>,
     ) {
-        let end = self.man_desk(gate, &mut servant.numbers, &mut servant.taken);
+        let end = self.man_desk(recorded, &mut servant.numbers, &mut servant.taken);
         servant.end = Some(end);
         left.fetch_sub(1, Ordering::SeqCst);
     }
 
     // Opens a desk, takes clients at it, and closes it, whatever came of them.
-    fn man_desk<G: Gate>(
+    fn man_desk<G: Gate, J: Records>(
         &self,
-        gate: &GateLock<G>,
+        recorded: &Recorded<'_, G, J, R>,
         numbers: &mut Numbers<'_>,
         taken: &mut u64,
     ) -> Result<Receipts<G>, ServeFault> {
-        let bounds = self.bounds;
-        let mut keeper = DeskKeeper::open_within(self.rt, self.alloc, gate, self.fetcher, bounds)?;
-        let ended = self.take_all(numbers, &mut keeper, taken);
-        let receipts = keeper.close();
+        let fetcher = FetchesBehind {
+            ahead: recorded.abreast(),
+            fetcher: self.fetcher,
+        };
+        let gate = recorded.gate();
+        let desk = DeskKeeper::open_within(self.rt, self.alloc, gate, &fetcher, self.bounds)?;
+        let mut keeper = RecordedKeeper::new(self.rt, &recorded.chronicle, recorded.journal, desk);
+        let ended = self.take_all(recorded, numbers, &mut keeper, taken);
+        let receipts = keeper.into_keeper().close();
         ended?;
         Ok(receipts)
     }
 
     // Takes clients until no number is left, or none can be accepted.
-    fn take_all<G: Gate>(
+    fn take_all<G: Gate, J: Records, K: Keeper>(
         &self,
+        recorded: &Recorded<'_, G, J, R>,
         numbers: &mut Numbers<'_>,
-        keeper: &mut DeskKeeper<'_, '_, G, F, R>,
+        keeper: &mut K,
         taken: &mut u64,
     ) -> Result<(), DeviceFault> {
         for _ in self.rt.forever() {
             if !numbers.draw() {
                 return Ok(());
             }
-            self.take_share(keeper, taken)?;
+            self.take_share(recorded, keeper, taken)?;
         }
         unreachable!()
     }
 
     // Takes the clients of one number, one after the other.
-    fn take_share<G: Gate>(
+    fn take_share<G: Gate, J: Records, K: Keeper>(
         &self,
-        keeper: &mut DeskKeeper<'_, '_, G, F, R>,
+        recorded: &Recorded<'_, G, J, R>,
+        keeper: &mut K,
         taken: &mut u64,
     ) -> Result<(), DeviceFault> {
         for _ in 0..share_of(self.connections) {
             let stream = self.accept()?;
             *taken = taken.saturating_add(1);
-            self.serve_client(stream, keeper);
+            self.serve_client(recorded, stream, keeper);
+            // Where it can't be recorded what the client left, no other is taken.
+            recorded.come_up()?;
         }
         Ok(())
     }
@@ -98,7 +111,12 @@ impl<F: Fetcher, C: NumberedClock, A: Alarm, R: Wait + time::Clock> Server<'_, F
     }
 
     // Serves a client to its end, where it is no browser. A fault of its session ends its connection alone.
-    fn serve_client<G: Gate>(&self, stream: TcpStream, keeper: &mut DeskKeeper<'_, '_, G, F, R>) {
+    fn serve_client<G: Gate, J: Records, K: Keeper>(
+        &self,
+        recorded: &Recorded<'_, G, J, R>,
+        stream: TcpStream,
+        keeper: &mut K,
+    ) {
         let waiting = Cell::new(Waiting::new(self.patience));
         let reader = ClientStream::new(self.rt, &stream, &waiting);
         let writer = ClientStream::new(self.rt, &stream, &waiting);
@@ -107,23 +125,24 @@ impl<F: Fetcher, C: NumberedClock, A: Alarm, R: Wait + time::Clock> Server<'_, F
                 let turn = Cell::new(Turn::new(most));
                 // (without memory for its lines the connection is closed)
                 if let Ok(lines) = LinesInTurn::new(self.alloc, reader, &turn) {
-                    self.serve_lines(lines, RepliesInTurn::new(writer, &turn), keeper);
+                    self.serve_lines(recorded, lines, RepliesInTurn::new(writer, &turn), keeper);
                 }
             }
-            None => self.serve_lines(reader, writer, keeper),
+            None => self.serve_lines(recorded, reader, writer, keeper),
         }
         close(self.rt, stream);
     }
 
-    // Serves what a client says to its end, and writes to it.
-    fn serve_lines<G: Gate, I: Read + Drop, O: Write + Drop>(
+    // Serves what a client says to its end, and writes to it behind the journal.
+    fn serve_lines<G: Gate, J: Records, K: Keeper, I: Read + Drop, O: Write + Drop>(
         &self,
+        recorded: &Recorded<'_, G, J, R>,
         reader: I,
         writer: O,
-        keeper: &mut DeskKeeper<'_, '_, G, F, R>,
+        keeper: &mut K,
     ) {
         let mut reader = Counted::new(reader);
-        let mut writer = Counted::new(writer);
+        let mut writer = Behind::new(recorded.abreast(), Counted::new(writer));
         let first = FirstLine::NoRequest;
         let _ = serve_from(
             self.alloc,

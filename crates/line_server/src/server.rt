@@ -5,6 +5,7 @@ ghost use Rattle.line_server.specs.Servers.{IsServed};
 
 use crate::fault::ServeFault;
 use crate::numbers::{Numbers, count_of};
+use crate::recorded::Recorded;
 use crate::servant::Servant;
 use crate::warden::Alarm;
 use client_wire::{Connections, Listener};
@@ -12,6 +13,7 @@ use command_server::NumberedClock;
 use crawl_workers::Fetcher;
 use gate_lock::{Gate, GateLock, Receipts, settle};
 use job_line::{JobLine, JobSeat, MAX_WORKERS};
+use journal_files::{Records, Unrecorded};
 use keepers::Bounds;
 use std::alloc::{AllocError, Global};
 use std::sync::Wait;
@@ -66,12 +68,30 @@ impl<
         requires { IsCrew self.now.workers }
         ensures { IfOk result (λ served. IsServed served.receipts.items served.events) }
     {
+        self.run_recorded(gate, &Unrecorded)
+    }
+
+    /// The same over a gate that is recorded from its first entry on: nothing is told to a client, and no page or
+    /// robots file is fetched, before all that was entered until then is. Where that fails each session ends at
+    /// its next write, no client is taken any more, and it has no end to tell of.
+    pub fn run_recorded<G: Gate + Send + Sync, J: Records + Sync>(
+        &self,
+        gate: &GateLock<G>,
+        journal: &J,
+    ) -> Result<Served<G>, ServeFault>
+        requires { IsCrew self.now.workers }
+        ensures { IfOk result (λ served. IsServed served.receipts.items served.events) }
+    {
+        let recorded = Recorded::new(self.rt, self.alloc, gate, journal);
         let (line, seats) = JobLine::new(self.alloc, count_of(self.connections), self.workers)?;
         let mut servants = hire(self.alloc, &line, seats)?;
         let mut receipts = Vec::new(self.alloc);
-        let own = self.serve_all(gate, &mut servants)?;
+        let (swept, sealed) = self.serve_all(&recorded, &mut servants)?;
         let connections = take_in(servants, &mut receipts)?;
-        receipts.push(own).map_err(AllocError::from)?;
+        receipts.push(swept).map_err(AllocError::from)?;
+        receipts.push(sealed).map_err(AllocError::from)?;
+        // What nobody was told of is recorded too.
+        recorded.see_to()?;
         let settled = settle(self.rt, self.alloc, gate, &receipts)?;
         Ok(Served {
             connections,
@@ -81,26 +101,26 @@ impl<
     }
 
     // Has the workers serve on threads of their own, and the gate seen to on another; the receipts are those of
-    // who sees to it. What is named first is done last where no thread can be made: then nothing is left to
+    // the two desks by which that is done. What is named first is done last where no thread can be made: then nothing is left to
     // see to.
-    fn serve_all<G: Gate + Send + Sync>(
+    fn serve_all<G: Gate + Send + Sync, J: Records + Sync>(
         &self,
-        gate: &GateLock<G>,
+        recorded: &Recorded<'_, G, J, R>,
         servants: &mut [Servant<'_, G>],
-    ) -> Result<Receipts<G>, ServeFault> {
+    ) -> Result<(Receipts<G>, Receipts<G>), ServeFault> {
         let left = AtomicU64::new(self.workers);
         let (receipts, _) = thread::join(
             self.rt,
-            || self.watch(gate, &left),
-            || self.employ_all(gate, &left, servants),
+            || self.watch(recorded, &left),
+            || self.employ_all(recorded, &left, servants),
         );
         receipts
     }
 
     // Lets each worker work on a thread of its own.
-    fn employ_all<G: Gate + Send + Sync>(
+    fn employ_all<G: Gate + Send + Sync, J: Records + Sync>(
         &self,
-        gate: &GateLock<G>,
+        recorded: &Recorded<'_, G, J, R>,
         left: &AtomicU64,
         servants: &mut [Servant<'_, G>],
     ) {
@@ -108,7 +128,7 @@ impl<
             self.rt,
             servants,
             MAX_WORKERS as usize,
-            &|_: usize, servant: &mut Servant<'_, G>| self.employ(gate, left, servant),
+            &|_: usize, servant: &mut Servant<'_, G>| self.employ(recorded, left, servant),
         );
     }
 }

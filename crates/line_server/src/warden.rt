@@ -5,11 +5,14 @@ ghost use Rattle.gate_lock.specs.Desks.{KeepsOut};
 ghost use Rattle.command_server.specs.Readings.{next_reading};
 ghost use Rattle.line_server.specs.Sweeping.{GoesRounds, MaySweep, is_due};
 
+use crate::clerk::Clerk;
 use crate::fault::ServeFault;
+use crate::recorded::Recorded;
 use crate::server::Server;
 use command_server::{NumberedClock, next_reading};
 use crawl_workers::Fetcher;
 use gate_lock::{Desk, Gate, GateLock, Receipts};
+use journal_files::Records;
 use std::sync::Wait;
 use std::sync::atomic::{AtomicU64, Ordering};
 use std::time::Duration;
@@ -40,19 +43,37 @@ struct Rounds {
 }
 
 impl<F: Fetcher, C: NumberedClock, A: Alarm, R: Wait + time::Clock> Server<'_, F, C, A, R> {
-    /// Sees to the gate at a desk of its own, until no worker is left.
-    pub(crate) fn watch<G: Gate>(
+    /// Sees to the gate at a desk of its own, and to its records at another, until no worker is left.
+    pub(crate) fn watch<G: Gate, J: Records>(
+        &self,
+        recorded: &Recorded<'_, G, J, R>,
+        left: &AtomicU64,
+    ) -> Result<(Receipts<G>, Receipts<G>), ServeFault> {
+        let mut clerk = Clerk::open(self.alloc, recorded)?;
+        let swept = self.sweep_all(recorded.gate(), &mut clerk, left);
+        let sealed = clerk.close();
+        Ok((swept?, sealed))
+    }
+
+    // Sees to both until no worker is left; the receipts are those of the desk at which it swept.
+    fn sweep_all<G: Gate, J: Records>(
         &self,
         gate: &GateLock<G>,
+        clerk: &mut Clerk<'_, '_, G, J, R>,
         left: &AtomicU64,
     ) -> Result<Receipts<G>, ServeFault> {
         let mut desk = gate.desk(self.rt, self.alloc)?;
-        self.go_round(left, &mut desk);
+        self.go_round(clerk, left, &mut desk);
         Ok(desk.close())
     }
 
     // Looks after the gate until no worker is left, each time at a reading of its own.
-    fn go_round<G: Gate>(&self, left: &AtomicU64, desk: &mut Desk<'_, G>)
+    fn go_round<G: Gate, J: Records>(
+        &self,
+        clerk: &mut Clerk<'_, '_, G, J, R>,
+        left: &AtomicU64,
+        desk: &mut Desk<'_, G>,
+    )
         ensures no { desk.new.no ≡ desk.old.no }
         ensures out { KeepsOut desk.old desk.new }
         ensures rounds { GoesRounds (C.reads self.now.clock.now) desk.old desk.new }
@@ -67,7 +88,16 @@ impl<F: Fetcher, C: NumberedClock, A: Alarm, R: Wait + time::Clock> Server<'_, F
                 return;
             }
             self.see_to(desk, &mut rounds);
+            self.record(clerk);
             thread::sleep(self.rt, Duration::from_millis(NAP_MILLISECONDS));
+        }
+    }
+
+    // Sees to the records. Where they have failed no client is taken any more, and each worker ends.
+    fn record<G: Gate, J: Records>(&self, clerk: &mut Clerk<'_, '_, G, J, R>) {
+        if clerk.look().is_err() {
+            // Want of a descriptor is met again at the next look.
+            let _ = self.listener.shut();
         }
     }
 

@@ -6,3 +6,5 @@ pub mod StarLemmas
 pub mod BlockLemmas
 pub mod CallerLemmas
 pub mod SortedLemmas
+pub mod OrderLemmas
+pub mod KeptLemmas

@@ -162,6 +162,32 @@ left_first path run place first within found =
       backward path run (drop place path) place first refl low found.1,
     )
 
+-- what is first in the part from a place on is first from there on
+pub from_nowhere : (path run : List ℕ) (place : ℕ) → place ≤ length path → FindsNeedle (drop place path) run 0 None → FindsNeedle path run place None
+from_nowhere path run place within none at low high occurs =
+    let lengths = length-drop place path in
+    let fits = occurs.fits in
+    none (at - place) (omega arith) (omega (arith, lengths, low, fits)) (backward path run (drop place path) place at refl low occurs)
+
+pub from_first : (path run : List ℕ) (place first : ℕ) → place ≤ length path → FindsNeedle (drop place path) run 0 (Some first) → FindsNeedle path run place (Some (place + first))
+from_first path run place first within found =
+    let lengths = length-drop place path in
+    let high = found.0.high in (
+      record { low = omega arith; high = omega (arith, high, lengths, within); before = λ at low below occurs. found.0.before (at - place) (omega arith) (omega (arith, low, below)) (backward path run (drop place path) place at refl low occurs) },
+      onward path run (drop place path) place first refl within found.1,
+    )
+
+-- what follows the first place of a run from a place on
+pub nowhere_after : (path run : List ℕ) (place : ℕ) → place ≤ length path → FindsNeedle path run place None → StandsNowhere (drop place path) run
+nowhere_after path run place within none = nowhere_from (drop place path) run (left_nowhere path run place within none)
+
+pub after_from : (path run : List ℕ) (place first : ℕ) → place ≤ length path → FindsNeedle path run place (Some first) → IsAfterFirst (drop place path) run (drop (first + length run) path)
+after_from path run place first within found =
+    let there = left_first path run place first within found in
+    let low = found.0.low in
+    let sum : place + (first - place + length run) ≡ first + length run = omega (arith, low) in
+    subst (IsAfterFirst (drop place path) run) (drop-drop (first - place + length run) place path ∙ ap (λ n. drop n path) sum) (after_place (drop place path) run (first - place) there.0 there.1)
+
 -- ---- a run of one octet
 
 pub found_octet : (path run : List ℕ) (found : Option ℕ) → length run ≡ 1 → IsFirstByte (is_byte (get_or run 0 0)) path found → FindsNeedle path run 0 found

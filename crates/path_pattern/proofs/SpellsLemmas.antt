@@ -1,6 +1,6 @@
 -- How a pattern spells a path, by its first octet, its first star or its first run.
 -- Used by the answers of the matchers.
-use Rattle.std.proofs.Common.{◌≡◌, ℕ, suc, ◌==◌, Bool, true, false, List, [], ◌∷◌, ◌++◌, length, sym, refl, ap, ◌∙◌, subst, append_assoc, append-nil, drop, arith, eqb-true}
+use Rattle.std.proofs.Common.{◌≡◌, ◌≤◌, ℕ, suc, ◌==◌, Bool, true, false, List, [], ◌∷◌, ◌++◌, length, sym, refl, ap, ◌∙◌, subst, append_assoc, append-nil, drop, arith, eqb-true}
 use Rattle.std.specs.Prelude.{IsTrue, ◌↔◌, Option, None, Some, MatchOption, is_some}
 use Rattle.std.proofs.lemmas.Bool.{cond-false, true≢false}
 use Rattle.std.proofs.lemmas.List.Elements.{All-head, All-tail}
@@ -182,6 +182,11 @@ last_open run anchored path (Some rest) plain free first = (
       subst (Spells (star ∷ run) anchored) (sym first.stands) (on_star first.front run anchored (run ++ rest) fits),
   λ _. refl,
 )
+
+-- the same by where what follows the run begins
+pub last_from : (run : List ℕ) (anchored : Bool) (path : List ℕ) (from : ℕ) (found : Option ℕ) → HasNoStar run → anchored ≡ false → MatchOption found (StandsNowhere (drop from path) run) (λ next. (next ≤ length path) × IsAfterFirst (drop from path) run (drop next path)) → IsTrue (is_some found) ↔ Spells (star ∷ run) anchored (drop from path)
+last_from run anchored path from None plain free none = last_open run anchored (drop from path) None plain free none
+last_from run anchored path from (Some next) plain free first = last_open run anchored (drop from path) (Some (drop next path)) plain free first.1
 
 -- ---- all ways to cut a path
 

@@ -175,7 +175,7 @@ fn top_bits(lanes: u8x64) -> u64
 
 // The place of the lowest bit that is set.
 #[inline(always)]
-fn lowest(marks: u64) -> usize
+pub(crate) fn lowest(marks: u64) -> usize
     requires { marks ≢ 0 }
     ensures bound { result < 64 }
     ensures set { bit_at marks result ≡ 1 }

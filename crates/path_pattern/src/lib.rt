@@ -3,13 +3,16 @@
 #![tactic(auto)]
 
 mod blocks;
+mod kept;
 pub mod laws;
+mod order;
 mod path;
 mod pattern;
 mod places;
 mod ranks;
 mod runs;
 
+pub use kept::empty_room;
 pub use path::Path;
 pub use pattern::{Pattern, matches};
 pub use places::Places;

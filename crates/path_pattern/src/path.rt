@@ -1,62 +1,60 @@
-//! A path that patterns are tried on, and its places in the order of what stands there.
+//! A path that patterns are tried on, and where runs stand in it.
 //! RFC 9309, section 2.2.3.
-ghost use Rattle.std.specs.Prelude.{◌≡◌, ◌+◌, ◌≤◌, ◌<◌, drop, length};
+ghost use Rattle.std.specs.Prelude.{◌≡◌, ◌≤◌, drop, length, MatchOption};
 ghost use Rattle.memchr.specs.Find.{FindsNeedle};
+ghost use Rattle.path_pattern.specs.Runs.{IsAfterFirst, StandsNowhere};
 ghost use Rattle.path_pattern.specs.Sorted.{ArePlacesOf};
 
-use crate::blocks::{PLACES, Search, first_by_blocks, search_from};
-use crate::places::{Places, first_of};
-use memchr::memmem;
+use crate::kept::{KEPT, NONE, Room, Stand, first_among};
+use crate::places::Places;
+use crate::runs::first_place;
 use std::marker::Model;
 
-// So many blocks are searched before the run is looked up among the places, which takes about as long.
-const PATIENCE: usize = 64;
-
-/// A path in normal form, or what is left of one, that patterns are tried on.
+/// A path in normal form that patterns are tried on, and the runs that were looked for in it.
 #[derive(Drop)]
-pub struct Path<'p> {
+pub struct Path<'p, 'k> {
     text: &'p [u8],
-    // How many octets of the text are left out.
-    from: usize,
-    // The places of the text in the order of what stands there, where they were put in order.
+    // Its places in the order of what stands there, where they were put in order.
     places: &'p [u16],
+    kept: &'k mut [Stand],
 }
 
-impl<'p> Model for Path<'p> {
-    ghost use Rattle.std.specs.Prelude.{List, ℕ, drop};
+impl<'p, 'k> Model for Path<'p, 'k> {
+    ghost use Rattle.std.specs.Prelude.{List, ℕ};
 
     ghost Value = { List ℕ };
 
-    ghost use Rattle.std.specs.Prelude.{◌≤◌, length};
+    ghost use Rattle.path_pattern.specs.Kept.{AreKept};
     ghost use Rattle.path_pattern.specs.Sorted.{ArePlacesOf};
 
-    ghost view = { λ path. drop path.from path.text.now };
+    ghost view = { λ path. path.text.now };
 
-    ghost invariant = { λ path. (path.from ≤ length path.text.now)
-        × ArePlacesOf path.text.now path.places.now };
+    ghost invariant = { λ path. ArePlacesOf path.text.now path.places.now
+        × AreKept path.text.now path.places.now path.kept.now };
 }
 
-impl<'p> Path<'p> {
-    /// The path as it is.
-    pub fn new(text: &'p [u8]) -> Path<'p>
+impl<'p, 'k> Path<'p, 'k> {
+    /// The path as it is. It keeps no run.
+    pub fn new(text: &'p [u8]) -> Path<'p, 'k>
         ensures { result ≡ text.now }
     {
         Path {
             text,
-            from: 0,
             places: &[],
+            kept: &mut [],
         }
     }
 
-    /// The same with its places, which are used where a run is nearly there again and again.
-    pub fn with(text: &'p [u8], places: &'p Places) -> Path<'p>
+    /// The same with its places, and with room for runs, of which it keeps none yet.
+    pub fn with(text: &'p [u8], places: &'p Places, room: &'k mut Room) -> Path<'p, 'k>
         requires { ArePlacesOf text.now places.now }
         ensures { result ≡ text.now }
     {
+        *room = [NONE; KEPT];
         Path {
             text,
-            from: 0,
             places: places.as_slice(),
+            kept: room,
         }
     }
 
@@ -64,48 +62,43 @@ impl<'p> Path<'p> {
     pub fn octets(&self) -> &'p [u8]
         ensures { result.now ≡ self.now }
     {
-        &self.text[self.from..]
+        self.text
     }
 
-    /// What is left behind so many octets.
-    pub(crate) fn after(&self, count: usize) -> Path<'p>
-        requires { count ≤ length self.now }
-        ensures { result ≡ drop count self.now }
+    /// Where what follows the run begins, at its first place from this one on.
+    pub(crate) fn after(&mut self, run: &[u8], from: usize) -> Option<usize>
+        requires { from ≤ length self.old }
+        ensures found { MatchOption result (StandsNowhere (drop from self.old) run.now)
+            (λ next. (next ≤ length self.old)
+            × IsAfterFirst (drop from self.old) run.now (drop next self.old)) }
+        ensures stays { self.new ≡ self.old }
     {
-        Path {
-            text: self.text,
-            from: self.from + count,
-            places: self.places,
-        }
+        let count = self.octets().len();
+        let place = self.first(run, from)?;
+        // What is left behind the run.
+        let left = count - place - run.len();
+        Some(count - left)
     }
 
-    /// The first place of the run. What `memmem` costs grows with the places at which the run nearly stands: it
-    /// compares at each of them. A path that has no block of places for the run has few.
-    pub(crate) fn first(&self, run: &[u8]) -> Option<usize>
-        requires { 1 < length run.now }
-        ensures { FindsNeedle self.now run.now 0 result }
+    // The first place of the run that is not before this one. From now on the run is kept.
+    fn first(&mut self, run: &[u8], from: usize) -> Option<usize>
+        requires { from ≤ length self.old }
+        ensures finds { FindsNeedle self.old run.now from result }
+        ensures stays { self.new ≡ self.old }
     {
-        let octets = self.octets();
-        if octets.len() < run.len() + (PLACES - 1) {
-            return memmem::find(octets, run);
+        let (text, places) = (self.text, self.places);
+        if places.is_empty() || run.is_empty() {
+            return first_from(text, run, from);
         }
-        let place = first_from(self.text, self.places, run, self.from)?;
-        Some(place - self.from)
+        first_among(self.kept, text, places, run, from)
     }
 }
 
-// The first place of the run that is not before this one. The places of the path tell where blocks of it are dear.
-fn first_from(path: &[u8], places: &[u16], run: &[u8], from: usize) -> Option<usize>
-    requires places { ArePlacesOf path.now places.now }
-    requires pair { 1 < length run.now }
-    requires room { from + 63 + length run.now ≤ length path.now }
+// The first place of the run in the path that is not before this one.
+fn first_from(path: &[u8], run: &[u8], from: usize) -> Option<usize>
+    requires { from ≤ length path.now }
     ensures { FindsNeedle path.now run.now from result }
 {
-    if places.is_empty() {
-        return first_by_blocks(path, run, from);
-    }
-    match search_from(path, run, from, PATIENCE) {
-        Search::Ended(place) => place,
-        Search::LeftAt(place) => first_of(path, places, run, place),
-    }
+    let place = first_place(&path[from..], run)?;
+    Some(from + place)
 }

@@ -1,6 +1,6 @@
 //! A pattern of a robots file in normal form, and whether it matches a path.
 //! RFC 9309, section 2.2.3.
-ghost use Rattle.std.specs.Prelude.{◌≡◌, ◌↔◌, ◌∷◌, IfOk, IsTrue, length};
+ghost use Rattle.std.specs.Prelude.{◌≡◌, ◌↔◌, ◌∷◌, ◌≤◌, drop, IfOk, IsTrue, length};
 ghost use Rattle.path_normal.specs.Normal.{normal_pattern, unanchored};
 ghost use Rattle.path_normal.specs.Octets.{star};
 ghost use Rattle.path_pattern.specs.Matches.{Matches, Spells};
@@ -8,7 +8,7 @@ ghost use Rattle.path_pattern.specs.Runs.{HasNoStar, IsStarOf};
 
 use crate::path::Path;
 use crate::runs::{
-    Star, after_first, after_start, ends_with, first_star, split_at_place, split_at_star, star_of,
+    Star, begins_with, ends_with, first_star, split_at_place, split_at_star, star_of,
 };
 use path_normal::{normal_pattern, split_anchor};
 use std::alloc::{AllocError, Global};
@@ -55,12 +55,13 @@ impl Pattern {
     pub fn matches(&self, path: &[u8]) -> bool
         ensures { IsTrue result ↔ Matches self.now path.now }
     {
-        self.matches_path(&Path::new(path))
+        self.matches_path(&mut Path::new(path))
     }
 
     /// The same of a path that many patterns are tried on.
-    pub fn matches_path(&self, path: &Path<'_>) -> bool
-        ensures { IsTrue result ↔ Matches self.now path.now }
+    pub fn matches_path(&self, path: &mut Path<'_, '_>) -> bool
+        ensures tells { IsTrue result ↔ Matches self.now path.old }
+        ensures stays { path.new ≡ path.old }
     {
         if self.text.is_empty() {
             return false;
@@ -87,8 +88,9 @@ impl Pattern {
 
 /// Whether a pattern matches a path, both in normal form. The second star is looked for only where the
 /// path begins with what stands before the first. Takes no memory.
-pub fn matches(pattern: &[u8], path: &Path<'_>) -> bool
-    ensures { IsTrue result ↔ Matches pattern.now path.now }
+pub fn matches(pattern: &[u8], path: &mut Path<'_, '_>) -> bool
+    ensures tells { IsTrue result ↔ Matches pattern.now path.old }
+    ensures stays { path.new ≡ path.old }
 {
     if pattern.is_empty() {
         return false;
@@ -98,65 +100,61 @@ pub fn matches(pattern: &[u8], path: &Path<'_>) -> bool
 }
 
 // Whether the pattern, with no anchor of its own, fits the path from its first octet on.
-fn fits(pattern: &[u8], star: Star, anchored: bool, path: &Path<'_>) -> bool
+fn fits(pattern: &[u8], star: Star, anchored: bool, path: &mut Path<'_, '_>) -> bool
     requires { IsStarOf pattern.now star }
-    ensures { IsTrue result ↔ Spells pattern.now anchored path.now }
+    ensures tells { IsTrue result ↔ Spells pattern.now anchored path.old }
+    ensures stays { path.new ≡ path.old }
 {
     match star {
-        Star::None => fits_run(pattern, anchored, path),
+        Star::None => fits_run(pattern, anchored, path.octets()),
         Star::Only(place) => {
             let (run, after) = split_at_place(pattern, place);
-            match after_start(path, run) {
-                Some(rest) => fits_last(after, anchored, &rest),
-                None => false,
-            }
+            begins_with(path.octets(), run) && fits_last(after, anchored, path, run.len())
         }
         Star::First(place) => {
             let (run, after) = split_at_place(pattern, place);
-            match after_start(path, run) {
-                Some(rest) => fits_after_star(after, anchored, rest),
-                None => false,
-            }
+            begins_with(path.octets(), run) && fits_after_star(after, anchored, path, run.len())
         }
     }
 }
 
 // The same of a run without a star.
-fn fits_run(run: &[u8], anchored: bool, path: &Path<'_>) -> bool
+fn fits_run(run: &[u8], anchored: bool, path: &[u8]) -> bool
     requires { HasNoStar run.now }
     ensures { IsTrue result ↔ Spells run.now anchored path.now }
 {
-    match after_start(path, run) {
-        Some(rest) => !anchored || rest.octets().is_empty(),
-        None => false,
-    }
+    begins_with(path, run) && (!anchored || path[run.len()..].is_empty())
 }
 
-// Whether the pattern fits from some octet of the path on: a star stands before it. Each run
+// Whether the pattern fits from some octet on that is not before this place: a star stands before it. Each run
 // is taken at its first place: what a later place would leave is the end of what that leaves.
-fn fits_after_star(pattern: &[u8], anchored: bool, path: Path<'_>) -> bool
-    ensures { IsTrue result ↔ Spells (star ∷ pattern.now) anchored path.entry }
+fn fits_after_star(pattern: &[u8], anchored: bool, path: &mut Path<'_, '_>, from: usize) -> bool
+    requires { from ≤ length path.old }
+    ensures tells { IsTrue result ↔ Spells (star ∷ pattern.now) anchored (drop from path.old) }
+    ensures stays { path.new ≡ path.old }
 {
     let mut left = pattern;
-    let mut rest = path;
+    let mut place = from;
     while let Some((run, after)) = split_at_star(left) {
-        let Some(next) = after_first(&rest, run) else {
+        let Some(next) = path.after(run, place) else {
             return false;
         };
-        rest = next;
+        place = next;
         left = after;
     }
-    fits_last(left, anchored, &rest)
+    fits_last(left, anchored, path, place)
 }
 
 // The same of a run without a star.
-fn fits_last(run: &[u8], anchored: bool, path: &Path<'_>) -> bool
-    requires { HasNoStar run.now }
-    ensures { IsTrue result ↔ Spells (star ∷ run.now) anchored path.now }
+fn fits_last(run: &[u8], anchored: bool, path: &mut Path<'_, '_>, from: usize) -> bool
+    requires plain { HasNoStar run.now }
+    requires within { from ≤ length path.old }
+    ensures tells { IsTrue result ↔ Spells (star ∷ run.now) anchored (drop from path.old) }
+    ensures stays { path.new ≡ path.old }
 {
     if anchored {
-        ends_with(path, run)
+        ends_with(&path.octets()[from..], run)
     } else {
-        after_first(path, run).is_some()
+        path.after(run, from).is_some()
     }
 }

@@ -1,13 +1,13 @@
 //! The runs of a pattern between its stars, and where they stand in a path.
 //! RFC 9309, section 2.2.3.
-ghost use Rattle.std.specs.Prelude.{◌≡◌, ◌++◌, ◌↔◌, List, ℕ, IsTrue, MatchOption, Some};
+ghost use Rattle.std.specs.Prelude.{◌≡◌, ◌++◌, ◌↔◌, ◌<◌, List, ℕ, IsTrue, MatchOption, Some, length};
 ghost use Rattle.memchr.specs.Find.{FindsNeedle, IsFirstByte, OccursAt, is_byte};
 ghost use Rattle.path_normal.specs.Octets.{star};
-ghost use Rattle.path_pattern.specs.Runs.{BeginsNot, HasNoStar, IsAfterFirst, IsSplitAtStar, IsStarOf, StandsNowhere, has_no_star};
+ghost use Rattle.path_pattern.specs.Runs.{HasNoStar, IsSplitAtStar, IsStarOf, has_no_star};
 
-use crate::path::Path;
+use crate::blocks::{PLACES, first_by_blocks};
 use memchr::arch::all::{is_prefix, is_suffix};
-use memchr::memchr;
+use memchr::{memchr, memmem};
 
 /// Where the first star of a pattern stands.
 #[derive(Clone, Copy)]
@@ -73,60 +73,51 @@ pub(crate) fn split_at_place(pattern: &[u8], place: usize) -> (&[u8], &[u8])
     (&pattern[..place], &pattern[place + 1..])
 }
 
-/// What follows the run, where the path begins with it.
-pub(crate) fn after_start<'p>(path: &Path<'p>, run: &[u8]) -> Option<Path<'p>>
-    ensures { MatchOption result (BeginsNot path.now run.now)
-        (λ rest. path.now ≡ run.now ++ rest) }
-{
-    if begins_with(path.octets(), run) {
-        Some(path.after(run.len()))
-    } else {
-        None
-    }
-}
-
-fn begins_with(path: &[u8], run: &[u8]) -> bool
+/// Whether the path begins with the run.
+pub(crate) fn begins_with(path: &[u8], run: &[u8]) -> bool
     ensures { IsTrue result ↔ OccursAt path.now run.now 0 }
 {
     is_prefix(path, run)
 }
 
-/// What follows the first place of the run in the path.
-pub(crate) fn after_first<'p>(path: &Path<'p>, run: &[u8]) -> Option<Path<'p>>
-    ensures { MatchOption result (StandsNowhere path.now run.now)
-        (λ rest. IsAfterFirst path.now run.now rest) }
-{
-    match first_place(path, run) {
-        Some(place) => Some(path.after(place).after(run.len())),
-        None => None,
-    }
-}
-
+/// The first place of the run.
 // To prepare a search costs as much as to look for the last octet of the run in a path that is
 // many times as long. Where that octet is missing, or the first one ends the run, none is needed.
-fn first_place(path: &Path<'_>, run: &[u8]) -> Option<usize>
+pub(crate) fn first_place(path: &[u8], run: &[u8]) -> Option<usize>
     ensures { FindsNeedle path.now run.now 0 result }
 {
-    let octets = path.octets();
     let (front, last) = match run {
         [] => return Some(0),
-        [octet] => return memchr(*octet, octets),
+        [octet] => return memchr(*octet, path),
         [front @ .., last] => (front, last),
     };
-    if octets.len() < run.len() {
+    if path.len() < run.len() {
         return None;
     }
-    let place = memchr(*last, &octets[front.len()..])?;
-    if begins_with(&octets[place..], run) {
+    let place = memchr(*last, &path[front.len()..])?;
+    if begins_with(&path[place..], run) {
         return Some(place);
     }
-    let later = path.after(place).first(run)?;
+    let later = first_of_pair(&path[place..], run)?;
     Some(place + later)
 }
 
+// What `memmem` costs grows with the places at which the run nearly stands: it compares at each of them. A path that
+// has no block of places for the run has few.
+fn first_of_pair(path: &[u8], run: &[u8]) -> Option<usize>
+    requires { 1 < length run.now }
+    ensures { FindsNeedle path.now run.now 0 result }
+{
+    if path.len() < run.len() + (PLACES - 1) {
+        memmem::find(path, run)
+    } else {
+        first_by_blocks(path, run, 0)
+    }
+}
+
 /// Whether the path ends with the run.
-pub(crate) fn ends_with(path: &Path<'_>, run: &[u8]) -> bool
+pub(crate) fn ends_with(path: &[u8], run: &[u8]) -> bool
     ensures { IsTrue result ↔ ((front : List ℕ) × (path.now ≡ front ++ run.now)) }
 {
-    is_suffix(path.octets(), run)
+    is_suffix(path, run)
 }

@@ -13,6 +13,8 @@ use Rattle.program_streams.specs.declared.ending.Ending.{Ending}
 use Rattle.program_streams.specs.declared.ending.Ending.TheVariants as endings
 use Rattle.program_streams.specs.declared.message.Message.{Message}
 use Rattle.program_streams.specs.declared.message.Message.TheVariants as messages
+use Rattle.program_streams.specs.declared.streams.Stream.{Stream}
+use Rattle.program_streams.specs.declared.streams.Stream.TheVariants as streams
 
 -- the exit status
 abbrev pub exit_status : Ending → ℕ
@@ -27,19 +29,33 @@ exit_status endings.BadFile = 3
 exit_status endings.BadWords = 2
 exit_status endings.NoMemory = 3
 exit_status endings.Device = 3
+exit_status (endings.ClosedStream stream) = 3
+exit_status endings.ToldDevice = 3
 exit_status (endings.NoTlsProgram at) = 3
+exit_status endings.NoJournal = 3
 
 -- that nobody takes connections where the program that opens TLS should be
 abbrev pub no_tls_text : SocketAddr → List ℕ
 no_tls_text at = codes "device: no TLS program at " ++ socket_text at
 
+-- what a standard stream is called
+abbrev pub stream_name : Stream → List ℕ
+stream_name streams.Input = codes "standard input"
+stream_name streams.Output = codes "standard output"
+stream_name streams.Errors = codes "standard error"
+
+-- that a standard stream is closed
+abbrev pub closed_text : Stream → List ℕ
+closed_text stream = codes "device: " ++ (stream_name stream ++ codes ": closed")
+
 -- the text of a message
 abbrev pub message_text : Message → List ℕ
 message_text (messages.Words words) = words.now
+message_text (messages.Closed stream) = closed_text stream
 message_text (messages.NoTlsProgram at) = no_tls_text at
 
 -- what is told behind the program's name; what is wrong with the words, or with a file, is told by
--- their reader
+-- their reader, and the system's reason why a device failed where it did
 abbrev pub message_of : Ending → Option (List ℕ)
 message_of endings.Done = None
 message_of endings.LongLine = Some (codes "line too long")
@@ -52,7 +68,10 @@ message_of endings.BadFile = None
 message_of endings.BadWords = None
 message_of endings.NoMemory = Some (codes "no memory")
 message_of endings.Device = Some (codes "device")
+message_of (endings.ClosedStream stream) = Some (closed_text stream)
+message_of endings.ToldDevice = None
 message_of (endings.NoTlsProgram at) = Some (no_tls_text at)
+message_of endings.NoJournal = None
 
 -- how the program ends where its work came to this
 abbrev pub ending_of : Result (Unit {0}) SessionFault → Ending

@@ -10,7 +10,7 @@ use crate::ending::Ending;
 use crate::next::Next;
 use crate::records::lines_streams;
 use crate::replays::{export_streams, replay_streams};
-use crate::streams::are_open;
+use crate::streams::closed_stream;
 use clap::error::ErrorKind;
 use program_words::{Subcommand, options};
 use std::{env, io};
@@ -82,8 +82,8 @@ fn run_subcommand(rt: &HostRuntime, subcommand: Subcommand) -> Next
     requires { IsInRange subcommand }
     ensures { IsReady result }
 {
-    if !are_open(rt) {
-        return Next::Ends(Ending::Device);
+    if let Some(stream) = closed_stream(rt) {
+        return Next::Ends(Ending::ClosedStream(stream));
     }
     match subcommand {
         Subcommand::Replay(options) => Next::Ends(replay_streams(rt, options)),

@@ -5,7 +5,9 @@ ghost use Rattle.program_streams.specs.Told.{BlamesDevice, TellsAudit};
 
 use crate::ending::Ending;
 use crate::found::Found;
-use crate::telling::tell_to;
+use crate::reasoned::Reasoned;
+use crate::streams::Stream;
+use crate::telling::{tell_failed, tell_to};
 use counted_io::{Counted, Sink, Source};
 use crawl_audit::{AuditFault, Audited, audit_among};
 use path_normal::Schemes;
@@ -18,9 +20,11 @@ pub(crate) fn audit_streams(rt: &HostRuntime, schemes: Schemes) -> Ending {
     let Ok(keys) = RandomState::new(rt) else {
         return Ending::Device;
     };
-    let mut reader = Counted::new(rt.stdin());
-    let mut writer = Counted::new(rt.stdout());
-    audit_over(rt.alloc(), keys, schemes, &mut reader, &mut writer)
+    let mut reader = Counted::new(Reasoned::new(rt.stdin()));
+    let mut writer = Counted::new(Reasoned::new(rt.stdout()));
+    let end = audit_over(rt.alloc(), keys, schemes, &mut reader, &mut writer);
+    let end = tell_failed(rt, end, Stream::Input, reader);
+    tell_failed(rt, end, Stream::Output, writer)
 }
 
 // Audits a source, and tells what was found.

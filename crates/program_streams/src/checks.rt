@@ -1,7 +1,10 @@
 //! `check` over the standard streams, and a file with the robots text where one is named.
 //! docs/FORMATS.md has what it reads and writes.
 use crate::ending::Ending;
+use crate::reasoned::Reasoned;
 use crate::robots_file::read_file;
+use crate::streams::Stream;
+use crate::telling::tell_failed;
 use counted_io::{Counted, Source};
 use program_words::{CheckOptions, CheckedText, CheckedUrls};
 use robots_check::{Detail, check, check_input, check_lines};
@@ -26,17 +29,25 @@ pub(crate) fn check_streams(rt: &HostRuntime, options: CheckOptions) -> Ending {
 
 // Checks URLs against the robots text on standard input.
 fn check_by_input(rt: &HostRuntime, token: &Token, urls: CheckedUrls, detail: Detail) -> Ending {
-    let mut reader = Counted::new(rt.stdin());
-    match urls {
+    let mut reader = Counted::new(Reasoned::new(rt.stdin()));
+    let end = match urls {
         CheckedUrls::Words(words) => check_words(rt, &mut reader, token, words.as_slice(), detail),
-        CheckedUrls::Input => {
-            let mut writer = Counted::new(rt.stdout());
-            let mut errors = Counted::new(rt.stderr());
-            let alloc = rt.alloc();
-            let end = check_input(alloc, &mut reader, &mut writer, &mut errors, token, detail);
-            Ending::of_check(end)
-        }
-    }
+        CheckedUrls::Input => check_read(rt, &mut reader, token, detail),
+    };
+    tell_failed(rt, end, Stream::Input, reader)
+}
+
+// Checks the URLs that follow the robots text of a reader.
+fn check_read<R: Source>(
+    rt: &HostRuntime,
+    reader: &mut R,
+    token: &Token,
+    detail: Detail,
+) -> Ending {
+    let mut writer = Counted::new(Reasoned::new(rt.stdout()));
+    let mut errors = Counted::new(rt.stderr());
+    let end = check_input(rt.alloc(), reader, &mut writer, &mut errors, token, detail);
+    tell_failed(rt, Ending::of_check(end), Stream::Output, writer)
 }
 
 // Checks URLs against the robots text of a file.
@@ -58,12 +69,11 @@ fn check_by_body(
 
 // Checks the URLs on standard input against the robots text of a file.
 fn check_given(rt: &HostRuntime, body: &[u8], token: &Token, detail: Detail) -> Ending {
-    let mut reader = Counted::new(rt.stdin());
-    let mut writer = Counted::new(rt.stdout());
+    let mut reader = Counted::new(Reasoned::new(rt.stdin()));
+    let mut writer = Counted::new(Reasoned::new(rt.stdout()));
     let mut errors = Counted::new(rt.stderr());
-    let alloc = rt.alloc();
     let end = check_lines(
-        alloc,
+        rt.alloc(),
         body,
         &mut reader,
         &mut writer,
@@ -71,7 +81,8 @@ fn check_given(rt: &HostRuntime, body: &[u8], token: &Token, detail: Detail) -> 
         token,
         detail,
     );
-    Ending::of_check(end)
+    let end = tell_failed(rt, Ending::of_check(end), Stream::Input, reader);
+    tell_failed(rt, end, Stream::Output, writer)
 }
 
 // Checks the URLs of the command line against the robots text of a reader.
@@ -98,9 +109,9 @@ fn check_urls<R: Source>(
     urls: &[&[u8]],
     detail: Detail,
 ) -> Ending {
-    let mut writer = Counted::new(rt.stdout());
+    let mut writer = Counted::new(Reasoned::new(rt.stdout()));
     let mut errors = Counted::new(rt.stderr());
     let alloc = rt.alloc();
     let end = check(alloc, reader, &mut writer, &mut errors, token, urls, detail);
-    Ending::of_check(end)
+    tell_failed(rt, Ending::of_check(end), Stream::Output, writer)
 }

@@ -4,6 +4,7 @@ ghost use Rattle.std.specs.Prelude.{◌≡◌, option_map};
 ghost use Rattle.program_streams.specs.Endings.{ending_of, ending_of_check, message_of, message_text, exit_status};
 
 use crate::message::Message;
+use crate::streams::Stream;
 use command_server::SessionFault;
 use robots_check::{CheckFault, Outcome};
 use std::net::SocketAddr;
@@ -33,8 +34,14 @@ pub enum Ending {
     NoMemory,
     /// A standard stream failed.
     Device,
+    /// This standard stream was closed from the start.
+    ClosedStream(Stream),
+    /// A stream failed, or nothing can listen where the words say, which was told with the system's reason.
+    ToldDevice,
     /// Nobody takes connections where the program that opens TLS should be.
     NoTlsProgram(SocketAddr),
+    /// The folder of a journal can't be one, or the journal has failed, which was told.
+    NoJournal,
 }
 
 impl Ending {
@@ -73,7 +80,8 @@ impl Ending {
             Ending::Done => 0,
             Ending::LongLine | Ending::ManyLines | Ending::BadLine | Ending::DeniedUrl => 1,
             Ending::BadUrl | Ending::NoUrls | Ending::BadWords => 2,
-            Ending::BadFile | Ending::NoMemory | Ending::Device | Ending::NoTlsProgram(_) => 3,
+            Ending::BadFile | Ending::NoMemory | Ending::Device | Ending::NoJournal => 3,
+            Ending::ClosedStream(_) | Ending::ToldDevice | Ending::NoTlsProgram(_) => 3,
         }
     }
 
@@ -87,12 +95,15 @@ impl Ending {
             | Ending::DeniedUrl
             | Ending::BadUrl
             | Ending::BadFile
-            | Ending::BadWords => None,
+            | Ending::ToldDevice
+            | Ending::BadWords
+            | Ending::NoJournal => None,
             Ending::NoUrls => Some(Message::Words("no URL in the input")),
             Ending::LongLine => Some(Message::Words("line too long")),
             Ending::ManyLines => Some(Message::Words("too many lines")),
             Ending::NoMemory => Some(Message::Words("no memory")),
             Ending::Device => Some(Message::Words("device")),
+            Ending::ClosedStream(stream) => Some(Message::Closed(stream)),
             Ending::NoTlsProgram(at) => Some(Message::NoTlsProgram(at)),
         }
     }

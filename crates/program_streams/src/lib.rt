@@ -9,8 +9,10 @@ mod books;
 mod checks;
 mod ending;
 mod found;
+mod journals;
 mod message;
 mod next;
+mod reasoned;
 mod records;
 mod replays;
 mod robots_file;
@@ -21,9 +23,13 @@ mod telling;
 pub use asked::run;
 pub use books::new_book;
 pub use ending::Ending;
+pub use journals::{tell_bad_folder, tell_failed_journal};
 pub use message::Message;
 pub use next::Next;
+pub use reasoned::Reasoned;
 pub use server_line::ServerLine;
+pub use streams::Stream;
 pub use telling::{
-    tell_bad_line, tell_ending, tell_full_log, tell_listening, tell_listening_at, tell_served,
+    tell_bad_line, tell_ending, tell_failed, tell_full_log, tell_listening, tell_listening_at,
+    tell_no_place, tell_served,
 };

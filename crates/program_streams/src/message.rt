@@ -1,5 +1,7 @@
 //! What is told on standard error of how the program ended.
 //! docs/crawlgate.1.md has the table.
+
+use crate::streams::Stream;
 use std::fmt;
 use std::net::SocketAddr;
 
@@ -8,6 +10,8 @@ use std::net::SocketAddr;
 pub enum Message {
     /// These words.
     Words(&'static str),
+    /// That a standard stream is closed.
+    Closed(Stream),
     /// That nobody takes connections here, where the program that opens TLS should be.
     NoTlsProgram(SocketAddr),
 }
@@ -21,6 +25,11 @@ impl fmt::Display for Message {
     fn fmt<W: fmt::Write>(&self, f: &mut fmt::Formatter<W>) -> fmt::Result {
         match self {
             Message::Words(words) => f.write_str(words),
+            Message::Closed(stream) => {
+                f.write_str("device: ")?;
+                f.write_str(stream.name())?;
+                f.write_str(": closed")
+            }
             Message::NoTlsProgram(at) => {
                 f.write_str("device: no TLS program at ")?;
                 fmt::Display::fmt(at, f)

@@ -6,6 +6,9 @@ ghost use Rattle.robots_check.specs.Notes.{IsNoted, NotesText, notes_text};
 ghost use Rattle.robots_lines.specs.Prints.{Prints};
 
 use crate::ending::Ending;
+use crate::reasoned::Reasoned;
+use crate::streams::Stream;
+use crate::telling::tell_failed;
 use command_server::SessionFault;
 use counted_io::{Counted, Sink, Source};
 use program_words::Notes;
@@ -17,15 +20,17 @@ use std::alloc::{AllocError, Global};
 /// Writes the records of standard input to standard output, and where they are asked for, notes on it to standard
 /// error before.
 pub(crate) fn lines_streams(rt: &HostRuntime, notes: Notes) -> Ending {
-    let mut reader = Counted::new(rt.stdin());
-    let mut writer = Counted::new(rt.stdout());
-    match notes {
-        Notes::Untold => Ending::of(lines(rt.alloc(), &mut reader, &mut writer)),
+    let mut reader = Counted::new(Reasoned::new(rt.stdin()));
+    let mut writer = Counted::new(Reasoned::new(rt.stdout()));
+    let end = match notes {
+        Notes::Untold => lines(rt.alloc(), &mut reader, &mut writer),
         Notes::Told => {
             let mut errors = Counted::new(rt.stderr());
-            Ending::of(lines_noted(rt.alloc(), &mut reader, &mut writer, &mut errors))
+            lines_noted(rt.alloc(), &mut reader, &mut writer, &mut errors)
         }
-    }
+    };
+    let end = tell_failed(rt, Ending::of(end), Stream::Input, reader);
+    tell_failed(rt, end, Stream::Output, writer)
 }
 
 // Writes the lines of a source as `lines` does, and tells before what in it may surprise.

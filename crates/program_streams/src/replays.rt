@@ -6,6 +6,9 @@ ghost use Rattle.program_streams.specs.Told.{BlamesDevice, CountsWrite, TellsExp
 
 use crate::books::new_book;
 use crate::ending::Ending;
+use crate::reasoned::Reasoned;
+use crate::streams::Stream;
+use crate::telling::tell_failed;
 use command_server::replay_among;
 use counted_io::{Counted, Output, Sink, Source};
 use crawl_audit::export;
@@ -26,9 +29,11 @@ pub(crate) fn replay_streams(rt: &HostRuntime, options: ReplayOptions) -> Ending
 }
 
 fn replay_from(rt: &HostRuntime, schemes: Schemes, book: &mut Book) -> Ending {
-    let mut reader = Counted::new(rt.stdin());
-    let mut writer = Counted::new(rt.stdout());
-    replay_over(rt.alloc(), schemes, &mut reader, &mut writer, book)
+    let mut reader = Counted::new(Reasoned::new(rt.stdin()));
+    let mut writer = Counted::new(Reasoned::new(rt.stdout()));
+    let end = replay_over(rt.alloc(), schemes, &mut reader, &mut writer, book);
+    let end = tell_failed(rt, end, Stream::Input, reader);
+    tell_failed(rt, end, Stream::Output, writer)
 }
 
 // Replays a source over a book, and writes the replies.
@@ -75,19 +80,20 @@ fn export_through(
 ) -> Ending
     requires { output.old ≡ [] }
 {
-    let mut reader = Counted::new(rt.stdin());
+    let mut reader = Counted::new(Reasoned::new(rt.stdin()));
     let mut nowhere = Counted::new(io::sink());
-    let mut writer = Counted::new(rt.stdout());
-    let alloc = rt.alloc();
-    export_over(
-        alloc,
+    let mut writer = Counted::new(Reasoned::new(rt.stdout()));
+    let end = export_over(
+        rt.alloc(),
         schemes,
         &mut reader,
         &mut nowhere,
         &mut writer,
         book,
         output,
-    )
+    );
+    let end = tell_failed(rt, end, Stream::Input, reader);
+    tell_failed(rt, end, Stream::Output, writer)
 }
 
 // Replays a source over a book, and writes the history at the end.

@@ -1,11 +1,43 @@
 //! Whether the standard streams are open.
 //! What is opened later takes the lowest number that is free: a socket in the place of standard output
 //! would send the report of a shift to a site, and the port of a server to a client.
+ghost use Rattle.std.specs.Prelude.{◌≡◌};
+ghost use Rattle.program_streams.specs.Endings.{stream_name};
+
 use std::os::fd::AsFd;
 
-/// Whether each of the three is open.
-pub(crate) fn are_open(rt: &HostRuntime) -> bool {
-    is_open(&rt.stdin()) && is_open(&rt.stdout()) && is_open(&rt.stderr())
+/// A standard stream.
+#[derive(Clone, Copy, Debug, PartialEq, Eq)]
+pub enum Stream {
+    Input,
+    Output,
+    Errors,
+}
+
+impl Stream {
+    /// What it is called where it is told.
+    pub(crate) fn name(self) -> &'static str
+        ensures { result.now ≡ stream_name self }
+    {
+        match self {
+            Stream::Input => "standard input",
+            Stream::Output => "standard output",
+            Stream::Errors => "standard error",
+        }
+    }
+}
+
+/// The first of the three that is closed, if one is.
+pub(crate) fn closed_stream(rt: &HostRuntime) -> Option<Stream> {
+    if !is_open(&rt.stdin()) {
+        Some(Stream::Input)
+    } else if !is_open(&rt.stdout()) {
+        Some(Stream::Output)
+    } else if !is_open(&rt.stderr()) {
+        Some(Stream::Errors)
+    } else {
+        None
+    }
 }
 
 // A stream that is closed has no second descriptor.

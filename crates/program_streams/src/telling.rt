@@ -8,10 +8,14 @@ ghost use Rattle.program_streams.specs.Told.{CountsWrite, Tells};
 
 use crate::ending::Ending;
 use crate::found::Found;
+use crate::reasoned::Reasoned;
 use crate::server_line::ServerLine;
+use crate::streams::Stream;
 use counted_io::{Counted, DeviceFault, Output, Sink};
 use line_text::Pieces;
+use program_words::Place;
 use std::alloc::Global;
+use std::io;
 
 /// Tells how the program ended, where that isn't told already.
 pub fn tell_ending(rt: &HostRuntime, ending: Ending) {
@@ -36,6 +40,45 @@ pub fn tell_listening_at(rt: &HostRuntime, path: &str) -> Ending {
     tell(rt, ServerLine::ListensAt { path }.pieces(), Ending::Done)
 }
 
+/// Tells why nothing can listen at a place, with which the program ends.
+pub fn tell_no_place(rt: &HostRuntime, place: &Place, error: &io::Error) -> Ending {
+    let reason = error.kind();
+    if !is_named(reason) {
+        return Ending::Device;
+    }
+    // A standard error that fails too leaves the status alone.
+    let _ = match place {
+        Place::Port(port) => eprintln!(rt; "crawlgate: device: port {port}: {reason}"),
+        Place::Socket(path) => eprintln!(rt; "crawlgate: device: socket {path}: {reason}"),
+    };
+    Ending::ToldDevice
+}
+
+/// Tells why a standard stream failed, where the program ends for a device and this one did.
+pub fn tell_failed<D: Drop>(
+    rt: &HostRuntime,
+    ending: Ending,
+    stream: Stream,
+    device: Counted<Reasoned<D>>,
+) -> Ending {
+    match (ending, device.into_inner().reason) {
+        (Ending::Device, Some(reason)) if is_named(reason) => {
+            let name = stream.name();
+            let _ = eprintln!(rt; "crawlgate: device: {name}: {reason}");
+            Ending::ToldDevice
+        }
+        _ => ending,
+    }
+}
+
+// Whether the system gave a reason.
+fn is_named(reason: io::ErrorKind) -> bool {
+    match reason {
+        io::ErrorKind::Other | io::ErrorKind::Uncategorized => false,
+        _ => true,
+    }
+}
+
 /// Tells what a server has done, with which the program ends.
 pub fn tell_served(rt: &HostRuntime, connections: u64, events: u64) -> Ending {
     let line = ServerLine::Served {
@@ -52,7 +95,9 @@ pub fn tell_full_log(rt: &HostRuntime) {
 
 // Writes a line to standard output, with which the program ends so.
 fn tell(rt: &HostRuntime, line: Pieces<'_>, ending: Ending) -> Ending {
-    tell_to(rt.alloc(), &mut Counted::new(rt.stdout()), line, ending)
+    let mut writer = Counted::new(Reasoned::new(rt.stdout()));
+    let end = tell_to(rt.alloc(), &mut writer, line, ending);
+    tell_failed(rt, end, Stream::Output, writer)
 }
 
 /// Writes a line to a sink, with which the program ends so.

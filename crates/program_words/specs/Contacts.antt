@@ -1,6 +1,6 @@
 -- Whom a site may write to about a crawl. RFC 9110, sections 5.6.5 and 10.1.5.
 -- Cited by the contracts of `contact` and `words`; docs/crawlgate.1.md has the option.
-use Rattle.std.specs.Prelude.{◌≡◌, ◌≢◌, ◌≤◌, ¬◌, ℕ, List, length, All, Option, Some, None, codes, string_bytes}
+use Rattle.std.specs.Prelude.{◌≡◌, ◌≢◌, ◌≤◌, ℕ, List, length, All, Some, None, codes, string_bytes}
 use Rattle.clap.specs.Words.{first_value}
 use Rattle.clap.specs.declared.parser.matches.Found.{Found}
 use Rattle.program_words.specs.declared.subcommand.Contact.{Contact}

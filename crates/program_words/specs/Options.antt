@@ -6,10 +6,13 @@ use Rattle.clap.specs.Words.{first_value, one_text}
 use Rattle.clap.specs.declared.parser.matches.Found.{Found}
 use Rattle.program_words.specs.declared.subcommand.Ahead.{Ahead}
 use Rattle.program_words.specs.declared.subcommand.Ahead.TheVariants as aheads
+use Rattle.program_words.specs.declared.subcommand.BadJobs.{BadJobs}
+use Rattle.program_words.specs.declared.subcommand.BadJobs.TheVariants as bad_jobs
 use Rattle.program_words.specs.declared.subcommand.CheckOptions.{CheckOptions}
 use Rattle.program_words.specs.declared.subcommand.CheckedText.{CheckedText}
 use Rattle.program_words.specs.declared.subcommand.CheckedText.TheVariants.{Input, File}
 use Rattle.program_words.specs.Contacts.{IsAllowedContact, IsContactOf}
+use Rattle.program_words.specs.Journals.{IsJournalOf}
 use Rattle.program_words.specs.Tls.{IsLoopback, IsTlsByOf}
 use Rattle.program_words.specs.declared.subcommand.Notes.{Notes}
 use Rattle.program_words.specs.declared.subcommand.Notes.TheVariants as notes
@@ -126,6 +129,11 @@ pub record AreNotesOf (words : Found) (asked : Notes) : Type 0 where
   pub told : one_text words (codes "notes") ≡ Some (codes "true") → asked ≡ notes.Told
   pub untold : one_text words (codes "notes") ≡ Some (codes "false") → asked ≡ notes.Untold
 
+-- lines that are no jobs are skipped where the flag says so, and else end the shift
+pub record AreBadJobsOf (words : Found) (asked : BadJobs) : Type 0 where
+  pub skip : one_text words (codes "skip") ≡ Some (codes "true") → asked ≡ bad_jobs.Skip
+  pub end : one_text words (codes "skip") ≡ Some (codes "false") → asked ≡ bad_jobs.End
+
 -- the options of a shift are those that were matched
 pub record AreShiftOf (words : Found) (options : ShiftOptions) : Type 0 where
   pub reach : IsReachOf words options.reach
@@ -134,6 +142,7 @@ pub record AreShiftOf (words : Found) (options : ShiftOptions) : Type 0 where
   pub workers : IsNumberOf words (codes "workers") options.workers
   pub limits : AreLimitsOf words options.limits
   pub times : AreTimesOf words options.times
+  pub skips : AreBadJobsOf words options.bad_jobs
 
 -- a number that was matched under its own name, and no end
 abbrev pub AreCounted : Found → Connections → Type 0
@@ -169,6 +178,7 @@ pub record AreServeOf (words : Found) (options : ServeOptions) : Type 0 where
   pub ahead : IsAheadOf words options.ahead
   pub client_permits : IsBoundOf words (codes "client-permits") options.client_permits
   pub client_authorities : IsBoundOf words (codes "client-authorities") options.client_authorities
+  pub journal : IsJournalOf words options.journal
 
 -- the options of a replay are those that were matched
 pub record AreReplayOf (words : Found) (options : ReplayOptions) : Type 0 where

@@ -72,7 +72,12 @@ fn shift_words<'a>(alloc: Global, defaults: &'a Defaults) -> Result<Command<'a>,
             "tsv",
             "Writes a table of the hops, each as soon as it has ended",
         )
-        .conflicts_with("export")?)
+        .conflicts_with("export")?)?
+        .arg(flag(
+            alloc,
+            "skip",
+            "Tells lines that are no jobs on standard error, and does the others",
+        ))
 }
 
 // The words of `serve`.
@@ -96,7 +101,8 @@ fn serve_words<'a>(alloc: Global, defaults: &'a Defaults) -> Result<Command<'a>,
         .arg(number(alloc, "workers", &defaults.clients.workers))?
         .arg(number(alloc, "connections", &defaults.clients.connections))?;
     let serve = limit_words(alloc, defaults, serve)?;
-    time_words(alloc, defaults, serve)?
+    let serve = time_words(alloc, defaults, serve)?;
+    journal_words(alloc, serve)?
         .arg(number(alloc, "patience", &defaults.clients.patience))?
         .arg(bound(alloc, "ahead", &defaults.clients.ahead))?
         .arg(bound(alloc, "client-permits", &defaults.clients.permits))?
@@ -173,6 +179,30 @@ fn time_words<'a>(
                 .value_name("TEXT")
                 .action(ArgAction::Set)
                 .help("Tells sites whom to write to: User-Agent is the product token and (TEXT)"),
+        )
+}
+
+// Where the journal of the gate stands, and when it is synced.
+fn journal_words<'a>(alloc: Global, command: Command<'a>) -> Result<Command<'a>, AllocError> {
+    command
+        .arg(
+            Arg::new(alloc, "journal")
+                .long("journal")
+                .value_name("FOLDER")
+                .action(ArgAction::Set)
+                .help(
+                    "Writes the history to files of this folder before anything of it is told; it is empty, or made",
+                ),
+        )?
+        .arg(
+            Arg::new(alloc, "journal-sync")
+                .long("journal-sync")
+                .value_name("WHEN")
+                .action(ArgAction::Set)
+                .help(
+                    "When that outlives the machine too: always before it is told, second by second, or never; always, where it is left out",
+                )
+                .requires_arg("journal")?,
         )
 }
 

@@ -23,7 +23,9 @@ and the output has a line for each hop of each job, and one for all:
     1 1 PAGE norule 200 22 whole
     2 1 NO a.example line 2
     SHIFT jobs 2 hops 2 starts 1
-With --tsv it is a table, and with --export a history, which audit reads.";
+With --tsv it is a table, and with --export a history, which audit reads.
+A line that is no job ends it, and is told with its fault on standard error. With --skip the others are
+done; the exit status is 1 in both cases.";
 
 /// The lines of `serve`, and how clients of other machines come.
 pub(crate) const SERVE: &str =

@@ -7,12 +7,14 @@ mod command;
 mod contact;
 mod defaults;
 mod help;
+mod journal;
+mod numbers;
 mod subcommand;
 mod tls;
 mod words;
 
 pub use subcommand::{
-    Ahead, CheckOptions, CheckedText, CheckedUrls, Contact, Notes, Place, ReplayOptions,
-    ServeOptions, ShiftOptions, Subcommand, Told,
+    Ahead, BadJobs, CheckOptions, CheckedText, CheckedUrls, Contact, JournalOptions, Notes, Place,
+    ReplayOptions, ServeOptions, ShiftOptions, Subcommand, Told,
 };
 pub use words::options;

@@ -2,6 +2,7 @@
 //! docs/crawlgate.1.md has them all.
 use client_wire::Connections;
 use gate_core::Limits;
+use journal_files::SyncPolicy;
 use path_normal::Schemes;
 use robots_check::Detail;
 use robots_text::Token;
@@ -61,6 +62,16 @@ pub struct ShiftOptions {
     /// Whom requests name behind the agent.
     pub contact: Contact,
     pub told: Told,
+    pub bad_jobs: BadJobs,
+}
+
+/// What a line that is no job does to a shift.
+#[derive(Clone, Copy, Debug, PartialEq, Eq)]
+pub enum BadJobs {
+    /// It ends the shift before anything is fetched.
+    End,
+    /// It is told, and the other jobs are done.
+    Skip,
 }
 
 /// Where clients connect.
@@ -70,6 +81,14 @@ pub enum Place {
     Port(u16),
     /// At a socket that is a file of this path.
     Socket(String),
+}
+
+/// Where a gate's journal stands, and when it is synced.
+#[derive(Drop)]
+pub struct JournalOptions {
+    /// The folder of its files.
+    pub folder: String,
+    pub sync: SyncPolicy,
 }
 
 /// Whom a site may write to about a crawl.
@@ -117,6 +136,8 @@ pub struct ServeOptions {
     pub client_permits: u64,
     /// How many authorities may become known by a client; the greatest number, where all may.
     pub client_authorities: u64,
+    /// What the gate's history is written to before anything of it is told, if anything.
+    pub journal: Option<JournalOptions>,
 }
 
 /// What is checked.

@@ -1,33 +1,35 @@
 //! The words of the program's command line, read by `clap`.
 //! Nothing below sees `clap`.
-ghost use Rattle.std.specs.Prelude.{◌≡◌, codes, IfOk, IfSome, ◌≤◌};
-ghost use Rattle.permit_book.specs.Numbers.{last_generation};
-ghost use Rattle.gate_core.specs.Limits.{AreLimits};
+ghost use Rattle.std.specs.Prelude.{◌≡◌, codes, IfOk, IfSome};
 ghost use Rattle.clap.specs.Words.{found_of};
-ghost use Rattle.client_wire.specs.Accepts.{AreServed};
 ghost use Rattle.program_words.specs.Contacts.{IsAllowedContact, IsContactOf};
-ghost use Rattle.program_words.specs.Options.{AreConnectionsOf, AreLimitsOf, AreNotesOf, AreSchemesOf, AreTimesOf, IsAheadOf, IsAllowedAhead, IsBoundOf, IsChosen, IsChosenBy, IsInRange, IsNumberOf, IsPlaceOf, IsReachOf, IsSetBy};
+ghost use Rattle.program_words.specs.Journals.{IsJournalOf};
+ghost use Rattle.program_words.specs.Options.{AreBadJobsOf, AreNotesOf, AreSchemesOf, IsChosen, IsChosenBy, IsInRange, IsNumberOf, IsPlaceOf, IsReachOf, IsSetBy};
 ghost use Rattle.program_words.specs.Tls.{IsLoopback, IsTlsByOf};
-ghost use Rattle.tcp_wire.specs.TimeLimits.{AreWithin};
 
 use crate::checked::check_of;
 use crate::command::program;
 use crate::contact::contact_of;
 use crate::defaults::Defaults;
+use crate::journal::{NoSync, journal_of, sync_of};
+use crate::numbers::{
+    ahead_of, bound_of, connections_of, limits_of, number_of, read_number, times_of,
+};
 use crate::subcommand::{
-    Ahead, Contact, Notes, Place, ReplayOptions, ServeOptions, ShiftOptions, Subcommand, Told,
+    BadJobs, Contact, JournalOptions, Notes, Place, ReplayOptions, ServeOptions, ShiftOptions,
+    Subcommand, Told,
 };
 use crate::tls::{NotLoopback, tls_by_of};
 use clap::error::ErrorKind;
 use clap::{ArgMatches, Command, Error};
-use client_wire::{AHEAD_SECONDS, Connections, MAX_CONNECTIONS, PATIENCE_SECONDS};
-use gate_core::{Limits, MAX_AUTHORITIES, MAX_LOG, MAX_PLACES};
+use client_wire::PATIENCE_SECONDS;
+use gate_core::{Limits, MAX_AUTHORITIES};
 use job_line::MAX_WORKERS;
 use path_normal::Schemes;
 use permit_book::{LAST_GENERATION, MAX_SLOTS};
 use std::alloc::{AllocError, Global};
 use std::net::SocketAddr;
-use tcp_wire::{CONNECT_SECONDS, Reach, STEP_SECONDS, TimeLimits, WHOLE_SECONDS};
+use tcp_wire::Reach;
 
 // Why words that `clap` takes are refused.
 const BAD_NUMBER: &str = "a number is written in digits alone";
@@ -36,6 +38,8 @@ const BAD_PATH: &str = "a socket's path has 1 to 96 octets, and no control chara
 
 const BAD_CONTACT: &str =
     "a contact has 1 to 256 characters of ASCII, and no parenthesis or backslash";
+
+const BAD_SYNC: &str = "a journal is synced always, each second or never";
 
 const BAD_TLS_BY: &str =
     "--tls-by names an address of this machine and a port, as 127.0.0.1:3131 or [::1]:3131";
@@ -231,6 +235,7 @@ fn shift_by(
         tls_by,
         contact,
         told: told_by(matches),
+        bad_jobs: bad_jobs_of(matches),
     }))
 }
 
@@ -241,21 +246,33 @@ fn serve_of(alloc: Global, matches: &ArgMatches<'_>) -> Result<Chosen, AllocErro
     let Some(place) = place_of(alloc, matches)? else {
         return Ok(Chosen::Refused(BAD_PATH));
     };
-    match contact_of(alloc, matches)? {
-        Some(contact) => Ok(serve_at(place, contact, matches)),
-        None => Ok(Chosen::Refused(BAD_CONTACT)),
+    let Some(contact) = contact_of(alloc, matches)? else {
+        return Ok(Chosen::Refused(BAD_CONTACT));
+    };
+    match sync_of(matches) {
+        Ok(sync) => {
+            let journal = journal_of(alloc, sync, matches)?;
+            Ok(serve_at(place, contact, journal, matches))
+        }
+        Err(NoSync) => Ok(Chosen::Refused(BAD_SYNC)),
     }
 }
 
-fn serve_at(place: Place, contact: Contact, matches: &ArgMatches<'_>) -> Chosen
+fn serve_at(
+    place: Place,
+    contact: Contact,
+    journal: Option<JournalOptions>,
+    matches: &ArgMatches<'_>,
+) -> Chosen
     requires place { IsPlaceOf (found_of matches.now) place }
     requires contact { IsAllowedContact contact }
     requires told { IsContactOf (found_of matches.now) contact }
+    requires journal { IsJournalOf (found_of matches.now) journal }
     ensures range { IsChosen result }
     ensures words { IsChosenBy (found_of matches.now) result }
 {
     match tls_by_of(matches) {
-        Ok(tls_by) => match served_at(place, contact, tls_by, matches) {
+        Ok(tls_by) => match served_at(place, contact, journal, tls_by, matches) {
             Some(subcommand) => Chosen::Taken(subcommand),
             None => Chosen::Refused(BAD_NUMBER),
         },
@@ -266,12 +283,14 @@ fn serve_at(place: Place, contact: Contact, matches: &ArgMatches<'_>) -> Chosen
 fn served_at(
     place: Place,
     contact: Contact,
+    journal: Option<JournalOptions>,
     tls_by: Option<SocketAddr>,
     matches: &ArgMatches<'_>,
 ) -> Option<Subcommand>
     requires place { IsPlaceOf (found_of matches.now) place }
     requires contact { IsAllowedContact contact }
     requires told { IsContactOf (found_of matches.now) contact }
+    requires journal { IsJournalOf (found_of matches.now) journal }
     requires loopback { IfSome tls_by IsLoopback }
     requires named { IsTlsByOf (found_of matches.now) tls_by }
     ensures range { IfSome result IsInRange }
@@ -290,34 +309,8 @@ fn served_at(
         ahead: ahead_of(matches)?,
         client_permits: bound_of(matches, "client-permits", MAX_SLOTS)?,
         client_authorities: bound_of(matches, "client-authorities", MAX_AUTHORITIES)?,
+        journal,
     }))
-}
-
-// How long the gate fetches for lines sent ahead, and no bound where the option was left out.
-fn ahead_of(matches: &ArgMatches<'_>) -> Option<Ahead>
-    ensures range { IfSome result IsAllowedAhead }
-    ensures words { IfSome result (IsAheadOf (found_of matches.now)) }
-{
-    match matches.get_str("ahead") {
-        Some(_) => {
-            let seconds = number_of(matches, "ahead", AHEAD_SECONDS)?;
-            Some(Ahead::Seconds(seconds))
-        }
-        None => Some(Ahead::Unbounded),
-    }
-}
-
-// So many connections as the option says, or no end of them.
-fn connections_of(matches: &ArgMatches<'_>) -> Option<Connections>
-    ensures range { IfSome result AreServed }
-    ensures words { IfSome result (AreConnectionsOf (found_of matches.now)) }
-{
-    let count = number_of(matches, "connections", MAX_CONNECTIONS)?;
-    if matches.get_flag("endless") {
-        Some(Connections::Endless)
-    } else {
-        Some(Connections::AtMost(count))
-    }
 }
 
 // The socket that the option names, or else the port.
@@ -348,17 +341,6 @@ fn port_of(matches: &ArgMatches<'_>) -> Option<u16>
     u16::try_from(number).ok()
 }
 
-// The limits of time that the options set, where each is in its range.
-fn times_of(matches: &ArgMatches<'_>) -> Option<TimeLimits>
-    ensures within { IfSome result AreWithin }
-    ensures words { IfSome result (AreTimesOf (found_of matches.now)) }
-{
-    let connect = number_of(matches, "connect-timeout", CONNECT_SECONDS)?;
-    let step = number_of(matches, "read-timeout", STEP_SECONDS)?;
-    let whole = number_of(matches, "fetch-timeout", WHOLE_SECONDS)?;
-    Some(TimeLimits::of_seconds(connect, step, whole))
-}
-
 // To which addresses fetches connect.
 fn reach_of(matches: &ArgMatches<'_>) -> Reach
     ensures { IsReachOf (found_of matches.now) result }
@@ -370,6 +352,17 @@ fn reach_of(matches: &ArgMatches<'_>) -> Reach
     }
 }
 
+// What a line that is no job does.
+fn bad_jobs_of(matches: &ArgMatches<'_>) -> BadJobs
+    ensures { AreBadJobsOf (found_of matches.now) result }
+{
+    if matches.get_flag("skip") {
+        BadJobs::Skip
+    } else {
+        BadJobs::End
+    }
+}
+
 fn told_by(matches: &ArgMatches<'_>) -> Told {
     if matches.get_flag("export") {
         Told::History
@@ -378,51 +371,4 @@ fn told_by(matches: &ArgMatches<'_>) -> Told {
     } else {
         Told::Outcomes
     }
-}
-
-// The limits that the options set, where each is in its range.
-fn limits_of(matches: &ArgMatches<'_>, first_generation: u64) -> Option<Limits>
-    requires { (1 ≤ first_generation) × (first_generation ≤ last_generation) }
-    ensures range { IfSome result AreLimits }
-    ensures first { IfSome result (λ limits. limits.first_generation ≡ first_generation) }
-    ensures words { IfSome result (AreLimitsOf (found_of matches.now)) }
-{
-    Some(Limits {
-        slots: number_of(matches, "slots", MAX_SLOTS)?,
-        first_generation,
-        log_limit: number_of(matches, "log", MAX_LOG)?,
-        authority_limit: number_of(matches, "authorities", MAX_AUTHORITIES)?,
-        places: number_of(matches, "places", MAX_PLACES)?,
-    })
-}
-
-// What an option bounds, and no bound where it was left out.
-fn bound_of(matches: &ArgMatches<'_>, name: &str, most: u64) -> Option<u64>
-    ensures { IfSome result (IsBoundOf (found_of matches.now) name.now) }
-{
-    match matches.get_str(name) {
-        Some(_) => number_of(matches, name, most),
-        None => Some(u64::MAX),
-    }
-}
-
-// The number of an option, where it is from 1 to `most`.
-fn number_of(matches: &ArgMatches<'_>, name: &str, most: u64) -> Option<u64>
-    ensures least { IfSome result (λ number. 1 ≤ number) }
-    ensures most { IfSome result (λ number. number ≤ most) }
-    ensures word { IfSome result (IsNumberOf (found_of matches.now) name.now) }
-{
-    let number = read_number(matches, name)?;
-    if 1 <= number && number <= most {
-        Some(number)
-    } else {
-        None
-    }
-}
-
-// The number that was matched under the option's name.
-fn read_number(matches: &ArgMatches<'_>, name: &str) -> Option<u64>
-    ensures { IfSome result (IsNumberOf (found_of matches.now) name.now) }
-{
-    matches.get_one::<u64>(name)
 }

@@ -43,7 +43,7 @@ fn row_of<'t>(alloc: Global, rule: RuleLine<'t>, path: &[u8]) -> Result<Row<'t>,
     Ok(Row {
         rule,
         octets: form.len(),
-        matches: matches(form.as_slice(), &Path::new(path)),
+        matches: matches(form.as_slice(), &mut Path::new(path)),
     })
 }
 

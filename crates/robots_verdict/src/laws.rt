@@ -36,7 +36,7 @@ pub fn verdict_plain(policy: &Policy, token: &Token, path: &[u8]) -> Verdict
     if is_robots_path(path) {
         return Verdict::Allow(Allowed::RobotsPath);
     }
-    verdict_of(policy.strongest_by_text(token, &Path::new(path)))
+    verdict_of(policy.strongest_by_text(token, &mut Path::new(path)))
 }
 
 /// The verdict of a text by the rules for the token, one after another. It makes a pattern of each.

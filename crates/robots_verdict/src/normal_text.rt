@@ -54,8 +54,8 @@ impl NormalText {
     }
 
     /// The weight of the strongest line for the token that matches the path. It takes no memory.
-    pub(crate) fn strongest(&self, token: &Token, path: &Path<'_>) -> Option<Weight>
-        ensures { IsBest (numbered_records self.now) token.now path.now result }
+    pub(crate) fn strongest(&self, token: &Token, path: &mut Path<'_, '_>) -> Option<Weight>
+        ensures { IsBest (numbered_records self.now) token.now path.old result }
     {
         let mut best = None;
         let mut rules = self.text.rules_for(token);

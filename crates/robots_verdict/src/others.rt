@@ -43,12 +43,13 @@ impl Others {
         &self,
         rows: &Rows,
         group: u32,
-        path: &Path<'_>,
+        path: &mut Path<'_, '_>,
         found: Option<usize>,
     ) -> Option<usize>
         requires { IsOtherIndex rows.now.rows self.now.places.items self.now.groups.items }
-        ensures { FindsLeast (λ place. IsFound found place
-            ⊎ IsOtherHit rows.now.rows group path.now place) result }
+        ensures finds { FindsLeast (λ place. IsFound found place
+            ⊎ IsOtherHit rows.now.rows group path.old place) result }
+        ensures stays { path.new ≡ path.old }
     {
         let places = self.places.as_slice();
         let groups = self.groups.as_slice();

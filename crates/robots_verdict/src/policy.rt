@@ -12,7 +12,7 @@ use crate::index::Index;
 use crate::normal_text::NormalText;
 use crate::weight::Weight;
 use memchr::memchr_iter;
-use path_pattern::{Path, Places};
+use path_pattern::{Path, Places, empty_room};
 use robots_text::{RobotsText, Token};
 use std::alloc::{AllocError, Global};
 use std::marker::Model;
@@ -37,6 +37,9 @@ const SHORT_PATH: usize = 512;
 const LONG_TEXT: usize = 16_384;
 
 const FEW_STARS: usize = 64;
+
+// A text with more stars than these has its index after the first walk that tries them on a long path.
+const MANY_STARS: usize = 1_000;
 
 /// A robots text, and an index of its rules, where one was made. Without it, verdicts walk over the text.
 #[derive(Drop)]
@@ -124,10 +127,9 @@ impl Policy {
             return Verdict::Allow(Allowed::RobotsPath);
         }
         if self.wants_places(path) {
-            let places = Places::of(path);
-            self.verdict_elsewhere(token, &Path::with(path, &places))
+            self.dear_verdict(token, path)
         } else {
-            self.verdict_elsewhere(token, &Path::new(path))
+            self.verdict_elsewhere(token, &mut Path::new(path))
         }
     }
 
@@ -139,15 +141,34 @@ impl Policy {
                 Some(index) => index.ranks.other_count() > FEW_STARS,
                 None => {
                     let text = self.text().bytes();
-                    text.len() > LONG_TEXT && has_many_stars(text)
+                    text.len() > LONG_TEXT && has_more_stars(text, FEW_STARS)
                 }
             }
     }
 
-    // The verdict on a path that is not that of robots files.
-    fn verdict_elsewhere(&self, token: &Token, path: &Path<'_>) -> Verdict
+    // The same where many patterns may be tried on a long path. What is kept of the path takes much of the stack,
+    // which other verdicts need not have.
+    #[inline(never)]
+    fn dear_verdict(&self, token: &Token, path: &[u8]) -> Verdict
         requires { path.now ≢ robots_path }
         ensures { IsVerdict (numbered_records self.now) token.now path.now result }
+    {
+        self.count_dear();
+        let (places, mut room) = (Places::of(path), empty_room());
+        self.verdict_elsewhere(token, &mut Path::with(path, &places, &mut room))
+    }
+
+    // Counts a walk that tries very many patterns as all those after which an index pays.
+    fn count_dear(&self) {
+        if self.index.is_none() && has_more_stars(self.text().bytes(), MANY_STARS) {
+            self.walks.fetch_add(WALKS, Ordering::Relaxed);
+        }
+    }
+
+    // The verdict on a path that is not that of robots files.
+    fn verdict_elsewhere(&self, token: &Token, path: &mut Path<'_, '_>) -> Verdict
+        requires { path.old ≢ robots_path }
+        ensures { IsVerdict (numbered_records self.now) token.now path.old result }
     {
         match &self.index {
             Some(index) => self.verdict_by(index, token, path),
@@ -159,10 +180,10 @@ impl Policy {
     }
 
     // The same by the index.
-    fn verdict_by(&self, index: &Index, token: &Token, path: &Path<'_>) -> Verdict
+    fn verdict_by(&self, index: &Index, token: &Token, path: &mut Path<'_, '_>) -> Verdict
         requires index { IsIndexOf self.now index.now }
-        requires elsewhere { path.now ≢ robots_path }
-        ensures { IsVerdict (numbered_records self.now) token.now path.now result }
+        requires elsewhere { path.old ≢ robots_path }
+        ensures { IsVerdict (numbered_records self.now) token.now path.old result }
     {
         let groups = index.heads.groups_for(token.text().as_bytes());
         index
@@ -171,13 +192,13 @@ impl Policy {
     }
 
     /// The weight of the strongest line that applies, by a walk over the text.
-    pub(crate) fn strongest_by_text(&self, token: &Token, path: &Path<'_>) -> Option<Weight>
-        ensures { IsBest (numbered_records self.now) token.now path.now result }
+    pub(crate) fn strongest_by_text(&self, token: &Token, path: &mut Path<'_, '_>) -> Option<Weight>
+        ensures { IsBest (numbered_records self.now) token.now path.old result }
     {
         self.text.strongest(token, path)
     }
 }
 
-fn has_many_stars(text: &[u8]) -> bool {
-    memchr_iter(b'*', text).nth(FEW_STARS).is_some()
+fn has_more_stars(text: &[u8], count: usize) -> bool {
+    memchr_iter(b'*', text).nth(count).is_some()
 }

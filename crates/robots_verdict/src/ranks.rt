@@ -1,6 +1,6 @@
 //! The strongest row that matches a path, found without a walk past rows that can't match.
 //! RFC 9309, section 2.2.2.
-ghost use Rattle.std.specs.Prelude.{◌⊎◌, ◌≤◌, IfOk, length};
+ghost use Rattle.std.specs.Prelude.{◌≡◌, ◌⊎◌, ◌≤◌, IfOk, length};
 ghost use Rattle.std.specs.List.Sorted.{IsSortedBy};
 ghost use Rattle.robots_text.specs.Lines.{text_limit};
 ghost use Rattle.robots_verdict.specs.Index.{FindsLeast, IsHit};
@@ -40,10 +40,16 @@ impl Ranks {
     }
 
     /// The place of the strongest row of these groups that matches the path.
-    pub(crate) fn first(&self, rows: &Rows, groups: &[u32], path: &Path<'_>) -> Option<usize>
+    pub(crate) fn first(
+        &self,
+        rows: &Rows,
+        groups: &[u32],
+        path: &mut Path<'_, '_>,
+    ) -> Option<usize>
         requires falling { IsSortedBy is_row_above rows.now.rows }
         requires searchable { IsSearchable rows.now.rows self.now }
-        ensures { FindsLeast (IsHit rows.now.rows groups.now path.now) result }
+        ensures finds { FindsLeast (IsHit rows.now.rows groups.now path.old) result }
+        ensures stays { path.new ≡ path.old }
     {
         let mut found = None;
         let mut last = None;
@@ -62,13 +68,14 @@ impl Ranks {
         &self,
         rows: &Rows,
         group: u32,
-        path: &Path<'_>,
+        path: &mut Path<'_, '_>,
         found: Option<usize>,
     ) -> Option<usize>
         requires falling { IsSortedBy is_row_above rows.now.rows }
         requires searchable { IsSearchable rows.now.rows self.now }
-        ensures { FindsLeast (λ place. IsFound found place
-            ⊎ IsHitIn rows.now.rows group path.now place) result }
+        ensures finds { FindsLeast (λ place. IsFound found place
+            ⊎ IsHitIn rows.now.rows group path.old place) result }
+        ensures stays { path.new ≡ path.old }
     {
         let stronger = lesser(found, self.plain.least(rows, group, path.octets()));
         self.others.least(rows, group, path, stronger)

@@ -1,5 +1,5 @@
 -- The two parts of the line are pushed, one behind the other.
-use Rattle.std.proofs.Common.{ℕ, List, ◌++◌, subst, sym}
+use Rattle.std.proofs.Common.{ℕ, List, ◌++◌, subst}
 use Rattle.counted_io.specs.Device.{AppendsPrefix}
 use Rattle.counted_io.specs.Output.{Passes, Pushes}
 use Rattle.counted_io.proofs.CallerLemmas.{prefix_piece}

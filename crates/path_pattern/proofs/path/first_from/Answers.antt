@@ -1,10 +1,16 @@
--- The places tell where the run is behind the place at which the search was left.
+-- What is first in the part from a place on is first from there on.
 -- Used by `first_from`.
-use Rattle.path_pattern.proofs.BlockLemmas.{search_goes_on}
+use Rattle.std.proofs.Common.{subst, sym}
+use Rattle.std.specs.Prelude.{None, Some}
+use Rattle.std.proofs.lemmas.List.{take_rest}
+use Rattle.memchr.specs.Find.{FindsNeedle}
+use Rattle.path_pattern.proofs.PlaceLemmas.{from_first, from_nowhere}
 use Rattle.path_pattern.proofs.path.first_from.Goals as goal
-use Rattle.std.proofs.Common.{arith}
 
-pub returns-in-LeftAt : goal.returns-in-LeftAt
-returns-in-LeftAt c =
-    let left = c.in-LeftAt.ensures in
-    search_goes_on c.args.path.now c.args.run.now c.args.from c.in-LeftAt.place left.0 c.first_of.result (omega (arith, left.1)) c.first_of.ensures
+pub returns-in_err-place : goal.returns-in_err-place
+returns-in_err-place c =
+    subst (FindsNeedle c.args.path.now c.args.run.now c.args.from) (sym c.from_residual.ensures)
+    (from_nowhere c.args.path.now c.args.run.now c.args.from c.requires (subst (λ part. FindsNeedle part c.args.run.now 0 None) (take_rest c.args.path.now c.args.from) c.in_err-place.ensures))
+
+pub returns : goal.returns
+returns c = from_first c.args.path.now c.args.run.now c.args.from c.in_ok-place.place c.requires (subst (λ part. FindsNeedle part c.args.run.now 0 (Some c.in_ok-place.place)) (take_rest c.args.path.now c.args.from) c.in_ok-place.ensures)

@@ -1,44 +1,49 @@
 -- The first run begins the path, and the star after it stands for any octets.
 -- Used by `fits`.
-use Rattle.std.proofs.Common.{◌≡◌, ◌∷◌, ◌++◌, ◌↔◌, List, ℕ, Bool, false, IsTrue, sym, subst}
+use Rattle.std.proofs.Common.{◌≡◌, ◌∷◌, ◌∙◌, ◌↔◌, List, ℕ, Bool, false, IsTrue, drop, length, sym, subst}
 use Rattle.std.proofs.lemmas.Bool.{true≢false}
+use Rattle.memchr.specs.Find.{OccursAt}
 use Rattle.path_pattern.specs.Matches.{Spells}
-use Rattle.path_pattern.specs.Runs.{BeginsNot, IsSplitAtStar}
+use Rattle.path_pattern.specs.Runs.{IsSplitAtStar}
+use Rattle.path_pattern.proofs.PlaceLemmas.{begun, not_begun}
 use Rattle.path_pattern.proofs.SpellsLemmas.{off_start, on_start, rest_is}
 use Rattle.path_pattern.proofs.pattern.fits.Goals as goal
 use Rattle.path_normal.specs.Octets.{star}
 
-begun : (pattern run after path rest : List ℕ) (anchored result : Bool) → IsSplitAtStar pattern run after → path ≡ run ++ rest → (IsTrue result ↔ Spells (star ∷ after) anchored rest) → IsTrue result ↔ Spells pattern anchored path
-begun pattern run after path rest anchored result split is tested = (
-  λ fits. on_start pattern run after anchored path rest split is (tested.0 fits),
-  λ spells.
-      let off = off_start pattern run after anchored path split spells in
-      let same = rest_is run path off.0 rest off.1 is in
-      tested.1 (subst (Spells (star ∷ after) anchored) same off.2),
-)
+module _ (pattern run after path octets : List ℕ) (anchored begins : Bool) (split : IsSplitAtStar pattern run after) (same : octets ≡ path) (tested : IsTrue begins ↔ OccursAt octets run 0) where
+  fits_begun : (result : Bool) → IsTrue begins → (IsTrue result ↔ Spells (star ∷ after) anchored (drop (length run) path)) → IsTrue result ↔ Spells pattern anchored path
+  fits_begun result begun_so rest_fits =
+      let is = begun path run (subst (λ them. OccursAt them run 0) same (tested.0 begun_so)) in (
+        λ fits. on_start pattern run after anchored path (drop (length run) path) split is (rest_fits.0 fits),
+        λ spells.
+            let off = off_start pattern run after anchored path split spells in
+            rest_fits.1 (subst (Spells (star ∷ after) anchored) (rest_is run path off.0 (drop (length run) path) off.1 is) off.2),
+      )
 
-not_begun : (pattern run after path : List ℕ) (anchored : Bool) → IsSplitAtStar pattern run after → BeginsNot path run → IsTrue false ↔ Spells pattern anchored path
-not_begun pattern run after path anchored split not = (
-  λ never. absurd (true≢false (sym never)),
-  λ spells. let off = off_start pattern run after anchored path split spells in absurd (not off.0 off.1),
-)
+  fits_not : begins ≡ false → IsTrue begins ↔ Spells pattern anchored path
+  fits_not not_so = (
+    λ begins_so. absurd (true≢false (sym begins_so ∙ not_so)),
+    λ spells.
+        let off = off_start pattern run after anchored path split spells in
+        absurd (not_begun path run (λ occurs. true≢false (sym (tested.1 (subst (λ them. OccursAt them run 0) (sym same) occurs)) ∙ not_so)) off.0 off.1),
+  )
 
-pub returns-in-Some : goal.returns-in-Some
-returns-in-Some c =
+pub returns-then-begins_with-clause-tells : goal.returns-then-begins_with-clause-tells
+returns-then-begins_with-clause-tells c =
     let cut = c.split_at_place.result in
-    begun c.args.pattern.now cut.0.now cut.1.now c.args.path.now c.in-Some.rest c.args.anchored c.fits_last.result c.split_at_place.ensures c.in-Some.ensures c.fits_last.ensures
+    fits_begun c.args.pattern.now cut.0.now cut.1.now c.args.path.now c.octets-in-Only.result.now c.args.anchored c.begins_with.result c.split_at_place.ensures c.octets-in-Only.ensures c.begins_with.ensures c.fits_last.result c.if-begins_with.true c.fits_last.ensures.tells
 
-pub returns-in-None-after_start : goal.returns-in-None-after_start
-returns-in-None-after_start c =
+pub returns-else-begins_with-clause-tells : goal.returns-else-begins_with-clause-tells
+returns-else-begins_with-clause-tells c =
     let cut = c.split_at_place.result in
-    not_begun c.args.pattern.now cut.0.now cut.1.now c.args.path.now c.args.anchored c.split_at_place.ensures c.in-None-after_start.ensures
+    fits_not c.args.pattern.now cut.0.now cut.1.now c.args.path.now c.octets-in-Only.result.now c.args.anchored c.begins_with.result c.split_at_place.ensures c.octets-in-Only.ensures c.begins_with.ensures c.if-begins_with.false
 
-pub returns-in-Some-after_start : goal.returns-in-Some-after_start
-returns-in-Some-after_start c =
+pub returns-then-begins_with-2-clause-tells : goal.returns-then-begins_with-2-clause-tells
+returns-then-begins_with-2-clause-tells c =
     let cut = c.split_at_place-in-First.result in
-    begun c.args.pattern.now cut.0.now cut.1.now c.args.path.now c.in-Some-after_start.rest c.args.anchored c.fits_after_star.result c.split_at_place-in-First.ensures c.in-Some-after_start.ensures c.fits_after_star.ensures
+    fits_begun c.args.pattern.now cut.0.now cut.1.now c.args.path.now c.octets-in-First.result.now c.args.anchored c.begins_with-in-First.result c.split_at_place-in-First.ensures c.octets-in-First.ensures c.begins_with-in-First.ensures c.fits_after_star.result c.if-begins_with-2.true c.fits_after_star.ensures.tells
 
-pub returns-in-None-after_start-2 : goal.returns-in-None-after_start-2
-returns-in-None-after_start-2 c =
+pub returns-else-begins_with-2-clause-tells : goal.returns-else-begins_with-2-clause-tells
+returns-else-begins_with-2-clause-tells c =
     let cut = c.split_at_place-in-First.result in
-    not_begun c.args.pattern.now cut.0.now cut.1.now c.args.path.now c.args.anchored c.split_at_place-in-First.ensures c.in-None-after_start-2.ensures
+    fits_not c.args.pattern.now cut.0.now cut.1.now c.args.path.now c.octets-in-First.result.now c.args.anchored c.begins_with-in-First.result c.split_at_place-in-First.ensures c.octets-in-First.ensures c.begins_with-in-First.ensures c.if-begins_with-2.false

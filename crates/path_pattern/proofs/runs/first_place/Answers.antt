@@ -1,7 +1,6 @@
 -- Before the first place of its last octet the run does not end, and from there on it is searched for.
 -- Used by `first_place`.
-use Rattle.std.proofs.Common.{◌≡◌, ◌∙◌, ◌+◌, ◌-◌, ◌≤◌, List, ℕ, ap, drop, length, take, sym, subst, arith, length-take-le}
-use Rattle.std.specs.Prelude.{Some}
+use Rattle.std.proofs.Common.{◌≡◌, ◌+◌, ◌-◌, ◌≤◌, List, ℕ, length, take, sym, subst, arith, length-take-le}
 use Rattle.std.proofs.lemmas.List.{take_rest}
 use Rattle.memchr.specs.Find.{FindsNeedle}
 use Rattle.path_pattern.proofs.PlaceLemmas.{first_here, first_onward, found_octet, none_anywhere, none_below, none_onward, place_within}
@@ -16,53 +15,49 @@ pub returns-in-len1 : goal.returns-in-len1
 returns-in-len1 c =
     let least = c.in-len1.len_at_least in
     let below = c.in-len1.len_below in
-    subst (λ octets. FindsNeedle octets c.args.run.now 0 c.memchr.result) c.octets-octets.ensures (found_octet c.octets-octets.result.now c.args.run.now c.memchr.result (omega arith) c.memchr.ensures)
+    found_octet c.args.path.now c.args.run.now c.memchr.result (omega arith) c.memchr.ensures
 
 pub returns-in_err-place : goal.returns-in_err-place
 returns-in_err-place c =
     let run = c.args.run.now in
-    let path = c.octets-octets.result.now in
+    let path = c.args.path.now in
     let front = take (length run - 1) run in
     let many = all_but_last run (omega arith) in
-    subst (λ octets. FindsNeedle octets run 0 c.from_residual.result) c.octets-octets.ensures
-    (subst (FindsNeedle path run 0) (sym c.from_residual.ensures) (none_anywhere path run _ (length front) (take_rest path (length front)) many c.in_err-place.ensures))
+    subst (FindsNeedle path run 0) (sym c.from_residual.ensures) (none_anywhere path run _ (length front) (take_rest path (length front)) many c.in_err-place.ensures)
 
 pub returns-then-begins_with : goal.returns-then-begins_with
 returns-then-begins_with c =
     let run = c.args.run.now in
-    let path = c.octets-octets.result.now in
+    let path = c.args.path.now in
     let place = c.in_ok-place.place in
     let front = take (length run - 1) run in
     let many = all_but_last run (omega arith) in
     let found = c.in_ok-place.ensures.0 in
     let none = none_below path run _ (length front) place (take_rest path (length front)) many found in
     let within = place_within path run _ (length front) place (take_rest path (length front)) found in
-    subst (λ octets. FindsNeedle octets run 0 (Some place)) c.octets-octets.ensures
-    (first_here path run _ place (take_rest path place) within none (c.begins_with.ensures.0 c.if-begins_with.true))
+    first_here path run _ place (take_rest path place) within none (c.begins_with.ensures.0 c.if-begins_with.true)
 
 pub returns-in_err-later : goal.returns-in_err-later
 returns-in_err-later c =
     let run = c.args.run.now in
-    let path = c.octets-octets.result.now in
+    let path = c.args.path.now in
     let place = c.in_ok-place.place in
     let front = take (length run - 1) run in
     let many = all_but_last run (omega arith) in
     let found = c.in_ok-place.ensures.0 in
     let none = none_below path run _ (length front) place (take_rest path (length front)) many found in
     let within = place_within path run _ (length front) place (take_rest path (length front)) found in
-    subst (λ octets. FindsNeedle octets run 0 c.from_residual-in_err-later.result) c.octets-octets.ensures
-    (subst (FindsNeedle path run 0) (sym c.from_residual-in_err-later.ensures)
-    (none_onward path run c.after.result place (c.after.ensures ∙ ap (drop place) (sym c.octets-octets.ensures)) within none c.in_err-later.ensures))
+    subst (FindsNeedle path run 0) (sym c.from_residual-in_err-later.ensures)
+    (none_onward path run _ place (take_rest path place) within none c.in_err-later.ensures)
 
 pub returns : goal.returns
 returns c =
     let run = c.args.run.now in
-    let path = c.octets-octets.result.now in
+    let path = c.args.path.now in
     let place = c.in_ok-place.place in
     let front = take (length run - 1) run in
     let many = all_but_last run (omega arith) in
     let found = c.in_ok-place.ensures.0 in
     let none = none_below path run _ (length front) place (take_rest path (length front)) many found in
     let within = place_within path run _ (length front) place (take_rest path (length front)) found in
-    subst (λ octets. FindsNeedle octets run 0 (Some (place + c.in_ok-later.later))) c.octets-octets.ensures
-    (first_onward path run c.after.result place c.in_ok-later.later (c.after.ensures ∙ ap (drop place) (sym c.octets-octets.ensures)) within none c.in_ok-later.ensures.0 c.in_ok-later.ensures.1)
+    first_onward path run _ place c.in_ok-later.later (take_rest path place) within none c.in_ok-later.ensures.0 c.in_ok-later.ensures.1

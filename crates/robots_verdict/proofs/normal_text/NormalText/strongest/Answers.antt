@@ -18,7 +18,7 @@ pub form-form-requires : goal.form-form-requires
 form-form-requires c =
     let first = rule_seen c.in-Some.rule in
     let rest = rules_left c.next.new.self in
-    let stands = c.loop-rule.invariant.rest first (subst (λ (rules : List Ruled). Contains rules first) (sym c.in-Some.ensures.steps) (first_of first rest)) in
+    let stands = c.loop-rule.invariant.1.rest first (subst (λ (rules : List Ruled). Contains rules first) (sym c.in-Some.ensures.steps) (first_of first rest)) in
     let is = All-contains (IsRuleFor (numbered_records c.self.inside.text) c.args.token.now) (rules_left c.rules_for-rules.result) first c.rules_for-rules.ensures.each stands in
     subst (λ (text : List ℕ). Contains (numbered_records text) (record_ruled first)) c.self.view_is is.governs.line_stands
 
@@ -30,11 +30,11 @@ loop-rule-preserved-then-matches c =
     let best = c.loop-rule.best in
     let first = rule_seen c.in-Some.rule in
     let form = c.form-form.ensures in
-    let walked = subst (λ rules. IsWalked path all rules best) c.in-Some.ensures.steps c.loop-rule.invariant in
-    let hits = subst (λ p. Matches p path) form (c.matches.ensures.0 c.if-matches.true) in
+    let walked = subst (λ rules. IsWalked path all rules best) c.in-Some.ensures.steps c.loop-rule.invariant.1 in
+    let hits = subst (λ p. Matches p path) form (subst (Matches c.form-form.result.now) c.loop-rule.invariant.0 (c.matches.ensures.tells.0 c.if-matches.true)) in
     let weight : record { octets = length c.form-form.result.now; kind = first.kind; line = first.line } ≡ weight_of first =
     λ i. record { octets = length (form i); kind = first.kind; line = first.line } in
-    subst (IsWalked path all left) (sym (ap (λ v. Some v) (c.stronger.ensures ∙ ap (stronger best) weight))) (weigh path all left best first hits walked)
+    (c.matches.ensures.stays ∙ c.loop-rule.invariant.0, subst (IsWalked path all left) (sym (ap (λ v. Some v) (c.stronger.ensures ∙ ap (stronger best) weight))) (weigh path all left best first hits walked))
 
 pub loop-rule-preserved : goal.loop-rule-preserved
 loop-rule-preserved c =
@@ -43,15 +43,17 @@ loop-rule-preserved c =
     let left = rules_left c.next.new.self in
     let best = c.loop-rule.best in
     let first = rule_seen c.in-Some.rule in
-    let walked = subst (λ rules. IsWalked path all rules best) c.in-Some.ensures.steps c.loop-rule.invariant in
-    pass_over path all left best first
-    (λ hits. true≢false (sym (c.matches.ensures.1 (subst (λ p. Matches p path) (sym c.form-form.ensures) hits)) ∙ c.if-matches.false)) walked
+    let walked = subst (λ rules. IsWalked path all rules best) c.in-Some.ensures.steps c.loop-rule.invariant.1 in (
+      c.matches.ensures.stays ∙ c.loop-rule.invariant.0,
+      pass_over path all left best first
+          (λ hits. true≢false (sym (c.matches.ensures.tells.1 (subst (Matches c.form-form.result.now) (sym c.loop-rule.invariant.0) (subst (λ p. Matches p path) (sym c.form-form.ensures) hits))) ∙ c.if-matches.false)) walked,
+    )
 
 pub returns : goal.returns
 returns c =
     let path = c.args.path.now in
     let all = rules_left c.rules_for-rules.result in
     let best = c.loop-rule.best in
-    let walked = subst (λ rules. IsWalked path all rules best) c.in_default.ensures.steps.0 c.loop-rule.invariant in
+    let walked = subst (λ rules. IsWalked path all rules best) c.in_default.ensures.steps.0 c.loop-rule.invariant.1 in
     subst (λ (text : List ℕ). IsBest (numbered_records text) c.args.token.now path best) c.self.view_is
     (walked_all (numbered_records c.self.inside.text) c.args.token.now path all best c.rules_for-rules.ensures walked)

@@ -28,12 +28,15 @@ returns-then-groups-index c =
     let groups = c.as_slice-groups.result.now in
     let index = same_index rows places _ groups _ c.as_slice-places.ensures.value c.as_slice-groups.ensures.value c.requires in
     let at = c.loop-index.index in
-    elim c.then-groups-index.branch [
-      | then-groups-index-via-then-groups-index w ↦ at_other_group rows places groups index c.args.group c.args.path.now c.count_below-start.result c.count_below-start.ensures c.args.found at
-          c.loop-index.auto.index c.loop-index.invariant c.loop-index-test.true w.if-groups-index.true
-      | then-groups-index-via-else-groups-index+then-is_above w ↦ at_weaker rows places groups index c.args.group c.args.path.now c.count_below-start.result c.count_below-start.ensures c.args.found at
-          c.loop-index.auto.index c.loop-index.invariant c.loop-index-test.true (w.is_above.ensures.0 w.if-is_above.true)
-    ]
+    record {
+      finds = elim c.then-groups-index.branch [
+        | then-groups-index-via-then-groups-index w ↦ at_other_group rows places groups index c.args.group c.args.path.now c.count_below-start.result c.count_below-start.ensures c.args.found at
+            c.loop-index.auto.index c.loop-index.invariant.1 c.loop-index-test.true w.if-groups-index.true
+        | then-groups-index-via-else-groups-index+then-is_above w ↦ at_weaker rows places groups index c.args.group c.args.path.now c.count_below-start.result c.count_below-start.ensures c.args.found at
+            c.loop-index.auto.index c.loop-index.invariant.1 c.loop-index-test.true (w.is_above.ensures.0 w.if-is_above.true)
+      ];
+      stays = c.loop-index.invariant.0;
+    }
 
 pub returns-then-matches : goal.returns-then-matches
 returns-then-matches c =
@@ -41,10 +44,13 @@ returns-then-matches c =
     let places = c.as_slice-places.result.now in
     let groups = c.as_slice-groups.result.now in
     let index = same_index rows places _ groups _ c.as_slice-places.ensures.value c.as_slice-groups.ensures.value c.requires in
-    at_hit rows places groups index c.args.group c.args.path.now c.count_below-start.result c.count_below-start.ensures c.args.found c.loop-index.index
-    c.loop-index.auto.index c.loop-index.invariant c.loop-index-test.true c.if-groups-index.false
-    (λ above. true≢false (sym (c.is_above.ensures.1 above) ∙ c.if-is_above.false))
-    (subst (λ (form : List ℕ). Matches form c.args.path.now) c.form.ensures (c.matches.ensures.0 c.if-matches.true))
+    record {
+      finds = at_hit rows places groups index c.args.group c.args.path.now c.count_below-start.result c.count_below-start.ensures c.args.found c.loop-index.index
+          c.loop-index.auto.index c.loop-index.invariant.1 c.loop-index-test.true c.if-groups-index.false
+          (λ above. true≢false (sym (c.is_above.ensures.1 above) ∙ c.if-is_above.false))
+          (subst (λ (form : List ℕ). Matches form c.args.path.now) c.form.ensures (subst (Matches c.form.result.now) c.loop-index.invariant.0 (c.matches.ensures.tells.0 c.if-matches.true)));
+      stays = c.matches.ensures.stays ∙ c.loop-index.invariant.0;
+    }
 
 pub returns : goal.returns
 returns c =
@@ -52,5 +58,8 @@ returns c =
     let places = c.as_slice-places.result.now in
     let groups = c.as_slice-groups.result.now in
     let index = same_index rows places _ groups _ c.as_slice-places.ensures.value c.as_slice-groups.ensures.value c.requires in
-    at_end rows places groups index c.args.group c.args.path.now c.count_below-start.result c.count_below-start.ensures c.args.found c.loop-index.index
-    c.loop-index.auto.index c.loop-index.invariant c.loop-index-test.false
+    record {
+      finds = at_end rows places groups index c.args.group c.args.path.now c.count_below-start.result c.count_below-start.ensures c.args.found c.loop-index.index
+          c.loop-index.auto.index c.loop-index.invariant.1 c.loop-index-test.false;
+      stays = c.loop-index.invariant.0;
+    }

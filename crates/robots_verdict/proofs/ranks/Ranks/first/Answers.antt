@@ -1,10 +1,11 @@
 -- One group more, or the last one again.
 -- The lemmas of `Joining` say what is the least then.
-use Rattle.std.proofs.Common.{◌≡◌, ◌+◌, ℕ, suc, List, ◌∷◌, [], ◌++◌, get_or, take, ap, sym, subst, ◌∙◌, arith}
+use Rattle.std.proofs.Common.{◌≡◌, ◌⊎◌, ◌+◌, ℕ, suc, List, ◌∷◌, [], ◌++◌, get_or, take, ap, sym, subst, ◌∙◌, arith}
 use Rattle.std.specs.Prelude.{Contains, IfSome, Option}
 use Rattle.std.proofs.Math.Seq.{take-suc}
 use Rattle.std.proofs.lemmas.List.Elements.{Contains-push}
 use Rattle.robots_verdict.specs.Index.{FindsLeast, IsHit}
+use Rattle.robots_verdict.specs.Search.{IsFound, IsHitIn}
 use Rattle.robots_verdict.proofs.Joining.{one_group_more, same_group_again, still_tried, tried_before}
 use Rattle.robots_verdict.proofs.ranks.Ranks.first.Goals.{then-ne, else-ne}
 use Rattle.robots_verdict.proofs.ranks.Ranks.first.Goals as goal
@@ -21,11 +22,13 @@ loop-group-preserved c =
     let has : Contains (take (count + 1) groups) group = subst (λ (gs : List ℕ). Contains gs group) (sym more) (Contains-push (take count groups) group) in
     elim c.if-ne.branch [
       | then-ne w ↦ record {
+        stays = w.path-is ∙ w.first_of-found.ensures.stays ∙ c.loop-group.invariant.stays;
         least = subst (FindsLeast (IsHit rows (take (count + 1) groups) path)) (sym w.found-is)
-            (one_group_more rows (take count groups) group (take (count + 1) groups) path c.loop-group.found w.first_of-found.result more c.loop-group.invariant.least w.first_of-found.ensures);
+            (one_group_more rows (take count groups) group (take (count + 1) groups) path c.loop-group.found w.first_of-found.result more c.loop-group.invariant.least (subst (λ them. FindsLeast (λ place. IsFound c.loop-group.found place ⊎ IsHitIn rows group them place) w.first_of-found.result) c.loop-group.invariant.stays w.first_of-found.ensures.finds));
         tried = subst (λ (last : Option ℕ). IfSome last (Contains (take (count + 1) groups))) (sym w.last-is) has;
       }
       | else-ne w ↦ record {
+        stays = w.path-is ∙ c.loop-group.invariant.stays;
         least = subst (FindsLeast (IsHit rows (take (count + 1) groups) path)) (sym w.found-is)
             (same_group_again rows (take count groups) group (take (count + 1) groups) path c.loop-group.found more (tried_before c.loop-group.last group (take count groups) c.loop-group.invariant.tried (sym c.ne.ensures ∙ w.if-ne.false)) c.loop-group.invariant.least);
         tried = subst (λ (last : Option ℕ). IfSome last (Contains (take (count + 1) groups))) (sym w.last-is)

@@ -1,0 +1,128 @@
+//! The sites that their robots files closed in a shift, and why, told once each.
+ghost use Rattle.std.specs.Prelude.{◌≡◌, ◌++◌, flat_map};
+ghost use Rattle.counted_io.specs.Output.{Pushes};
+ghost use Rattle.line_text.specs.Pieces.{pieces_text};
+ghost use Rattle.crawl_shift.specs.Causes.{words_text};
+ghost use Rattle.crawl_shift.specs.ClosedText.{closed_site_text};
+
+use crate::causes::{Words, closing_words};
+use counted_io::{DeviceFault, Output, Sink};
+use crawl_job::{Job, Outcome};
+use crawl_workers::{ClosedBy, Event, Failure, Watcher};
+use line_text::{Piece, Pieces};
+use std::alloc::{AllocError, Global};
+use std::sync::{Mutex, Wait};
+
+/// What workers tell of the sites that are closed. It has a lock of its own, which is taken while a worker has
+/// no other.
+#[derive(Drop)]
+pub struct ClosedSites<'a, R: Wait> {
+    rt: &'a R,
+    alloc: Global,
+    sites: Mutex<Vec<ClosedSite>>,
+}
+
+/// A site, and what closed it last.
+#[derive(Drop)]
+pub(crate) struct ClosedSite {
+    pub(crate) authority: String,
+    pub(crate) by: ClosedBy,
+}
+
+impl<'a, R: Wait> ClosedSites<'a, R> {
+    /// No site is closed.
+    pub fn new(rt: &'a R, alloc: Global) -> ClosedSites<'a, R> {
+        ClosedSites {
+            rt,
+            alloc,
+            sites: Mutex::new(Vec::new(alloc)),
+        }
+    }
+
+    /// Writes a line for each site, in the order in which they were closed.
+    pub fn tell<E: Sink>(self, errors: &mut E) -> Result<(), DeviceFault> {
+        let mut output = Output::new(self.alloc).map_err(|_| DeviceFault)?;
+        push_sites(self.sites.into_inner().as_slice(), &mut output, errors)?;
+        output.flush(errors)
+    }
+}
+
+impl<R: Wait> Watcher for ClosedSites<'_, R> {
+    fn sees(&self, _number: u64, event: Event<'_>) {
+        match event {
+            // A fetch that was given up says nothing of its site.
+            Event::Brought(_, Some(ClosedBy::Fault(_, Some(Failure::Stopped)))) => {}
+            Event::Brought(authority, Some(by)) => {
+                // (a site that there is no memory for is not told)
+                let _ = keep(self.alloc, &mut self.sites.lock(self.rt), authority, by);
+            }
+            _ => {}
+        }
+    }
+
+    fn done(&self, _number: u64, _job: &Job, _outcome: &Outcome) {}
+}
+
+// Keeps what closed a site, in place of what closed it before.
+fn keep(
+    alloc: Global,
+    sites: &mut Vec<ClosedSite>,
+    authority: &str,
+    by: ClosedBy,
+) -> Result<(), AllocError> {
+    let found = sites
+        .iter()
+        .position(|site| site.authority.as_str() == authority);
+    if let Some(site) = found.and_then(|index| sites.get_mut(index)) {
+        site.by = by;
+        return Ok(());
+    }
+    sites.reserve(1)?;
+    let authority = String::from_str(alloc, authority)?;
+    sites.push_reserved(ClosedSite { authority, by });
+    Ok(())
+}
+
+fn push_sites<E: Sink>(
+    sites: &[ClosedSite],
+    output: &mut Output,
+    errors: &mut E,
+) -> Result<(), DeviceFault>
+    ensures { Pushes (E.written errors.old) (E.written errors.new)
+        (E.failures errors.old) (E.failures errors.new) output.old output.new
+        (flat_map closed_site_text sites.now) result }
+{
+    for site in sites {
+        site.pieces().push(output, errors)?;
+    }
+    Ok(())
+}
+
+impl ClosedSite {
+    // The line that tells it.
+    fn pieces(&self) -> Pieces<'_>
+        ensures { pieces_text result ≡ closed_site_text self.now }
+    {
+        line_of(
+            self.authority.as_str(),
+            " is closed: ",
+            closing_words(self.by),
+            "\n",
+        )
+    }
+}
+
+// A line of a name, and words of it.
+fn line_of<'a>(name: &'a str, middle: &'static str, words: Words, end: &'static str) -> Pieces<'a>
+    ensures { pieces_text result ≡ name.now ++ (middle.now ++ (words_text words ++ end.now)) }
+{
+    Pieces::of(&[
+        Piece::Text(name),
+        Piece::Text(middle),
+        Piece::Text(words.of),
+        Piece::Text(words.text),
+        words.number,
+        Piece::Text(words.unit),
+        Piece::Text(end),
+    ])
+}

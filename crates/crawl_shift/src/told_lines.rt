@@ -1,0 +1,92 @@
+//! The lines of a shift that can't be read as a job, as they are told.
+ghost use Rattle.std.specs.Prelude.{◌≡◌, [], flat_map, IfOk};
+ghost use Rattle.counted_io.specs.Output.{Pushes};
+ghost use Rattle.std.specs.Io.KnownBytes.{Appends};
+ghost use Rattle.line_text.specs.Pieces.{pieces_text};
+ghost use Rattle.command_server.specs.FaultText.{fault_words};
+ghost use Rattle.crawl_shift.specs.JobLines.{bad_line_text};
+
+use crate::job_lines::BadJobLine;
+use command_server::{LineFault, refusal_word};
+use counted_io::{DeviceFault, Output, Sink};
+use crawl_job::Refusal;
+use line_text::{Piece, Pieces};
+use std::alloc::Global;
+
+/// Writes a line for each, with its number and its fault. Where there is no memory for that, nothing is written.
+pub fn tell_bad_lines<E: Sink>(
+    alloc: Global,
+    bad: &[BadJobLine],
+    errors: &mut E,
+) -> Result<(), DeviceFault>
+    ensures { IfOk result (λ _. Appends (E.written errors.old) (E.written errors.new) (flat_map bad_line_text bad.now)) }
+{
+    let mut output = Output::new(alloc).map_err(|_| DeviceFault)?;
+    write_bad_lines(bad, &mut output, errors)
+}
+
+fn write_bad_lines<E: Sink>(
+    bad: &[BadJobLine],
+    output: &mut Output,
+    errors: &mut E,
+) -> Result<(), DeviceFault>
+    requires { output.old ≡ [] }
+    ensures { IfOk result (λ _. Appends (E.written errors.old) (E.written errors.new) (flat_map bad_line_text bad.now)) }
+{
+    push_bad_lines(bad, output, errors)?;
+    output.flush(errors)
+}
+
+fn push_bad_lines<E: Sink>(
+    bad: &[BadJobLine],
+    output: &mut Output,
+    errors: &mut E,
+) -> Result<(), DeviceFault>
+    ensures { Pushes (E.written errors.old) (E.written errors.new)
+        (E.failures errors.old) (E.failures errors.new) output.old output.new
+        (flat_map bad_line_text bad.now) result }
+{
+    for line in bad {
+        line.pieces().push(output, errors)?;
+    }
+    Ok(())
+}
+
+impl BadJobLine {
+    /// The line that tells it.
+    pub fn pieces(self) -> Pieces<'static>
+        ensures { pieces_text result ≡ bad_line_text self }
+    {
+        Pieces::of(&[
+            Piece::Text("line "),
+            Piece::Number(self.number),
+            Piece::Text(": "),
+            Piece::Text(words_of(self.fault)),
+            Piece::Text("\n"),
+        ])
+    }
+}
+
+// The words of a fault, as `ERR` has them in a reply.
+fn words_of(fault: LineFault) -> &'static str
+    ensures { result.now ≡ fault_words fault }
+{
+    match fault {
+        LineFault::Long => "long",
+        LineFault::Lines => "lines",
+        LineFault::Chars => "chars",
+        LineFault::Words => "words",
+        LineFault::Moment => "moment",
+        LineFault::Verb => "verb",
+        LineFault::Number => "number",
+        LineFault::Token => "token",
+        LineFault::Authority => "authority",
+        LineFault::BadUrl => "url bad",
+        LineFault::NotHttp => "url scheme",
+        LineFault::HasUser => "url user",
+        LineFault::LongUrl => "url long",
+        LineFault::Status => "status",
+        LineFault::Replies => "replies",
+        LineFault::Memory => refusal_word(Refusal::NoMemory),
+    }
+}

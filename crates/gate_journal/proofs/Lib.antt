@@ -1,0 +1,3 @@
+-- The lemmas of the proofs.
+-- The proof files of this crate cite them.
+mod Following

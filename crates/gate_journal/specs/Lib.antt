@@ -1,0 +1,4 @@
+-- The definitions that contracts cite, one concept a file.
+-- `crates/gate_journal/src` has the code.
+pub mod Follows
+pub mod Recorded

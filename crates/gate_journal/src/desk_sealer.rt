@@ -1,0 +1,68 @@
+//! `DeskSealer`: a desk of a gate as what ends a journal's file.
+//! What its seal hands out is what the file ends with.
+ghost use Rattle.std.specs.Prelude.{◌≡◌, IfOk};
+ghost use Rattle.gate_lock.specs.Desks.{IsNew, out_of, receipt_of};
+
+use crate::spelling::rest_of;
+use counted_io::Output;
+use gate_core::NoMemory;
+use gate_history::Segment;
+use gate_lock::{Desk, DesksFull, Gate, GateLock, Receipts};
+use journal_files::{JournalFault, Place, Sealer};
+use std::alloc::Global;
+use std::sync::Wait;
+
+/// A desk that does nothing but seal, so it has nothing out. It has no `Drop`: `close` makes receipts of it.
+#[must_use]
+pub struct DeskSealer<'a, 'g, G: Gate, R: Wait> {
+    rt: &'a R,
+    desk: Desk<'g, G>,
+    ghost rests: { out_of desk ≡ 0 },
+}
+
+impl<'a, 'g, G: Gate, R: Wait> DeskSealer<'a, 'g, G, R> {
+    /// One at a desk of its own.
+    pub fn open(
+        rt: &'a R,
+        alloc: Global,
+        gate: &'g GateLock<G>,
+    ) -> Result<DeskSealer<'a, 'g, G, R>, DesksFull>
+        ensures { IfOk result (λ sealer. IsNew gate.now sealer.desk) }
+    {
+        let desk = gate.desk(rt, alloc)?;
+        Ok(DeskSealer { rt, desk })
+    }
+
+    /// Closes the desk.
+    pub fn close(self) -> Receipts<G>
+        ensures { result ≡ receipt_of self.entry.desk }
+    {
+        let DeskSealer { rt: _, desk } = self;
+        desk.close()
+    }
+}
+
+impl<'a, 'g, G: Gate, R: Wait> Sealer for DeskSealer<'a, 'g, G, R> {
+    ghost use Rattle.gate_lock.specs.Steps.{DeskSeals, Somewhere};
+    ghost use Rattle.gate_journal.specs.Follows.{EndsFile};
+
+    type Sealed = Result<Segment, NoMemory>;
+
+    ghost seals = { λ s sealed s2. Somewhere s.desk
+        (λ old new. DeskSeals s.desk old sealed new s2.desk) };
+
+    ghost ends = { EndsFile };
+
+    fn seal(&mut self) -> Result<Segment, NoMemory> {
+        self.desk.seal(self.rt)
+    }
+
+    fn rest(
+        alloc: Global,
+        sealed: &Result<Segment, NoMemory>,
+        output: &mut Output,
+        place: Place,
+    ) -> Option<Result<Vec<u8>, JournalFault>> {
+        rest_of(alloc, sealed, output, place)
+    }
+}

@@ -1,0 +1,64 @@
+//! A gate under its lock as what a journal records.
+//! The lock is held while entries are spelled, and while nothing is written.
+ghost use Rattle.std.specs.Prelude.{◌≡◌, [], IfOk};
+ghost use Rattle.gate_journal.specs.Recorded.{BeginsWith, OfSome, SpellsUpTo, place_of};
+
+use crate::spelling::{follow, segment_text};
+use counted_io::Output;
+use gate_core::Book;
+use gate_lock::{Gate, GateLock};
+use journal_files::{Chronicle, JournalFault, Place, Spelled};
+use std::alloc::Global;
+use std::sync::Wait;
+
+/// A gate, and by what its lock is waited for.
+#[derive(Drop)]
+pub struct Recording<'a, G: Gate, R: Wait> {
+    pub alloc: Global,
+    pub rt: &'a R,
+    pub gate: &'a GateLock<G>,
+}
+
+impl<'a, G: Gate, R: Wait> Chronicle for Recording<'a, G, R> {
+    ghost follows = { λ r place text next. OfSome r.gate.now (SpellsUpTo place text next) };
+
+    ghost begins = { λ r text place. OfSome r.gate.now (BeginsWith text place) };
+
+    fn entry_count(&self) -> u64 {
+        let held = self.gate.lend(self.rt);
+        held.book().entry_count()
+    }
+
+    fn follow(&self, output: &mut Output, place: Place) -> Result<Spelled, JournalFault> {
+        let held = self.gate.lend(self.rt);
+        let book = held.book();
+        let text = follow(self.alloc, book.base(), book.history(), output, place)?;
+        Ok((text, place_of(book)))
+    }
+
+    fn begin(&self, _output: &mut Output) -> Result<Spelled, JournalFault> {
+        let held = self.gate.lend(self.rt);
+        let book = held.book();
+        let text = segment_text(self.alloc, book)?;
+        Ok((text, place_of(book)))
+    }
+
+    /// Half of the history's limit is entered.
+    fn is_due(&self) -> bool {
+        let held = self.gate.lend(self.rt);
+        let book = held.book();
+        let limit = book.limits().log_limit;
+        // (of a limit of 1 that is 1: nothing is sealed where there is nothing)
+        book.history().len() as u64 >= limit - limit / 2
+    }
+}
+
+// Where the text of a book's whole history ends.
+fn place_of(book: &Book) -> Place
+    ensures { result ≡ place_of book.now }
+{
+    Place {
+        begun: book.base().entries(),
+        spelled: book.entry_count(),
+    }
+}

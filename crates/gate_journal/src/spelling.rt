@@ -1,0 +1,114 @@
+//! Parts of a history as texts in memory: a whole segment, or its entries behind those that were spelled.
+//! docs/FORMATS.md has the texts.
+ghost use Rattle.std.specs.Prelude.{◌≡◌, [], None, IfOk, IfSome, OnOk};
+ghost use Rattle.std.specs.Io.KnownBytes.{Appends};
+ghost use Rattle.crawl_audit.specs.declared.version.Version.TheVariants.{Two};
+ghost use Rattle.crawl_audit.specs.Exports.{present_segment};
+ghost use Rattle.crawl_audit.specs.Spell.{entry_lines};
+ghost use Rattle.crawl_audit.specs.SpellBase.{spell_segment};
+ghost use Rattle.gate_journal.specs.Follows.{AreBehind, EndsFile, Follows, HandsNothing};
+
+use counted_io::{Counted, DeviceFault, Output, Sink};
+use crawl_audit::{export, push_entries};
+use gate_core::{Book, NoMemory};
+use gate_history::{Base, Entry, Segment};
+use journal_files::{JournalFault, Place};
+use std::alloc::Global;
+
+/// The text that ends a file behind a seal: the lines of the segment's entries behind those that the file has; none
+/// where nothing was handed out. It fails for want of memory, and where the segment does not go on from there.
+pub fn rest_of(
+    alloc: Global,
+    sealed: &Result<Segment, NoMemory>,
+    output: &mut Output,
+    place: Place,
+) -> Option<Result<Vec<u8>, JournalFault>>
+    requires { output.old ≡ [] }
+    ensures ends { IfSome result (λ rest. IfOk rest (λ text.
+        EndsFile sealed.now place text.items)) }
+    ensures none { result ≡ None → HandsNothing sealed.now }
+    ensures idle { output.new ≡ [] }
+{
+    match sealed {
+        // (an empty segment has no base of its own)
+        Ok(segment) if segment.entries().is_empty() => None,
+        Ok(segment) => Some(follow(alloc, segment.base(), segment.entries(), output, place)),
+        Err(_) => None,
+    }
+}
+
+/// The text of the book's present segment. It fails only for want of memory.
+pub(crate) fn segment_text(alloc: Global, book: &Book) -> Result<Vec<u8>, JournalFault>
+    ensures { IfOk result (λ text. text.items ≡ spell_segment (present_segment book.now)) }
+{
+    let mut output = Output::new(alloc)?;
+    let mut sink = Counted::new(Vec::new(alloc));
+    match export(book, &mut output, &mut sink) {
+        Ok(()) => Ok(sink.into_inner()),
+        Err(DeviceFault) => Err(JournalFault::NoMemory),
+    }
+}
+
+/// The lines of a segment's entries behind those up to a place.
+pub(crate) fn follow(
+    alloc: Global,
+    base: &Base,
+    entries: &[Entry],
+    output: &mut Output,
+    place: Place,
+) -> Result<Vec<u8>, JournalFault>
+    requires { output.old ≡ [] }
+    ensures follows { IfOk result (λ text. Follows place
+        (record { base = base.now; entries = entries.now }) text.items) }
+    ensures idle { output.new ≡ [] }
+{
+    match entries_behind(base, entries, place) {
+        Some(entries) => lines(alloc, entries, output),
+        None => Err(JournalFault::Elsewhere),
+    }
+}
+
+// The lines of entries. It fails only for want of memory.
+fn lines(alloc: Global, entries: &[Entry], output: &mut Output) -> Result<Vec<u8>, JournalFault>
+    requires { output.old ≡ [] }
+    ensures lines { IfOk result (λ text. text.items ≡ entry_lines Two entries.now) }
+    ensures idle { output.new ≡ [] }
+{
+    let mut sink = Counted::new(Vec::new(alloc));
+    match write_lines(entries, output, &mut sink) {
+        Ok(()) => Ok(sink.into_inner()),
+        Err(DeviceFault) => Err(JournalFault::NoMemory),
+    }
+}
+
+// Writes the lines of entries. Nothing is left pending, also where that fails.
+fn write_lines<W: Sink>(
+    entries: &[Entry],
+    output: &mut Output,
+    sink: &mut W,
+) -> Result<(), DeviceFault>
+    requires { output.old ≡ [] }
+    ensures ok { OnOk result
+        (Appends (W.written sink.old) (W.written sink.new) (entry_lines Two entries.now)) }
+    ensures idle { output.new ≡ [] }
+{
+    let pushed = push_entries(entries, output, sink);
+    let flushed = output.flush(sink);
+    pushed?;
+    flushed
+}
+
+// The entries of a segment behind those up to a place, where it is one of the segment.
+fn entries_behind<'a>(base: &Base, entries: &'a [Entry], place: Place) -> Option<&'a [Entry]>
+    ensures { IfSome result (λ behind. AreBehind place
+        (record { base = base.now; entries = entries.now }) behind.now) }
+{
+    if base.entries() != place.begun {
+        return None;
+    }
+    let count = place.spelled.checked_sub(place.begun)? as usize;
+    if count > entries.len() {
+        return None;
+    }
+    Some(&entries[count..])
+}

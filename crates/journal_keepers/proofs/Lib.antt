@@ -1,0 +1,2 @@
+-- The lemmas of the proofs.
+-- The proof files of this crate cite them.

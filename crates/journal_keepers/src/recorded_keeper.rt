@@ -1,0 +1,141 @@
+//! A keeper whose seals are a journal's: each ends the journal's file, and begins the next one.
+//! docs/SEALING.md has what a seal hands out.
+ghost use Rattle.std.specs.Prelude.{◌≡◌};
+ghost use Rattle.journal_keepers.specs.Parts.{keeper_of};
+
+use crate::keeper_sealer::KeeperSealer;
+use crawl_job::{Job, Outcome};
+use crawl_workers::Clock;
+use gate_core::{AskRefusal, BeginRefusal, Denial, NoMemory, Standing, State};
+use gate_history::{Reason, Segment};
+use journal_files::{Chronicle, Records};
+use keepers::{Counts, Keeper};
+use path_normal::{Authority, PageUrl, Schemes};
+use permit_book::{NotOut, PermitNo};
+use robots_text::Token;
+use std::alloc::Global;
+use std::sync::Wait;
+
+/// A keeper, with what records its gate. All but a seal is the keeper's own. A clause sees it as that keeper. It has
+/// no `Drop`: `into_keeper` gives the keeper back.
+#[must_use]
+pub struct RecordedKeeper<'a, K, H, J, R> {
+    rt: &'a R,
+    chronicle: &'a H,
+    journal: &'a J,
+    sealer: KeeperSealer<K>,
+}
+
+impl<'a, K: Keeper, H: Chronicle, J: Records, R: Wait> RecordedKeeper<'a, K, H, J, R> {
+    /// The keeper of a gate that is recorded.
+    pub fn new(
+        rt: &'a R,
+        chronicle: &'a H,
+        journal: &'a J,
+        keeper: K,
+    ) -> RecordedKeeper<'a, K, H, J, R>
+        ensures { keeper_of result ≡ keeper }
+    {
+        RecordedKeeper {
+            rt,
+            chronicle,
+            journal,
+            sealer: KeeperSealer { keeper },
+        }
+    }
+
+    /// The keeper alone.
+    pub fn into_keeper(self) -> K
+        ensures { result ≡ keeper_of self.entry }
+    {
+        let RecordedKeeper {
+            rt: _,
+            chronicle: _,
+            journal: _,
+            sealer: KeeperSealer { keeper },
+        } = self;
+        keeper
+    }
+}
+
+impl<'a, K: Keeper, H: Chronicle, J: Records, R: Wait> Keeper for RecordedKeeper<'a, K, H, J, R> {
+    ghost deals = { record {
+      can_fetch = λ k. K.deals.can_fetch k.sealer.keeper;
+      schemes = λ k. K.deals.schemes k.sealer.keeper;
+      asks = λ k token url m result k2. K.deals.asks k.sealer.keeper token url m result k2.sealer.keeper;
+      starts = λ k number token url m result k2. K.deals.starts k.sealer.keeper number token url m result k2.sealer.keeper;
+      returns = λ k number result k2. K.deals.returns k.sealer.keeper number result k2.sealer.keeper;
+      finishes = λ k number result k2. K.deals.finishes k.sealer.keeper number result k2.sealer.keeper;
+      counts = λ k counts. K.deals.counts k.sealer.keeper counts;
+      reads = λ k authority m state k2. K.deals.reads k.sealer.keeper authority m state k2.sealer.keeper;
+      refreshes = λ reads k authority told k2. K.deals.refreshes reads k.sealer.keeper authority told k2.sealer.keeper;
+      fetches = λ reads k job told k2. K.deals.fetches reads k.sealer.keeper job told k2.sealer.keeper;
+      seals = λ k result k2. K.deals.seals k.sealer.keeper result k2.sealer.keeper;
+      ends = λ k k2. K.deals.ends k.sealer.keeper k2.sealer.keeper;
+    } };
+
+    fn can_fetch(&self) -> bool {
+        self.sealer.keeper.can_fetch()
+    }
+
+    fn schemes(&self) -> Schemes {
+        self.sealer.keeper.schemes()
+    }
+
+    fn ask(&mut self, token: Token, url: PageUrl, moment: u64) -> Result<PermitNo, AskRefusal> {
+        self.sealer.keeper.ask(token, url, moment)
+    }
+
+    fn start(
+        &mut self,
+        number: PermitNo,
+        token: &Token,
+        url: PageUrl,
+        moment: u64,
+    ) -> Result<Reason, Denial> {
+        self.sealer.keeper.start(number, token, url, moment)
+    }
+
+    fn back(&mut self, number: PermitNo) -> Result<(), NotOut> {
+        self.sealer.keeper.back(number)
+    }
+
+    fn finish(&mut self, number: PermitNo) -> Result<(), NotOut> {
+        self.sealer.keeper.finish(number)
+    }
+
+    fn counts(&self) -> Counts {
+        self.sealer.keeper.counts()
+    }
+
+    fn state(&mut self, authority: &Authority, moment: u64) -> State {
+        self.sealer.keeper.state(authority, moment)
+    }
+
+    fn refresh<C: Clock>(
+        &mut self,
+        alloc: Global,
+        authority: &Authority,
+        clock: &C,
+    ) -> Option<Result<Standing, BeginRefusal>> {
+        self.sealer.keeper.refresh(alloc, authority, clock)
+    }
+
+    fn fetch<C: Clock>(
+        &mut self,
+        alloc: Global,
+        job: Job,
+        clock: &C,
+    ) -> Option<Result<Outcome, NoMemory>> {
+        self.sealer.keeper.fetch(alloc, job, clock)
+    }
+
+    /// The journal seals by the keeper.
+    fn seal(&mut self) -> Result<Segment, NoMemory> {
+        self.journal.seal(self.rt, self.chronicle, &mut self.sealer)
+    }
+
+    fn end(&mut self) {
+        self.sealer.keeper.end();
+    }
+}

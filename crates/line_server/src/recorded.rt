@@ -1,0 +1,66 @@
+//! A gate with what records it: its clients are told nothing, and nothing is fetched for them, past that.
+//! Without a journal nothing records it, and all may be told at once.
+ghost use Rattle.std.specs.Prelude.{◌≡◌};
+
+use counted_io::DeviceFault;
+use gate_journal::{DeskSealer, Recording};
+use gate_lock::{Gate, GateLock};
+use journal_files::{Abreast, Records};
+use std::alloc::Global;
+use std::sync::Wait;
+
+/// A gate, and what records it.
+#[derive(Drop)]
+pub(crate) struct Recorded<'a, G: Gate, J: Records, R: Wait> {
+    rt: &'a R,
+    pub(crate) chronicle: Recording<'a, G, R>,
+    pub(crate) journal: &'a J,
+}
+
+impl<'a, G: Gate, J: Records, R: Wait> Recorded<'a, G, J, R> {
+    /// A gate that this journal records, or nothing does.
+    pub(crate) fn new(
+        rt: &'a R,
+        alloc: Global,
+        gate: &'a GateLock<G>,
+        journal: &'a J,
+    ) -> Recorded<'a, G, J, R> {
+        Recorded {
+            rt,
+            chronicle: Recording { alloc, rt, gate },
+            journal,
+        }
+    }
+
+    /// The gate.
+    pub(crate) fn gate(&self) -> &'a GateLock<G> {
+        self.chronicle.gate
+    }
+
+    /// What comes up before each write to a client, and before each fetch.
+    pub(crate) fn abreast(&self) -> Abreast<'_, Recording<'a, G, R>, J, R> {
+        Abreast {
+            rt: self.rt,
+            chronicle: &self.chronicle,
+            journal: self.journal,
+        }
+    }
+
+    /// Waits until all that is entered is recorded.
+    pub(crate) fn come_up(&self) -> Result<(), DeviceFault> {
+        self.journal.come_up(self.rt, &self.chronicle)
+    }
+
+    /// The same, and has each crash keep it where that is done once a second.
+    pub(crate) fn see_to(&self) -> Result<(), DeviceFault> {
+        self.journal.see_to(self.rt, &self.chronicle)
+    }
+
+    /// Begins a new file where one is due. What the seal hands out is in the last one.
+    pub(crate) fn turn_over(&self, sealer: &mut DeskSealer<'_, '_, G, R>) {
+        if self.journal.is_due(self.rt, &self.chronicle) {
+            // Want of memory is met again at the next try, and a fault of the journal by each session.
+            let _ = self.journal.seal(self.rt, &self.chronicle, sealer);
+        }
+    }
+}
