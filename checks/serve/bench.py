@@ -36,15 +36,17 @@ class Bench:
         requests, seconds, half, most = map(float, ran.stdout.split())
         return requests / seconds, half / 1e3, most / 1e3, 1e6 * (processor_time(process) - before) / requests
 
-    def of_program(self, setting):
-        with Server("--workers", "16") as server:
+    def of_program(self, setting, *words):
+        with Server("--workers", "16", *words) as server:
             with Session(server) as it:
                 same(it.say(f"REFRESH {self.site.authority}"), f"TAKEN {self.site.authority} open")
             return self.row_of(server.process.pid, ["crawlgate", server.port, *setting, self.site.url("/x")])
 
-    def of_redis(self, setting):
+    def of_redis(self, setting, *words):
         port = free_port()
-        words = ["redis-server", "--port", str(port), "--bind", HOST, "--save", "", "--appendonly", "no", "--dir", self.folder]
+        kept = words or ("--appendonly", "no")
+        folder = tempfile.mkdtemp(dir=self.folder)
+        words = ["redis-server", "--port", str(port), "--bind", HOST, "--save", "", *kept, "--dir", folder]
         process = subprocess.Popen(words, stdout=subprocess.DEVNULL)
         try:
             wait_for(port)
@@ -52,6 +54,7 @@ class Bench:
         finally:
             process.kill()
             process.wait()
+            shutil.rmtree(folder)
 
 
 def processor_time(process):
