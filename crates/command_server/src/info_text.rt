@@ -19,13 +19,13 @@ pub(crate) fn push_info<W: Sink>(
         (W.failures sink.old) (W.failures sink.new) output.old output.new
         (info_text counts) result }
 {
-    begin_pieces(counts).push(output, sink)?;
-    end_pieces(counts).push(output, sink)
+    opening_pieces(counts).push(output, sink)?;
+    closing_pieces(counts).push(output, sink)
 }
 
 // The entries, the starts, and the permits that are out.
 #[tactic(auto, unfolding(crate::specs::InfoText::begin_of_info))]
-fn begin_pieces(counts: Counts) -> Pieces<'static>
+fn opening_pieces(counts: Counts) -> Pieces<'static>
     ensures { pieces_text result ≡ begin_of_info counts }
 {
     Pieces::of(&[
@@ -42,7 +42,7 @@ fn begin_pieces(counts: Counts) -> Pieces<'static>
 
 // The fetches under way, the authorities, and the room of the history.
 #[tactic(auto, unfolding(crate::specs::InfoText::end_of_info))]
-fn end_pieces(counts: Counts) -> Pieces<'static>
+fn closing_pieces(counts: Counts) -> Pieces<'static>
     ensures { pieces_text result ≡ end_of_info counts }
 {
     Pieces::of(&[

@@ -11,12 +11,12 @@ pub returns-in_err-push : goal.returns-in_err-push
 returns-in_err-push g c =
     pushes_cut _ _ _ _ _ _ _ c.from_residual.result c.from_residual.ensures.0
     (prefix_piece _ _ c.args.output.now (begin_of_info c.args.counts) (end_of_info c.args.counts)
-    (subst (λ (l : List ℕ). AppendsPrefix (g.W.Sink.written c.args.sink.now) (g.W.Sink.written c.push.new.sink) (c.args.output.now ++ l)) c.begin_pieces.ensures c.in_err-push.ensures.err))
+    (subst (λ (l : List ℕ). AppendsPrefix (g.W.Sink.written c.args.sink.now) (g.W.Sink.written c.push.new.sink) (c.args.output.now ++ l)) c.opening_pieces.ensures c.in_err-push.ensures.err))
     c.in_err-push.ensures.count
 
 pub returns : goal.returns
 returns g c =
     pushes_then _ _ _ _ _ _ _ _ _ (begin_of_info c.args.counts) (end_of_info c.args.counts) c.push-2.result
-    (subst (λ (l : List ℕ). Passes (g.W.Sink.written c.args.sink.now) (g.W.Sink.written c.push.new.sink) (c.args.output.now ++ l) c.push.new.output) c.begin_pieces.ensures c.in_ok-push.ensures.ok)
+    (subst (λ (l : List ℕ). Passes (g.W.Sink.written c.args.sink.now) (g.W.Sink.written c.push.new.sink) (c.args.output.now ++ l) c.push.new.output) c.opening_pieces.ensures c.in_ok-push.ensures.ok)
     c.in_ok-push.ensures.count
-    (subst (λ (l : List ℕ). Pushes (g.W.Sink.written c.push.new.sink) (g.W.Sink.written c.push-2.new.sink) (g.W.Sink.failures c.push.new.sink) (g.W.Sink.failures c.push-2.new.sink) c.push.new.output c.push-2.new.output l c.push-2.result) c.end_pieces.ensures c.push-2.ensures)
+    (subst (λ (l : List ℕ). Pushes (g.W.Sink.written c.push.new.sink) (g.W.Sink.written c.push-2.new.sink) (g.W.Sink.failures c.push.new.sink) (g.W.Sink.failures c.push-2.new.sink) c.push.new.output c.push-2.new.output l c.push-2.result) c.closing_pieces.ensures c.push-2.ensures)
