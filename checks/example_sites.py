@@ -107,7 +107,12 @@ def audited(text, *words):
 
 def check_folder(folder, *words):
     """Returns the pages of an archive, each of which has a start of its own in the audited segments."""
-    starts = audited(b"".join(octets_of(folder, ".segment")), *words)
+    return check_pages(folder, b"".join(octets_of(folder, ".segment")), *words)
+
+
+def check_pages(folder, text, *words):
+    """Returns the pages of an archive, each of which has a start of its own in a text that is audited."""
+    starts = audited(text, *words)
     pages = [page for octets in octets_of(folder, ".warc") for page in pages_of(octets)]
     for name in os.listdir(folder):
         if name.endswith(".warc"):

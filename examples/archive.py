@@ -1,7 +1,7 @@
 #!/usr/bin/env python3
 """A small archive through `crawlgate serve`: pages into WARC files, each with the permit under which it was fetched.
 
-usage: archive.py PORT TOKEN FOLDER [--every SECONDS] < URLS
+usage: archive.py PORT TOKEN FOLDER [--every SECONDS] [--journal JOURNAL] < URLS
 
 In place of a port it takes the path of a socket, which has a `/` in it.
 
@@ -11,6 +11,10 @@ Their names are the number of entries before them, so that they sort in the orde
 
     000000000000.segment   what SEAL handed out; `cat FOLDER/*.segment | crawlgate audit` audits all of them
     000000000000.warc      WARC/1.1: the pages that were fetched since the last seal, a response record each
+
+With --journal, the folder of the server's own `--journal`, nothing is sealed and no segment is filed, since the journal
+has the history: what was entered since the last WARC file is read there. Then others may seal, and a server that was
+killed and started again has lost nothing.
 
 Until then each page lies in FOLDER/waiting, in a file of its own: a line of JSON with its URL and its hops, and the body.
 SIGINT and SIGTERM end the archive behind the page at hand, with a seal; what a killed one leaves waiting has no record.
@@ -90,7 +94,8 @@ def starts_of(text, token):
         elif words[0] == "U":
             granted[words[1]] = words[2:]
         elif words[0] == "S":
-            who, url = granted[words[2]]
+            # (what a journal's reader has not seen granted is another's)
+            who, url = granted.get(words[2], (None, None))
             if who == token:
                 starts.append(Start(words[2], int(words[1]), " ".join(words[3:]), url))
     return starts
@@ -175,13 +180,65 @@ def keep(folder, name, octets):
     os.close(handle)
 
 
-class Archive:
-    """A folder, and the pages that wait in it for their seal."""
+class Seals:
+    """What a gate hands out, segment by segment: each is filed first, since nobody else keeps it."""
 
-    def __init__(self, gate, token, folder):
-        self.gate, self.token, self.folder = gate, token.lower(), folder
-        self.waiting, self.octets, self.pages, self.segments = [], 0, 0, 0
-        self.sealed, self.entries = time.monotonic(), None
+    def __init__(self, gate, folder):
+        self.gate, self.folder, self.entries, self.count = gate, folder, None, 0
+
+    def take(self):
+        """Returns the text of what was entered since the last time, and how many entries were before it."""
+        text = self.gate.seal()
+        if not text:
+            return text, None
+        before, count = entries_of(text)
+        keep(self.folder, f"{before:012}.segment", text)
+        self.count += 1
+        if self.entries not in (None, before):
+            sys.exit(f"archive.py: who else seals? No segment here has the entries {self.entries} to {before}")
+        self.entries = before + count
+        return text, before
+
+
+class Journal:
+    """The files of a server's journal, from where they end at the begin. An entry is there before a client is told of it."""
+
+    def __init__(self, folder):
+        self.folder, self.count = folder, 0
+        self.name = max(self.names(), default="")
+        self.octets = os.path.getsize(f"{folder}/{self.name}") if self.name else 0
+
+    def names(self):
+        return sorted(it for it in os.listdir(self.folder) if not it.startswith("."))
+
+    def take(self):
+        text, before = b"", None
+        for name in [it for it in self.names() if it >= self.name]:
+            with open(f"{self.folder}/{name}", "rb") as file:
+                whole = file.read()
+            whole = whole[: whole.rfind(b"\n") + 1]
+            # (what the base of a file tells stands in the file before it)
+            head = head_of(whole)
+            begin = max(head, self.octets if name == self.name else 0)
+            if before is None and whole[begin:]:
+                before = int(name) + whole[head:begin].count(b"\n")
+            text += whole[begin:]
+            self.name, self.octets = name, len(whole)
+        return text, before
+
+
+def head_of(text):
+    """Returns how many octets stand before the entries of a text."""
+    return text.find(b"\nE\n") + 3 if text.startswith(b"V 3\n") else text.find(b"\n") + 1
+
+
+class Archive:
+    """A folder, and the pages that wait in it for the text that has their starts."""
+
+    def __init__(self, gate, token, folder, texts):
+        self.gate, self.token, self.folder, self.texts = gate, token.lower(), folder, texts
+        self.waiting, self.octets, self.pages = [], 0, 0
+        self.sealed = time.monotonic()
         self.room = f"{folder}/waiting"
         try:
             os.makedirs(self.room)
@@ -209,20 +266,13 @@ class Archive:
         return self.octets >= MOST_WAITING or time.monotonic() - self.sealed >= seconds
 
     def seal(self):
-        """Files what was entered since the last seal: the segment first, since nobody else keeps it."""
-        text = self.gate.seal()
+        """Files the pages since the last seal, by what was entered since then."""
+        text, before = self.texts.take()
         self.sealed = time.monotonic()
         if text:
-            before, count = entries_of(text)
-            name = f"{before:012}"
-            keep(self.folder, f"{name}.segment", text)
-            self.segments += 1
-            if self.entries not in (None, before):
-                sys.exit(f"archive.py: who else seals? No segment here has the entries {self.entries} to {before}")
-            self.entries = before + count
             pages = tied(self.waiting, starts_of(text, self.token))
             if pages:
-                self.write(f"{name}.warc", pages)
+                self.write(f"{before:012}.warc", pages)
         for page in self.waiting:
             os.unlink(page.path)
         self.waiting, self.octets = [], 0
@@ -241,10 +291,14 @@ class Archive:
 
 
 def main(given):
-    every = 3600.0
-    if given[3:4] == ["--every"]:
-        every = float(given.pop(4))
-        given.pop(3)
+    every, journal = 3600.0, None
+    while given[3:4] in (["--every"], ["--journal"]):
+        if len(given) < 5:
+            sys.exit(__doc__)
+        if given.pop(3) == "--every":
+            every = float(given.pop(3))
+        else:
+            journal = given.pop(3)
     if len(given) != 3 or given[0].startswith("-"):
         sys.exit(__doc__)
     place, token, folder = given
@@ -254,7 +308,8 @@ def main(given):
         signal.signal(kind, lambda number, _: signals.append(number))
     os.makedirs(folder, exist_ok=True)
     with Gate.at(place) as gate:
-        archive = Archive(gate, token, folder)
+        texts = Journal(journal) if journal else Seals(gate, folder)
+        archive = Archive(gate, token, folder, texts)
         for url in urls:
             if signals:
                 break
@@ -262,7 +317,7 @@ def main(given):
             if archive.is_due(every):
                 archive.seal()
         archive.end()
-    print(f"pages {archive.pages} segments {archive.segments}")
+    print(f"pages {archive.pages} segments {texts.count}")
     return 1 if signals else 0
 
 

@@ -294,22 +294,26 @@ def fetches_what_was_decided():
 def look_inside():
     """INFO counts what there is in the gate, of all sessions; it makes no entry, and a seal leaves what is open."""
 
-    def info(entries, ever, starts, permits, running, authorities, room):
+    def info(entries, ever, starts, permits, running, authorities, room, clients=2):
         return (f"INFO entries {entries} ever {ever} starts {starts} permits {permits} running {running} turns 0 "
-                f"authorities {authorities} room {room}")
+                f"authorities {authorities} room {room} connections 2 clients {clients}")
 
     site = open_site()
     a, x = site.authority, site.url("/x")
     with Server("--log", "100") as server, Session(server) as it, Session(server) as other:
+        same([each.say("STATE a.example") for each in (it, other)], ["STATE a.example unknown idle"] * 2)
         same(it.say("INFO"), info(0, 0, 0, 0, 0, 0, 100))
         same(it.say(f"REFRESH {a}"), f"TAKEN {a} open")
         same(it.say_all([f"ASK foobot {x}", f"ASK foobot {x}", f"START 65536 foobot {x}"]), ["PERMIT 65536", "PERMIT 65537", "GO 65536 open"])
         # two entries of the robots file, two grants, a start; a start and an end are promised to a permit, an end to a fetch
         same([each.say("INFO") for each in (other, it)], [info(5, 5, 1, 1, 1, 1, 92)] * 2)
-        head, *_ = it.say("SEAL").split(" ")
-        same(head, "SEALED")
+        same(len(sealed(it)), 6)
         same(other.say("INFO"), info(0, 5, 1, 1, 1, 1, 97))
         same([other.say("INFO x"), other.say("info")], ["ERR words", "ERR verb"])
+        same(it.say("QUIT"), "BYE")
+        same(it.rest(), b"")
+        while not (told := other.say("INFO")).endswith(" clients 1"):
+            assert told.endswith(" connections 2 clients 2"), told
 
 
 def client_looks_inside():
@@ -317,13 +321,14 @@ def client_looks_inside():
     site = open_site()
     with Server() as server, tempfile.TemporaryDirectory() as folder:
         with python_client().Gate(HOST, server.port, SECONDS) as gate, gate.permit("foobot", site.url("/x")):
-            told = {"entries": 5, "ever": 5, "starts": 1, "permits": 0, "running": 1, "turns": 0, "authorities": 1, "room": 999_994}
+            told = {"entries": 5, "ever": 5, "starts": 1, "permits": 0, "running": 1, "turns": 0, "authorities": 1, "room": 999_994,
+                    "connections": 1, "clients": 1}
             same(gate.info(), told)
             subprocess.run([f"{CLIENTS}/prometheus.py", str(server.port), f"{folder}/gate.prom"], check=True, timeout=SECONDS)
         with open(f"{folder}/gate.prom", encoding="utf-8") as file:
             text = file.read()
         same(os.listdir(folder), ["gate.prom"])
-        same(text.count("\n"), 24)
+        same(text.count("\n"), 30)
         assert "# TYPE crawlgate_starts_total counter\ncrawlgate_starts_total 1\n" in text, text
         assert "# TYPE crawlgate_room gauge\ncrawlgate_room 999994\n" in text, text
 

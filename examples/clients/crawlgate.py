@@ -210,9 +210,15 @@ class Gate:
 
     def info(self):
         """Returns how much there is in the gate, of all sessions together, by name: 'entries', 'ever', 'starts', 'permits',
-        'running', 'turns', 'authorities' and 'room'."""
+        'running', 'turns', 'authorities', 'room', 'connections' and 'clients'."""
         words = self._say("INFO", "INFO").split(" ")
         return dict(zip(words[::2], map(int, words[1::2])))
+
+    def why(self, authority):
+        """Returns the answer that stands for a site: the number of its turn, the moment of that turn's begin in seconds, and
+        the words of the answer as the text of a history has them. None where no answer stands."""
+        _, *words = self._say("WHY", "WHY", authority).split(" ")
+        return None if words == ["unknown"] else [int(words[0]), int(words[1]), *words[2:]]
 
     def seal(self):
         """Returns the text of the history since the last seal, b"" where nothing was entered. Nobody else keeps it."""

@@ -14,6 +14,7 @@ from crawlgate import Gate
 COUNTERS = {
     "ever": ("entries_total", "Entries of the history, the sealed ones among them."),
     "starts": ("starts_total", "Fetches of pages that were started."),
+    "connections": ("connections_total", "Connections of clients that were taken."),
 }
 GAUGES = {
     "entries": ("entries", "Entries of the history since the last seal."),
@@ -22,6 +23,7 @@ GAUGES = {
     "turns": ("turns", "Fetches of robots files under way."),
     "authorities": ("authorities", "Authorities that have an answer or a turn."),
     "room": ("room", "Entries that the history has room for."),
+    "clients": ("clients", "Clients that are being served."),
 }
 
 

@@ -3,4 +3,4 @@ pub use Rattle.authority_cache.proofs.EntryLaws.{all-push, count-bound, count-co
 pub use Rattle.authority_cache.proofs.FoundLaws.{state_found}
 pub use Rattle.authority_cache.proofs.Reading.{reads_alike}
 pub use Rattle.authority_cache.proofs.SiteLaws.{other_text, same_text}
-pub use Rattle.authority_cache.proofs.Telling.{arrives, begun, counts_alike, new, swept_away}
+pub use Rattle.authority_cache.proofs.Telling.{arrives, begun, counts_alike, limit_tells, new, swept_away}

@@ -15,7 +15,7 @@ use Rattle.authority_cache.specs.declared.turn.Turn.{Turn}
 use Rattle.authority_cache.specs.Sites.{Answered, AreApart, Known, State, arrived, has_past, is_flying, is_known, nothing_known, site_of, with_flight}
 use Rattle.authority_cache.specs.Calls.{Changes, one_if}
 use Rattle.authority_cache.specs.Lists.{answer_for, answered, answers_in, has_number, is_answer_for, is_past_answer, is_turn_of, lacks_answer, turn_for, turns_in}
-use Rattle.authority_cache.specs.Laws.{ArriveTells, BeginTells, NewTells, SweepTells, TellingCountsAlike}
+use Rattle.authority_cache.specs.Laws.{ArriveTells, BeginTells, LimitTells, NewTells, SweepTells, TellingCountsAlike}
 use Rattle.authority_cache.proofs.EntryLaws.{count-cons}
 use Rattle.authority_cache.proofs.SiteLaws.{other_text, same_text}
 
@@ -108,6 +108,13 @@ module _ {X : Type 0} (authority : X → List ℕ) (test : State → Bool) (fail
 -- a new cache
 pub new : NewTells
 new limit = record { answers_are = λ a. refl; turns_are = λ a. refl }
+
+-- a cache with another limit
+pub limit_tells : LimitTells
+limit_tells old changed standing in_flight tells same = record {
+  answers_are = λ a. tells.answers_are a ∙ ap (λ sites. answers_in a (unwrap_or (lookup (bytes_eq a) sites) nothing_known)) (sym same);
+  turns_are = λ a. tells.turns_are a ∙ ap (λ sites. turns_in a (unwrap_or (lookup (bytes_eq a) sites) nothing_known)) (sym same);
+}
 
 -- a begin
 pub begun : BeginTells

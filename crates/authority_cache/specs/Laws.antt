@@ -39,6 +39,11 @@ SweepTells = (old new : Known) (standing : List StandingAnswer) (in_flight : Lis
     → TellsCache old standing in_flight → Sweeps old moment count new
     → TellsCache new (filter (λ s. not (is_past_answer moment s)) standing) in_flight
 
+-- a cache with the same sites says the same, whatever its limit
+abbrev pub LimitTells : Type 0
+LimitTells = (old new : Known) (standing : List StandingAnswer) (in_flight : List Turn)
+    → TellsCache old standing in_flight → new.sites ≡ old.sites → TellsCache new standing in_flight
+
 -- as many are counted of the cache as of the lists
 pub record CountsAlike (k : Known) (standing : List StandingAnswer) (in_flight : List Turn) : Type 0 where
   pub known : known_count k ≡ known_by standing in_flight

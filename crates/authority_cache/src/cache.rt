@@ -55,6 +55,17 @@ impl Cache {
         }
     }
 
+    /// The same cache with another limit of authorities. Where more are known they stay known, and
+    /// none is added until fewer are. It takes no memory.
+    pub fn limited(self, limit: u64) -> Cache
+        ensures limit { result.limit ≡ limit }
+        ensures sites { result.sites ≡ self.sites }
+    {
+        let mut cache = self;
+        cache.limit = limit;
+        cache
+    }
+
     /// Whether a turn of the authority is in flight.
     pub fn in_flight(&self, authority: &str) -> bool
         ensures { result ≡ is_flying (site_of self.now authority.now) }

@@ -23,5 +23,6 @@ pub use find::Found;
 pub use life::{LEAST_LIFE, LIFE, TimedAnswer, life_of};
 pub use look::Look;
 pub use refusal::{FlightRefusal, Stale};
+pub use site::CachedAnswer;
 pub use standing_answer::StandingAnswer;
 pub use turn::{Turn, TurnNo};

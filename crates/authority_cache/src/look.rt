@@ -1,11 +1,13 @@
 //! A look at the answer that is in force for an authority.
 //! RFC 9309, section 2.4.
-ghost use Rattle.authority_cache.specs.Sites.{said_site};
+ghost use Rattle.std.specs.Prelude.{◌≡◌};
+ghost use Rattle.std.specs.Option.{option_copied, option_map};
+ghost use Rattle.authority_cache.specs.Sites.{said_cached, said_site, site_of};
 ghost use Rattle.authority_cache.specs.Calls.{Looks, LooksAt, state_at};
 
 use crate::cache::Cache;
 use crate::find::Found;
-use crate::site::Site;
+use crate::site::{CachedAnswer, Site};
 use robots_verdict::Answer;
 
 /// What is found of an authority's answer.
@@ -20,6 +22,17 @@ pub enum Look<'a> {
 }
 
 impl Cache {
+    /// The answer that stands for an authority, in force or older than its life. It takes no memory.
+    pub fn standing(&self, authority: &str) -> Option<&CachedAnswer>
+        ensures { option_map said_cached (option_copied result)
+            ≡ (site_of self.now authority.now).standing }
+    {
+        match self.sites.get(authority) {
+            Some(site) => site.standing.as_ref(),
+            None => None,
+        }
+    }
+
     /// Looks for an authority's answer at this moment, in seconds. It takes no memory.
     pub fn look(&self, authority: &str, moment: u64) -> Look<'_>
         ensures { Looks self.now authority.now moment result }

@@ -14,7 +14,7 @@ use Rattle.command_server.specs.declared.command.Command.TheVariants as commands
 use Rattle.command_server.specs.declared.fault.LineFault.{LineFault}
 use Rattle.command_server.specs.declared.fault.LineFault.TheVariants as faults
 use Rattle.command_server.specs.declared.verbs.Dialogue.{Dialogue}
-use Rattle.command_server.specs.declared.verbs.Dialogue.TheVariants.{Client, Replay}
+use Rattle.command_server.specs.declared.verbs.Dialogue.TheVariants.{Client, Overseer, Replay}
 use Rattle.command_server.specs.declared.verbs.Verb.{Verb}
 use Rattle.command_server.specs.declared.verbs.Verb.TheVariants as verbs
 use Rattle.command_server.specs.Arguments.{authority_word, number_word, page_word, read_on, token_word}
@@ -106,6 +106,8 @@ arguments_of schemes verbs.Refresh moment words capacity =
 arguments_of schemes verbs.Fetch moment words capacity = read_on (job_words_of schemes words capacity) (λ job. Ok (commands.Fetch job))
 arguments_of schemes verbs.Url moment words capacity = read_on (page_alone schemes words capacity) (λ url. Ok (commands.Url url))
 arguments_of schemes verbs.Info moment words capacity = Ok commands.Info
+arguments_of schemes verbs.Why moment words capacity =
+    read_on (authority_alone schemes words capacity) (λ authority. Ok (commands.Why authority))
 arguments_of schemes verbs.Quit moment words capacity = Ok commands.Quit
 
 -- the verb takes so many words
@@ -133,6 +135,7 @@ timed_words_of schemes (first ∷ words) capacity =
 abbrev pub dialogue_words_of : Schemes → Dialogue → List (List ℕ) → Capacity → Result Command LineFault
 dialogue_words_of schemes Replay words capacity = timed_words_of schemes words capacity
 dialogue_words_of schemes (Client moment fetches) words capacity = verb_words_of schemes (Client moment fetches) moment words capacity
+dialogue_words_of schemes (Overseer moment) words capacity = verb_words_of schemes (Overseer moment) moment words capacity
 
 -- check 4: no word is empty
 abbrev pub full_words_of : Schemes → Dialogue → List (List ℕ) → Capacity → Result Command LineFault

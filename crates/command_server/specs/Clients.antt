@@ -3,6 +3,7 @@
 use Rattle.std.specs.Prelude.{◌≡◌, ◌⊎◌, ◌||◌, ℕ, Bool, true, false, List, Option, Some, None, Result, Ok, Err}
 use Rattle.path_normal.specs.Capacity.{Enough, Overflows, Refused}
 use Rattle.gate_history.specs.Segment.{Sealed}
+use Rattle.authority_cache.specs.declared.standing_answer.StandingAnswer.{StandingAnswer}
 use Rattle.gate_core.specs.declared.call.Call.{Call}
 use Rattle.gate_core.specs.declared.call.Call.TheVariants as calls
 use Rattle.gate_core.specs.declared.refusal.BeginRefusal.{BeginRefusal}
@@ -12,6 +13,7 @@ use Rattle.gate_core.specs.declared.state.State.{State}
 use Rattle.crawl_job.specs.declared.job.Outcome.{Outcome}
 use Rattle.keepers.specs.Deals.{Deals}
 use Rattle.keepers.specs.declared.counts.Counts.{Counts}
+use Rattle.keepers.specs.declared.visits.Visitors.{Visitors}
 use Rattle.command_server.specs.CallOf.{command_of_among}
 use Rattle.command_server.specs.FirstLines.{is_turned_away}
 use Rattle.command_server.specs.Limits.{max_client_line, max_lines}
@@ -26,7 +28,8 @@ use Rattle.command_server.specs.declared.first_line.FirstLine.{FirstLine}
 use Rattle.command_server.specs.declared.session_fault.SessionFault.{SessionFault}
 use Rattle.command_server.specs.declared.told.Told.{Told}
 use Rattle.command_server.specs.declared.told.Told.TheVariants as tolds
-use Rattle.command_server.specs.declared.verbs.Dialogue.TheVariants.{Client}
+use Rattle.command_server.specs.declared.verbs.Speaker.{Speaker}
+use Rattle.command_server.specs.Verbs.{dialogue_of}
 
 -- what a refresh is told as; a keeper that fetches nothing does not know the verb
 abbrev pub refreshed : List ℕ → Option (Result Standing BeginRefusal) → Told
@@ -80,30 +83,33 @@ module _ {S : Type 0} (deals : Deals S) where
       (result : Option (Result Outcome NoMemory)) × (deals.fetches reads old job result new × (told ≡ fetched result))
   DoesCommand reads old (Ok (commands.Url url)) told new = (told ≡ tolds.Written url) × (new ≡ old)
   DoesCommand reads old (Ok commands.Info) told new =
-      (counts : Counts) × (deals.counts old counts × (told ≡ tolds.Counted counts) × (new ≡ old))
+      (counts : Counts) × ((visitors : Visitors) × (deals.counts old counts × (told ≡ tolds.Counted counts visitors) × (new ≡ old)))
+  DoesCommand reads old (Ok (commands.Why authority)) told new =
+      (result : Result (Option StandingAnswer) NoMemory)
+      × (deals.answers old authority result × (told ≡ tolds.Explained authority result) × (new ≡ old))
   DoesCommand reads old (Ok commands.Quit) told new = deals.ends old new × (told ≡ tolds.Bye)
   DoesCommand reads old (Err fault) told new = TellsFault old fault told new
 
-  -- a line is what it means at the clock's reading of this number where the keeper's schemes are read, with enough
-  -- capacity; or, with too little, the fault of the word that needs more. What it fetches reads the clock anew, under
-  -- the next number
-  abbrev pub DoesRequest : (ℕ → ℕ → Type 0) → ℕ → S → List ℕ → Told → S → Type 0
-  DoesRequest reads number old line told new =
+  -- a line is what it means at the clock's reading of this number for who speaks, where the keeper's schemes are read,
+  -- with enough capacity; or, with too little, the fault of the word that needs more. What it fetches reads the clock
+  -- anew, under the next number
+  abbrev pub DoesRequest : Speaker → (ℕ → ℕ → Type 0) → ℕ → S → List ℕ → Told → S → Type 0
+  DoesRequest speaker reads number old line told new =
       (m : ℕ) × (reads number m
-      × (DoesCommand (reads (next_reading number)) old (command_of_among (deals.schemes old) (Client m (deals.can_fetch old)) line Enough) told new
-      ⊎ DoesCommand (reads (next_reading number)) old (command_of_among (deals.schemes old) (Client m (deals.can_fetch old)) line Overflows) told new
-      ⊎ DoesCommand (reads (next_reading number)) old (command_of_among (deals.schemes old) (Client m (deals.can_fetch old)) line Refused) told new))
+      × (DoesCommand (reads (next_reading number)) old (command_of_among (deals.schemes old) (dialogue_of speaker m (deals.can_fetch old)) line Enough) told new
+      ⊎ DoesCommand (reads (next_reading number)) old (command_of_among (deals.schemes old) (dialogue_of speaker m (deals.can_fetch old)) line Overflows) told new
+      ⊎ DoesCommand (reads (next_reading number)) old (command_of_among (deals.schemes old) (dialogue_of speaker m (deals.can_fetch old)) line Refused) told new))
 
   -- what a line of a client is answered: the text of what it is told. The session ends behind a farewell, and behind a
   -- first line that is turned away. The next line has readings of its own
-  abbrev pub AnswersClient : FirstLine → (ℕ → ℕ → Type 0) → ClientState S → List ℕ → List ℕ → Bool → ClientState S → Type 0
-  AnswersClient first reads old line text ended new =
-      (told : Told) × (DoesRequest reads old.number old.keeper line told new.keeper
+  abbrev pub AnswersClient : Speaker → FirstLine → (ℕ → ℕ → Type 0) → ClientState S → List ℕ → List ℕ → Bool → ClientState S → Type 0
+  AnswersClient speaker first reads old line text ended new =
+      (told : Told) × (DoesRequest speaker reads old.number old.keeper line told new.keeper
       × ((text ≡ told_text told) × (ended ≡ (is_turned_away first old.number line || is_farewell told))
       × (new.number ≡ next_reading (next_reading old.number))))
 
   -- a session of a client, and its end, which comes whatever the session met
-  pub record Serves (first : FirstLine) (reads : ℕ → ℕ → Type 0) (old new : S) (input left written written_new : Option (List ℕ)) (result : Result (Unit {0}) SessionFault) : Type 0 where
+  pub record Serves (speaker : Speaker) (first : FirstLine) (reads : ℕ → ℕ → Type 0) (old new : S) (input left written written_new : Option (List ℕ)) (result : Result (Unit {0}) SessionFault) : Type 0 where
     pub last : ClientState S
-    pub session : Session (AnswersClient first reads) max_client_line max_lines (record { keeper = old; number = 0 }) last input left written written_new result
+    pub session : Session (AnswersClient speaker first reads) max_client_line max_lines (record { keeper = old; number = 0 }) last input left written written_new result
     pub ends : deals.ends last.keeper new

@@ -2,6 +2,7 @@
 -- Cited by the contracts of `info_text` and `told`.
 use Rattle.std.specs.Prelude.{List, ℕ, ◌++◌, codes, decimal}
 use Rattle.keepers.specs.declared.counts.Counts.{Counts}
+use Rattle.keepers.specs.declared.visits.Visitors.{Visitors}
 
 -- the entries, the starts, and the permits that are out
 unfoldable pub begin_of_info : Counts → List ℕ
@@ -11,14 +12,23 @@ begin_of_info counts =
     ++ (codes " starts " ++ (decimal counts.starts
     ++ (codes " permits " ++ decimal counts.permits))))))
 
--- the fetches under way, the authorities, and the room of the history
+-- the fetches under way, and the authorities
 unfoldable pub end_of_info : Counts → List ℕ
 end_of_info counts =
     codes " running " ++ (decimal counts.running
     ++ (codes " turns " ++ (decimal counts.turns
-    ++ (codes " authorities " ++ (decimal counts.authorities
-    ++ (codes " room " ++ (decimal counts.room ++ codes "\n")))))))
+    ++ (codes " authorities " ++ (decimal counts.authorities ++ codes " room ")))))
+
+-- the room of the history, and the connections of the server
+unfoldable pub visitors_of_info : Counts → Visitors → List ℕ
+visitors_of_info counts visitors =
+    decimal counts.room ++ (codes " connections " ++ (decimal visitors.connections
+    ++ (codes " clients " ++ (decimal visitors.clients ++ codes "\n"))))
+
+-- what stands behind the permits
+abbrev pub rest_of_info : Counts → Visitors → List ℕ
+rest_of_info counts visitors = end_of_info counts ++ visitors_of_info counts visitors
 
 -- the reply
-abbrev pub info_text : Counts → List ℕ
-info_text counts = begin_of_info counts ++ end_of_info counts
+abbrev pub info_text : Counts → Visitors → List ℕ
+info_text counts visitors = begin_of_info counts ++ rest_of_info counts visitors

@@ -1,6 +1,7 @@
 -- What contracts say of command lines, of their replies and of sessions.
 pub mod Limits
 pub mod Verbs
+pub mod WhyText
 pub mod Arguments
 pub mod Arrival
 pub mod CallOf

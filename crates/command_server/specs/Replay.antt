@@ -74,6 +74,7 @@ AnswersCommand schemes old (Ok (commands.Refresh authority)) text ended new = An
 AnswersCommand schemes old (Ok (commands.Fetch job)) text ended new = AnswersNoVerb old text ended new
 AnswersCommand schemes old (Ok (commands.Url url)) text ended new = AnswersNoVerb old text ended new
 AnswersCommand schemes old (Ok commands.Info) text ended new = AnswersNoVerb old text ended new
+AnswersCommand schemes old (Ok (commands.Why authority)) text ended new = AnswersNoVerb old text ended new
 AnswersCommand schemes old (Ok commands.Quit) text ended new = (text ≡ bye_text) × (ended ≡ true) × Stays old new
 AnswersCommand schemes old (Err fault) text ended new = (text ≡ line_fault_text fault) × (ended ≡ false) × Stays old new
 

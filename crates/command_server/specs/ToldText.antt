@@ -15,6 +15,7 @@ use Rattle.command_server.specs.InfoText.{info_text}
 use Rattle.command_server.specs.RefusalText.{refusal_text}
 use Rattle.command_server.specs.ReplyText.{arrive_text, ask_text, back_text, begin_text, bye_text, denial_text, finish_text, go_text, state_text, url_text}
 use Rattle.command_server.specs.SealText.{seal_text}
+use Rattle.command_server.specs.WhyText.{why_text}
 use Rattle.command_server.specs.declared.told.Told.{Told}
 use Rattle.command_server.specs.declared.told.Told.TheVariants as tolds
 
@@ -48,6 +49,7 @@ told_text (tolds.Sealed result) = seal_text result
 told_text (tolds.Refreshed authority result) = refresh_text authority result
 told_text (tolds.Fetched outcome) = fetched_text outcome
 told_text (tolds.Written url) = url_text url
-told_text (tolds.Counted counts) = info_text counts
+told_text (tolds.Counted counts visitors) = info_text counts visitors
+told_text (tolds.Explained authority result) = why_text authority result
 told_text tolds.NoMemory = refusal_text refusals.NoMemory
 told_text tolds.Bye = bye_text

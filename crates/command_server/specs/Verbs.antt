@@ -4,7 +4,9 @@ use Rattle.std.specs.Prelude.{ℕ, ◌^◌, ◌-◌, Bool, true, false, not, ◌
 use Rattle.std.specs.List.{find}
 use Rattle.std.specs.Str.{bytes_eq}
 use Rattle.command_server.specs.declared.verbs.Dialogue.{Dialogue}
-use Rattle.command_server.specs.declared.verbs.Dialogue.TheVariants.{Client, Replay}
+use Rattle.command_server.specs.declared.verbs.Dialogue.TheVariants.{Client, Overseer, Replay}
+use Rattle.command_server.specs.declared.verbs.Speaker.{Speaker}
+use Rattle.command_server.specs.declared.verbs.Speaker.TheVariants as speakers
 use Rattle.command_server.specs.declared.verbs.Verb.{Verb}
 use Rattle.command_server.specs.declared.verbs.Verb.TheVariants as verbs
 
@@ -37,35 +39,57 @@ row_of verbs.Refresh = row (codes "REFRESH") 1 1
 row_of verbs.Fetch = row (codes "FETCH") 2 2
 row_of verbs.Url = row (codes "URL") 1 1
 row_of verbs.Info = row (codes "INFO") 0 0
+row_of verbs.Why = row (codes "WHY") 1 1
 row_of verbs.Quit = row (codes "QUIT") 0 0
 
 -- all verbs
 abbrev pub all_verbs : List Verb
 all_verbs =
     verbs.Begin ∷ verbs.Arrive ∷ verbs.Ask ∷ verbs.Start ∷ verbs.Back ∷ verbs.Done
-    ∷ verbs.State ∷ verbs.Sweep ∷ verbs.Seal ∷ verbs.Refresh ∷ verbs.Fetch ∷ verbs.Url ∷ verbs.Info ∷ verbs.Quit ∷ []
+    ∷ verbs.State ∷ verbs.Sweep ∷ verbs.Seal ∷ verbs.Refresh ∷ verbs.Fetch ∷ verbs.Url ∷ verbs.Info ∷ verbs.Why
+    ∷ verbs.Quit ∷ []
 
 -- whether the dialogue is that of a replay
 abbrev pub is_replay : Dialogue → Bool
 is_replay Replay = true
-is_replay (Client moment fetches) = false
+is_replay _ = false
+
+-- whether a client speaks in it
+abbrev pub is_of_client : Dialogue → Bool
+is_of_client (Client moment fetches) = true
+is_of_client _ = false
+
+-- whether who speaks in it asks for permits, and starts fetches by them
+abbrev pub has_permits : Dialogue → Bool
+has_permits (Overseer moment) = false
+has_permits _ = true
 
 -- whether robots files and pages are fetched in the dialogue
 abbrev pub has_fetches : Dialogue → Bool
-has_fetches Replay = false
 has_fetches (Client moment fetches) = fetches
+has_fetches _ = false
 
 -- whether the dialogue has the verb: a replay brings robots answers, and for a client they are fetched; a client is told
--- how a URL is written, since it may fetch the page itself
+-- how a URL is written, since it may fetch the page itself. Who sees to a gate seals, and looks
 abbrev pub is_in : Dialogue → Verb → Bool
 is_in dialogue verbs.Begin = is_replay dialogue
 is_in dialogue verbs.Arrive = is_replay dialogue
 is_in dialogue verbs.Sweep = is_replay dialogue
 is_in dialogue verbs.Refresh = has_fetches dialogue
 is_in dialogue verbs.Fetch = has_fetches dialogue
-is_in dialogue verbs.Url = not (is_replay dialogue)
+is_in dialogue verbs.Ask = has_permits dialogue
+is_in dialogue verbs.Start = has_permits dialogue
+is_in dialogue verbs.Back = has_permits dialogue
+is_in dialogue verbs.Done = has_permits dialogue
+is_in dialogue verbs.Url = is_of_client dialogue
 is_in dialogue verbs.Info = not (is_replay dialogue)
+is_in dialogue verbs.Why = not (is_replay dialogue)
 is_in dialogue _ = true
+
+-- the dialogue of who speaks to a server, at the moment of a line, where pages are fetched for clients, or are not
+abbrev pub dialogue_of : Speaker → (moment : ℕ) → (fetches : Bool) → Dialogue
+dialogue_of speakers.Client moment fetches = Client moment fetches
+dialogue_of speakers.Overseer moment fetches = Overseer moment
 
 -- the verb of this name, if the dialogue has one
 abbrev pub verb_of : Dialogue → List ℕ → Option Verb

@@ -61,7 +61,13 @@ impl Answerer<Book> for BookLines {
                 answer_seal(book, output, sink)?;
                 Ok(Flow::Goes)
             }
-            Ok(Command::Refresh { .. } | Command::Fetch(_) | Command::Url(_) | Command::Info) => {
+            Ok(
+                Command::Refresh { .. }
+                | Command::Fetch(_)
+                | Command::Url(_)
+                | Command::Info
+                | Command::Why { .. },
+            ) => {
                 fault_pieces(LineFault::Verb).push(output, sink)?;
                 Ok(Flow::Goes)
             }

@@ -11,7 +11,7 @@ use crate::fault::LineFault;
 use crate::first_line::FirstLine;
 use crate::numbered_clock::{FetchClock, NumberedClock, next_reading};
 use crate::told::Told;
-use crate::verbs::Dialogue;
+use crate::verbs::Speaker;
 use counted_io::{DeviceFault, Output, Sink};
 use crawl_job::Job;
 use gate_core::Call;
@@ -31,6 +31,7 @@ pub(crate) struct Client<'k, K: Keeper> {
 /// session.
 #[derive(Drop)]
 pub(crate) struct ClientLines<'c, C: NumberedClock> {
+    pub(crate) speaker: Speaker,
     pub(crate) clock: &'c C,
     pub(crate) first: FirstLine,
 }
@@ -40,7 +41,7 @@ impl<'k, K: Keeper, C: NumberedClock> Answerer<Client<'k, K>> for ClientLines<'_
 
     ghost answers = { λ lines _ old line text ended new.
         (new.keeper.ghost_name ≡ old.keeper.ghost_name)
-        × AnswersClient K.deals lines.first (C.reads lines.clock.now)
+        × AnswersClient K.deals lines.speaker lines.first (C.reads lines.clock.now)
         (record { keeper = old.keeper.now; number = old.number }) line text ended
         (record { keeper = new.keeper.now; number = new.number }) };
 
@@ -52,7 +53,14 @@ impl<'k, K: Keeper, C: NumberedClock> Answerer<Client<'k, K>> for ClientLines<'_
         output: &mut Output,
         sink: &mut W,
     ) -> Result<Flow, DeviceFault> {
-        let told = told_of(alloc, self.clock, client.number, client.keeper, line);
+        let told = told_of(
+            alloc,
+            self.speaker,
+            self.clock,
+            client.number,
+            client.keeper,
+            line,
+        );
         let flow = flow_behind(self.first, client.number, line, &told);
         client.number = next_reading(next_reading(client.number));
         told.tell(output, sink)?;
@@ -75,17 +83,15 @@ fn flow_behind(first: FirstLine, number: u64, line: &[u8], told: &Told) -> Flow
 // fetches has the next number.
 fn told_of<K: Keeper, C: NumberedClock>(
     alloc: Global,
+    speaker: Speaker,
     clock: &C,
     number: u64,
     keeper: &mut K,
     line: &[u8],
 ) -> Told
-    ensures { DoesRequest K.deals (C.reads clock.now) number keeper.old line.now result keeper.new }
+    ensures { DoesRequest K.deals speaker (C.reads clock.now) number keeper.old line.now result keeper.new }
 {
-    let dialogue = Dialogue::Client {
-        moment: clock.read(number),
-        fetches: keeper.can_fetch(),
-    };
+    let dialogue = speaker.dialogue(clock.read(number), keeper.can_fetch());
     let clock = &FetchClock {
         clock,
         number: next_reading(number),
@@ -110,7 +116,14 @@ fn told_of<K: Keeper, C: NumberedClock>(
         },
         // The keeper has no part in it.
         Ok(Command::Url(url)) => Told::Written(url),
-        Ok(Command::Info) => Told::Counted(keeper.counts()),
+        Ok(Command::Info) => Told::Counted {
+            counts: keeper.counts(),
+            visitors: keeper.visitors(),
+        },
+        Ok(Command::Why { authority }) => {
+            let result = keeper.answer(alloc, &authority);
+            Told::Explained { authority, result }
+        }
         Ok(Command::Quit) => {
             keeper.end();
             Told::Bye

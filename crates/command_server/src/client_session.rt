@@ -4,6 +4,7 @@ ghost use Rattle.std.specs.Prelude.{◌≡◌};
 ghost use Rattle.command_server.specs.Clients.{AnswersClient, Serves};
 ghost use Rattle.command_server.specs.Limits.{max_client_line, max_lines};
 ghost use Rattle.command_server.specs.declared.first_line.FirstLine.TheVariants as first_lines;
+ghost use Rattle.command_server.specs.declared.verbs.Speaker.TheVariants as speakers;
 ghost use Rattle.command_server.specs.Session.{Session, failures_after_reads, failures_after_writes};
 
 use crate::book_lines::MAX_LINES;
@@ -12,6 +13,7 @@ use crate::first_line::FirstLine;
 use crate::numbered_clock::NumberedClock;
 use crate::session::run_session;
 use crate::session_fault::SessionFault;
+use crate::verbs::Speaker;
 use counted_io::{Sink, Source};
 use keepers::Keeper;
 use std::alloc::Global;
@@ -29,7 +31,7 @@ pub fn serve<R: Source, W: Sink, K: Keeper, C: NumberedClock>(
     keeper: &mut K,
     clock: &C,
 ) -> Result<(), SessionFault>
-    ensures session { Serves K.deals first_lines.Any (C.reads clock.now) keeper.old keeper.new
+    ensures session { Serves K.deals speakers.Client first_lines.Any (C.reads clock.now) keeper.old keeper.new
         (R.left reader.old) (R.left reader.new)
         (W.written writer.old) (W.written writer.new) result }
     ensures reads { R.failures reader.new ≡ failures_after_reads (R.failures reader.old) result }
@@ -48,14 +50,66 @@ pub fn serve_from<R: Source, W: Sink, K: Keeper, C: NumberedClock>(
     clock: &C,
     first: FirstLine,
 ) -> Result<(), SessionFault>
-    ensures session { Serves K.deals first (C.reads clock.now) keeper.old keeper.new
+    ensures session { Serves K.deals speakers.Client first (C.reads clock.now) keeper.old keeper.new
         (R.left reader.old) (R.left reader.new)
         (W.written writer.old) (W.written writer.new) result }
     ensures reads { R.failures reader.new ≡ failures_after_reads (R.failures reader.old) result }
     ensures writes { W.failures writer.new
         ≡ failures_after_writes (W.failures writer.old) result }
 {
-    let lines = ClientLines { clock, first };
+    serve_lines(alloc, reader, writer, keeper, Speaker::Client, clock, first)
+}
+
+/// Serves who sees to the gate as `serve_from` serves a client: its lines are those of an overseer. What asks for permits
+/// or fetches is no verb of its.
+pub fn serve_overseer<R: Source, W: Sink, K: Keeper, C: NumberedClock>(
+    alloc: Global,
+    reader: &mut R,
+    writer: &mut W,
+    keeper: &mut K,
+    clock: &C,
+    first: FirstLine,
+) -> Result<(), SessionFault>
+    ensures session { Serves K.deals speakers.Overseer first (C.reads clock.now) keeper.old keeper.new
+        (R.left reader.old) (R.left reader.new)
+        (W.written writer.old) (W.written writer.new) result }
+    ensures reads { R.failures reader.new ≡ failures_after_reads (R.failures reader.old) result }
+    ensures writes { W.failures writer.new
+        ≡ failures_after_writes (W.failures writer.old) result }
+{
+    serve_lines(
+        alloc,
+        reader,
+        writer,
+        keeper,
+        Speaker::Overseer,
+        clock,
+        first,
+    )
+}
+
+// Serves who speaks to the end of its session.
+fn serve_lines<R: Source, W: Sink, K: Keeper, C: NumberedClock>(
+    alloc: Global,
+    reader: &mut R,
+    writer: &mut W,
+    keeper: &mut K,
+    speaker: Speaker,
+    clock: &C,
+    first: FirstLine,
+) -> Result<(), SessionFault>
+    ensures session { Serves K.deals speaker first (C.reads clock.now) keeper.old keeper.new
+        (R.left reader.old) (R.left reader.new)
+        (W.written writer.old) (W.written writer.new) result }
+    ensures reads { R.failures reader.new ≡ failures_after_reads (R.failures reader.old) result }
+    ensures writes { W.failures writer.new
+        ≡ failures_after_writes (W.failures writer.old) result }
+{
+    let lines = ClientLines {
+        speaker,
+        clock,
+        first,
+    };
     let mut client = Client { keeper, number: 0 };
     let end = run_lines(alloc, reader, writer, &lines, &mut client);
     client.keeper.end();
@@ -71,7 +125,7 @@ fn run_lines<'k, R: Source, W: Sink, K: Keeper, C: NumberedClock>(
     client: &mut Client<'k, K>,
 ) -> Result<(), SessionFault>
     ensures keeper { client.new.keeper.ghost_name ≡ client.old.keeper.ghost_name }
-    ensures session { Session (AnswersClient K.deals lines.now.first (C.reads lines.now.clock.now))
+    ensures session { Session (AnswersClient K.deals lines.now.speaker lines.now.first (C.reads lines.now.clock.now))
         max_client_line max_lines
         (record { keeper = client.old.keeper.now; number = client.old.number })
         (record { keeper = client.new.keeper.now; number = client.new.number })

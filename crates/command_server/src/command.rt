@@ -39,6 +39,8 @@ pub enum Command<'a> {
     Url(PageUrl),
     /// How much there is of what the gate keeps.
     Info,
+    /// The answer that stands for an authority.
+    Why { authority: Authority },
     /// The end of the session.
     Quit,
 }
@@ -74,7 +76,9 @@ pub fn read_command_among(
     }
     match dialogue {
         Dialogue::Replay => read_timed(alloc, schemes, words),
-        Dialogue::Client { moment, .. } => read_verb(alloc, schemes, dialogue, moment, words),
+        Dialogue::Client { moment, .. } | Dialogue::Overseer { moment } => {
+            read_verb(alloc, schemes, dialogue, moment, words)
+        }
     }
 }
 
@@ -181,6 +185,10 @@ fn read_arguments(
         Verb::Fetch => return Ok(Command::Fetch(read_job_words(alloc, schemes, words)?)),
         Verb::Url => return Ok(Command::Url(read_page_alone(alloc, schemes, words)?)),
         Verb::Info => return Ok(Command::Info),
+        Verb::Why => {
+            let authority = read_authority_alone(alloc, schemes, words)?;
+            return Ok(Command::Why { authority });
+        }
         Verb::Quit => return Ok(Command::Quit),
     }))
 }

@@ -3,24 +3,40 @@
 ghost use Rattle.std.specs.Prelude.{◌≡◌};
 ghost use Rattle.counted_io.specs.Output.{Pushes};
 ghost use Rattle.line_text.specs.Pieces.{pieces_text};
-ghost use Rattle.command_server.specs.InfoText.{begin_of_info, end_of_info, info_text};
+ghost use Rattle.command_server.specs.InfoText.{begin_of_info, end_of_info, info_text, rest_of_info, visitors_of_info};
 
 use counted_io::{DeviceFault, Output, Sink};
-use keepers::Counts;
+use keepers::{Counts, Visitors};
 use line_text::{Piece, Pieces};
 
 /// Pushes the line.
 pub(crate) fn push_info<W: Sink>(
     counts: Counts,
+    visitors: Visitors,
     output: &mut Output,
     sink: &mut W,
 ) -> Result<(), DeviceFault>
     ensures { Pushes (W.written sink.old) (W.written sink.new)
         (W.failures sink.old) (W.failures sink.new) output.old output.new
-        (info_text counts) result }
+        (info_text counts visitors) result }
 {
     opening_pieces(counts).push(output, sink)?;
-    closing_pieces(counts).push(output, sink)
+    push_rest(counts, visitors, output, sink)
+}
+
+// Pushes what stands behind the permits.
+fn push_rest<W: Sink>(
+    counts: Counts,
+    visitors: Visitors,
+    output: &mut Output,
+    sink: &mut W,
+) -> Result<(), DeviceFault>
+    ensures { Pushes (W.written sink.old) (W.written sink.new)
+        (W.failures sink.old) (W.failures sink.new) output.old output.new
+        (rest_of_info counts visitors) result }
+{
+    closing_pieces(counts).push(output, sink)?;
+    visitor_pieces(counts, visitors).push(output, sink)
 }
 
 // The entries, the starts, and the permits that are out.
@@ -40,7 +56,7 @@ fn opening_pieces(counts: Counts) -> Pieces<'static>
     ])
 }
 
-// The fetches under way, the authorities, and the room of the history.
+// The fetches under way, and the authorities.
 #[tactic(auto, unfolding(crate::specs::InfoText::end_of_info))]
 fn closing_pieces(counts: Counts) -> Pieces<'static>
     ensures { pieces_text result ≡ end_of_info counts }
@@ -53,7 +69,20 @@ fn closing_pieces(counts: Counts) -> Pieces<'static>
         Piece::Text(" authorities "),
         Piece::Number(counts.authorities),
         Piece::Text(" room "),
+    ])
+}
+
+// The room of the history, and the connections of the server.
+#[tactic(auto, unfolding(crate::specs::InfoText::visitors_of_info))]
+fn visitor_pieces(counts: Counts, visitors: Visitors) -> Pieces<'static>
+    ensures { pieces_text result ≡ visitors_of_info counts visitors }
+{
+    Pieces::of(&[
         Piece::Number(counts.room),
+        Piece::Text(" connections "),
+        Piece::Number(visitors.connections),
+        Piece::Text(" clients "),
+        Piece::Number(visitors.clients),
         Piece::Text("\n"),
     ])
 }

@@ -36,9 +36,11 @@ pub fn next_reading(number: u64) -> u64
 
 /// The clock of a fetch or a refresh, whose readings have one number.
 #[derive(Drop)]
-pub(crate) struct FetchClock<'c, C: NumberedClock> {
-    pub(crate) clock: &'c C,
-    pub(crate) number: u64,
+pub struct FetchClock<'c, C: NumberedClock> {
+    /// What is read.
+    pub clock: &'c C,
+    /// The number of its readings.
+    pub number: u64,
 }
 
 impl<C: NumberedClock> Clock for FetchClock<'_, C> {

@@ -17,11 +17,13 @@ use crate::reply_text::{
     finish_pieces, go_pieces, state_pieces, url_pieces,
 };
 use crate::seal_text::push_sealed;
+use crate::why_text::push_why;
+use authority_cache::StandingAnswer;
 use counted_io::{DeviceFault, Output, Sink};
 use crawl_job::{Outcome, Refusal};
 use gate_core::{AskRefusal, BeginRefusal, Denial, NoMemory, Standing, State};
 use gate_history::{Reason, Segment};
-use keepers::Counts;
+use keepers::{Counts, Visitors};
 use line_text::{Piece, Pieces};
 use path_normal::{Authority, PageUrl};
 use permit_book::{NotOut, PermitNo};
@@ -57,8 +59,16 @@ pub(crate) enum Told {
     Sealed(Result<Segment, NoMemory>),
     /// How the URL of a page is written.
     Written(PageUrl),
-    /// How much there is of what the gate keeps.
-    Counted(Counts),
+    /// How much there is of what the gate keeps, and the connections of the server.
+    Counted {
+        counts: Counts,
+        visitors: Visitors,
+    },
+    /// The answer that stands for the authority.
+    Explained {
+        authority: Authority,
+        result: Result<Option<StandingAnswer>, NoMemory>,
+    },
     /// There was no memory to fetch.
     NoMemory,
     /// The session ends.
@@ -114,7 +124,8 @@ impl Told {
                 refreshed_pieces(authority, result).push(output, sink)
             }
             Told::Written(url) => url_pieces(url).push(output, sink),
-            Told::Counted(counts) => push_info(*counts, output, sink),
+            Told::Counted { counts, visitors } => push_info(*counts, *visitors, output, sink),
+            Told::Explained { authority, result } => push_why(authority, result, output, sink),
             Told::NoMemory => refusal_pieces(Refusal::NoMemory).push(output, sink),
             Told::Bye => bye_pieces().push(output, sink),
         }

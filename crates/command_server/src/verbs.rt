@@ -1,7 +1,7 @@
 //! The table of the verbs: their names, and how many words follow each.
 //! Used by `command`; docs/FORMATS.md prints the same table.
 ghost use Rattle.std.specs.Prelude.{◌≡◌};
-ghost use Rattle.command_server.specs.Verbs.{is_in, row_of, verb_of};
+ghost use Rattle.command_server.specs.Verbs.{dialogue_of, has_permits, is_in, is_of_client, row_of, verb_of};
 
 /// A verb of a command line.
 #[derive(Clone, Copy, Debug, PartialEq, Eq)]
@@ -19,10 +19,11 @@ pub enum Verb {
     Fetch,
     Url,
     Info,
+    Why,
     Quit,
 }
 
-const VERBS: [Verb; 14] = [
+const VERBS: [Verb; 15] = [
     Verb::Begin,
     Verb::Arrive,
     Verb::Ask,
@@ -36,6 +37,7 @@ const VERBS: [Verb; 14] = [
     Verb::Fetch,
     Verb::Url,
     Verb::Info,
+    Verb::Why,
     Verb::Quit,
 ];
 
@@ -47,6 +49,51 @@ pub enum Dialogue {
     /// A client, whose line has the moment at which it was taken; and whether robots files and pages are
     /// fetched for it.
     Client { moment: u64, fetches: bool },
+    /// Who sees to the gate, and fetches nothing: it seals the history, and looks. A line has its moment as a client's.
+    Overseer { moment: u64 },
+}
+
+/// Who speaks to a server.
+#[derive(Clone, Copy, Debug, PartialEq, Eq)]
+pub enum Speaker {
+    /// A client.
+    Client,
+    /// Who sees to the gate.
+    Overseer,
+}
+
+impl Speaker {
+    /// Its dialogue at the moment of a line, where pages are fetched for clients, or are not.
+    pub(crate) fn dialogue(self, moment: u64, fetches: bool) -> Dialogue
+        ensures { result ≡ dialogue_of self moment fetches }
+    {
+        match self {
+            Speaker::Client => Dialogue::Client { moment, fetches },
+            Speaker::Overseer => Dialogue::Overseer { moment },
+        }
+    }
+}
+
+impl Dialogue {
+    // Whether a client speaks.
+    fn is_of_client(self) -> bool
+        ensures { result ≡ is_of_client self }
+    {
+        match self {
+            Dialogue::Client { .. } => true,
+            Dialogue::Replay | Dialogue::Overseer { .. } => false,
+        }
+    }
+
+    // Whether who speaks fetches pages, or has them fetched.
+    fn has_permits(self) -> bool
+        ensures { result ≡ has_permits self }
+    {
+        match self {
+            Dialogue::Replay | Dialogue::Client { .. } => true,
+            Dialogue::Overseer { .. } => false,
+        }
+    }
 }
 
 /// What the table says of a verb.
@@ -76,18 +123,14 @@ impl Verb {
         ensures { result ≡ is_in dialogue self }
     {
         match self {
-            Verb::Ask
-            | Verb::Start
-            | Verb::Back
-            | Verb::Done
-            | Verb::State
-            | Verb::Seal
-            | Verb::Quit => true,
+            Verb::State | Verb::Seal | Verb::Quit => true,
+            Verb::Ask | Verb::Start | Verb::Back | Verb::Done => dialogue.has_permits(),
             Verb::Begin | Verb::Arrive | Verb::Sweep => dialogue == Dialogue::Replay,
-            Verb::Url | Verb::Info => dialogue != Dialogue::Replay,
+            Verb::Info | Verb::Why => dialogue != Dialogue::Replay,
+            Verb::Url => dialogue.is_of_client(),
             Verb::Refresh | Verb::Fetch => match dialogue {
-                Dialogue::Replay => false,
                 Dialogue::Client { fetches, .. } => fetches,
+                Dialogue::Replay | Dialogue::Overseer { .. } => false,
             },
         }
     }
@@ -112,6 +155,7 @@ impl Verb {
             Verb::Fetch => row("FETCH", 2, 2),
             Verb::Url => row("URL", 1, 1),
             Verb::Info => row("INFO", 0, 0),
+            Verb::Why => row("WHY", 1, 1),
             Verb::Quit => row("QUIT", 0, 0),
         }
     }

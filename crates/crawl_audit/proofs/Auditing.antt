@@ -146,12 +146,25 @@ module _ (schemes : Schemes) (a : Auditor) (lines : List (List ℕ)) (place : Pl
       let few = is_front.few in
       nowhere (omega (arith, few, length-append lines (next ∷ []))) (subst (IsAmong schemes) (sym same) among) step.0 (subst (λ (l : List ℕ). Steps place l step.0) (sym same) step.1))
 
+  -- which stands behind the lines
+  pub bad_line_behind : (raw rest : List ℕ) (is : text ≡ lines_text lines ++ (raw ++ 10 ∷ rest)) (none : HasNoLineFeed raw) (number : ℕ) (count : number ≡ a.lines + 1) (nowhere : LeadsNowhere schemes lines place raw) →
+      (let bad : IsChainBadAt schemes text number = bad_line raw rest is none number count nowhere in bad.behind ≡ raw ++ 10 ∷ rest)
+  unfolding bad_line bad_at
+  bad_line_behind raw rest is none number count nowhere = refl
+
   -- octets without a line feed that are too long, or all that there is
   pub bad_part : (raw rest : List ℕ) → text ≡ lines_text lines ++ (raw ++ rest) → HasNoLineFeed raw → 0 < length raw → (number : ℕ) → number ≡ a.lines + 1 →
       ((l r : List ℕ) → length l ≤ line_limit → raw ++ rest ≡ l ++ 10 ∷ r → length l < length raw) → IsChainBadAt schemes text number
   bad_part raw rest is none some number count long =
       bad_at (raw ++ rest) is number count (λ empty. absurd (omega (arith, some, ap length empty, length-append raw rest)))
       (λ next after short then among is_front. beyond raw next rest after none then (long next after short then))
+
+  -- which stand behind the lines
+  pub bad_part_behind : (raw rest : List ℕ) (is : text ≡ lines_text lines ++ (raw ++ rest)) (none : HasNoLineFeed raw) (some : 0 < length raw) (number : ℕ) (count : number ≡ a.lines + 1)
+      (long : (l r : List ℕ) → length l ≤ line_limit → raw ++ rest ≡ l ++ 10 ∷ r → length l < length raw) →
+      (let bad : IsChainBadAt schemes text number = bad_part raw rest is none some number count long in bad.behind ≡ raw ++ rest)
+  unfolding bad_part bad_at
+  bad_part_behind raw rest is none some number count long = refl
 
   -- nothing, where a base is not whole
   pub bad_end : text ≡ lines_text lines → (MayEnd place → ⊥) → (number : ℕ) → number ≡ a.lines + 1 → IsChainBadAt schemes text number
@@ -160,19 +173,19 @@ module _ (schemes : Schemes) (a : Auditor) (lines : List (List ℕ)) (place : Pl
 
 -- ---- what the source gave
 
-split_known : (text : List ℕ) (behind : Option (List ℕ)) (front : List ℕ) → Consumes (Some text) behind front → (rest : List ℕ) × (behind ≡ Some rest) × (text ≡ front ++ rest)
+pub split_known : (text : List ℕ) (behind : Option (List ℕ)) (front : List ℕ) → Consumes (Some text) behind front → (rest : List ℕ) × (behind ≡ Some rest) × (text ≡ front ++ rest)
 split_known text None front c = absurd c
 split_known text (Some rest) front c = (rest, refl, c)
 
 -- the text by what was taken of it, twice
-split_twice : (input behind after : Option (List ℕ)) (text front more : List ℕ) → input ≡ Some text → Consumes input behind front → Consumes behind after more → (rest : List ℕ) × (after ≡ Some rest) × (text ≡ front ++ (more ++ rest))
+pub split_twice : (input behind after : Option (List ℕ)) (text front more : List ℕ) → input ≡ Some text → Consumes input behind front → Consumes behind after more → (rest : List ℕ) × (after ≡ Some rest) × (text ≡ front ++ (more ++ rest))
 split_twice input behind after text front more is first then =
     let one = split_known text behind front (subst (λ (i : Option (List ℕ)). Consumes i behind front) is first) in
     let two = split_known one.0 after more (subst (λ (b : Option (List ℕ)). Consumes b after more) one.1 then) in
     (two.0, two.1, one.2 ∙ ap (λ k. front ++ k) two.2)
 
 -- the text of lines and one more
-text_more : (lines : List (List ℕ)) (line : List ℕ) → lines_text (lines ++ line ∷ []) ≡ lines_text lines ++ (line ++ 10 ∷ [])
+pub text_more : (lines : List (List ℕ)) (line : List ℕ) → lines_text (lines ++ line ∷ []) ≡ lines_text lines ++ (line ++ 10 ∷ [])
 text_more lines line = flat_map-append ended lines (line ∷ []) ∙ ap (λ t. lines_text lines ++ t) (append-nil (ended line))
 
 module _ (schemes : Schemes) (a : Auditor) (input behind : Option (List ℕ)) (heard : Heard schemes a input behind) where
@@ -204,7 +217,7 @@ module _ (schemes : Schemes) (a : Auditor) (input behind : Option (List ℕ)) (h
       bad_part schemes a heard.lines heard.place heard.holds text t.raw s.0 s.2 t.no_line_feed (omega arith) number count (λ l r short same. omega arith)
 
   -- nothing more was there
-  ended_at : (line pending : List ℕ) (left : Option (List ℕ)) → FindsEnd behind pending left line → Consumes input (prepend_known pending left) (lines_text heard.lines) × IsAtEnd (prepend_known pending left)
+  pub ended_at : (line pending : List ℕ) (left : Option (List ℕ)) → FindsEnd behind pending left line → Consumes input (prepend_known pending left) (lines_text heard.lines) × IsAtEnd (prepend_known pending left)
   ended_at line pending left f = (
     subst (Consumes input (prepend_known pending left)) (append-nil (lines_text heard.lines))
         (Consumes-trans input behind (prepend_known pending left) (lines_text heard.lines) [] heard.taken f.kept),

@@ -5,6 +5,8 @@ pub mod Back
 pub mod BaseFront
 pub mod ChainLines
 pub mod CountedLines
+pub mod EndedHistories
+pub mod EndingLines
 pub mod EntriesRead
 pub mod Exporting
 pub mod FirstLines
@@ -25,6 +27,7 @@ pub mod OneOrder
 pub mod OneRow
 pub mod OneText
 pub mod Reaching
+pub mod RecoveredBases
 pub mod Returning
 pub mod RowFronts
 pub mod RowKinds
@@ -37,3 +40,4 @@ pub mod Spelling
 pub mod StandingRows
 pub mod Stepping
 pub mod TextBases
+pub mod WholeTexts

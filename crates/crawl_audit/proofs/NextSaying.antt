@@ -99,7 +99,7 @@ all_among P [] each = All-nil P
 all_among P (x ∷ xs) each = All-cons P x xs (each x (inl refl)) (all_among P xs (λ y there. each y (inr there)))
 
 -- grants that a table has are such as it has
-grants_fit : (lasts : Lasts) (gs : List SlotGrant) → ((slot : ℕ) → filter (is_in slot) gs ≡ grants_under slot (lasts slot)) →
+pub grants_fit : (lasts : Lasts) (gs : List SlotGrant) → ((slot : ℕ) → filter (is_in slot) gs ≡ grants_under slot (lasts slot)) →
     ((slot generation : ℕ) → lasts slot ≡ Some generation → IsSlotGrant (record { slot = slot; generation = generation })) → All IsSlotGrant gs
 grants_fit lasts gs are fit =
     all_among IsSlotGrant gs (λ g there. of_slot g (lasts g.slot) refl (subst (Among g) (are g.slot) (among_filter (is_in g.slot) g gs (same_number g.slot) there)))
@@ -114,7 +114,7 @@ grants_fit lasts gs are fit =
 module _ (l : Ledger) (left : LeftOpen) (numbers : BaseNumbers) (lists : TellsLeft l left)
     (begun : numbers.begins ≡ l.begins) (moment : numbers.moment ≡ l.clock) (entries : numbers.entries ≡ l.entries) (started : numbers.started ≡ l.started) where
   -- lists of what the tables have say what the history does
-  left_says : (h : History) → TellsAll l h → SaysAs (from (base_with left numbers)) h
+  pub left_says : (h : History) → TellsAll l h → SaysAs (from (base_with left numbers)) h
   left_says h all = record {
     answers = keys_say.answers left.standing.items (standing h) (λ a. lists.answers a ∙ sym (cache.answers_are a));
     turns = keys_say.turns left.in_flight.items (in_flight h) (λ a. lists.turns a ∙ sym (cache.turns_are a));

@@ -4,6 +4,7 @@ pub mod Audit
 pub mod BaseFields
 pub mod ChainAudit
 pub mod Chains
+pub mod Ending
 pub mod Entries
 pub mod Exports
 pub mod FirstBase
@@ -16,6 +17,7 @@ pub mod OpenRows
 pub mod Parts
 pub mod Reading
 pub mod Records
+pub mod Recovering
 pub mod Spell
 pub mod SpellBase
 pub mod Steps

@@ -22,6 +22,10 @@ lines_text lines = flat_map ended lines
 abbrev pub numbers_line : Base → List ℕ
 numbers_line b = codes "T" ++ spaced_fields (decimal b.entries ∷ decimal b.started ∷ decimal b.begins ∷ decimal b.moment ∷ [])
 
+-- what the line of an answer that stands has behind its letter and the space
+abbrev pub answer_words : StandingAnswer → List ℕ
+answer_words s = s.authority ++ spaced_fields (decimal s.turn ∷ decimal s.begun ∷ answer_fields Two s.says s.life)
+
 -- an answer that stands, as version 2 has it
 abbrev pub answer_line : StandingAnswer → List ℕ
 answer_line s = codes "H" ++ spaced_fields (s.authority ∷ decimal s.turn ∷ decimal s.begun ∷ answer_fields Two s.says s.life)

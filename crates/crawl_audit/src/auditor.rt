@@ -131,8 +131,8 @@ impl Auditor {
         matches!(self.stage, Stage::Start | Stage::Entries)
     }
 
-    // Takes the line, where it may come.
-    fn take_line(&mut self, alloc: Global) -> Result<(), AuditFault>
+    /// Takes the line, where it may come.
+    pub(crate) fn take_line(&mut self, alloc: Global) -> Result<(), AuditFault>
         ensures line { (schemes : Schemes) (lines : List (List ℕ)) (place : Place)
             → Holds schemes self.old lines place
             → AddsLine schemes lines place self.old.line.items result self.new }

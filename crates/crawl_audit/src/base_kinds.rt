@@ -22,16 +22,17 @@ use robots_text::Token;
 
 const SPACE: Piece<'static> = Piece::Text(" ");
 
-/// An answer that stands.
+/// An answer that stands, behind this word and its space.
 pub(crate) fn standing<'a>(
+    word: &'static str,
     authority: &'a Authority,
     turn: TurnNo,
     begun: u64,
     told: Told<'a>,
     life: u64,
 ) -> Pieces<'a>
-    ensures text { pieces_text result ≡ codes "H" ++ spaced_fields (authority.now ∷ decimal turn
-        ∷ decimal begun ∷ answer_fields Two (told_said told.entry) life) }
+    ensures text { pieces_text result ≡ word.now ++ (authority.now ++ spaced_fields (decimal turn
+        ∷ decimal begun ∷ answer_fields Two (told_said told.entry) life)) }
     ensures authority { IsAuthority authority.now }
     ensures turn { IsNumber turn }
     ensures begun { IsNumber begun }
@@ -39,7 +40,7 @@ pub(crate) fn standing<'a>(
 {
     let says = answer_pieces(Version::Two, told, life);
     Pieces::of(&[
-        Piece::Text("H "),
+        Piece::Text(word),
         Piece::Text(authority.text()),
         SPACE,
         Piece::Number(turn.number()),

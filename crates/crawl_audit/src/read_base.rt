@@ -70,7 +70,7 @@ fn row_pieces(found: &BaseRow) -> Pieces<'_>
             begun,
             answer,
             life,
-        } => standing(authority, *turn, *begun, told_by(answer), *life),
+        } => standing("H ", authority, *turn, *begun, told_by(answer), *life),
         BaseRow::InFlight {
             authority,
             turn,

@@ -1,12 +1,12 @@
 //! What is one line of a text: an entry, or a thing that a base left open.
 //! docs/FORMATS.md has the lines.
-ghost use Rattle.std.specs.Prelude.{◌≡◌, List, ℕ};
+ghost use Rattle.std.specs.Prelude.{◌≡◌, ◌++◌, List, ℕ};
 ghost use Rattle.line_text.specs.Pieces.{pieces_text};
 ghost use Rattle.crawl_audit.specs.declared.version.Version.TheVariants.{Two};
 ghost use Rattle.crawl_audit.specs.BaseFields.{IsAnswerRow, IsGrantRow, IsPermitRow, IsTurnRow};
 ghost use Rattle.crawl_audit.specs.Entries.{HasFields};
 ghost use Rattle.crawl_audit.specs.Spell.{entry_line};
-ghost use Rattle.crawl_audit.specs.SpellBase.{answer_line, grant_line, permit_line, turn_line};
+ghost use Rattle.crawl_audit.specs.SpellBase.{answer_line, answer_words, grant_line, permit_line, turn_line};
 
 use crate::base_kinds::{greatest, in_flight, permit, standing};
 use crate::entry_pieces::{entry_pieces, told_in};
@@ -46,9 +46,25 @@ impl Row for StandingAnswer {
     ghost has_fields = { IsAnswerRow };
 
     fn pieces(&self, _letter: &'static str) -> Pieces<'_> {
-        let told = told_in(&self.says);
-        standing(&self.authority, self.turn, self.begun, told, self.life)
+        standing_pieces("H ", self)
     }
+}
+
+/// The pieces of an answer that stands as a line of a base has it, behind this word in place of the letter and the space
+/// that such a line begins with. They have no line feed.
+pub fn standing_pieces<'a>(word: &'static str, answer: &'a StandingAnswer) -> Pieces<'a>
+    ensures text { pieces_text result ≡ word.now ++ answer_words answer.now }
+    ensures fields { IsAnswerRow answer.now }
+{
+    let told = told_in(&answer.says);
+    standing(
+        word,
+        &answer.authority,
+        answer.turn,
+        answer.begun,
+        told,
+        answer.life,
+    )
 }
 
 impl Row for Turn {

@@ -7,6 +7,7 @@ mod causes;
 mod closed_sites;
 mod job_lines;
 mod job_list;
+mod later;
 mod not_shifted;
 mod progress;
 mod report_text;

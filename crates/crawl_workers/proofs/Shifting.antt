@@ -1,6 +1,6 @@
 -- What all workers drew and did, once they have ended.
--- Used by `run_shift`.
-use Rattle.std.proofs.Common.{◌≡◌, ◌∙◌, ℕ, ◌≤◌, List, [], ◌∷◌, ◌++◌, length, take, ap, sym, refl, subst, arith}
+-- Used by `do_jobs`, `run_shift` and `run_later_shift`.
+use Rattle.std.proofs.Common.{◌≡◌, ◌∙◌, ℕ, ◌+◌, ◌≤◌, List, [], ◌∷◌, ◌++◌, length, take, ap, sym, refl, subst, arith}
 use Rattle.std.specs.Prelude.{Ok}
 use Rattle.std.specs.List.{AllZip}
 use Rattle.std.proofs.lemmas.List.{take-append-le, take_all}
@@ -12,7 +12,7 @@ use Rattle.crawl_workers.specs.declared.crew.Done.{Done}
 use Rattle.crawl_job.specs.declared.job.Job.{Job}
 use Rattle.crawl_workers.specs.declared.report.Crawled.{Crawled}
 use Rattle.crawl_workers.specs.Crews.{AllPlaced, EachHasDone, all_numbers, one_below, one_at_number}
-use Rattle.crawl_workers.specs.Shifts.{IsShift, Worked}
+use Rattle.crawl_workers.specs.Shifts.{AreAllJobs, DoneView, IsLaterShift, IsShift, Worked, all_fetches}
 use Rattle.crawl_workers.specs.World.{World}
 use Rattle.crawl_workers.proofs.Placing.{weigh_below-one_for}
 use Rattle.crawl_workers.proofs.StartTotals.{starts_are_fetches}
@@ -46,37 +46,66 @@ all_worked world jobs outcomes (ns ∷ nss) (ds ∷ dss) (r ∷ rs) did placed =
     (record { done = ds; numbers_are = did.0.numbers; are_placed = placed.0; are_done = did.0.are_done; are_all = did.0.are_all }, all_worked world jobs outcomes nss dss rs did.1 placed.1)
 
 -- no worker's desk handed out an entry
-none_handed : (world : World) (jobs : List Job) (drawn : List (List ℕ)) (lists : List (List Done)) (receipts : List Receipt)
-    → EachHasDone world jobs drawn lists receipts → handed_at_all receipts ≡ 0
-none_handed world jobs [] [] [] did = refl
-none_handed world jobs [] [] (r ∷ rs) did = absurd did
-none_handed world jobs [] (ds ∷ dss) receipts did = absurd did
-none_handed world jobs (ns ∷ nss) [] receipts did = absurd did
-none_handed world jobs (ns ∷ nss) (ds ∷ dss) [] did = absurd did
-none_handed world jobs (ns ∷ nss) (ds ∷ dss) (r ∷ rs) did =
-    omega (arith, ap (λ (s : SealedView). s.handed) did.0.are_all, none_handed world jobs nss dss rs did.1)
+none_handed : (world : World) (jobs : List Job) (outcomes : List Crawled) (drawn : List (List ℕ)) (receipts : List Receipt)
+    → AllZip (Worked world jobs outcomes) drawn receipts → handed_at_all receipts ≡ 0
+none_handed world jobs outcomes [] [] worked = refl
+none_handed world jobs outcomes [] (r ∷ rs) worked = absurd worked
+none_handed world jobs outcomes (ns ∷ nss) [] worked = absurd worked
+none_handed world jobs outcomes (ns ∷ nss) (r ∷ rs) worked =
+    omega (arith, ap (λ (s : SealedView). s.handed) worked.0.are_all, none_handed world jobs outcomes nss rs worked.1)
 
 -- a list that was lent whole
 pub lent_whole : (len : ℕ) (new rest : List Crawled) → length new ≡ len → take len (new ++ rest) ≡ new
 lent_whole len new rest same = take-append-le len new rest (omega (arith, same)) ∙ take_all len new (omega (arith, same))
 
--- the report
-pub is_shift : (world : World) (jobs : List Job) (workers : ℕ) (drawn : List (List ℕ)) (lists : List (List Done)) (receipts lent : List Receipt)
-    (outcomes placed : List Crawled) (settled : Settled)
+-- all jobs are done
+pub all_jobs : (world : World) (jobs : List Job) (workers : ℕ) (drawn : List (List ℕ)) (lists : List (List Done)) (receipts : List Receipt)
+    (outcomes placed : List Crawled)
     → length drawn ≡ workers → ((weight : ℕ → ℕ) → weigh_all weight drawn ≡ weigh_below weight (length jobs))
     → EachHasDone world jobs drawn lists receipts
     → outcomes ≡ placed → length placed ≡ length jobs → AllPlaced placed lists
-    → lent ≡ receipts → SettlesSome lent (Ok settled) → IsWholeUnlessSealed lent settled → settled.starts ≡ starts_of_all lent
-    → IsShift world jobs workers (record { outcomes = outcomes; drawn = drawn; receipts = receipts; settled = settled })
-is_shift world jobs workers drawn lists receipts lent outcomes placed settled many each did same len placed_all lent_is settles whole starts =
-    let one_each = ap length same ∙ len in
-    let worked = all_worked world jobs outcomes drawn lists receipts did (subst (λ (cs : List Crawled). AllPlaced cs lists) (sym same) placed_all) in
+    → AreAllJobs world jobs workers (record { outcomes = outcomes; drawn = drawn; receipts = receipts })
+all_jobs world jobs workers drawn lists receipts outcomes placed many each did same len placed_all = record {
+  one_each = ap length same ∙ len;
+  all_workers = many;
+  each_once = each;
+  worked = all_worked world jobs outcomes drawn lists receipts did (subst (λ (cs : List Crawled). AllPlaced cs lists) (sym same) placed_all);
+}
+
+-- as many fetches were started
+starts_of_done : (world : World) (jobs : List Job) (workers : ℕ) (d : DoneView) → AreAllJobs world jobs workers d → starts_of_all d.receipts ≡ all_fetches d.outcomes
+starts_of_done world jobs workers d done = starts_are_fetches world jobs d.outcomes d.drawn d.receipts done.worked done.each_once done.one_each
+
+-- the report
+pub is_shift : (world : World) (jobs : List Job) (workers : ℕ) (d : DoneView) (lent : List Receipt) (settled : Settled)
+    → AreAllJobs world jobs workers d → lent ≡ d.receipts → SettlesSome lent (Ok settled) → IsWholeUnlessSealed lent settled → settled.starts ≡ starts_of_all lent
+    → IsShift world jobs workers (record { outcomes = d.outcomes; drawn = d.drawn; receipts = d.receipts; settled = settled })
+is_shift world jobs workers d lent settled done lent_is settles whole starts = record {
+  one_each = done.one_each;
+  all_workers = done.all_workers;
+  each_once = done.each_once;
+  worked = done.worked;
+  settled = subst (λ (rs : List Receipt). SettlesSome rs (Ok settled)) lent_is settles;
+  whole = subst (λ (rs : List Receipt). IsWholeUnlessSealed rs settled) lent_is whole (none_handed world jobs d.outcomes d.drawn d.receipts done.worked);
+  starts = starts ∙ ap starts_of_all lent_is ∙ starts_of_done world jobs workers d done;
+}
+
+starts_with : (rs past : List Receipt) → starts_of_all (rs ++ past) ≡ starts_of_all rs + starts_of_all past
+starts_with [] past = omega arith
+starts_with (r ∷ rs) past = let e = starts_with rs past in omega (arith, e)
+
+-- that over a gate that goes on
+pub is_later_shift : (world : World) (jobs : List Job) (workers : ℕ) (past : List Receipt) (d : DoneView) (all lent : List Receipt) (settled : Settled)
+    → AreAllJobs world jobs workers d → all ≡ d.receipts ++ past → lent ≡ all → SettlesSome lent (Ok settled) → settled.starts ≡ starts_of_all lent
+    → IsLaterShift world jobs workers past (record { outcomes = d.outcomes; drawn = d.drawn; receipts = all; settled = settled })
+is_later_shift world jobs workers past d all lent settled done all_are lent_is settles starts =
+    let a = starts ∙ ap starts_of_all (lent_is ∙ all_are) in
+    let b = starts_with d.receipts past in
+    let c = starts_of_done world jobs workers d done in
     record {
-      one_each = one_each;
-      all_workers = many;
-      each_once = each;
-      worked = worked;
+      own = d.receipts;
+      receipts_are = all_are;
+      done = done;
       settled = subst (λ (rs : List Receipt). SettlesSome rs (Ok settled)) lent_is settles;
-      whole = subst (λ (rs : List Receipt). IsWholeUnlessSealed rs settled) lent_is whole (none_handed world jobs drawn lists receipts did);
-      starts = starts ∙ ap starts_of_all lent_is ∙ starts_are_fetches world jobs outcomes drawn receipts worked each one_each;
+      starts = omega (arith, a, b, c);
     }

@@ -5,7 +5,7 @@ use Rattle.std.specs.Prelude.{◌≡◌, ℕ, ◌+◌, ◌++◌, List, [], ◌�
 use Rattle.std.specs.List.{AllZip, slice_get}
 use Rattle.gate_lock.specs.Settling.{IsWhole, SettlesSome}
 use Rattle.gate_history.specs.declared.entry.Entry.{Entry}
-use Rattle.gate_lock.specs.Marks.{Receipt, nothing_sealed}
+use Rattle.gate_lock.specs.Marks.{Receipt, nothing_sealed, starts_of_all}
 use Rattle.gate_lock.specs.declared.settlement.Settled.{Settled}
 use Rattle.job_line.specs.Sums.{weigh_all, weigh_below}
 use Rattle.crawl_workers.specs.declared.crew.Done.{Done}
@@ -59,6 +59,21 @@ abbrev pub all_fetches : List Crawled → ℕ
 all_fetches [] = 0
 all_fetches (crawled ∷ later) = fetches_in crawled.hops.items + all_fetches later
 
+-- what came of all jobs before the gate is settled: the outcomes, the numbers that each worker drew, and the receipts of
+-- its desk
+pub record DoneView : Type 0 where
+  pub outcomes : List Crawled
+  pub drawn : List (List ℕ)
+  pub receipts : List Receipt
+
+-- all jobs are done: as many workers drew the numbers of all jobs, each number once; each job has an outcome, and they
+-- tell what the workers' desks did
+pub record AreAllJobs (world : World) (jobs : List Job) (workers : ℕ) (done : DoneView) : Type 0 where
+  pub one_each : length done.outcomes ≡ length jobs
+  pub all_workers : length done.drawn ≡ workers
+  pub each_once : (weight : ℕ → ℕ) → weigh_all weight done.drawn ≡ weigh_below weight (length jobs)
+  pub worked : AllZip (Worked world jobs done.outcomes) done.drawn done.receipts
+
 -- a report: the outcomes, the numbers that each worker drew, the receipts of its desk, and the settled gate
 pub record ReportView : Type 0 where
   pub outcomes : List Crawled
@@ -77,3 +92,13 @@ pub record IsShift (world : World) (jobs : List Job) (workers : ℕ) (report : R
   pub settled : SettlesSome report.receipts (Ok report.settled)
   pub whole : IsWhole report.receipts report.settled
   pub starts : report.settled.starts ≡ all_fetches report.outcomes
+
+-- the report of a shift over a gate that goes on from a base: all jobs are done, as the workers' receipts tell; by them
+-- and those of what was before, which come last, the gate is settled, with as many started fetches more as the
+-- outcomes have
+pub record IsLaterShift (world : World) (jobs : List Job) (workers : ℕ) (past : List Receipt) (report : ReportView) : Type 0 where
+  pub own : List Receipt
+  pub receipts_are : report.receipts ≡ own ++ past
+  pub done : AreAllJobs world jobs workers (record { outcomes = report.outcomes; drawn = report.drawn; receipts = own })
+  pub settled : SettlesSome report.receipts (Ok report.settled)
+  pub starts : report.settled.starts ≡ all_fetches report.outcomes + starts_of_all past

@@ -25,6 +25,6 @@ pub use event::{ClosedBy, Event};
 pub use fetchers::{Fetcher, PageLeave, RobotsLeave, ScriptedPage, ScriptedSites, TcpFetcher};
 pub use refreshing::refresh;
 pub use report::{Crawled, Report, ShiftFault, Watcher};
-pub use shift::run_shift;
+pub use shift::{run_later_shift, run_shift};
 pub use tcp_wire::{Deadline, Failure, TimeLimits};
 pub use working::work;

@@ -4,7 +4,7 @@ ghost use Rattle.std.specs.Prelude.{◌≡◌, ◌≤◌, ◌<◌, ℕ, All, IfO
 ghost use Rattle.job_line.specs.Covers.{IsNew, parts_of};
 ghost use Rattle.job_line.specs.Limits.{max_jobs, max_workers};
 ghost use Rattle.crawl_workers.specs.Crews.{AreAllDone, Ends, IsNewWork, MemberView, newcomer, nothing_handed};
-ghost use Rattle.crawl_workers.specs.Shifts.{IsShift};
+ghost use Rattle.crawl_workers.specs.Shifts.{AreAllJobs, IsLaterShift, IsShift};
 ghost use Rattle.crawl_workers.specs.World.{world_of};
 
 use crate::clock::Clock;
@@ -16,9 +16,10 @@ use crate::report::{Crawled, Report, ShiftFault, Watcher};
 use crate::sites::Sites;
 use crawl_job::Job;
 use fetchers::Fetcher;
-use gate_lock::{Gate, GateLock, settle};
+use gate_lock::{Gate, GateLock, Receipts, settle};
 use job_line::{JobLine, JobSeat, MAX_WORKERS};
 use std::alloc::{AllocError, Global};
+use std::marker::Model;
 use std::sync::Wait;
 use std::thread;
 use std::thread::Threads;
@@ -55,6 +56,103 @@ pub fn run_shift<
     ensures { IfOk result (IsShift (world_of (F.gives fetcher.now) (F.follows fetcher.now) (C.reads clock.now))
         jobs.now workers) }
 {
+    let AllDone {
+        outcomes,
+        drawn,
+        receipts,
+    } = do_jobs(rt, alloc, jobs, workers, gate, fetcher, clock, watcher)?;
+    let settled = settle(rt, alloc, gate, &receipts)?;
+    Ok(Report {
+        outcomes,
+        drawn,
+        receipts,
+        settled,
+    })
+}
+
+/// The same over a gate that goes on from a base: it is settled with the receipts of what was before, which come last
+/// in the report. The report has the started fetches of these too.
+pub fn run_later_shift<
+    G: Gate + Send + Sync,
+    F: Fetcher + Sync,
+    C: Clock + Sync,
+    W: Watcher + Sync,
+    R: Threads + Wait + Sync,
+>(
+    rt: &R,
+    alloc: Global,
+    jobs: &[Job],
+    workers: u64,
+    gate: &GateLock<G>,
+    past: Vec<Receipts<G>>,
+    fetcher: &F,
+    clock: &C,
+    watcher: &W,
+) -> Result<Report<G>, ShiftFault>
+    requires jobs { length jobs.now ≤ max_jobs }
+    requires workers { (1 ≤ workers) × (workers ≤ max_workers) }
+    ensures { IfOk result (IsLaterShift (world_of (F.gives fetcher.now) (F.follows fetcher.now) (C.reads clock.now))
+        jobs.now workers past.items) }
+{
+    let AllDone {
+        outcomes,
+        drawn,
+        mut receipts,
+    } = do_jobs(rt, alloc, jobs, workers, gate, fetcher, clock, watcher)?;
+    let mut past = past;
+    receipts.append(&mut past)?;
+    let settled = settle(rt, alloc, gate, &receipts)?;
+    Ok(Report {
+        outcomes,
+        drawn,
+        receipts,
+        settled,
+    })
+}
+
+// What came of all jobs, before the gate is settled.
+#[derive(Drop)]
+struct AllDone<G: Gate> {
+    outcomes: Vec<Crawled>,
+    drawn: Vec<Vec<u64>>,
+    receipts: Vec<Receipts<G>>,
+}
+
+impl<G: Gate> Model for AllDone<G> {
+    ghost use Rattle.std.specs.Prelude.{map};
+    ghost use Rattle.crawl_workers.specs.Shifts.{DoneView};
+
+    ghost Value = { DoneView };
+
+    ghost view = { λ done. record {
+      outcomes = done.outcomes.items;
+      drawn = map (λ numbers. numbers.items) done.drawn.items;
+      receipts = done.receipts.items;
+    } };
+}
+
+// Does all jobs.
+fn do_jobs<
+    G: Gate + Send + Sync,
+    F: Fetcher + Sync,
+    C: Clock + Sync,
+    W: Watcher + Sync,
+    R: Threads + Wait + Sync,
+>(
+    rt: &R,
+    alloc: Global,
+    jobs: &[Job],
+    workers: u64,
+    gate: &GateLock<G>,
+    fetcher: &F,
+    clock: &C,
+    watcher: &W,
+) -> Result<AllDone<G>, ShiftFault>
+    requires jobs { length jobs.now ≤ max_jobs }
+    requires workers { (1 ≤ workers) × (workers ≤ max_workers) }
+    ensures { IfOk result (AreAllJobs (world_of (F.gives fetcher.now) (F.follows fetcher.now) (C.reads clock.now))
+        jobs.now workers) }
+{
     let mut outcomes = no_outcomes(alloc, jobs.len())?;
     let mut handover = Handover::with_room(alloc)?;
     let Order {
@@ -87,12 +185,10 @@ pub fn run_shift<
     // One worker alone has found the end of each site, so all seats together drew each job, once.
     line.gather(seats);
     place_all(&mut outcomes, done);
-    let settled = settle(rt, alloc, gate, &receipts)?;
-    Ok(Report {
+    Ok(AllDone {
         outcomes,
         drawn,
         receipts,
-        settled,
     })
 }
 

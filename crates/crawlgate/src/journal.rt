@@ -1,16 +1,45 @@
-//! The folder of a gate's journal, where the words name one.
+//! The folder of a gate's journal, where the words name one, and what the gate begins with: what an earlier process wrote
+//! there, or nothing.
 //! docs/crawlgate.1.md has the options.
+ghost use Rattle.std.specs.Prelude.{IfOk};
+ghost use Rattle.gate_core.specs.Limits.{AreLimits};
+ghost use Rattle.gate_journal.specs.Resuming.{IsIdle};
 
-use journal_files::{Folder, SyncPolicy};
-use program_streams::{Ending, tell_bad_folder};
+use counted_io::Counted;
+use gate_core::{Book, Limits};
+use gate_journal::{ResumeFault, Resumed, resume};
+use gate_lock::{Gate, Receipts};
+use journal_files::{Folder, JournalFault, LastFile, SyncPolicy};
+use path_normal::{Authority, Schemes};
+use program_streams::{
+    Ending, Reasoned, new_book, tell_bad_folder, tell_bad_journal, tell_few_slots,
+    tell_full_journal, tell_short_journal, tell_torn_line, tell_unread_journal,
+};
 use program_words::JournalOptions;
+use std::hash::RandomState;
+use std::io;
+use std::io::ErrorKind;
 
-/// The folder of a journal that was not begun, which no other process has; its name, and when the journal is synced.
+/// The folder of a journal, which no other process has; its name, and when the journal is synced.
 #[derive(Drop)]
 pub(crate) struct OpenJournal<'a> {
     pub(crate) name: &'a str,
     pub(crate) folder: Folder<HostRuntime>,
     pub(crate) sync: SyncPolicy,
+}
+
+/// What a gate begins with: its book, and the sites whose robots files are to be fetched anew.
+#[derive(Drop)]
+pub(crate) struct Begun {
+    pub(crate) book: Book,
+    pub(crate) sites: Vec<Authority>,
+}
+
+/// What a gate goes on from: the receipts of what was entered before, and those sites.
+#[derive(Drop)]
+pub(crate) struct Past<G: Gate> {
+    pub(crate) receipts: Receipts<G>,
+    pub(crate) sites: Vec<Authority>,
 }
 
 /// Opens the folder that the options name, if they do. Why it can't be a journal's is told.
@@ -29,5 +58,105 @@ pub(crate) fn open_journal<'a>(
             sync: options.sync,
         })),
         Err(fault) => Err(tell_bad_folder(host, name, fault)),
+    }
+}
+
+/// What a gate of these limits begins with: what the journal's last file leads to, whose text is ended; or else nothing.
+/// Why it can't go on from there is told.
+pub(crate) fn begin_with(
+    host: &HostRuntime,
+    limits: Limits,
+    journal: &Option<OpenJournal<'_>>,
+) -> Result<Begun, Ending>
+    requires { AreLimits limits }
+    ensures { IfOk result (λ begun. IsIdle begun.book) }
+{
+    let Some(journal) = journal else {
+        return begin_new(host, limits);
+    };
+    match journal.folder.last_file() {
+        Ok(Some(file)) => go_on(host, limits, file),
+        Ok(None) => begin_new(host, limits),
+        Err(cause) => Err(tell_unread_journal(host, Some(cause))),
+    }
+}
+
+// A gate without a past.
+fn begin_new(host: &HostRuntime, limits: Limits) -> Result<Begun, Ending>
+    requires { AreLimits limits }
+    ensures { IfOk result (λ begun. IsIdle begun.book) }
+{
+    match new_book(host, limits) {
+        Ok(book) => Ok(Begun {
+            book,
+            sites: Vec::new(host.alloc()),
+        }),
+        Err(ending) => Err(ending),
+    }
+}
+
+// Reads a journal's last file, and ends its text.
+fn go_on(host: &HostRuntime, limits: Limits, file: LastFile) -> Result<Begun, Ending>
+    requires { AreLimits limits }
+    ensures { IfOk result (λ begun. IsIdle begun.book) }
+{
+    let Ok(keys) = RandomState::new(host) else {
+        return Err(Ending::Device);
+    };
+    let mut reader = Counted::new(Reasoned::new(file.text()));
+    match resume(
+        host.alloc(),
+        keys,
+        Schemes::HttpAndHttps,
+        limits,
+        &mut reader,
+    ) {
+        Ok(resumed) => end_file(host, file, resumed),
+        Err(fault) => {
+            let reason = reader.into_inner().reason;
+            Err(tell_fault(host, file.path(), fault, reason))
+        }
+    }
+}
+
+// Ends the text of a journal's last file, from which the gate goes on.
+fn end_file(host: &HostRuntime, file: LastFile, resumed: Resumed) -> Result<Begun, Ending>
+    requires { IsIdle resumed.book }
+    ensures { IfOk result (λ begun. IsIdle begun.book) }
+{
+    let Resumed {
+        book,
+        whole,
+        ending,
+        begun,
+    } = resumed;
+    if let Ok(about) = file.text().metadata() {
+        let torn = about.len().saturating_sub(whole);
+        if torn > 0 {
+            tell_torn_line(host, file.path(), torn);
+        }
+    }
+    match file.end(whole, ending.as_slice()) {
+        Ok(()) => Ok(Begun { book, sites: begun }),
+        Err(JournalFault::Device(cause)) => Err(tell_unread_journal(host, cause)),
+        Err(_) => Err(Ending::NoMemory),
+    }
+}
+
+// Tells why no gate goes on from a file.
+fn tell_fault(
+    host: &HostRuntime,
+    file: &str,
+    fault: ResumeFault,
+    reason: Option<ErrorKind>,
+) -> Ending {
+    match fault {
+        ResumeFault::BadLine(line) => tell_bad_journal(host, file, line),
+        ResumeFault::NoEntries(line) => tell_short_journal(host, file, line),
+        ResumeFault::NoRoom(_) => tell_full_journal(host, file),
+        ResumeFault::Starts => tell_full_journal(host, file),
+        ResumeFault::Slots => tell_few_slots(host, file),
+        ResumeFault::Read => tell_unread_journal(host, reason.map(io::Error::from)),
+        ResumeFault::NoMemory => Ending::NoMemory,
     }
 }

@@ -4,15 +4,18 @@
 
 mod fetching;
 mod journal;
+mod recorded_shift;
 mod serving;
 mod tls_program;
 
 ghost use Rattle.std.specs.Prelude.{◌≡◌, ◌≤◌, [], IfOk, length};
-ghost use Rattle.gate_history.specs.Base.{empty_base};
+ghost use Rattle.gate_journal.specs.Resuming.{IsIdle};
 ghost use Rattle.job_line.specs.Limits.{IsCrew, max_jobs};
 ghost use Rattle.program_words.specs.Options.{AreForShift};
 
 use crate::fetching::new_fetcher;
+use crate::journal::{Begun, OpenJournal, Past, begin_with, open_journal};
+use crate::recorded_shift::shift_recorded;
 use crate::serving::serve;
 use crate::tls_program::find_tls_program;
 use counted_io::{Counted, Sink};
@@ -22,10 +25,9 @@ use crawl_shift::{
     read_job_lines, tell_bad_lines,
 };
 use crawl_workers::{Clock, Fetcher, SystemClock};
-use gate_core::Book;
 use gate_lock::{Blanks, Gate, GateLock};
 use program_streams::{
-    Ending, Next, Reasoned, Stream, new_book, run, tell_bad_line, tell_ending, tell_failed,
+    Ending, Next, Reasoned, Stream, run, tell_bad_line, tell_ending, tell_failed,
 };
 use program_words::{BadJobs, ShiftOptions, Told};
 use std::io::IsTerminal;
@@ -71,7 +73,7 @@ fn shift<R: Threads + Wait + time::Clock + Sync>(
     }
 }
 
-// Does it over a new book.
+// Does it over what the gate begins with.
 fn shift_by<F: Fetcher + Sync, C: Clock + Sync, R: Threads + Wait + time::Clock + Sync>(
     rt: &R,
     host: &HostRuntime,
@@ -81,8 +83,11 @@ fn shift_by<F: Fetcher + Sync, C: Clock + Sync, R: Threads + Wait + time::Clock 
 ) -> Ending
     requires { AreForShift options }
 {
-    match new_book(host, options.limits) {
-        Ok(book) => shift_shown(rt, host, options, book, fetcher, clock),
+    match open_journal(host, &options.journal) {
+        Ok(journal) => match begin_with(host, options.limits, &journal) {
+            Ok(begun) => shift_shown(rt, host, &options, begun, journal, fetcher, clock),
+            Err(ending) => ending,
+        },
         Err(ending) => ending,
     }
 }
@@ -91,13 +96,14 @@ fn shift_by<F: Fetcher + Sync, C: Clock + Sync, R: Threads + Wait + time::Clock 
 fn shift_shown<F: Fetcher + Sync, C: Clock + Sync, R: Threads + Wait + time::Clock + Sync>(
     rt: &R,
     host: &HostRuntime,
-    options: ShiftOptions,
-    book: Book,
+    options: &ShiftOptions,
+    begun: Begun,
+    journal: Option<OpenJournal<'_>>,
     fetcher: &F,
     clock: &C,
 ) -> Ending
-    requires workers { IsCrew options.workers }
-    requires book { (book.base ≡ empty_base) × (book.entries ≡ []) }
+    requires workers { IsCrew options.now.workers }
+    requires book { IsIdle begun.book }
 {
     let mut errors = Counted::new(host.stderr());
     let sink = if is_watched(host) {
@@ -109,7 +115,7 @@ fn shift_shown<F: Fetcher + Sync, C: Clock + Sync, R: Threads + Wait + time::Clo
         Ok(status) => {
             let blanks = Blanks::new();
             shift_told::<Brand, _, _, _, _>(
-                rt, host, options, book, blanks, &status, fetcher, clock,
+                rt, host, options, begun, journal, blanks, &status, fetcher, clock,
             )
         }
         Err(_) => Ending::NoMemory,
@@ -131,15 +137,16 @@ fn shift_told<
 >(
     rt: &R,
     host: &HostRuntime,
-    options: ShiftOptions,
-    book: Book,
+    options: &ShiftOptions,
+    begun: Begun,
+    journal: Option<OpenJournal<'_>>,
     blanks: Blanks,
     status: &StatusLine<'_, E, R>,
     fetcher: &F,
     clock: &C,
 ) -> Ending
-    requires workers { IsCrew options.workers }
-    requires book { (book.base ≡ empty_base) × (book.entries ≡ []) }
+    requires workers { IsCrew options.now.workers }
+    requires book { IsIdle begun.book }
     requires blanks { blanks ≡ G.ledgers }
 {
     let shift = Shift {
@@ -150,11 +157,20 @@ fn shift_told<
         clock,
         status,
     };
-    let gate: GateLock<G> = GateLock::new(book, blanks);
+    let Begun { book, sites } = begun;
+    let (gate, receipts) = GateLock::<G>::resume(shift.alloc, book, blanks);
+    let past = Past { receipts, sites };
     match read_jobs(host, fetcher, options.bad_jobs) {
         Ok(lines) => {
             tell_lines(host, lines.bad.as_slice());
-            match do_jobs(host, &shift, lines.jobs.as_slice(), &gate, options.told) {
+            let jobs = lines.jobs.as_slice();
+            let ending = match journal {
+                Some(journal) => {
+                    shift_recorded(host, &shift, jobs, &gate, past, journal, options.told)
+                }
+                None => do_jobs(host, &shift, jobs, &gate, options.told),
+            };
+            match ending {
                 // Lines that were skipped are told already.
                 Ending::Done if !lines.bad.is_empty() => Ending::BadLine,
                 ending => ending,

@@ -1,23 +1,22 @@
 //! `crawlgate serve`: clients that connect, served over a new gate.
-ghost use Rattle.std.specs.Prelude.{◌≡◌, []};
-ghost use Rattle.gate_history.specs.Base.{empty_base};
+ghost use Rattle.std.specs.Prelude.{◌≡◌};
+ghost use Rattle.gate_journal.specs.Resuming.{IsIdle};
 ghost use Rattle.job_line.specs.Limits.{IsCrew};
 ghost use Rattle.program_words.specs.Options.{AreForServe};
 
 use crate::fetching::new_fetcher;
-use crate::journal::{OpenJournal, open_journal};
+use crate::journal::{Begun, OpenJournal, Past, begin_with, open_journal};
 use crate::tls_program::find_tls_program;
 use client_wire::Listener;
 use crawl_workers::SystemClock;
-use gate_core::Book;
 use gate_journal::Recording;
 use gate_lock::{Blanks, Gate, GateLock, SettleFault};
 use journal_files::{GroupJournal, Records, Unrecorded};
 use keepers::Bounds;
 use line_server::{Alarm, ServeFault, Served, Server};
 use program_streams::{
-    Ending, new_book, tell_failed_journal, tell_full_log, tell_listening, tell_listening_at,
-    tell_no_place, tell_served,
+    Ending, tell_failed_journal, tell_full_log, tell_listening, tell_listening_at, tell_no_place,
+    tell_sealing, tell_served,
 };
 use program_words::{Ahead, Place, ServeOptions};
 use std::marker::Brand;
@@ -55,7 +54,7 @@ pub(crate) fn serve<R: Threads + Wait + time::Clock + Sync>(
     }
 }
 
-// Listens, and serves with this journal, if there is one.
+// Listens, and serves with this journal, if there is one, from where it ends.
 fn serve_over<R: Threads + Wait + time::Clock + Sync>(
     rt: &R,
     host: &HostRuntime,
@@ -64,16 +63,40 @@ fn serve_over<R: Threads + Wait + time::Clock + Sync>(
 ) -> Ending
     requires { AreForServe options.now }
 {
-    match new_book(host, options.limits) {
-        Ok(book) => match listen(host, &options.place) {
+    match begin_with(host, options.limits, &journal) {
+        Ok(begun) => match listen(host, &options.place) {
             Ok(listener) => {
-                let ending = serve_clients(rt, host, options, book, &listener, journal);
+                let ending = serve_at(rt, host, options, begun, &listener, journal);
                 leave(host, &options.place);
                 ending
             }
             Err(error) => tell_no_place(host, &options.place, &error),
         },
         Err(ending) => ending,
+    }
+}
+
+// Listens for who sees to the gate too, where the options say so, and serves.
+fn serve_at<R: Threads + Wait + time::Clock + Sync>(
+    rt: &R,
+    host: &HostRuntime,
+    options: &ServeOptions,
+    begun: Begun,
+    listener: &Listener,
+    journal: Option<OpenJournal<'_>>,
+) -> Ending
+    requires options { AreForServe options.now }
+    requires book { IsIdle begun.book }
+{
+    let Some(port) = options.seal_port else {
+        return serve_clients(rt, host, options, begun, listener, None, journal);
+    };
+    match Listener::bind(host, port) {
+        Ok(overseers) => {
+            let overseers = Some(&overseers);
+            serve_clients(rt, host, options, begun, listener, overseers, journal)
+        }
+        Err(error) => tell_no_place(host, &Place::Port(port), &error),
     }
 }
 
@@ -86,6 +109,23 @@ fn listen(host: &HostRuntime, place: &Place) -> io::Result<Listener> {
 }
 
 // Tells where it listens: a port that was free is known to the listener alone.
+fn tell_places(
+    host: &HostRuntime,
+    place: &Place,
+    clients: &Listener,
+    overseers: Option<&Listener>,
+) -> Ending {
+    let told = tell_place(host, place, clients);
+    match (told, overseers) {
+        (Ending::Done, Some(overseers)) => match overseers.port() {
+            Ok(port) => tell_sealing(host, port),
+            Err(_) => Ending::Device,
+        },
+        _ => told,
+    }
+}
+
+// Tells where clients connect.
 fn tell_place(host: &HostRuntime, place: &Place, listener: &Listener) -> Ending {
     if let Place::Socket(path) = place {
         return tell_listening_at(host, path.as_str());
@@ -103,17 +143,18 @@ fn leave(host: &HostRuntime, place: &Place) {
     }
 }
 
-// Serves clients of this listener.
+// Serves clients of this listener, and who sees to the gate at another, if there is one.
 fn serve_clients<R: Threads + Wait + time::Clock + Sync>(
     rt: &R,
     host: &HostRuntime,
     options: &ServeOptions,
-    book: Book,
+    begun: Begun,
     listener: &Listener,
+    overseers: Option<&Listener>,
     journal: Option<OpenJournal<'_>>,
 ) -> Ending
     requires options { AreForServe options.now }
-    requires book { (book.base ≡ empty_base) × (book.entries ≡ []) }
+    requires book { IsIdle begun.book }
 {
     match new_fetcher(
         host,
@@ -127,6 +168,7 @@ fn serve_clients<R: Threads + Wait + time::Clock + Sync>(
                 rt,
                 alloc: host.alloc(),
                 listener,
+                overseers,
                 fetcher: &fetcher,
                 clock: &SystemClock::new(*host),
                 alarm: &FullLog { rt: host },
@@ -140,7 +182,7 @@ fn serve_clients<R: Threads + Wait + time::Clock + Sync>(
                 },
             };
             let blanks = Blanks::new();
-            run_over::<Brand, _, _, _, _>(host, &options.place, &server, book, blanks, journal)
+            run_over::<Brand, _, _, _, _>(host, &options.place, &server, begun, blanks, journal)
         }
         Err(_) => Ending::NoMemory,
     }
@@ -154,7 +196,7 @@ fn ahead_of(ahead: Ahead) -> Option<Duration> {
     }
 }
 
-// Runs a server over a new gate, behind a journal that is begun, if there is one.
+// Runs a server over a gate that goes on from what was begun, behind a journal, if there is one.
 fn run_over<
     G: Gate + Send + Sync,
     F: crawl_workers::Fetcher + Sync,
@@ -165,18 +207,20 @@ fn run_over<
     host: &HostRuntime,
     place: &Place,
     server: &Server<'_, F, C, A, R>,
-    book: Book,
+    begun: Begun,
     blanks: Blanks,
     journal: Option<OpenJournal<'_>>,
 ) -> Ending
     requires workers { IsCrew server.now.workers }
-    requires book { (book.base ≡ empty_base) × (book.entries ≡ []) }
+    requires book { IsIdle begun.book }
     requires blanks { blanks ≡ G.ledgers }
 {
-    let gate: GateLock<G> = GateLock::new(book, blanks);
+    let Begun { book, sites } = begun;
+    let (gate, receipts) = GateLock::<G>::resume(server.alloc, book, blanks);
+    let past = Past { receipts, sites };
     match journal {
-        Some(journal) => run_recorded(host, place, server, &gate, journal),
-        None => run_behind(host, place, server, &gate, &Unrecorded),
+        Some(journal) => run_recorded(host, place, server, &gate, past, journal),
+        None => run_behind(host, place, server, &gate, past, &Unrecorded),
     }
 }
 
@@ -192,6 +236,7 @@ fn run_recorded<
     place: &Place,
     server: &Server<'_, F, C, A, R>,
     gate: &GateLock<G>,
+    past: Past<G>,
     journal: OpenJournal<'_>,
 ) -> Ending
     requires { IsCrew server.now.workers }
@@ -204,7 +249,7 @@ fn run_recorded<
     };
     match GroupJournal::begin(server.alloc, &chronicle, folder, sync) {
         Ok(journal) => {
-            let ending = run_behind(host, place, server, gate, &journal);
+            let ending = run_behind(host, place, server, gate, past, &journal);
             match journal.fault(server.rt) {
                 Some(fault) => tell_failed_journal(host, name, fault),
                 None => ending,
@@ -227,12 +272,17 @@ fn run_behind<
     place: &Place,
     server: &Server<'_, F, C, A, R>,
     gate: &GateLock<G>,
+    past: Past<G>,
     journal: &J,
 ) -> Ending
     requires { IsCrew server.now.workers }
 {
-    match tell_place(host, place, server.listener) {
-        Ending::Done => ending(host, server.run_recorded(gate, journal)),
+    match tell_places(host, place, server.listener, server.overseers) {
+        Ending::Done => {
+            let Past { receipts, sites } = past;
+            let end = server.run_resumed(gate, receipts, sites.as_slice(), journal);
+            ending(host, end)
+        }
         ending => ending,
     }
 }

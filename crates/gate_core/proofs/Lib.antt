@@ -4,6 +4,7 @@ pub mod ListedGrants
 pub mod Keeping
 pub mod NextBase
 pub mod SealedBook
+pub mod ResumedBook
 pub mod Ending
 pub mod Looking
 pub mod Refusing

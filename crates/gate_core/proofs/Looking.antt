@@ -57,3 +57,6 @@ rules_in_force h authority moment text force = record { answer = force.answer; s
 
 pub turn_is : (b : Inside) → IsKept b → (authority : List ℕ) (turn : ℕ) → has_turn turn (site_of b.cache authority) ≡ standing_turn (told b) authority turn
 turn_is b kept authority turn = (cache_laws.reads_alike b.cache (standing (told b)) (in_flight (told b)) kept.cache).turns authority turn
+
+pub standing_is : (b : Inside) → IsKept b → (authority : List ℕ) → option_map (answer_for authority) (site_of b.cache authority).standing ≡ standing_of (told b) authority
+standing_is b kept authority = (cache_laws.reads_alike b.cache (standing (told b)) (in_flight (told b)) kept.cache).answers authority

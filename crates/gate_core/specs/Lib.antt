@@ -9,6 +9,7 @@ pub mod Kept
 pub mod Judged
 pub mod Replies
 pub mod Sealing
+pub mod Resuming
 pub mod Opened
 pub mod States
 pub mod Calls

@@ -1,10 +1,13 @@
 -- What is known of an authority at a moment.
 -- RFC 9309, sections 2.3.1 and 2.4.
 use Rattle.std.specs.Prelude.{◌≡◌, ℕ, false, List, Option, Some, None, MatchBool}
+use Rattle.std.specs.Option.{option_map}
 use Rattle.robots_verdict.specs.declared.said.Said.{Said}
 use Rattle.robots_verdict.specs.declared.said.Said.TheVariants as says
+use Rattle.authority_cache.specs.declared.site.CachedAnswer.{CachedAnswer}
 use Rattle.authority_cache.specs.declared.standing_answer.StandingAnswer.{StandingAnswer}
-use Rattle.authority_cache.specs.Lists.{is_past_answer}
+use Rattle.authority_cache.specs.Lists.{answer_for, is_past_answer}
+use Rattle.authority_cache.specs.Sites.{said_cached}
 use Rattle.gate_history.specs.History.{History}
 use Rattle.gate_history.specs.Standing.{is_fetching, standing_of}
 use Rattle.gate_core.specs.declared.state.Standing.{Standing}
@@ -33,3 +36,9 @@ pub record HasRulesInForce (h : History) (authority : List ℕ) (moment : ℕ) (
   pub stands : standing_of h authority ≡ Some answer
   pub in_force : is_past_answer moment answer ≡ false
   pub rules : answer.says ≡ says.Rules text
+
+-- the answer as it is cached is the one that stands for the authority: its turn, the moment of that turn's
+-- begin, its life and what it says; there is none where none stands
+abbrev pub IsStanding : History → List ℕ → Option CachedAnswer → Type 0
+IsStanding h authority found =
+    option_map (answer_for authority) (option_map said_cached found) ≡ standing_of h authority

@@ -1,13 +1,15 @@
 //! What a caller that shares the book with others looks at while it waits, and what it settles by.
 //! Each reads what the book keeps, and takes no memory.
 ghost use Rattle.std.specs.Prelude.{◌≡◌, length};
+ghost use Rattle.std.specs.Option.{option_copied};
 ghost use Rattle.gate_history.specs.History.{entry_count, started_count};
 ghost use Rattle.gate_history.specs.Outstanding.{is_running, is_unspent, running, stands, unspent};
 ghost use Rattle.gate_history.specs.Standing.{has_turn, in_flight, is_fetching, known_count};
 ghost use Rattle.gate_core.specs.Gate.{history};
+ghost use Rattle.gate_core.specs.States.{IsStanding};
 
 use crate::book::Book;
-use authority_cache::TurnNo;
+use authority_cache::{CachedAnswer, TurnNo};
 use gate_history::Entry;
 use path_normal::PageUrl;
 use permit_book::PermitNo;
@@ -47,6 +49,13 @@ impl Book {
         ensures { result ≡ has_turn (history self.now) authority.now turn }
     {
         self.cache.has_turn(authority, turn)
+    }
+
+    /// The answer that stands for an authority, in force or older than its life, or none.
+    pub fn standing(&self, authority: &str) -> Option<&CachedAnswer>
+        ensures { IsStanding (history self.now) authority.now (option_copied result) }
+    {
+        self.cache.standing(authority)
     }
 
     /// How many entries the history has, those before its base among them.

@@ -12,6 +12,16 @@ use std::alloc::AllocError;
 #[derive(Clone, Copy, Debug, PartialEq, Eq)]
 pub struct NoMemory;
 
+/// Why no book goes on from a base.
+#[derive(Clone, Copy, Debug, PartialEq, Eq)]
+pub enum NotResumed {
+    /// A grant of the base does not fit the limits: its slot is past their last one, or its
+    /// generation is 0.
+    Slots,
+    /// A growth of memory was refused.
+    NoMemory,
+}
+
 /// Why no turn was begun. Nothing has changed.
 #[derive(Clone, Copy, Debug, PartialEq, Eq)]
 pub enum BeginRefusal {
@@ -86,6 +96,17 @@ impl From<AllocError> for NoMemory {
 
     fn from(_: AllocError) -> NoMemory {
         NoMemory
+    }
+}
+
+impl From<AllocError> for NotResumed {
+    ghost use Rattle.std.specs.Prelude.{◌≡◌};
+    ghost use Rattle.gate_core.specs.declared.refusal.NotResumed.{NotResumed};
+
+    ghost from_gives = { λ _ refusal. refusal ≡ NotResumed.NoMemory };
+
+    fn from(_: AllocError) -> NotResumed {
+        NotResumed::NoMemory
     }
 }
 

@@ -2,3 +2,4 @@
 -- `crates/gate_journal/src` has the code.
 pub mod Follows
 pub mod Recorded
+pub mod Resuming

@@ -45,7 +45,7 @@ taken_in (Err refused) count n s s2 ms ms2 ok err below =
       first = [];
       were_sealed = tt;
       marks_are = sym err.0;
-      sealed_are = err.1 ∙ (λ i. record { places = sym (append-nil s.places) i; starts = starts i; handed = s.handed });
+      sealed_are = err.1 ∙ (λ i. record { before = s.before; places = sym (append-nil s.places) i; starts = starts i; handed = s.handed });
     }
 
 -- as many marks are kept, one way or the other, and as many started fetches

@@ -4,6 +4,7 @@ pub mod Denying
 pub mod Holding
 pub mod Keeping
 pub mod Merging
+pub mod Ranging
 pub mod Replying
 pub mod Starts
 pub mod Whole

@@ -6,17 +6,17 @@ use Rattle.std.proofs.lemmas.Bool.{cases_lt, eq-eqb, eqb-true, le-ltb, lt-ltb, n
 use Rattle.authority_cache.specs.Calls.{one_if}
 use Rattle.gate_history.specs.declared.entry.Entry.{Entry}
 use Rattle.gate_lock.specs.Marks.{Receipt, places_of}
-use Rattle.gate_lock.specs.Places.{AllAscend, AllEmpty, Ascend, EachOnce, IsNext, IsNextOfNone, Passes, times_in, times_in_all}
+use Rattle.gate_lock.specs.Places.{AllAscend, AllEmpty, Ascend, EachOnceFrom, IsNext, IsNextOfNone, Passes, times_in, times_in_all}
 use Rattle.gate_lock.specs.Settling.{EachFits}
 
 -- one for a number below another, and nothing for another one
-below : (a b : ℕ) → a < b → one_if (nat_lt a b) ≡ 1
+pub below : (a b : ℕ) → a < b → one_if (nat_lt a b) ≡ 1
 below a b is = ap one_if (lt-ltb a b is)
 
-not_below : (a b : ℕ) → b ≤ a → one_if (nat_lt a b) ≡ 0
+pub not_below : (a b : ℕ) → b ≤ a → one_if (nat_lt a b) ≡ 0
 not_below a b is = ap one_if (le-ltb a b is)
 
-at_most : (b : Bool) → one_if b ≤ 1
+pub at_most : (b : Bool) → one_if b ≤ 1
 at_most true = omega arith
 at_most false = omega arith
 
@@ -143,9 +143,10 @@ earlier_of_all place (places ∷ lists) all there none =
         (e.0, (e.1.0, omega (arith, l)))
 
 -- where a place can't be come by, the places are not each once
-pub stuck : (count place : ℕ) (old left : List (List ℕ)) → place < count → AllAscend left →
-    ((q : ℕ) → times_in_all q old ≡ times_in_all q left + one_if (nat_lt q place)) → IsNextOfNone place left → EachOnce count old → ⊥
-stuck count place old left less all times none once =
+pub stuck : (first count place : ℕ) (old left : List (List ℕ)) → place < count → AllAscend left →
+    ((q : ℕ) → times_in_all q old + one_if (nat_lt q first) ≡ times_in_all q left + one_if (nat_lt q place)) → IsNextOfNone place left →
+    EachOnceFrom first count old → ⊥
+stuck first count place old left less all times none once =
     let a = times place in
     let b = once place in
     let c = below place count less in
@@ -174,13 +175,13 @@ empty ((p ∷ places) ∷ lists) none =
     absurd (omega (arith, e, s))
 
 -- behind the last place, they are each once exactly where nothing is left
-pub ended : (count place : ℕ) (old left : List (List ℕ)) → place ≤ count → count ≤ place →
-    ((q : ℕ) → times_in_all q old ≡ times_in_all q left + one_if (nat_lt q place)) →
-    (AllEmpty left → EachOnce count old) × (EachOnce count old → AllEmpty left)
-ended count place old left most least times =
+pub ended : (first count place : ℕ) (old left : List (List ℕ)) → place ≤ count → count ≤ place →
+    ((q : ℕ) → times_in_all q old + one_if (nat_lt q first) ≡ times_in_all q left + one_if (nat_lt q place)) →
+    (AllEmpty left → EachOnceFrom first count old) × (EachOnceFrom first count old → AllEmpty left)
+ended first count place old left most least times =
     let is : place ≡ count = omega (arith, most, least) in
-    let so : (q : ℕ) → times_in_all q old ≡ times_in_all q left + one_if (nat_lt q count) =
-    subst (λ (n : ℕ). (q : ℕ) → times_in_all q old ≡ times_in_all q left + one_if (nat_lt q n)) is times in (
+    let so : (q : ℕ) → times_in_all q old + one_if (nat_lt q first) ≡ times_in_all q left + one_if (nat_lt q count) =
+    subst (λ (n : ℕ). (q : ℕ) → times_in_all q old + one_if (nat_lt q first) ≡ times_in_all q left + one_if (nat_lt q n)) is times in (
       (λ all q. let a = nothing left all q in let b = so q in omega (arith, a, b)),
       (λ once. empty left (λ q. let a = once q in let b = so q in omega (arith, a, b))),
     )

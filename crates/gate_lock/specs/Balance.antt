@@ -35,13 +35,25 @@ no_ledgers = record { entries = 0; starts = 0; handed = 0; unspent = 0; running 
 abbrev pub nothing_counted : Balance
 nothing_counted = record { entries = 0; starts = 0; handed = 0; unspent = 0; running = 0; turns = 0; desks = 0 }
 
+-- what is counted of a base of which nothing is out: its entries, all of which were handed out, and its started fetches
+abbrev pub counted_before : Base → Balance
+counted_before base = record {
+  entries = base.entries;
+  starts = base.started;
+  handed = base.entries;
+  unspent = 0;
+  running = 0;
+  turns = 0;
+  desks = 0;
+}
+
 -- the most desks of a gate
 abbrev pub most_desks : ℕ
 most_desks = 65536
 
--- the parts of a ledger of which each desk has one, and the lock at least one
+-- the parts of a ledger of which each desk has one, what was before all desks another, and the lock at least one
 abbrev pub all_desk_parts : ℕ
-all_desk_parts = 65537
+all_desk_parts = 65538
 
 -- the parts of a ledger of which each permit, run or turn that is out has one: 2 ^ 40, more than can be out
 abbrev pub all_out_parts : ℕ
@@ -50,9 +62,9 @@ all_out_parts = 1099511627776
 -- each ledger's parts are those that were handed out and those that are left
 pub record AreParts (desks entry_parts start_parts handed_parts unspent unspent_parts running running_parts turns turn_parts : ℕ) : Type 0 where
   pub few_desks : desks ≤ most_desks
-  pub entries_are : entry_parts + desks ≡ all_desk_parts
-  pub starts_are : start_parts + desks ≡ all_desk_parts
-  pub handed_are : handed_parts + desks ≡ all_desk_parts
+  pub entries_are : entry_parts + desks + 1 ≡ all_desk_parts
+  pub starts_are : start_parts + desks + 1 ≡ all_desk_parts
+  pub handed_are : handed_parts + desks + 1 ≡ all_desk_parts
   pub unspent_are : unspent_parts + unspent ≡ all_out_parts
   pub running_are : running_parts + running ≡ all_out_parts
   pub turns_are : turn_parts + turns ≡ all_out_parts

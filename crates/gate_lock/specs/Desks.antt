@@ -112,6 +112,7 @@ out_of d = d.permits + d.runs + d.turns
 -- what is true of every desk: its shares count its marks, and what it handed out; it made no more entries than it has seen; and there
 -- is room for the marks of what it must still spend, two for each permit and one for each run and turn
 pub record IsDesk (seen permits runs turns : ℕ) (sealed : SealedView) (marks : List Mark) (shares : Shares) (room : ℕ) : Type 0 where
+  pub none_before : sealed.before ≡ 0
   pub entries_are : shares.entries ≡ length sealed.places + length marks
   pub starts_are : shares.starts ≡ sealed.starts + starts_in marks
   pub handed_are : shares.handed ≡ sealed.handed

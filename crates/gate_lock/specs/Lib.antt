@@ -3,6 +3,7 @@
 pub mod Balance
 pub mod Results
 pub mod Marks
+pub mod Past
 pub mod Places
 pub mod Desks
 pub mod Awaiting

@@ -4,6 +4,7 @@ use Rattle.std.specs.Prelude.{ℕ, ◌+◌, ◌<◌, List, [], ◌∷◌, ◌++�
 use Rattle.gate_history.specs.declared.entry.Entry.{Entry}
 use Rattle.gate_history.specs.History.{is_start}
 use Rattle.gate_lock.specs.declared.mark.Mark.{Mark}
+use Rattle.gate_lock.specs.Places.{places_below}
 
 -- the mark of an entry at a place
 abbrev pub mark_at : ℕ → Entry → Mark
@@ -14,24 +15,31 @@ abbrev pub starts_in : List Mark → ℕ
 starts_in [] = 0
 starts_in (m ∷ ms) = (if is_start m.entry then 1 else 0) + starts_in ms
 
--- what a desk keeps of sealed entries: the places of those that it made, how many of these are started fetches, and how
--- many entries it handed out, of whatever desk
+-- what is kept of sealed entries: how many of the first ones ever, whose places are not kept one by one; the places of
+-- others; how many of all these are started fetches; and how many entries were handed out, of whatever desk.
+-- A desk keeps places alone, of those that it made
 pub record SealedView : Type 0 where
+  pub before : ℕ
   pub places : List ℕ
   pub starts : ℕ
   pub handed : ℕ
 
 -- nothing
 abbrev pub nothing_sealed : SealedView
-nothing_sealed = record { places = []; starts = 0; handed = 0 }
+nothing_sealed = record { before = 0; places = []; starts = 0; handed = 0 }
 
 -- what is kept with these marks besides
 abbrev pub sealed_with : SealedView → List Mark → SealedView
-sealed_with s ms = record { places = s.places ++ map (λ m. m.place) ms; starts = s.starts + starts_in ms; handed = s.handed }
+sealed_with s ms = record {
+  before = s.before;
+  places = s.places ++ map (λ m. m.place) ms;
+  starts = s.starts + starts_in ms;
+  handed = s.handed;
+}
 
 -- what is kept once so many entries more were handed out
 abbrev pub with_handed : SealedView → ℕ → SealedView
-with_handed s count = record { places = s.places; starts = s.starts; handed = s.handed + count }
+with_handed s count = record { before = s.before; places = s.places; starts = s.starts; handed = s.handed + count }
 
 -- the receipts of a desk: what is kept of marks of sealed entries, and the marks behind those
 pub record Receipt : Type 0 where
@@ -42,9 +50,13 @@ pub record Receipt : Type 0 where
 abbrev pub alone : List Mark → Receipt
 alone ms = record { sealed = nothing_sealed; marks = ms }
 
--- the places of the marks of a desk, in its order
+-- the places that are kept one by one, in the order of the desk
+abbrev pub kept_places : Receipt → List ℕ
+kept_places r = r.sealed.places ++ map (λ m. m.place) r.marks
+
+-- the places of receipts, in their order
 abbrev pub places_of : Receipt → List ℕ
-places_of r = r.sealed.places ++ map (λ m. m.place) r.marks
+places_of r = places_below r.sealed.before ++ kept_places r
 
 -- how many started fetches the desk made
 abbrev pub starts_of : Receipt → ℕ

@@ -1,7 +1,12 @@
 -- Places of a history in several lists: each once, and ascending in each list.
 -- What `MarksFit` asks of the marks of all desks; RFC 9309 has none of it.
-use Rattle.std.specs.Prelude.{◌≡◌, ℕ, ◌+◌, ◌<◌, ◌==◌, nat_lt, List, [], ◌∷◌, ◌++◌}
+use Rattle.std.specs.Prelude.{◌≡◌, ℕ, zero, suc, ◌+◌, ◌<◌, ◌≤◌, ◌==◌, nat_lt, List, [], ◌∷◌, ◌++◌}
 use Rattle.authority_cache.specs.Calls.{one_if}
+
+-- all places below a number
+abbrev pub places_below : ℕ → List ℕ
+places_below zero = []
+places_below (suc count) = places_below count ++ count ∷ []
 
 -- the place is before the next one
 abbrev pub IsBefore : ℕ → List ℕ → Type 0
@@ -31,6 +36,16 @@ times_in_all place (places ∷ lists) = times_in place places + times_in_all pla
 -- the places are all those below a number, each once
 abbrev pub EachOnce : ℕ → List (List ℕ) → Type 0
 EachOnce count lists = (place : ℕ) → times_in_all place lists ≡ one_if (nat_lt place count)
+
+-- the places are all those below a number that are not below another one, each once
+abbrev pub EachOnceFrom : ℕ → ℕ → List (List ℕ) → Type 0
+EachOnceFrom first count lists =
+    (place : ℕ) → times_in_all place lists + one_if (nat_lt place first) ≡ one_if (nat_lt place count)
+
+-- the first of the places is not below a number
+abbrev pub BeginsFrom : ℕ → List ℕ → Type 0
+BeginsFrom first [] = Unit {0}
+BeginsFrom first (place ∷ _) = first ≤ place
 
 -- the place is the first of these
 abbrev pub IsNext : ℕ → List ℕ → Type 0

@@ -26,10 +26,10 @@ abbrev pub AreEntries : ℕ → List Entry → List Mark → Type 0
 AreEntries sealed entries [] = Unit {0}
 AreEntries sealed entries (m ∷ ms) = IsEntryAt sealed entries m × AreEntries sealed entries ms
 
--- the marks of a desk fit: their places ascend, each mark is its entry, and no place is kept alone but that of a
--- sealed entry
+-- receipts fit: their places ascend, each mark is its entry, and no place is kept alone but that of a sealed entry
 pub record Fits (sealed : ℕ) (entries : List Entry) (r : Receipt) : Type 0 where
   pub ascend : Ascend (places_of r)
+  pub before_sealed : r.sealed.before ≤ sealed
   pub are_sealed : AreSealed sealed r.sealed.places
   pub are_entries : AreEntries sealed entries r.marks
 

@@ -86,7 +86,8 @@ fn each_fits<G: Gate>(sealed: u64, history: &[Entry], all: &[Receipts<G>]) -> bo
 fn fits<G: Gate>(sealed: u64, history: &[Entry], receipts: &Receipts<G>) -> bool
     ensures { IsTrue result ↔ Fits sealed history.now receipts.now }
 {
-    ascend(receipts)
+    receipts.sealed().before() <= sealed
+        && ascend(receipts)
         && are_sealed(sealed, receipts.sealed().places())
         && are_entries(sealed, history, receipts.marks())
 }

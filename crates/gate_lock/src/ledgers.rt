@@ -54,9 +54,9 @@ impl Blanks {
     /// New ledgers, which no gate has.
     pub fn new() -> Blanks {
         Blanks {
-            entries: Blank::new(65_537),
-            starts: Blank::new(65_537),
-            handed: Blank::new(65_537),
+            entries: Blank::new(65_538),
+            starts: Blank::new(65_538),
+            handed: Blank::new(65_538),
             unspent: Blank::new(1_099_511_627_776),
             running: Blank::new(1_099_511_627_776),
             turns: Blank::new(1_099_511_627_776),

@@ -1,18 +1,23 @@
 //! The lock of a gate, and the hold of it that can be lent.
 //! Each call here takes the one lock once; none fetches or matches under it.
-ghost use Rattle.std.specs.Prelude.{◌≡◌, ◌<◌, [], length};
+ghost use Rattle.std.specs.Prelude.{◌≡◌, ◌^◌, ◌<◌, [], length};
 ghost use Rattle.gate_history.specs.Base.{empty_base};
 ghost use Rattle.gate_history.specs.Outstanding.{unspent};
 ghost use Rattle.gate_core.specs.Gate.{HasLegalHistory, history};
 ghost use Rattle.gate_lock.specs.Awaiting.{IsMet};
+ghost use Rattle.gate_lock.specs.Balance.{counted_before};
 ghost use Rattle.gate_lock.specs.Desks.{IsGateOf};
+ghost use Rattle.gate_lock.specs.Past.{past_of};
 
 use crate::awaited::Awaited;
 use crate::ledgers::{Blanks, Gate};
+use crate::mark::SealedMarks;
+use crate::receipts::Receipts;
 use crate::round::Round;
 use crate::tally::Tally;
 use crate::tokens::Permit;
 use gate_core::{Book, Limits};
+use std::alloc::Global;
 use std::marker::Model;
 use std::sync::{Condvar, Mutex, MutexGuard, Wait};
 
@@ -85,8 +90,46 @@ impl<G: Gate> GateLock<G> {
         requires blanks { blanks ≡ G.ledgers }
         ensures { result ≡ book.limits }
     {
+        let (tally, past) = Tally::open(blanks);
+        past.let_go();
+        GateLock::around(book, tally)
+    }
+
+    /// A lock round a book that goes on from a base and has made no entry since, with new ledgers; and the receipts of
+    /// what was before, by which, with those of its desks, the gate is settled. Of the base nothing is out, and one
+    /// of no entry is empty. The receipts take no memory, whatever they count.
+    pub fn resume(alloc: Global, book: Book, blanks: Blanks) -> (GateLock<G>, Receipts<G>)
+        requires entries { book.entries ≡ [] }
+        requires out { (book.base.in_flight ≡ []) × (book.base.unspent ≡ [])
+            × (book.base.running ≡ []) }
+        requires start { book.base.entries ≡ 0 → book.base ≡ empty_base }
+        requires starts { book.base.started < 2 ^ 63 }
+        requires blanks { blanks ≡ G.ledgers }
+        ensures limits { result.0 ≡ book.limits }
+        ensures past { result.1 ≡ past_of book.base }
+    {
+        let entries = book.base().entries();
+        let starts = book.base().started();
+        let (mut tally, mut mine) = Tally::open(blanks);
+        tally.count_past(&mut mine, entries, starts);
+        let past = Receipts {
+            sealed: SealedMarks::first(alloc, entries, starts),
+            marks: Vec::new(alloc),
+            mine,
+        };
+        (GateLock::around(book, tally), past)
+    }
+
+    // A lock round a book with its ledgers.
+    fn around(book: Book, tally: Tally<G>) -> GateLock<G>
+        requires entries { book.entries ≡ [] }
+        requires out { (book.base.in_flight ≡ []) × (book.base.unspent ≡ [])
+            × (book.base.running ≡ []) }
+        requires start { book.base.entries ≡ 0 → book.base ≡ empty_base }
+        requires tally { tally ≡ counted_before book.base }
+        ensures { result ≡ book.limits }
+    {
         let limits = book.limits();
-        let tally = Tally::open(blanks);
         GateLock {
             round: Mutex::new(Round::new(book, tally)),
             limits,

@@ -1,5 +1,5 @@
 //! What a desk keeps of each entry that it made: a mark, and of an entry that was sealed its place alone.
-ghost use Rattle.std.specs.Prelude.{◌≡◌, ◌+◌, ◌^◌, ◌<◌, ◌≤◌, ◌++◌, drop, length, map, OnErr, OnOk, take, vec_capacity};
+ghost use Rattle.std.specs.Prelude.{◌≡◌, ◌+◌, ◌^◌, ◌<◌, ◌≤◌, ◌++◌, [], drop, length, map, OnErr, OnOk, take, vec_capacity};
 ghost use Rattle.gate_history.specs.History.{is_start};
 ghost use Rattle.gate_lock.specs.Marks.{AreSealed, nothing_sealed, sealed_with, starts_in, with_handed};
 
@@ -16,27 +16,31 @@ pub struct Mark {
     pub entry: Entry,
 }
 
-/// What a desk keeps of sealed entries: of its own eight octets each, and no policy; and how many it handed out.
+/// What is kept of sealed entries: by a desk of its own eight octets each, and no policy, and how many it handed out; by
+/// the receipts of what was before all desks how many there were.
 #[derive(Drop)]
 pub struct SealedMarks {
+    before: u64,
     places: Vec<u64>,
     starts: u64,
     handed: u64,
 }
 
 impl Model for SealedMarks {
-    ghost use Rattle.std.specs.Prelude.{◌≤◌, length};
+    ghost use Rattle.std.specs.Prelude.{◌≡◌, ◌^◌, ◌<◌, ◌≤◌, length};
     ghost use Rattle.gate_lock.specs.Marks.{SealedView};
 
     ghost Value = { SealedView };
 
     ghost view = { λ sealed. record {
+      before = sealed.before;
       places = sealed.places.items;
       starts = sealed.starts;
       handed = sealed.handed;
     } };
 
-    ghost invariant = { λ sealed. sealed.starts ≤ length sealed.places.items };
+    ghost invariant = { λ sealed. (sealed.before ≡ 0 → sealed.starts ≤ length sealed.places.items)
+        × (sealed.starts < 2 ^ 63) };
 }
 
 impl SealedMarks {
@@ -45,29 +49,52 @@ impl SealedMarks {
         ensures { result ≡ nothing_sealed }
     {
         SealedMarks {
+            before: 0,
             places: Vec::new(alloc),
             starts: 0,
             handed: 0,
         }
     }
 
-    /// The places of the entries, the oldest first.
+    // Of the first entries ever so many, which were handed out, with so many started fetches among them.
+    pub(crate) fn first(alloc: Global, entries: u64, starts: u64) -> SealedMarks
+        requires none { entries ≡ 0 → starts ≡ 0 }
+        requires few { starts < 2 ^ 63 }
+        ensures { result
+            ≡ record { before = entries; places = []; starts = starts; handed = entries } }
+    {
+        SealedMarks {
+            before: entries,
+            places: Vec::new(alloc),
+            starts,
+            handed: entries,
+        }
+    }
+
+    /// How many of the first entries ever are kept without their places. A desk keeps none so, as it makes none of
+    /// those before it.
+    pub fn before(&self) -> u64
+        ensures { result ≡ self.now.before }
+    {
+        self.before
+    }
+
+    /// The places of the other entries, the oldest first.
     pub fn places(&self) -> &[u64]
         ensures { result.now ≡ self.now.places }
     {
         self.places.as_slice()
     }
 
-    /// How many of them are started fetches.
+    /// How many of all these are started fetches.
     pub fn starts(&self) -> u64
         ensures value { result ≡ self.now.starts }
         ensures bound { result < 2 ^ 63 }
     {
-        let _few = self.places.len();
         self.starts
     }
 
-    /// How many entries the desk handed out, of whatever desk.
+    /// How many entries were handed out, of whatever desk.
     pub fn handed(&self) -> u64
         ensures { result ≡ self.now.handed }
     {
@@ -84,7 +111,8 @@ impl SealedMarks {
 
     // Takes in the first of the marks, which end with it. Where memory is refused nothing changes.
     pub(crate) fn take_in(&mut self, marks: &mut Vec<Mark>, count: usize) -> Result<(), AllocError>
-        requires { count ≤ length marks.old.items }
+        requires none { self.old.before ≡ 0 }
+        requires count { count ≤ length marks.old.items }
         ensures capacity { vec_capacity marks.new ≡ vec_capacity marks.old }
         ensures ok { OnOk result ((marks.new.items ≡ drop count marks.old.items)
             × (self.new ≡ sealed_with self.old (take count marks.old.items))) }

@@ -1,8 +1,10 @@
 //! The places of all receipts, or of all lists of marks, merged: whether each is found once.
-//! In each list they ascend, so that the next one is the first of some list.
-ghost use Rattle.std.specs.Prelude.{◌≡◌, ◌∷◌, ◌↔◌, [], IfOk, IfNone, IfSome, IsTrue, false, map, true};
-ghost use Rattle.gate_lock.specs.Marks.{alone, places_of};
-ghost use Rattle.gate_lock.specs.Places.{AllAscend, AllEmpty, Ascend, EachOnce, IsBefore, IsNext, IsNextOfNone, Passes};
+//! In each list they ascend, so that the next one is the first of some list. The first places ever, which the receipts of
+//! what was before all desks have, are passed over at once.
+ghost use Rattle.std.specs.Prelude.{◌≡◌, ◌<◌, ◌∷◌, ◌↔◌, ◌⊎◌, ℕ, [], IfOk, IfNone, IfSome, IsTrue, false, map, true};
+ghost use Rattle.gate_lock.specs.Marks.{alone, kept_places, places_of};
+ghost use Rattle.gate_lock.specs.Places.{AllAscend, AllEmpty, Ascend, BeginsFrom, EachOnce, EachOnceFrom, IsBefore, IsNext, IsNextOfNone, Passes};
+ghost use Rattle.gate_lock.specs.Past.{AreFirst};
 
 use crate::ledgers::Gate;
 use crate::mark::Mark;
@@ -10,7 +12,7 @@ use crate::receipts::Receipts;
 use std::alloc::{AllocError, Global};
 use std::marker::Model;
 
-// The places of receipts that were not come by yet.
+// The places of receipts that are kept one by one and were not come by yet.
 #[derive(Drop)]
 pub(crate) struct Places<'a> {
     sealed: &'a [u64],
@@ -28,7 +30,7 @@ impl<'a> Model for Places<'a> {
 impl<'a> Places<'a> {
     // Those of receipts.
     fn of<G: Gate>(receipts: &'a Receipts<G>) -> Places<'a>
-        ensures { result ≡ places_of receipts.now }
+        ensures { result ≡ kept_places receipts.now }
     {
         Places {
             sealed: receipts.sealed().places(),
@@ -72,6 +74,16 @@ impl<'a> Places<'a> {
         Some(mark.place)
     }
 
+    // Whether the next one is not below a number.
+    fn begin_from(&self, first: u64) -> bool
+        ensures { IsTrue result ↔ BeginsFrom first self.now }
+    {
+        match self.next() {
+            Some(next) => first <= next,
+            None => true,
+        }
+    }
+
     // Whether the place is before the next one.
     fn are_behind(&self, place: u64) -> bool
         ensures { IsTrue result ↔ IsBefore place self.now }
@@ -103,7 +115,8 @@ impl<'a> Places<'a> {
 pub(crate) fn ascend<G: Gate>(receipts: &Receipts<G>) -> bool
     ensures { IsTrue result ↔ Ascend (places_of receipts.now) }
 {
-    all_ascend(Places::of(receipts))
+    let kept = Places::of(receipts);
+    kept.begin_from(receipts.sealed().before()) && all_ascend(kept)
 }
 
 // The same of marks alone.
@@ -135,8 +148,11 @@ pub(crate) fn each_once<G: Gate>(
     requires { AllAscend (map places_of all.now) }
     ensures { IfOk result (λ once. IsTrue once ↔ EachOnce count (map places_of all.now)) }
 {
-    let mut left = places_of_all(alloc, all)?;
-    Ok(merge(&mut left, count))
+    let Some(first) = first_of_all(all) else {
+        return Ok(false);
+    };
+    let mut left = kept_of_all(alloc, all)?;
+    Ok(merge(&mut left, first, count))
 }
 
 // The same of lists of marks alone.
@@ -150,7 +166,7 @@ pub(crate) fn each_listed_once(
         ↔ EachOnce count (map places_of (map (λ marks. alone marks.now) all.now))) }
 {
     let mut left = places_of_lists(alloc, all)?;
-    Ok(merge(&mut left, count))
+    Ok(merge(&mut left, 0, count))
 }
 
 // The places of all lists of marks.
@@ -167,12 +183,40 @@ fn places_of_lists<'a>(alloc: Global, all: &'a [&'a [Mark]]) -> Result<Vec<Place
     Ok(left)
 }
 
-// The places of all receipts.
-fn places_of_all<'a, G: Gate>(
+// How many of the first places ever receipts have without keeping them one by one. Where two of all receipts have
+// such, the first one is there twice.
+fn first_of_all<G: Gate>(all: &[Receipts<G>]) -> Option<u64>
+    ensures some { IfSome result (λ first. AreFirst first all.now) }
+    ensures none { IfNone result ((count : ℕ) → EachOnce count (map places_of all.now) → ⊥) }
+{
+    let mut first = 0;
+    for receipts in all {
+        first = only_one(first, receipts.sealed().before())?;
+    }
+    Some(first)
+}
+
+// One of two numbers, where the other is 0.
+fn only_one(first: u64, before: u64) -> Option<u64>
+    ensures some { IfSome result (λ one.
+        ((before ≡ 0) × (one ≡ first)) ⊎ ((first ≡ 0) × (one ≡ before))) }
+    ensures none { IfNone result ((0 < first) × (0 < before)) }
+{
+    if before == 0 {
+        return Some(first);
+    }
+    if first == 0 {
+        return Some(before);
+    }
+    None
+}
+
+// The places of all receipts that are kept one by one.
+fn kept_of_all<'a, G: Gate>(
     alloc: Global,
     all: &'a [Receipts<G>],
 ) -> Result<Vec<Places<'a>>, AllocError>
-    ensures { IfOk result (λ left. left.items ≡ map places_of all.now) }
+    ensures { IfOk result (λ left. left.items ≡ map kept_places all.now) }
 {
     let mut left = Vec::with_capacity(alloc, all.len())?;
     let mut rest = all;
@@ -183,12 +227,15 @@ fn places_of_all<'a, G: Gate>(
     Ok(left)
 }
 
-// Comes by each place below a number in turn, and tells whether nothing is left then.
-fn merge(left: &mut [Places<'_>], count: u64) -> bool
+// Comes by each place from the first one up to a number in turn, and tells whether nothing is left then.
+fn merge(left: &mut [Places<'_>], first: u64, count: u64) -> bool
     requires { AllAscend left.old }
-    ensures { IsTrue result ↔ EachOnce count left.old }
+    ensures { IsTrue result ↔ EachOnceFrom first count left.old }
 {
-    let mut place = 0;
+    if first > count {
+        return false;
+    }
+    let mut place = first;
     while place < count {
         if !pass_one(left, place) {
             return false;

@@ -12,8 +12,9 @@ use crate::shares::Mine;
 use gate_history::{Entry, Segment};
 use std::marker::Model;
 
-/// The marks of a desk that was closed, the oldest first, and of those before them what the desk kept. Whoever drops
-/// them lets the marks go: the gate can't be settled any more.
+/// The marks of a desk that was closed, the oldest first, and of those before them what the desk kept; or what is kept of
+/// all entries before the base from which a gate goes on. Whoever drops them lets the marks go: the gate can't be
+/// settled any more.
 pub struct Receipts<G: Gate> {
     pub(crate) sealed: SealedMarks,
     pub(crate) marks: Vec<Mark>,
@@ -32,7 +33,8 @@ impl<G: Gate> Model for Receipts<G> {
     } };
 
     ghost invariant = { λ receipts.
-        (receipts.mine.entries ≡ length receipts.sealed.places + length receipts.marks.items)
+        (receipts.mine.entries
+        ≡ receipts.sealed.before + length receipts.sealed.places + length receipts.marks.items)
         × (receipts.mine.starts ≡ receipts.sealed.starts + starts_in receipts.marks.items)
         × (receipts.mine.handed ≡ receipts.sealed.handed) };
 }
@@ -44,17 +46,12 @@ impl<G: Gate> Drop for Receipts<G> {
             marks: _,
             mine,
         } = self;
-        let Mine {
-            no: _,
-            entries: _,
-            starts: _,
-            handed: _,
-        } = mine;
+        mine.let_go();
     }
 }
 
 impl<G: Gate> Receipts<G> {
-    /// What the desk kept of sealed entries, which were before the others.
+    /// What was kept of sealed entries, which were before the others.
     pub fn sealed(&self) -> &SealedMarks
         ensures { result.now ≡ self.now.sealed }
     {
@@ -68,7 +65,7 @@ impl<G: Gate> Receipts<G> {
         self.marks.as_slice()
     }
 
-    /// How many started fetches the desk made.
+    /// How many started fetches there are among all these.
     pub fn starts(&self) -> u64
         ensures { result ≡ starts_of self.now }
     {

@@ -10,7 +10,7 @@ ghost use Rattle.gate_core.specs.Gate.{history};
 ghost use Rattle.gate_history.specs.Ruling.{IsRuling};
 ghost use Rattle.gate_core.specs.Sealing.{Seals};
 ghost use Rattle.gate_core.specs.Replies.{Arrives, Asks, Begins, Finishes, Returns, Starts, Sweeps};
-ghost use Rattle.gate_lock.specs.Balance.{nothing_counted};
+ghost use Rattle.gate_lock.specs.Balance.{counted_before};
 ghost use Rattle.gate_lock.specs.Marks.{mark_at};
 ghost use Rattle.gate_lock.specs.Steps.{handed_by};
 ghost use Rattle.gate_lock.specs.Results.{IsLastEntry, entries_of_ask, entries_of_ok, is_denial, reply_in};
@@ -90,10 +90,13 @@ impl<G: Gate> Model for Round<G> {
 }
 
 impl<G: Gate> Round<G> {
-    // A book that has made no entry.
+    // A book that has made no entry, and of whose base nothing is out.
     pub fn new(book: Book, tally: Tally<G>) -> Round<G>
-        requires book { (book.base ≡ empty_base) × (book.entries ≡ []) }
-        requires tally { tally ≡ nothing_counted }
+        requires entries { book.entries ≡ [] }
+        requires out { (book.base.in_flight ≡ []) × (book.base.unspent ≡ [])
+            × (book.base.running ≡ []) }
+        requires start { book.base.entries ≡ 0 → book.base ≡ empty_base }
+        requires tally { tally ≡ counted_before book.base }
         ensures { result ≡ book }
     {
         Round { book, tally }

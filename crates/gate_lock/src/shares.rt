@@ -20,7 +20,7 @@ impl<L: Ledger> Model for One<L> {
     ghost invariant = { λ one. (one.share.amount ≡ 1) × (one.share.parts ≡ 1) };
 }
 
-// The shares of a desk, with the number that it got with them. A clause sees how many entries and started
+// The shares of a desk, with the number that it got with them, or of what was before all desks, with the number 0. A clause sees how many entries and started
 // fetches they count, and how many entries were handed out. They have no `Drop`: what is made of a book by a
 // desk must be seen in its marks.
 pub(crate) struct Mine<G: Gate> {
@@ -45,4 +45,16 @@ impl<G: Gate> Model for Mine<G> {
 
     ghost invariant = { λ mine. (mine.entries.parts ≡ 1) × (mine.starts.parts ≡ 1)
         × (mine.handed.parts ≡ 1) };
+}
+
+impl<G: Gate> Mine<G> {
+    // Lets the shares go: the gate can be settled only where they count nothing.
+    pub fn let_go(self) {
+        let Mine {
+            no: _,
+            entries: _,
+            starts: _,
+            handed: _,
+        } = self;
+    }
 }

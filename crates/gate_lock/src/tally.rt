@@ -60,10 +60,11 @@ impl<G: Gate> Model for Tally<G> {
 }
 
 impl<G: Gate> Tally<G> {
-    // New ledgers, by which nothing is counted yet.
-    pub fn open(blanks: Blanks) -> Tally<G>
+    // New ledgers, by which nothing is counted yet, and the shares of what was before all desks.
+    pub fn open(blanks: Blanks) -> (Tally<G>, Mine<G>)
         requires { blanks ≡ G.ledgers }
-        ensures { result ≡ nothing_counted }
+        ensures total { result.0 ≡ nothing_counted }
+        ensures share { result.1 ≡ record { no = 0; entries = 0; starts = 0; handed = 0 } }
     {
         let Blanks {
             entries,
@@ -73,13 +74,19 @@ impl<G: Gate> Tally<G> {
             running,
             turns,
         } = blanks;
-        let (entries, entry_parts) = entries.open::<EntryLedger<G>>();
-        let (starts, start_parts) = starts.open::<StartLedger<G>>();
-        let (handed, handed_parts) = handed.open::<HandedLedger<G>>();
+        let (entries, mut entry_parts) = entries.open::<EntryLedger<G>>();
+        let (starts, mut start_parts) = starts.open::<StartLedger<G>>();
+        let (handed, mut handed_parts) = handed.open::<HandedLedger<G>>();
         let (unspent, unspent_parts) = unspent.open::<UnspentLedger<G>>();
         let (running, running_parts) = running.open::<RunningLedger<G>>();
         let (turns, turn_parts) = turns.open::<TurnLedger<G>>();
-        Tally {
+        let past = Mine {
+            no: 0,
+            entries: entry_parts.split_off(1, 0),
+            starts: start_parts.split_off(1, 0),
+            handed: handed_parts.split_off(1, 0),
+        };
+        let tally = Tally {
             entries,
             starts,
             handed,
@@ -93,7 +100,26 @@ impl<G: Gate> Tally<G> {
             running_parts,
             turn_parts,
             desks: 0,
-        }
+        };
+        (tally, past)
+    }
+
+    // So many entries and started fetches were made before, all of which were handed out.
+    pub fn count_past(&mut self, past: &mut Mine<G>, entries: u64, starts: u64)
+        ensures total { self.new ≡ record self.old {
+          entries = self.old.entries + entries;
+          starts = self.old.starts + starts;
+          handed = self.old.handed + entries;
+        } }
+        ensures share { past.new ≡ record past.old {
+          entries = past.old.entries + entries;
+          starts = past.old.starts + starts;
+          handed = past.old.handed + entries;
+        } }
+    {
+        self.entries.add(&mut past.entries, entries);
+        self.starts.add(&mut past.starts, starts);
+        self.handed.add(&mut past.handed, entries);
     }
 
     // The shares of one more desk, which is numbered from 1.

@@ -8,6 +8,7 @@ mod gates;
 mod indexes;
 mod judged;
 mod limits;
+mod resumed;
 mod seals;
 mod sessions;
 mod states;

@@ -28,8 +28,8 @@ impl From<AllocError> for JournalFault {
 /// Why a folder can't be a journal's.
 #[derive(Clone, Copy, Debug)]
 pub enum FolderFault {
-    /// It has other files.
-    NotEmpty,
+    /// It has files whose names are no journal's.
+    OtherFiles,
     /// Another process has it.
     InUse,
     /// It can't be made, read or locked, and why.

@@ -1,10 +1,11 @@
 //! `Folder`: a folder with a journal's files, which one process has at a time.
 //! A file stands under its name only once it begins with its whole base.
 use crate::fault::{FolderFault, JournalFault};
-use crate::names::{LOCK_NAME, NEW_NAME, file_name, path_in};
+use crate::last_file::LastFile;
+use crate::names::{LOCK_NAME, NEW_NAME, file_name, is_file_name, path_in};
 use crate::shelf::Shelf;
-use counted_io::DeviceFault;
-use journal_tape::{FileTape, Tape, append_all};
+use crate::writing::keep;
+use journal_tape::FileTape;
 use std::alloc::Global;
 use std::fs::{File, Files, TryLockError};
 use std::io::ErrorKind;
@@ -17,26 +18,41 @@ pub struct Folder<R> {
     alloc: Global,
     path: String,
     lock: File,
+    // The path of the last file that it had.
+    last: Option<String>,
 }
 
 impl<R: Files<File = File> + AllocGlobal + Clone + Drop> Folder<R> {
-    /// Makes the folder where it is not there, and has it locked. It must have no files yet but those of a
-    /// journal whose first file was never put up.
+    /// Makes the folder where it is not there, and has it locked. It must have no files but a journal's.
     pub fn open(rt: R, path: &str) -> Result<Folder<R>, FolderFault> {
         let alloc = rt.alloc();
         make(&rt, path)?;
         let name = path_in(alloc, path, LOCK_NAME)?;
         let lock = lock(&rt, name.as_str())?;
-        if !is_unused(&rt, path)? {
-            return Err(FolderFault::NotEmpty);
-        }
+        let last = match last_name(&rt, path)? {
+            Some(name) => Some(path_in(alloc, path, name.as_str())?),
+            None => None,
+        };
         let path = String::from_str(alloc, path)?;
         Ok(Folder {
             rt,
             alloc,
             path,
             lock,
+            last,
         })
+    }
+
+    /// The last of the files that it had when it was opened, from the text of which a journal goes on; none where it had
+    /// none. A file that was never whole is none of a journal, and is overwritten by the next one.
+    pub fn last_file(&self) -> io::Result<Option<LastFile>> {
+        match &self.last {
+            Some(path) => {
+                let path = String::from_str(self.alloc, path.as_str())?;
+                Ok(Some(LastFile::open(&self.rt, path)?))
+            }
+            None => Ok(None),
+        }
     }
 
     // Writes a file under a name of its own until it is whole, and then under its name.
@@ -63,23 +79,6 @@ impl<R: Files<File = File> + AllocGlobal + Clone + Drop> Shelf for Folder<R> {
     }
 }
 
-// Writes what a file begins with, and waits until each crash keeps it.
-fn keep(tape: FileTape<File>, head: &[u8]) -> io::Result<FileTape<File>> {
-    let mut tape = tape;
-    match write_and_sync(&mut tape, head) {
-        Ok(()) => Ok(tape),
-        Err(DeviceFault) => match tape.cause() {
-            Some(cause) => Err(cause),
-            None => Err(io::Error::from(ErrorKind::Other)),
-        },
-    }
-}
-
-fn write_and_sync(tape: &mut FileTape<File>, head: &[u8]) -> Result<(), DeviceFault> {
-    append_all(tape, head)?;
-    tape.sync()
-}
-
 // Makes a folder, where it is not there.
 fn make<R: Files>(rt: &R, path: &str) -> io::Result<()> {
     match fs::create_dir(rt, path) {
@@ -98,14 +97,28 @@ fn lock<R: Files<File = File>>(rt: &R, name: &str) -> Result<File, FolderFault> 
     }
 }
 
-// Whether a folder has no files but a lock, and one that was never whole.
-fn is_unused<R: Files + AllocGlobal + Clone + Drop>(rt: &R, path: &str) -> io::Result<bool> {
+// The greatest name of a journal's files in a folder, which must have no others.
+fn last_name<R: Files + AllocGlobal + Clone + Drop>(
+    rt: &R,
+    path: &str,
+) -> Result<Option<String>, FolderFault> {
+    let mut last: Option<String> = None;
     for entry in fs::read_dir(rt, path)? {
         let entry = entry?;
         let name = entry.file_name();
-        if name != LOCK_NAME && name != NEW_NAME {
-            return Ok(false);
+        if name == LOCK_NAME || name == NEW_NAME {
+            continue;
+        }
+        if !is_file_name(name) {
+            return Err(FolderFault::OtherFiles);
+        }
+        let is_later = match &last {
+            Some(last) => last.as_str() < name,
+            None => true,
+        };
+        if is_later {
+            last = Some(String::from_str(rt.alloc(), name)?);
         }
     }
-    Ok(true)
+    Ok(last)
 }

@@ -9,9 +9,17 @@ pub(crate) const NEW_NAME: &str = ".new";
 /// The name of the file by whose lock a process has the folder.
 pub(crate) const LOCK_NAME: &str = ".lock";
 
+// How many digits a name has.
+const DIGITS: usize = 20;
+
 /// The name of the file behind so many entries.
 pub fn file_name(alloc: Global, entries: u64) -> Result<String, AllocError> {
     format!(in alloc; "{entries:020}")
+}
+
+/// Whether a name is that of a journal's file. Of two such names the later file has the greater one.
+pub(crate) fn is_file_name(name: &str) -> bool {
+    name.len() == DIGITS && name.bytes().all(|octet| octet.is_ascii_digit())
 }
 
 /// The path of a file in a folder.

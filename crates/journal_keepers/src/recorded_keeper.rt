@@ -4,12 +4,13 @@ ghost use Rattle.std.specs.Prelude.{◌≡◌};
 ghost use Rattle.journal_keepers.specs.Parts.{keeper_of};
 
 use crate::keeper_sealer::KeeperSealer;
+use authority_cache::StandingAnswer;
 use crawl_job::{Job, Outcome};
 use crawl_workers::Clock;
 use gate_core::{AskRefusal, BeginRefusal, Denial, NoMemory, Standing, State};
 use gate_history::{Reason, Segment};
 use journal_files::{Chronicle, Records};
-use keepers::{Counts, Keeper};
+use keepers::{Counts, Keeper, Visitors, Visits};
 use path_normal::{Authority, PageUrl, Schemes};
 use permit_book::{NotOut, PermitNo};
 use robots_text::Token;
@@ -23,15 +24,17 @@ pub struct RecordedKeeper<'a, K, H, J, R> {
     rt: &'a R,
     chronicle: &'a H,
     journal: &'a J,
+    visits: &'a Visits,
     sealer: KeeperSealer<K>,
 }
 
 impl<'a, K: Keeper, H: Chronicle, J: Records, R: Wait> RecordedKeeper<'a, K, H, J, R> {
-    /// The keeper of a gate that is recorded.
+    /// The keeper of a gate that is recorded, in a server with these visits.
     pub fn new(
         rt: &'a R,
         chronicle: &'a H,
         journal: &'a J,
+        visits: &'a Visits,
         keeper: K,
     ) -> RecordedKeeper<'a, K, H, J, R>
         ensures { keeper_of result ≡ keeper }
@@ -40,6 +43,7 @@ impl<'a, K: Keeper, H: Chronicle, J: Records, R: Wait> RecordedKeeper<'a, K, H, 
             rt,
             chronicle,
             journal,
+            visits,
             sealer: KeeperSealer { keeper },
         }
     }
@@ -52,6 +56,7 @@ impl<'a, K: Keeper, H: Chronicle, J: Records, R: Wait> RecordedKeeper<'a, K, H, 
             rt: _,
             chronicle: _,
             journal: _,
+            visits: _,
             sealer: KeeperSealer { keeper },
         } = self;
         keeper
@@ -67,6 +72,7 @@ impl<'a, K: Keeper, H: Chronicle, J: Records, R: Wait> Keeper for RecordedKeeper
       returns = λ k number result k2. K.deals.returns k.sealer.keeper number result k2.sealer.keeper;
       finishes = λ k number result k2. K.deals.finishes k.sealer.keeper number result k2.sealer.keeper;
       counts = λ k counts. K.deals.counts k.sealer.keeper counts;
+      answers = λ k authority result. K.deals.answers k.sealer.keeper authority result;
       reads = λ k authority m state k2. K.deals.reads k.sealer.keeper authority m state k2.sealer.keeper;
       refreshes = λ reads k authority told k2. K.deals.refreshes reads k.sealer.keeper authority told k2.sealer.keeper;
       fetches = λ reads k job told k2. K.deals.fetches reads k.sealer.keeper job told k2.sealer.keeper;
@@ -106,6 +112,18 @@ impl<'a, K: Keeper, H: Chronicle, J: Records, R: Wait> Keeper for RecordedKeeper
 
     fn counts(&self) -> Counts {
         self.sealer.keeper.counts()
+    }
+
+    fn visitors(&self) -> Visitors {
+        self.visits.read()
+    }
+
+    fn answer(
+        &self,
+        alloc: Global,
+        authority: &Authority,
+    ) -> Result<Option<StandingAnswer>, NoMemory> {
+        self.sealer.keeper.answer(alloc, authority)
     }
 
     fn state(&mut self, authority: &Authority, moment: u64) -> State {

@@ -1,10 +1,12 @@
 -- What an operator may see of a gate: how much there is of what it keeps.
--- The contracts of `Keeper::counts` and of `counts_of`.
-use Rattle.std.specs.Prelude.{◌≡◌, ◌-◌, length}
+-- The contracts of `Keeper::counts`, of `counts_of`, and of `Keeper::answer`.
+use Rattle.std.specs.Prelude.{◌≡◌, ◌-◌, ℕ, List, length, Option, Result, IfOk}
+use Rattle.authority_cache.specs.declared.standing_answer.StandingAnswer.{StandingAnswer}
 use Rattle.gate_history.specs.History.{entry_count, started_count}
 use Rattle.gate_history.specs.Outstanding.{running, unspent}
-use Rattle.gate_history.specs.Standing.{in_flight, known_count}
+use Rattle.gate_history.specs.Standing.{in_flight, known_count, standing_of}
 use Rattle.gate_core.specs.Gate.{Gate, history, most_room, room}
+use Rattle.gate_core.specs.declared.refusal.NoMemory.{NoMemory}
 use Rattle.gate_lock.specs.Desks.{DeskView, IsGateOf}
 use Rattle.keepers.specs.declared.counts.Counts.{Counts}
 
@@ -20,6 +22,15 @@ counts_of gate = record {
   authorities = known_count (history gate);
   room = most_room gate.limits gate.base - room gate;
 }
+
+-- the answer that stands for the authority, or none, where there is memory for its name
+abbrev pub TellsAnswer : Gate → List ℕ → Result (Option StandingAnswer) NoMemory → Type 0
+TellsAnswer gate authority result = IfOk result (λ answer. answer ≡ standing_of (history gate) authority)
+
+-- what a desk sees of it, in a gate that its lock kept, with the entries that the desk has seen
+abbrev pub AnswersSome : DeskView → List ℕ → Result (Option StandingAnswer) NoMemory → Type 0
+AnswersSome desk authority result =
+    (gate : Gate) × (IsGateOf desk.limits desk.seen gate × TellsAnswer gate authority result)
 
 -- what a desk sees: what there is of a gate that its lock kept, with the entries that the desk has seen
 abbrev pub CountsSome : DeskView → Counts → Type 0

@@ -1,6 +1,7 @@
 -- What a keeper deals in: for each of its calls a relation between the keeper before, the call's words, the
 -- reply, and the keeper behind. The contracts of `Keeper`, and of whoever holds one.
 use Rattle.std.specs.Prelude.{ℕ, Bool, List, Option, Result}
+use Rattle.authority_cache.specs.declared.standing_answer.StandingAnswer.{StandingAnswer}
 use Rattle.permit_book.specs.declared.refusal.NotOut.{NotOut}
 use Rattle.gate_history.specs.declared.outcome.Reason.{Reason}
 use Rattle.gate_history.specs.Segment.{Sealed}
@@ -24,6 +25,7 @@ pub record Deals (S : Type 0) : Type 1 where
   pub returns : S → (number : ℕ) → Result Unit NotOut → S → Type 0
   pub finishes : S → (number : ℕ) → Result Unit NotOut → S → Type 0
   pub counts : S → Counts → Type 0
+  pub answers : S → (authority : List ℕ) → Result (Option StandingAnswer) NoMemory → Type 0
   pub reads : S → (authority : List ℕ) (moment : ℕ) → State → S → Type 0
   pub refreshes : (reads : ℕ → Type 0) → S → (authority : List ℕ) → Option (Result Standing BeginRefusal) → S → Type 0
   pub fetches : (reads : ℕ → Type 0) → S → Job → Option (Result Outcome NoMemory) → S → Type 0

@@ -1,8 +1,11 @@
 //! `BookKeeper`: a book alone keeps the permits, and nothing is fetched.
 ghost use Rattle.std.specs.Prelude.{◌≡◌};
 
+use crate::answers::standing_answer;
 use crate::counts::{Counts, counts_of};
 use crate::keeper::Keeper;
+use crate::visits::Visitors;
+use authority_cache::StandingAnswer;
 use crawl_job::{Job, Outcome};
 use crawl_workers::Clock;
 use gate_core::{AskRefusal, BeginRefusal, Book, Denial, NoMemory, Standing, Started, State};
@@ -34,7 +37,7 @@ impl<'a> Keeper for BookKeeper<'a> {
     ghost use Rattle.gate_core.specs.Sealing.{Seals};
     ghost use Rattle.path_normal.specs.declared.schemes.Schemes.TheVariants.{Http};
     ghost use Rattle.keepers.specs.BookKeeping.{BookReads, BookStarts, OffersNone};
-    ghost use Rattle.keepers.specs.Counting.{counts_of};
+    ghost use Rattle.keepers.specs.Counting.{TellsAnswer, counts_of};
 
     ghost deals = { record {
       can_fetch = λ _. false;
@@ -44,6 +47,7 @@ impl<'a> Keeper for BookKeeper<'a> {
       returns = λ k number result k2. (k2.book.ghost_name ≡ k.book.ghost_name) × Returns k.book.now number result k2.book.now;
       finishes = λ k number result k2. (k2.book.ghost_name ≡ k.book.ghost_name) × Finishes k.book.now number result k2.book.now;
       counts = λ k counts. counts ≡ counts_of k.book.now;
+      answers = λ k authority result. TellsAnswer k.book.now authority result;
       reads = λ k authority m state k2. (k2.book.ghost_name ≡ k.book.ghost_name) × BookReads k.book.now authority m state k2.book.now;
       refreshes = λ _ k _ result k2. (k2.book.ghost_name ≡ k.book.ghost_name) × OffersNone k.book.now result k2.book.now;
       fetches = λ _ k _ result k2. (k2.book.ghost_name ≡ k.book.ghost_name) × OffersNone k.book.now result k2.book.now;
@@ -84,6 +88,18 @@ impl<'a> Keeper for BookKeeper<'a> {
 
     fn counts(&self) -> Counts {
         counts_of(self.book)
+    }
+
+    fn visitors(&self) -> Visitors {
+        Visitors::none()
+    }
+
+    fn answer(
+        &self,
+        alloc: Global,
+        authority: &Authority,
+    ) -> Result<Option<StandingAnswer>, NoMemory> {
+        standing_answer(alloc, self.book, authority)
     }
 
     fn state(&mut self, authority: &Authority, moment: u64) -> State {

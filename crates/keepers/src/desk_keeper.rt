@@ -7,10 +7,13 @@ ghost use Rattle.keepers.specs.Bounding.{TellsRefused, are_all};
 ghost use Rattle.crawl_workers.specs.World.{world_of};
 ghost use Rattle.keepers.specs.DeskKeeping.{Behind, IsClosed, KeeperAsks, KeeperFetches, KeeperRefreshes, MayCondense};
 
+use crate::answers::standing_answer;
 use crate::bounds::Bounds;
 use crate::counts::{Counts, counts_of};
 use crate::keeper::Keeper;
 use crate::newcomers::Newcomers;
+use crate::visits::Visitors;
+use authority_cache::StandingAnswer;
 use crawl_job::{Hop, Job, Outcome, Refusal};
 use crawl_workers::{Clock, Fetcher, refresh, work};
 use gate_core::{AskRefusal, BeginRefusal, Denial, NoMemory, Standing, State};
@@ -209,7 +212,7 @@ impl<'a, 'g, G: Gate, F: Fetcher, R: Wait> Keeper for DeskKeeper<'a, 'g, G, F, R
     ghost use Rattle.crawl_workers.specs.World.{world_of};
     ghost use Rattle.gate_lock.specs.Desks.{out_of};
     ghost use Rattle.keepers.specs.Bounding.{Bounded, RefusesAsk, RefusesFetch, RefusesRefresh, has_enough};
-    ghost use Rattle.keepers.specs.Counting.{CountsSome};
+    ghost use Rattle.keepers.specs.Counting.{AnswersSome, CountsSome};
     ghost use Rattle.keepers.specs.DeskKeeping.{Behind, KeeperAsks, KeeperEnds, KeeperFetches, KeeperReads, KeeperRefreshes, KeeperSeals};
 
     ghost deals = { record {
@@ -220,6 +223,7 @@ impl<'a, 'g, G: Gate, F: Fetcher, R: Wait> Keeper for DeskKeeper<'a, 'g, G, F, R
       returns = λ k number result k2. ((k2.fetcher ≡ k.fetcher) × (k2.bounds ≡ k.bounds) × (k2.newcomers ≡ k.newcomers)) × BagReturns k.bag k.desk number result k2.bag k2.desk;
       finishes = λ k number result k2. ((k2.fetcher ≡ k.fetcher) × (k2.bounds ≡ k.bounds) × (k2.newcomers ≡ k.newcomers)) × BagFinishes k.bag k.desk number result k2.bag k2.desk;
       counts = λ k counts. CountsSome k.desk counts;
+      answers = λ k authority result. AnswersSome k.desk authority result;
       reads = λ k authority m state k2. ((k2.fetcher ≡ k.fetcher) × (k2.bounds ≡ k.bounds) × (k2.newcomers ≡ k.newcomers)) × KeeperReads k.desk k.bag authority m state k2.desk k2.bag;
       refreshes = λ reads k authority told k2. ((k2.fetcher ≡ k.fetcher) × (k2.bounds ≡ k.bounds)) × Bounded (has_enough k.bounds.authorities k.newcomers) (RefusesRefresh k.desk k.bag told k2.desk k2.bag) (Behind k.desk (λ d. KeeperRefreshes (world_of (F.gives k.fetcher.now) (F.follows k.fetcher.now) reads) d k.bag authority told k2.desk k2.bag));
       fetches = λ reads k job told k2. ((k2.fetcher ≡ k.fetcher) × (k2.bounds ≡ k.bounds)) × Bounded (has_enough k.bounds.authorities k.newcomers) (RefusesFetch k.desk k.bag told k2.desk k2.bag) (Behind k.desk (λ d. KeeperFetches (world_of (F.gives k.fetcher.now) (F.follows k.fetcher.now) reads) d k.bag job told k2.desk k2.bag));
@@ -263,6 +267,18 @@ impl<'a, 'g, G: Gate, F: Fetcher, R: Wait> Keeper for DeskKeeper<'a, 'g, G, F, R
 
     fn counts(&self) -> Counts {
         counts_of(self.desk.lend(self.rt).book())
+    }
+
+    fn visitors(&self) -> Visitors {
+        Visitors::none()
+    }
+
+    fn answer(
+        &self,
+        alloc: Global,
+        authority: &Authority,
+    ) -> Result<Option<StandingAnswer>, NoMemory> {
+        standing_answer(alloc, self.desk.lend(self.rt).book(), authority)
     }
 
     fn state(&mut self, authority: &Authority, moment: u64) -> State {

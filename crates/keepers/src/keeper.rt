@@ -2,6 +2,8 @@
 ghost use Rattle.std.specs.Prelude.{◌≡◌};
 
 use crate::counts::Counts;
+use crate::visits::Visitors;
+use authority_cache::StandingAnswer;
 use crawl_job::{Job, Outcome};
 use crawl_workers::Clock;
 use gate_core::{AskRefusal, BeginRefusal, Denial, NoMemory, Standing, State};
@@ -51,6 +53,17 @@ pub trait Keeper {
     /// How much there is of what the gate keeps.
     fn counts(&self) -> Counts
         ensures { deals.counts self.now result };
+
+    /// The connections of the server, if the session has one.
+    fn visitors(&self) -> Visitors;
+
+    /// The answer that stands for an authority, whatever its age. It takes memory for its name, and none for its text.
+    fn answer(
+        &self,
+        alloc: Global,
+        authority: &Authority,
+    ) -> Result<Option<StandingAnswer>, NoMemory>
+        ensures { deals.answers self.now authority.now result };
 
     /// What is known of an authority.
     fn state(&mut self, authority: &Authority, moment: u64) -> State

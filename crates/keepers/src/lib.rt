@@ -2,15 +2,18 @@
 //! fetches (RFC 9309, sections 2.2 to 2.4, in the profile of docs/POLICY.md).
 #![tactic(auto)]
 
+mod answers;
 mod book_keeper;
 mod bounds;
 mod counts;
 mod desk_keeper;
 mod keeper;
 mod newcomers;
+mod visits;
 
 pub use book_keeper::BookKeeper;
 pub use bounds::Bounds;
 pub use counts::Counts;
 pub use desk_keeper::{DeskKeeper, NoKeeper};
 pub use keeper::Keeper;
+pub use visits::{Visitors, Visits};

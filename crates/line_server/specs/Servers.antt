@@ -1,6 +1,6 @@
 -- How many numbers a server has for its connections, and how it ends.
 -- The contracts of `count_of` and of `Server::run`.
-use Rattle.std.specs.Prelude.{◌≡◌, ◌≤◌, ℕ, List, Ok}
+use Rattle.std.specs.Prelude.{◌≡◌, ◌≤◌, ◌++◌, ◌∷◌, [], ℕ, List, Ok}
 use Rattle.client_wire.specs.Accepts.{max_connections}
 use Rattle.client_wire.specs.declared.connections.Connections.{Connections}
 use Rattle.client_wire.specs.declared.connections.Connections.TheVariants.{AtMost, Endless}
@@ -18,3 +18,7 @@ AreNumbered Endless numbers = numbers ≡ max_workers
 abbrev pub IsServed : List Receipt → ℕ → Type 0
 IsServed receipts events =
     (settled : Settled) × ((settled.events ≡ events) × SettlesSome receipts (Ok settled) × IsWholeUnlessSealed receipts settled)
+
+-- these are the last of the receipts
+abbrev pub HasLast : Receipt → List Receipt → Type 0
+HasLast past receipts = (others : List Receipt) × (receipts ≡ others ++ past ∷ [])

@@ -5,7 +5,9 @@
 mod clerk;
 mod fault;
 mod numbers;
+mod overseeing;
 mod recorded;
+mod refetching;
 mod servant;
 mod server;
 mod warden;

@@ -6,15 +6,17 @@ use counted_io::DeviceFault;
 use gate_journal::{DeskSealer, Recording};
 use gate_lock::{Gate, GateLock};
 use journal_files::{Abreast, Records};
+use keepers::Visits;
 use std::alloc::Global;
 use std::sync::Wait;
 
-/// A gate, and what records it.
+/// A gate, what records it, and the clients of its server.
 #[derive(Drop)]
 pub(crate) struct Recorded<'a, G: Gate, J: Records, R: Wait> {
     rt: &'a R,
     pub(crate) chronicle: Recording<'a, G, R>,
     pub(crate) journal: &'a J,
+    pub(crate) visits: Visits,
 }
 
 impl<'a, G: Gate, J: Records, R: Wait> Recorded<'a, G, J, R> {
@@ -29,6 +31,7 @@ impl<'a, G: Gate, J: Records, R: Wait> Recorded<'a, G, J, R> {
             rt,
             chronicle: Recording { alloc, rt, gate },
             journal,
+            visits: Visits::new(),
         }
     }
 

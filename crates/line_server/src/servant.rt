@@ -57,7 +57,13 @@ impl<F: Fetcher, C: NumberedClock, A: Alarm, R: Wait + time::Clock> Server<'_, F
         };
         let gate = recorded.gate();
         let desk = DeskKeeper::open_within(self.rt, self.alloc, gate, &fetcher, self.bounds)?;
-        let mut keeper = RecordedKeeper::new(self.rt, &recorded.chronicle, recorded.journal, desk);
+        let mut keeper = RecordedKeeper::new(
+            self.rt,
+            &recorded.chronicle,
+            recorded.journal,
+            &recorded.visits,
+            desk,
+        );
         let ended = self.take_all(recorded, numbers, &mut keeper, taken);
         let receipts = keeper.into_keeper().close();
         ended?;
@@ -91,7 +97,9 @@ impl<F: Fetcher, C: NumberedClock, A: Alarm, R: Wait + time::Clock> Server<'_, F
         for _ in 0..share_of(self.connections) {
             let stream = self.accept()?;
             *taken = taken.saturating_add(1);
+            recorded.visits.enter();
             self.serve_client(recorded, stream, keeper);
+            recorded.visits.leave();
             // Where it can't be recorded what the client left, no other is taken.
             recorded.come_up()?;
         }

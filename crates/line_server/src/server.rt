@@ -1,7 +1,7 @@
 //! A server from its first client to the settlement of its gate.
 ghost use Rattle.std.specs.Prelude.{◌≡◌, All, IfOk};
 ghost use Rattle.job_line.specs.Limits.{IsCrew};
-ghost use Rattle.line_server.specs.Servers.{IsServed};
+ghost use Rattle.line_server.specs.Servers.{HasLast, IsServed};
 
 use crate::fault::ServeFault;
 use crate::numbers::{Numbers, count_of};
@@ -15,6 +15,7 @@ use gate_lock::{Gate, GateLock, Receipts, settle};
 use job_line::{JobLine, JobSeat, MAX_WORKERS};
 use journal_files::{Records, Unrecorded};
 use keepers::Bounds;
+use path_normal::Authority;
 use std::alloc::{AllocError, Global};
 use std::sync::Wait;
 use std::sync::atomic::AtomicU64;
@@ -28,6 +29,8 @@ pub struct Server<'a, F, C, A, R> {
     pub rt: &'a R,
     pub alloc: Global,
     pub listener: &'a Listener,
+    /// Where who sees to the gate connects, if that may be done beside the clients.
+    pub overseers: Option<&'a Listener>,
     pub fetcher: &'a F,
     pub clock: &'a C,
     /// Who is told that the history is full.
@@ -53,6 +56,13 @@ pub struct Served<G: Gate> {
     pub events: u64,
     /// The receipts of its desks, by which the gate was settled.
     pub receipts: Vec<Receipts<G>>,
+}
+
+// What came of what is done beside the workers, each at a desk of its own, where it was asked for.
+#[derive(Drop)]
+struct Beside<G: Gate> {
+    overseen: Option<Result<Receipts<G>, ServeFault>>,
+    fetched: Option<Result<Receipts<G>, ServeFault>>,
 }
 
 impl<
@@ -82,16 +92,59 @@ impl<
         requires { IsCrew self.now.workers }
         ensures { IfOk result (λ served. IsServed served.receipts.items served.events) }
     {
+        let (connections, receipts) = self.serve_gate(gate, journal, &[])?;
+        self.settle_served(gate, connections, receipts)
+    }
+
+    /// The same over a gate that goes on from a base: it is settled with the receipts of what was before, which come
+    /// last among those of its desks. The robots files of these sites, which were being fetched before, are fetched anew,
+    /// on a thread of their own.
+    pub fn run_resumed<G: Gate + Send + Sync, J: Records + Sync>(
+        &self,
+        gate: &GateLock<G>,
+        past: Receipts<G>,
+        begun: &[Authority],
+        journal: &J,
+    ) -> Result<Served<G>, ServeFault>
+        requires { IsCrew self.now.workers }
+        ensures served { IfOk result (λ served. IsServed served.receipts.items served.events) }
+        ensures past { IfOk result (λ served. HasLast past served.receipts.items) }
+    {
+        let (connections, mut receipts) = self.serve_gate(gate, journal, begun)?;
+        receipts.push(past).map_err(AllocError::from)?;
+        self.settle_served(gate, connections, receipts)
+    }
+
+    // How many connections were accepted, and the receipts of the desks by which their clients were served and the
+    // gate was seen to.
+    fn serve_gate<G: Gate + Send + Sync, J: Records + Sync>(
+        &self,
+        gate: &GateLock<G>,
+        journal: &J,
+        begun: &[Authority],
+    ) -> Result<(u64, Vec<Receipts<G>>), ServeFault>
+        requires { IsCrew self.now.workers }
+    {
         let recorded = Recorded::new(self.rt, self.alloc, gate, journal);
         let (line, seats) = JobLine::new(self.alloc, count_of(self.connections), self.workers)?;
         let mut servants = hire(self.alloc, &line, seats)?;
-        let mut receipts = Vec::new(self.alloc);
-        let (swept, sealed) = self.serve_all(&recorded, &mut servants)?;
+        let mut receipts = self.serve_all(&recorded, &mut servants, begun)?;
         let connections = take_in(servants, &mut receipts)?;
-        receipts.push(swept).map_err(AllocError::from)?;
-        receipts.push(sealed).map_err(AllocError::from)?;
         // What nobody was told of is recorded too.
         recorded.see_to()?;
+        Ok((connections, receipts))
+    }
+
+    // Settles the gate by these receipts.
+    fn settle_served<G: Gate + Send + Sync>(
+        &self,
+        gate: &GateLock<G>,
+        connections: u64,
+        receipts: Vec<Receipts<G>>,
+    ) -> Result<Served<G>, ServeFault>
+        ensures served { IfOk result (λ served. IsServed served.receipts.items served.events) }
+        ensures same { IfOk result (λ served. served.receipts.items ≡ receipts.items) }
+    {
         let settled = settle(self.rt, self.alloc, gate, &receipts)?;
         Ok(Served {
             connections,
@@ -100,21 +153,81 @@ impl<
         })
     }
 
-    // Has the workers serve on threads of their own, and the gate seen to on another; the receipts are those of
-    // the two desks by which that is done. What is named first is done last where no thread can be made: then nothing is left to
-    // see to.
+    // Has the workers serve on threads of their own, and the gate seen to on another; the receipts are those of the desks
+    // at which that is done beside the workers. What is named first is done last where no thread can be made: then
+    // nothing is left to see to.
     fn serve_all<G: Gate + Send + Sync, J: Records + Sync>(
         &self,
         recorded: &Recorded<'_, G, J, R>,
         servants: &mut [Servant<'_, G>],
-    ) -> Result<(Receipts<G>, Receipts<G>), ServeFault> {
+        begun: &[Authority],
+    ) -> Result<Vec<Receipts<G>>, ServeFault> {
         let left = AtomicU64::new(self.workers);
-        let (receipts, _) = thread::join(
+        let (watched, beside) = thread::join(
             self.rt,
             || self.watch(recorded, &left),
-            || self.employ_all(recorded, &left, servants),
+            || self.employ_overseen(recorded, &left, servants, begun),
         );
-        receipts
+        let (swept, sealed) = watched?;
+        let mut receipts = Vec::new(self.alloc);
+        receipts.push(swept).map_err(AllocError::from)?;
+        receipts.push(sealed).map_err(AllocError::from)?;
+        for end in [beside.overseen, beside.fetched] {
+            if let Some(end) = end {
+                receipts.push(end?).map_err(AllocError::from)?;
+            }
+        }
+        Ok(receipts)
+    }
+
+    // Lets the workers work, and has who sees to the gate served beside them until none is left, if that may be done.
+    fn employ_overseen<G: Gate + Send + Sync, J: Records + Sync>(
+        &self,
+        recorded: &Recorded<'_, G, J, R>,
+        left: &AtomicU64,
+        servants: &mut [Servant<'_, G>],
+        begun: &[Authority],
+    ) -> Beside<G> {
+        let Some(listener) = self.overseers else {
+            let fetched = self.employ_fetching(recorded, left, servants, begun);
+            return Beside {
+                overseen: None,
+                fetched,
+            };
+        };
+        let (overseen, fetched) = thread::join(
+            self.rt,
+            || self.oversee(recorded, listener, left),
+            || {
+                let fetched = self.employ_fetching(recorded, left, servants, begun);
+                self.shut(listener);
+                fetched
+            },
+        );
+        Beside {
+            overseen: Some(overseen),
+            fetched,
+        }
+    }
+
+    // Lets the workers work, and has these sites fetched anew beside them, if there are any.
+    fn employ_fetching<G: Gate + Send + Sync, J: Records + Sync>(
+        &self,
+        recorded: &Recorded<'_, G, J, R>,
+        left: &AtomicU64,
+        servants: &mut [Servant<'_, G>],
+        begun: &[Authority],
+    ) -> Option<Result<Receipts<G>, ServeFault>> {
+        if begun.is_empty() {
+            self.employ_all(recorded, left, servants);
+            return None;
+        }
+        let ((), fetched) = thread::join(
+            self.rt,
+            || self.employ_all(recorded, left, servants),
+            || self.fetch_anew(recorded, left, begun),
+        );
+        Some(fetched)
     }
 
     // Lets each worker work on a thread of its own.

@@ -3,6 +3,7 @@ pub mod TableLaws
 pub mod Filters
 pub mod Telling
 pub mod TellingFree
+pub mod IdleTables
 pub mod HeldLaws
 pub mod ListedPermits
 pub mod CallerLemmas

@@ -237,3 +237,18 @@ IsKept-started t bits unspent running unspent' running' place slot kept is same 
     let here : bit_of bits place ≡ one_if (is_free started) = kept.free place ∙ rw (was.0, now.2, and_false (nat_lt place (length t.slots))) refl in
     rw same (IsKept-set t bits bits unspent running unspent' running' place started kept (within_table t place was.0) (λ j apart. refl) here refl
     (rw (is, now.0) (omega arith)) (rw (was.1, now.1) (omega arith)) (kept.lasts place))
+
+-- what is kept, after a slot in which nothing is out has a last grant that is no lower
+pub IsKept-noted : (t : Table) (bits bits' : List ℕ) (unspent running place last : ℕ) → IsKept t bits unspent running → place < length t.slots →
+    is_nothing (slot_at t place).out ≡ true → last ≤ last_generation →
+    ((j : ℕ) → j ≢ place → bit_of bits' j ≡ bit_of bits j) → bit_of bits' place ≡ one_if (nat_lt last last_generation) → length bits' ≡ length bits →
+    IsKept (with_slot t place (record { last = last; out = (slot_at t place).out })) bits' unspent running
+IsKept-noted t bits bits' unspent running place last kept within nothing low others here room =
+    IsKept-set t bits bits' unspent running unspent running place (record { last = last; out = (slot_at t place).out }) kept within others
+    (rw nothing here) room refl refl low
+
+-- a slot in which nothing is out is free before its last generation
+pub free_before : (t : Table) (bits : List ℕ) (unspent running place last : ℕ) → IsKept t bits unspent running → place < length t.slots →
+    is_nothing (slot_at t place).out ≡ true → last_in t place ≤ last → last < last_generation → bit_of bits place ≡ one_if (nat_lt last last_generation)
+free_before t bits unspent running place last kept within nothing more low =
+    kept.free place ∙ rw (lt-ltb place (length t.slots) within, nothing, lt-ltb (last_in t place) last_generation (omega (arith, more, low)), lt-ltb last last_generation low) refl

@@ -34,7 +34,7 @@ abbrev held_under : ℕ → Slot → Out
 held_under m slot = if slot.last == generation_of m then slot.out else Nothing
 
 -- two numbers that are not equal
-unequal : {a b : ℕ} → a ≢ b → (a == b) ≡ false
+pub unequal : {a b : ℕ} → a ≢ b → (a == b) ≡ false
 unequal {a} {b} apart = elim (eqb_tells a b) [ inl e ↦ absurd (apart e.1) | inr d ↦ d.0 ]
 
 -- what is out under each number, after something else is out under one
@@ -58,13 +58,13 @@ out_under-with_out t n out within others m = elim (eqb_tells m n) [
         ∙ rw (unequal (other_generation m n same apart)) refl
 
 -- what is nothing
-nothing_is : (out : Out) → is_nothing out ≡ true → out ≡ Nothing
+pub nothing_is : (out : Out) → is_nothing out ≡ true → out ≡ Nothing
 nothing_is Nothing nothing = refl
 nothing_is (Unspent fetch) nothing = absurd (true≢false (sym nothing))
 nothing_is (Running fetch) nothing = absurd (true≢false (sym nothing))
 
 -- nothing is out under the other numbers of a slot in which nothing is
-nothing_under : (t : Table) (m : ℕ) → is_nothing (slot_at t (slot_of m)).out ≡ true → out_under t m ≡ Nothing
+pub nothing_under : (t : Table) (m : ℕ) → is_nothing (slot_at t (slot_of m)).out ≡ true → out_under t m ≡ Nothing
 nothing_under t m nothing = elim (eqb_tells (last_in t (slot_of m)) (generation_of m)) [
   | inl e ↦ rw e.0 (nothing_is (slot_at t (slot_of m)).out nothing)
   | inr d ↦ rw d.0 refl
@@ -79,13 +79,13 @@ apart_under t n m last same apart = elim (eqb_tells (last_in t (slot_of m)) (gen
 
 -- a list of permits after one number's part of it was changed: of that number there is this part,
 -- the others stay, and of each test the count goes from the one to the other
-record Changes (old new : List GrantedPermit) (number : ℕ) (part : List GrantedPermit) (less more : (Fetch → Bool) → ℕ) : Type 0 where
-  own : filter (is_numbered number) new ≡ part
-  others : (m : ℕ) → m ≢ number → filter (is_numbered m) new ≡ filter (is_numbered m) old
-  counted : (test : Fetch → Bool) → count_for test new + less test ≡ count_for test old + more test
+pub record Changes (old new : List GrantedPermit) (number : ℕ) (part : List GrantedPermit) (less more : (Fetch → Bool) → ℕ) : Type 0 where
+  pub own : filter (is_numbered number) new ≡ part
+  pub others : (m : ℕ) → m ≢ number → filter (is_numbered m) new ≡ filter (is_numbered m) old
+  pub counted : (test : Fetch → Bool) → count_for test new + less test ≡ count_for test old + more test
 
 -- what a table tells, after something else is out under one number
-step : (t : Table) (unspent running unspent' running' : List GrantedPermit) (greatest greatest' : ℕ → ℕ) (n : ℕ) (old out : Out) →
+pub step : (t : Table) (unspent running unspent' running' : List GrantedPermit) (greatest greatest' : ℕ → ℕ) (n : ℕ) (old out : Out) →
     TellsPermits t unspent running greatest → slot_of n < length t.slots → (slot_at t (slot_of n)).out ≡ old →
     ((m : ℕ) → slot_of m ≡ slot_of n → m ≢ n → out_under t m ≡ Nothing) →
     Changes unspent unspent' n (unspent_in n out) (λ test. one_if (is_unspent_for test old)) (λ test. one_if (is_unspent_for test out)) →
@@ -145,7 +145,7 @@ Changes-without permits n fetch is = record {
 }
 
 -- the same permits
-Changes-nothing : (permits : List GrantedPermit) (n : ℕ) (part : List GrantedPermit) → filter (is_numbered n) permits ≡ part →
+pub Changes-nothing : (permits : List GrantedPermit) (n : ℕ) (part : List GrantedPermit) → filter (is_numbered n) permits ≡ part →
     Changes permits permits n part (λ _. 0) (λ _. 0)
 Changes-nothing permits n part is = record { own = is; others = λ m apart. refl; counted = λ test. refl }
 

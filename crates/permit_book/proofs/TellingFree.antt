@@ -25,7 +25,7 @@ pub number_parts : (slot generation : ℕ) → slot < most_slots →
 number_parts slot generation small = (omega arith, omega arith)
 
 -- what is out in a slot is out under its last number
-own_number : (t : Table) (slot : ℕ) → slot < most_slots → out_under t (number_in slot (last_in t slot)) ≡ (slot_at t slot).out
+pub own_number : (t : Table) (slot : ℕ) → slot < most_slots → out_under t (number_in slot (last_in t slot)) ≡ (slot_at t slot).out
 own_number t slot small =
     let parts = number_parts slot (last_in t slot) small in
     rw (parts.0, parts.1, same_number (last_in t slot)) refl

@@ -1,10 +1,10 @@
 -- What each change of a table is to the lists of a history, and what is read of both alike.
 -- The contracts of `laws.rt`.
-use Rattle.std.specs.Prelude.{◌≡◌, ◌↔◌, ℕ, ◌+◌, true, false, max, List, [], ◌∷◌, ◌++◌, length, filter, replicate}
+use Rattle.std.specs.Prelude.{◌≡◌, ◌↔◌, ℕ, ◌+◌, ◌<◌, ◌==◌, true, false, if◌then◌else◌, max, List, [], ◌∷◌, ◌++◌, length, filter, replicate}
 use Rattle.permit_book.specs.declared.out.Fetch.{Fetch}
 use Rattle.permit_book.specs.declared.out.Out.TheVariants.{Nothing, Unspent}
 use Rattle.permit_book.specs.declared.granted_permit.GrantedPermit.{GrantedPermit}
-use Rattle.permit_book.specs.Table.{Table, decided, held_count, is_nothing, is_running, is_unspent, one_for, out_under, running_count, stands, unspent_count, unused, with_out}
+use Rattle.permit_book.specs.Table.{Table, decided, held_count, is_nothing, is_running, is_unspent, noted, one_for, out_under, running_count, slot_at, stands, unspent_count, unused, with_out}
 use Rattle.permit_book.specs.Next.{IsNext, NoneFree}
 use Rattle.permit_book.specs.Kept.{IsWithin}
 use Rattle.permit_book.specs.Outstanding.{IsNextBy, NoneFreeBy, TellsPermits, granted_in, is_listed, is_listed_for, is_numbered, listed_for, permit_for, without}
@@ -71,6 +71,17 @@ abbrev pub GreatestAlike : Type 0
 GreatestAlike = (t : Table) (unspent running : List GrantedPermit) (greatest others : ℕ → ℕ)
     → TellsPermits t unspent running greatest → ((slot : ℕ) → others slot ≡ greatest slot)
     → TellsPermits t unspent running others
+
+-- a table that tells of no permit has nothing out in any slot
+abbrev pub IdleIsEmpty : Type 0
+IdleIsEmpty = (t : Table) (greatest : ℕ → ℕ) (slot : ℕ) → TellsPermits t [] [] greatest → is_nothing (slot_at t slot).out ≡ true
+
+-- a grant of before that is noted is one more of its slot, and the permits stay
+abbrev pub NoteTells : Type 0
+NoteTells = (t : Table) (unspent running : List GrantedPermit) (greatest : ℕ → ℕ) (slot generation : ℕ)
+    → TellsPermits t unspent running greatest → slot < length t.slots → is_nothing (slot_at t slot).out ≡ true
+    → TellsPermits (noted t slot generation) unspent running
+    (λ other. max (if slot == other then generation else 0) (greatest other))
 
 -- a grant is one permit more for its URL's authority
 abbrev pub GrantHolds : Type 0

@@ -1,6 +1,6 @@
 -- What contracts see of the permits: a table of slots, and what is out under a number.
 -- RFC 9309 has no permits: they make each fetch look at the answer in force (2.4).
-use Rattle.std.specs.Prelude.{ℕ, ◌==◌, Bool, true, false, ◌&&◌, nat_lt, List, Option, Some, None, if◌then◌else◌, length, slice_index_or, slice_set, filter}
+use Rattle.std.specs.Prelude.{ℕ, ◌==◌, Bool, true, false, ◌&&◌, nat_lt, max, List, Option, Some, None, if◌then◌else◌, length, slice_index_or, slice_set, filter}
 use Rattle.std.specs.Str.{bytes_eq}
 use Rattle.path_normal.specs.PageText.{authority_of}
 use Rattle.permit_book.specs.declared.out.Fetch.{Fetch}
@@ -35,6 +35,13 @@ abbrev pub with_out : Table → ℕ → Out → Table
 with_out t number out = record {
   first_generation = t.first_generation;
   slots = slice_set t.slots (slot_of number) (record { last = generation_of number; out = out });
+}
+
+-- the table behind a grant of before that is noted: its slot's last generation is no less, and what is out stays
+abbrev pub noted : Table → ℕ → ℕ → Table
+noted t slot generation = record {
+  first_generation = t.first_generation;
+  slots = slice_set t.slots slot (record { last = max (last_in t slot) generation; out = (slot_at t slot).out });
 }
 
 -- a permit is out that no start has spent

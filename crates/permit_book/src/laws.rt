@@ -2,7 +2,7 @@
 //! a change of the others, and both say the same. RFC 9309, 2.4, is why there are permits.
 ghost use Rattle.std.specs.Prelude.{◌≡◌};
 ghost use Rattle.permit_book.specs.Numbers.{last_generation, most_slots, numbers_of_generation};
-ghost use Rattle.permit_book.specs.Laws.{EndHolds, FinishTells, GrantHolds, GrantTells, GreatestAlike, NewHolds, NewTells, NextAlike, NoneFreeAlike, ReturnTells, StartHolds, StartTells, TellingReadsAlike};
+ghost use Rattle.permit_book.specs.Laws.{EndHolds, FinishTells, GrantHolds, GrantTells, GreatestAlike, IdleIsEmpty, NewHolds, NewTells, NextAlike, NoneFreeAlike, NoteTells, ReturnTells, StartHolds, StartTells, TellingReadsAlike};
 
 use crate::number::{LAST_GENERATION, MAX_SLOTS, SLOTS_PER_GENERATION};
 
@@ -33,6 +33,13 @@ pub fn next_is_alike()
 pub fn readers_are_alike()
     ensures reads { TellingReadsAlike }
     ensures greatest { GreatestAlike }
+{}
+
+/// A table that tells of no permit has nothing out, and a grant of before that is noted in a slot
+/// with nothing out is one more grant of that slot, as in a history that goes on from a base.
+pub fn idle_tables_tell()
+    ensures idle { IdleIsEmpty }
+    ensures noted { NoteTells }
 {}
 
 /// How many permits are out for an authority changes by those of its pages that are granted and

@@ -10,6 +10,7 @@ pub mod laws;
 mod listing;
 mod number;
 mod out;
+mod past_grants;
 mod permits;
 mod refusal;
 mod words;

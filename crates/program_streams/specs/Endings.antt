@@ -5,8 +5,8 @@ use Rattle.std.specs.Net.Text.{socket_text}
 use Rattle.std.specs.declared.net.socket_addr.SocketAddr.{SocketAddr}
 use Rattle.command_server.specs.declared.session_fault.SessionFault.{SessionFault}
 use Rattle.command_server.specs.declared.session_fault.SessionFault.TheVariants as faults
-use Rattle.robots_check.specs.declared.fault.CheckFault.{CheckFault}
-use Rattle.robots_check.specs.declared.fault.CheckFault.TheVariants as check_faults
+use Rattle.robots_check.specs.declared.fault.TextFault.{TextFault}
+use Rattle.robots_check.specs.declared.fault.TextFault.TheVariants as text_faults
 use Rattle.robots_check.specs.declared.outcome.Outcome.{Outcome}
 use Rattle.robots_check.specs.declared.outcome.Outcome.TheVariants as outcomes
 use Rattle.program_streams.specs.declared.ending.Ending.{Ending}
@@ -82,12 +82,21 @@ ending_of (Err faults.Read) = endings.Device
 ending_of (Err faults.Write) = endings.Device
 ending_of (Err faults.NoMemory) = endings.NoMemory
 
+-- how the program ends where what is told of a robots text stopped
+abbrev pub ending_of_fault : TextFault → Ending
+ending_of_fault text_faults.Read = endings.Device
+ending_of_fault text_faults.Write = endings.Device
+ending_of_fault text_faults.NoMemory = endings.NoMemory
+
+-- how the program ends where `lines` came to this
+abbrev pub ending_of_lines : Result (Unit {0}) TextFault → Ending
+ending_of_lines (Ok _) = endings.Done
+ending_of_lines (Err fault) = ending_of_fault fault
+
 -- how the program ends where a check came to this
-abbrev pub ending_of_check : Result Outcome CheckFault → Ending
+abbrev pub ending_of_check : Result Outcome TextFault → Ending
 ending_of_check (Ok outcomes.NoUrls) = endings.NoUrls
 ending_of_check (Ok outcomes.Allowed) = endings.Done
 ending_of_check (Ok outcomes.Denied) = endings.DeniedUrl
 ending_of_check (Ok outcomes.Unread) = endings.BadUrl
-ending_of_check (Err check_faults.Read) = endings.Device
-ending_of_check (Err check_faults.Write) = endings.Device
-ending_of_check (Err check_faults.NoMemory) = endings.NoMemory
+ending_of_check (Err fault) = ending_of_fault fault

@@ -1,12 +1,12 @@
 //! How the program ends: its exit status, and what it tells on standard error.
 //! docs/crawlgate.1.md has the table.
 ghost use Rattle.std.specs.Prelude.{◌≡◌, option_map};
-ghost use Rattle.program_streams.specs.Endings.{ending_of, ending_of_check, message_of, message_text, exit_status};
+ghost use Rattle.program_streams.specs.Endings.{ending_of, ending_of_check, ending_of_fault, ending_of_lines, message_of, message_text, exit_status};
 
 use crate::message::Message;
 use crate::streams::Stream;
 use command_server::SessionFault;
-use robots_check::{CheckFault, Outcome};
+use robots_check::{Outcome, TextFault};
 use std::net::SocketAddr;
 
 /// How a run of the program ended.
@@ -45,7 +45,7 @@ pub enum Ending {
 }
 
 impl Ending {
-    /// The ending of a session or of `lines`.
+    /// The ending of a session.
     pub fn of(end: Result<(), SessionFault>) -> Ending
         ensures { result ≡ ending_of end }
     {
@@ -58,8 +58,18 @@ impl Ending {
         }
     }
 
+    /// The ending of `lines`.
+    pub fn of_lines(end: Result<(), TextFault>) -> Ending
+        ensures { result ≡ ending_of_lines end }
+    {
+        match end {
+            Ok(()) => Ending::Done,
+            Err(fault) => Ending::of_fault(fault),
+        }
+    }
+
     /// The ending of a check.
-    pub fn of_check(end: Result<Outcome, CheckFault>) -> Ending
+    pub fn of_check(end: Result<Outcome, TextFault>) -> Ending
         ensures { result ≡ ending_of_check end }
     {
         match end {
@@ -67,8 +77,17 @@ impl Ending {
             Ok(Outcome::Allowed) => Ending::Done,
             Ok(Outcome::Denied) => Ending::DeniedUrl,
             Ok(Outcome::Unread) => Ending::BadUrl,
-            Err(CheckFault::Read | CheckFault::Write) => Ending::Device,
-            Err(CheckFault::NoMemory) => Ending::NoMemory,
+            Err(fault) => Ending::of_fault(fault),
+        }
+    }
+
+    // The ending where what is told of a robots text stopped.
+    fn of_fault(fault: TextFault) -> Ending
+        ensures { result ≡ ending_of_fault fault }
+    {
+        match fault {
+            TextFault::Read | TextFault::Write => Ending::Device,
+            TextFault::NoMemory => Ending::NoMemory,
         }
     }
 

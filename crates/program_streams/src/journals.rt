@@ -8,11 +8,50 @@ use std::io;
 /// Tells why a folder can't be a journal's, with which the program ends.
 pub fn tell_bad_folder(rt: &HostRuntime, folder: &str, fault: FolderFault) -> Ending {
     match fault {
-        FolderFault::NotEmpty => tell(rt, folder, "is not empty"),
+        FolderFault::OtherFiles => tell(rt, folder, "has files that are not a journal's"),
         FolderFault::InUse => tell(rt, folder, "is in use by another process"),
         FolderFault::Device(cause) => tell_cause(rt, Some(cause)),
         FolderFault::NoMemory => Ending::NoMemory,
     }
+}
+
+/// Tells which line of a journal's file is wrong, so that no gate goes on from it, with which the program ends.
+pub fn tell_bad_journal(rt: &HostRuntime, file: &str, line: u64) -> Ending {
+    // A standard error that fails too leaves the status alone.
+    let _ = eprintln!(rt; "crawlgate: journal: {file:?} line {line} is wrong");
+    Ending::NoJournal
+}
+
+/// Tells at which line a journal's file ends, where no entry may come yet, with which the program ends.
+pub fn tell_short_journal(rt: &HostRuntime, file: &str, line: u64) -> Ending {
+    // A standard error that fails too leaves the status alone.
+    let _ = eprintln!(rt;
+        "crawlgate: journal: {file:?} ends at line {line}, before its entries begin"
+    );
+    Ending::NoJournal
+}
+
+/// Tells that so many octets of a line that a crash tore are removed from a journal's file. The program goes on.
+pub fn tell_torn_line(rt: &HostRuntime, file: &str, octets: u64) {
+    // A standard error that fails leaves the journal alone.
+    let _ = eprintln!(rt;
+        "crawlgate: journal: {file:?} ends in a torn line, whose {octets} octets are removed"
+    );
+}
+
+/// Tells that a journal's file has no room for the lines that would end what is out, with which the program ends.
+pub fn tell_full_journal(rt: &HostRuntime, file: &str) -> Ending {
+    tell(rt, file, "has as many entries as a text may have")
+}
+
+/// Tells that a journal's file has permits of more slots than the gate may have, with which the program ends.
+pub fn tell_few_slots(rt: &HostRuntime, file: &str) -> Ending {
+    tell(rt, file, "has permits of more slots than --slots allows")
+}
+
+/// Tells that a journal's file can't be read, and why, with which the program ends.
+pub fn tell_unread_journal(rt: &HostRuntime, cause: Option<io::Error>) -> Ending {
+    tell_cause(rt, cause)
 }
 
 /// Tells why a journal has failed, with which the program ends.

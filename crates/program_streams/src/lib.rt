@@ -23,7 +23,10 @@ mod telling;
 pub use asked::run;
 pub use books::new_book;
 pub use ending::Ending;
-pub use journals::{tell_bad_folder, tell_failed_journal};
+pub use journals::{
+    tell_bad_folder, tell_bad_journal, tell_failed_journal, tell_few_slots, tell_full_journal,
+    tell_short_journal, tell_torn_line, tell_unread_journal,
+};
 pub use message::Message;
 pub use next::Next;
 pub use reasoned::Reasoned;
@@ -31,5 +34,5 @@ pub use server_line::ServerLine;
 pub use streams::Stream;
 pub use telling::{
     tell_bad_line, tell_ending, tell_failed, tell_full_log, tell_listening, tell_listening_at,
-    tell_no_place, tell_served,
+    tell_no_place, tell_sealing, tell_served,
 };

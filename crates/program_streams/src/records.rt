@@ -1,19 +1,17 @@
 //! `lines` and `lines --notes` over the standard streams.
 //! docs/FORMATS.md has what they read and write.
 ghost use Rattle.std.specs.Prelude.{◌≡◌, IfOk};
-ghost use Rattle.command_server.specs.Session.{failures_after_reads, failures_after_writes};
+ghost use Rattle.robots_check.specs.Checks.{failures_after_reads, failures_after_writes};
 ghost use Rattle.robots_check.specs.Notes.{IsNoted, NotesText, notes_text};
-ghost use Rattle.robots_lines.specs.Prints.{Prints};
+ghost use Rattle.robots_check.specs.Prints.{Prints};
 
 use crate::ending::Ending;
 use crate::reasoned::Reasoned;
 use crate::streams::Stream;
 use crate::telling::tell_failed;
-use command_server::SessionFault;
 use counted_io::{Counted, Sink, Source};
 use program_words::Notes;
-use robots_check::tell_notes;
-use robots_lines::{lines, lines_of, read_body};
+use robots_check::{TextFault, lines, lines_of, read_body, tell_notes};
 use robots_text::RobotsText;
 use std::alloc::{AllocError, Global};
 
@@ -29,7 +27,7 @@ pub(crate) fn lines_streams(rt: &HostRuntime, notes: Notes) -> Ending {
             lines_noted(rt.alloc(), &mut reader, &mut writer, &mut errors)
         }
     };
-    let end = tell_failed(rt, Ending::of(end), Stream::Input, reader);
+    let end = tell_failed(rt, Ending::of_lines(end), Stream::Input, reader);
     tell_failed(rt, end, Stream::Output, writer)
 }
 
@@ -39,7 +37,7 @@ fn lines_noted<R: Source, W: Sink, E: Sink>(
     reader: &mut R,
     writer: &mut W,
     errors: &mut E,
-) -> Result<(), SessionFault>
+) -> Result<(), TextFault>
     ensures prints { Prints (R.left reader.old) (R.left reader.new)
         (W.written writer.old) (W.written writer.new) result }
     ensures reads { R.failures reader.new ≡ failures_after_reads (R.failures reader.old) result }

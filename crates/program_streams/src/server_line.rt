@@ -13,6 +13,8 @@ pub enum ServerLine<'a> {
     Listens { port: u16 },
     /// Clients may connect at the socket of this path.
     ListensAt { path: &'a str },
+    /// Who sees to the gate may connect at this port of the loopback.
+    SealsAt { port: u16 },
     /// So many connections were accepted, and so many entries the history has.
     Served { connections: u64, events: u64 },
 }
@@ -29,6 +31,11 @@ impl<'a> ServerLine<'a> {
                 Piece::Text("\n"),
             ]),
             ServerLine::ListensAt { path } => Pieces::two_words("LISTEN", Piece::Text(path)),
+            ServerLine::SealsAt { port } => Pieces::of(&[
+                Piece::Text("SEAL 127.0.0.1:"),
+                Piece::Number(u64::from(port)),
+                Piece::Text("\n"),
+            ]),
             ServerLine::Served {
                 connections,
                 events,

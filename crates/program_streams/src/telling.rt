@@ -40,6 +40,11 @@ pub fn tell_listening_at(rt: &HostRuntime, path: &str) -> Ending {
     tell(rt, ServerLine::ListensAt { path }.pieces(), Ending::Done)
 }
 
+/// Tells the port at which who sees to the gate may connect, or how the program ends where that can't be told.
+pub fn tell_sealing(rt: &HostRuntime, port: u16) -> Ending {
+    tell(rt, ServerLine::SealsAt { port }.pieces(), Ending::Done)
+}
+
 /// Tells why nothing can listen at a place, with which the program ends.
 pub fn tell_no_place(rt: &HostRuntime, place: &Place, error: &io::Error) -> Ending {
     let reason = error.kind();

@@ -143,6 +143,7 @@ pub record AreShiftOf (words : Found) (options : ShiftOptions) : Type 0 where
   pub limits : AreLimitsOf words options.limits
   pub times : AreTimesOf words options.times
   pub skips : AreBadJobsOf words options.bad_jobs
+  pub journal : IsJournalOf words options.journal
 
 -- a number that was matched under its own name, and no end
 abbrev pub AreCounted : Found → Connections → Type 0
@@ -159,6 +160,11 @@ abbrev pub IsPlaceOf : Found → Place → Type 0
 IsPlaceOf words (places.Port port) = (first_value words (codes "socket") ≡ None) × IsNumberOf words (codes "port") port
 IsPlaceOf words (places.Socket path) = first_value words (codes "socket") ≡ Some (string_bytes path)
 
+-- who sees to the gate connects at the port that was matched, and without the option nobody does
+abbrev pub IsSealPortOf : Found → Option ℕ → Type 0
+IsSealPortOf words None = first_value words (codes "seal-port") ≡ None
+IsSealPortOf words (Some port) = IsNumberOf words (codes "seal-port") port
+
 -- the seconds are the number that was matched, and without the option there is no bound
 abbrev pub IsAheadOf : Found → Ahead → Type 0
 IsAheadOf words aheads.Unbounded = first_value words (codes "ahead") ≡ None
@@ -170,6 +176,7 @@ pub record AreServeOf (words : Found) (options : ServeOptions) : Type 0 where
   pub tls : IsTlsByOf words options.tls_by
   pub contact : IsContactOf words options.contact
   pub place : IsPlaceOf words options.place
+  pub seal_port : IsSealPortOf words options.seal_port
   pub workers : IsNumberOf words (codes "workers") options.workers
   pub connections : AreConnectionsOf words options.connections
   pub limits : AreLimitsOf words options.limits

@@ -77,7 +77,9 @@ fn shift_words<'a>(alloc: Global, defaults: &'a Defaults) -> Result<Command<'a>,
             alloc,
             "skip",
             "Tells lines that are no jobs on standard error, and does the others",
-        ))
+        ))?
+        .arg(journal_word(alloc).conflicts_with("export")?)?
+        .arg(sync_word(alloc)?)
 }
 
 // The words of `serve`.
@@ -98,11 +100,14 @@ fn serve_words<'a>(alloc: Global, defaults: &'a Defaults) -> Result<Command<'a>,
                 )
                 .conflicts_with("port")?,
         )?
+        .arg(bound(alloc, "seal-port", &defaults.clients.seal_port))?
         .arg(number(alloc, "workers", &defaults.clients.workers))?
         .arg(number(alloc, "connections", &defaults.clients.connections))?;
     let serve = limit_words(alloc, defaults, serve)?;
     let serve = time_words(alloc, defaults, serve)?;
-    journal_words(alloc, serve)?
+    serve
+        .arg(journal_word(alloc))?
+        .arg(sync_word(alloc)?)?
         .arg(number(alloc, "patience", &defaults.clients.patience))?
         .arg(bound(alloc, "ahead", &defaults.clients.ahead))?
         .arg(bound(alloc, "client-permits", &defaults.clients.permits))?
@@ -182,28 +187,27 @@ fn time_words<'a>(
         )
 }
 
-// Where the journal of the gate stands, and when it is synced.
-fn journal_words<'a>(alloc: Global, command: Command<'a>) -> Result<Command<'a>, AllocError> {
-    command
-        .arg(
-            Arg::new(alloc, "journal")
-                .long("journal")
-                .value_name("FOLDER")
-                .action(ArgAction::Set)
-                .help(
-                    "Writes the history to files of this folder before anything of it is told; it is empty, or made",
-                ),
-        )?
-        .arg(
-            Arg::new(alloc, "journal-sync")
-                .long("journal-sync")
-                .value_name("WHEN")
-                .action(ArgAction::Set)
-                .help(
-                    "When that outlives the machine too: always before it is told, second by second, or never; always, where it is left out",
-                )
-                .requires_arg("journal")?,
+// Where the journal of the gate stands.
+fn journal_word<'a>(alloc: Global) -> Arg<'a> {
+    Arg::new(alloc, "journal")
+        .long("journal")
+        .value_name("FOLDER")
+        .action(ArgAction::Set)
+        .help(
+            "Writes the history to files of this folder before anything of it is told, and goes on where they end",
         )
+}
+
+// When it is synced.
+fn sync_word<'a>(alloc: Global) -> Result<Arg<'a>, AllocError> {
+    Arg::new(alloc, "journal-sync")
+        .long("journal-sync")
+        .value_name("WHEN")
+        .action(ArgAction::Set)
+        .help(
+            "When that outlives the machine too: always before it is told, second by second, or never; always, where it is left out",
+        )
+        .requires_arg("journal")
 }
 
 // The limits of the gate.

@@ -55,6 +55,7 @@ pub(crate) struct BookOptions {
 #[derive(Drop)]
 pub(crate) struct ClientOptions {
     pub(crate) port: NumberOption,
+    pub(crate) seal_port: NumberOption,
     pub(crate) workers: NumberOption,
     pub(crate) connections: NumberOption,
     pub(crate) patience: NumberOption,
@@ -135,6 +136,8 @@ impl BookOptions {
 impl ClientOptions {
     fn new(alloc: Global) -> Result<ClientOptions, AllocError> {
         let port = "Port to listen at, where 0 takes one that is free";
+        let seal_port =
+            "Port for SEAL, INFO, WHY, STATE and QUIT alone, beside the clients; 0 takes one that is free";
         let workers = "Clients that are served at a time";
         let connections = "Connections that are taken in all";
         let patience = "Seconds that a client is waited for between two ends of lines";
@@ -146,6 +149,7 @@ impl ClientOptions {
         let (usual, most) = (USUAL_CONNECTIONS, MAX_CONNECTIONS);
         Ok(ClientOptions {
             port: NumberOption::from_least(alloc, port, USUAL_PORT, 0, MAX_PORT)?,
+            seal_port: NumberOption::from_least(alloc, seal_port, USUAL_PORT, 0, MAX_PORT)?,
             workers: NumberOption::new(alloc, workers, USUAL_WORKERS, MAX_WORKERS)?,
             connections: NumberOption::new(alloc, connections, usual, most)?,
             patience: NumberOption::new(alloc, patience, PATIENCE_SECONDS, PATIENCE_SECONDS)?,

@@ -63,6 +63,8 @@ pub struct ShiftOptions {
     pub contact: Contact,
     pub told: Told,
     pub bad_jobs: BadJobs,
+    /// What the gate's history is written to before anything of it is told, if anything.
+    pub journal: Option<JournalOptions>,
 }
 
 /// What a line that is no job does to a shift.
@@ -114,6 +116,8 @@ pub enum Ahead {
 #[derive(Drop)]
 pub struct ServeOptions {
     pub place: Place,
+    /// The port of the loopback at which who sees to the gate connects, 0 for one that is free; without one nobody does.
+    pub seal_port: Option<u16>,
     /// How many are served at a time.
     pub workers: u64,
     /// How many connections are taken in all.

@@ -4,7 +4,7 @@ ghost use Rattle.std.specs.Prelude.{◌≡◌, codes, IfOk, IfSome};
 ghost use Rattle.clap.specs.Words.{found_of};
 ghost use Rattle.program_words.specs.Contacts.{IsAllowedContact, IsContactOf};
 ghost use Rattle.program_words.specs.Journals.{IsJournalOf};
-ghost use Rattle.program_words.specs.Options.{AreBadJobsOf, AreNotesOf, AreSchemesOf, IsChosen, IsChosenBy, IsInRange, IsNumberOf, IsPlaceOf, IsReachOf, IsSetBy};
+ghost use Rattle.program_words.specs.Options.{AreBadJobsOf, AreNotesOf, AreSchemesOf, IsChosen, IsChosenBy, IsInRange, IsNumberOf, IsPlaceOf, IsReachOf, IsSealPortOf, IsSetBy};
 ghost use Rattle.program_words.specs.Tls.{IsLoopback, IsTlsByOf};
 
 use crate::checked::check_of;
@@ -194,20 +194,27 @@ fn shift_of(alloc: Global, matches: &ArgMatches<'_>) -> Result<Chosen, AllocErro
     ensures range { IfOk result IsChosen }
     ensures words { IfOk result (IsChosenBy (found_of matches.now)) }
 {
-    match contact_of(alloc, matches)? {
-        Some(contact) => Ok(shift_with(contact, matches)),
-        None => Ok(Chosen::Refused(BAD_CONTACT)),
+    let Some(contact) = contact_of(alloc, matches)? else {
+        return Ok(Chosen::Refused(BAD_CONTACT));
+    };
+    match sync_of(matches) {
+        Ok(sync) => {
+            let journal = journal_of(alloc, sync, matches)?;
+            Ok(shift_with(contact, journal, matches))
+        }
+        Err(NoSync) => Ok(Chosen::Refused(BAD_SYNC)),
     }
 }
 
-fn shift_with(contact: Contact, matches: &ArgMatches<'_>) -> Chosen
+fn shift_with(contact: Contact, journal: Option<JournalOptions>, matches: &ArgMatches<'_>) -> Chosen
     requires allowed { IsAllowedContact contact }
     requires named { IsContactOf (found_of matches.now) contact }
+    requires journal { IsJournalOf (found_of matches.now) journal }
     ensures range { IsChosen result }
     ensures words { IsChosenBy (found_of matches.now) result }
 {
     match tls_by_of(matches) {
-        Ok(tls_by) => match shift_by(contact, tls_by, matches) {
+        Ok(tls_by) => match shift_by(contact, journal, tls_by, matches) {
             Some(subcommand) => Chosen::Taken(subcommand),
             None => Chosen::Refused(BAD_NUMBER),
         },
@@ -217,11 +224,13 @@ fn shift_with(contact: Contact, matches: &ArgMatches<'_>) -> Chosen
 
 fn shift_by(
     contact: Contact,
+    journal: Option<JournalOptions>,
     tls_by: Option<SocketAddr>,
     matches: &ArgMatches<'_>,
 ) -> Option<Subcommand>
     requires contact { IsAllowedContact contact }
     requires told { IsContactOf (found_of matches.now) contact }
+    requires journal { IsJournalOf (found_of matches.now) journal }
     requires loopback { IfSome tls_by IsLoopback }
     requires named { IsTlsByOf (found_of matches.now) tls_by }
     ensures range { IfSome result IsInRange }
@@ -236,6 +245,7 @@ fn shift_by(
         contact,
         told: told_by(matches),
         bad_jobs: bad_jobs_of(matches),
+        journal,
     }))
 }
 
@@ -298,6 +308,7 @@ fn served_at(
 {
     Some(Subcommand::Serve(ServeOptions {
         place,
+        seal_port: seal_port_of(matches)?,
         workers: number_of(matches, "workers", MAX_WORKERS)?,
         connections: connections_of(matches)?,
         limits: limits_of(matches, Limits::usual().first_generation)?,
@@ -339,6 +350,19 @@ fn port_of(matches: &ArgMatches<'_>) -> Option<u16>
 {
     let number = read_number(matches, "port")?;
     u16::try_from(number).ok()
+}
+
+// The port for who sees to the gate, if one is named.
+fn seal_port_of(matches: &ArgMatches<'_>) -> Option<Option<u16>>
+    ensures { IfSome result (IsSealPortOf (found_of matches.now)) }
+{
+    match matches.get_str("seal-port") {
+        Some(_) => {
+            let number = read_number(matches, "seal-port")?;
+            Some(Some(u16::try_from(number).ok()?))
+        }
+        None => Some(None),
+    }
 }
 
 // To which addresses fetches connect.

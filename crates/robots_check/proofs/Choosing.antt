@@ -12,8 +12,8 @@ use Rattle.std.proofs.lemmas.List.{map_more}
 use Rattle.std.proofs.lemmas.List.Elements.{Contains-append_cases, Contains-append_left, Contains-append_right}
 use Rattle.robots_text.proofs.CallerLemmas.{entry_of, first_of, none_of}
 use Rattle.robots_text.specs.Groups.{Ruled}
-use Rattle.robots_verdict.specs.Weights.{kind_place}
-use Rattle.robots_check.specs.Rows.{AreRows, IsRow, IsSecond, Tried, falling_rows, is_other, is_row_above, stronger_row, weighed_row}
+use Rattle.robots_verdict.specs.Weights.{falling, kind_place}
+use Rattle.robots_check.specs.Rows.{AreRows, IsRow, IsSecond, Tried, is_other, is_row_above, stronger_row, weighed_row}
 
 rows_more : (path : List ℕ) (rules more : List Ruled) (rows others : List Tried) → AreRows path rules rows → AreRows path more others → AreRows path (rules ++ more) (rows ++ others)
 rows_more path [] more [] others are after = after
@@ -26,6 +26,12 @@ pub row_added : (path : List ℕ) {X : Type 0} (f : X → Ruled) (xs : List X) (
     AreRows path (map f (take (i + 1) xs)) (rows ++ tried ∷ [])
 row_added path f xs i d rows tried within are is =
     subst (λ rules. AreRows path rules (rows ++ tried ∷ [])) (sym (map_more f xs i d within)) (rows_more path (map f (take i xs)) (f (slice_index_or xs i d) ∷ []) rows (tried ∷ []) are (is, tt))
+
+-- the order of rows, strongest first, as their rule lines weigh
+abbrev falling_rows : Tried → Tried → Ordering
+falling_rows one other =
+    falling (record { octets = one.octets; kind = one.ruled.kind; line = one.ruled.line })
+    (record { octets = other.octets; kind = other.ruled.kind; line = other.ruled.line })
 
 rows_total : IsTotalOrder falling_rows
 rows_total =

@@ -1,27 +1,26 @@
--- What was told of the text that is kept is what was told of the input.
--- Used by `check`.
+-- What was read is the body of a robots text, and what was told of what is kept of it is what was told of the input.
+-- Used by `read_body` and `check`.
 use Rattle.std.proofs.Common.{◌≡◌, ◌+◌, inr, ℕ, List, Option}
 use Rattle.std.specs.Prelude.{Result, Ok, Err}
 use Rattle.counted_io.specs.Reads.{ReadsTo}
 use Rattle.robots_text.specs.Lines.{kept, text_limit}
 use Rattle.robots_text.proofs.CallerLemmas.{same_kept}
-use Rattle.robots_check.specs.Checks.{Checks, ReadsText, Tells}
+use Rattle.robots_check.specs.Checks.{Checks, ReadsBody, ReadsText, Tells}
 use Rattle.robots_check.specs.declared.detail.Detail.{Detail}
-use Rattle.robots_check.specs.declared.fault.CheckFault.{CheckFault}
-use Rattle.robots_check.specs.declared.fault.CheckFault.TheVariants.{Read, Write, NoMemory}
+use Rattle.robots_check.specs.declared.fault.TextFault.{TextFault}
+use Rattle.robots_check.specs.declared.fault.TextFault.TheVariants.{Read, Write, NoMemory}
 use Rattle.robots_check.specs.declared.outcome.Outcome.{Outcome}
 
--- what is kept of what was read is the robots text
-pub text_read : (old new : Option (List ℕ)) (body text : List ℕ) → ReadsTo (text_limit + 1) old new body → text ≡ kept body → ReadsText old new text
-text_read old new body text reads is = record {
-  body = body;
-  reads = reads;
-  same = same_kept old new body reads.consumed reads.all;
-  text_is = is;
-}
+-- what is kept of what was read is what is kept of the input
+pub body_read : (old new : Option (List ℕ)) (body : List ℕ) → ReadsTo (text_limit + 1) old new body → ReadsBody old new body
+body_read old new body reads = record { reads = reads; same = same_kept old new body reads.consumed reads.all }
+
+-- what is kept of the body is the robots text
+pub text_read : (old new : Option (List ℕ)) (body text : List ℕ) → ReadsBody old new body → text ≡ kept body → ReadsText old new text
+text_read old new body text reads is = record { body = body; reads = reads; text_is = is }
 
 -- what was told of the text is what was told of the input
-pub checks_of : (detail : Detail) (input left : Option (List ℕ)) (word : List ℕ) (urls : List (List ℕ)) (written new : Option (List ℕ)) (text : List ℕ) (result : Result Outcome CheckFault) →
+pub checks_of : (detail : Detail) (input left : Option (List ℕ)) (word : List ℕ) (urls : List (List ℕ)) (written new : Option (List ℕ)) (text : List ℕ) (result : Result Outcome TextFault) →
     ReadsText input left text → Tells detail text word urls written new result → Checks detail input left word urls written new result
 checks_of detail input left word urls written new text (Ok outcome) reads tells = (text, reads, tells)
 checks_of detail input left word urls written new text (Err Read) reads tells = absurd tells

@@ -1,12 +1,14 @@
 -- The user-agent lines of the groups that speak to a token, and what an explanation says of them.
 -- RFC 9309, section 2.2.1; docs/FORMATS.md has the lines.
-use Rattle.std.specs.Prelude.{◌==◌, ◌&&◌, ℕ, Bool, true, List, [], ◌∷◌, ◌++◌, codes, decimal, filter, flat_map, map, if◌then◌else◌}
+use Rattle.std.specs.Prelude.{◌≡◌, ◌==◌, ◌&&◌, ℕ, Bool, true, List, [], ◌∷◌, ◌++◌, codes, decimal, filter, flat_map, map, if◌then◌else◌}
 use Rattle.std.specs.List.{list_any}
 use Rattle.robots_text.specs.Grouped.{Grouped, grouped_from}
 use Rattle.robots_text.specs.Groups.{is_agent, speaks_to}
 use Rattle.robots_text.specs.Records.{everybody, token, nobody, Record, agent, rule, other, Numbered, kind_seen}
 use Rattle.robots_text.specs.Token.{lower_case}
 use Rattle.robots_check.specs.declared.agents.Head.{Head}
+use Rattle.robots_check.specs.declared.detail.Detail.{Detail}
+use Rattle.robots_check.specs.declared.detail.Detail.TheVariants.{Plain, Explained}
 
 -- a user-agent line as an explanation has it: its number, whom it names, and whether it speaks to the token
 pub record Shown : Type 0 where
@@ -38,6 +40,11 @@ heads_in test groups lines = map (shown_of test) (filter (is_head_of groups) lin
 abbrev pub agents_for : List Numbered → List ℕ → List Shown
 agents_for lines word =
     heads_in (speaks_to lines word) (groups_that (speaks_to lines word) (grouped_from 0 true lines)) (grouped_from 0 true lines)
+
+-- these are they, where they are to be explained
+abbrev pub AreHeadsAt : Detail → List Numbered → List ℕ → List Shown → Type 0
+AreHeadsAt Plain lines word heads = Unit {0}
+AreHeadsAt Explained lines word heads = heads ≡ agents_for lines word
 
 -- a user-agent line's number, whom it names, and some words
 abbrev pub agent_line_text : ℕ → List ℕ → List ℕ → List ℕ → List ℕ

@@ -1,5 +1,5 @@
--- What a check read and wrote, by its result.
--- The contract of `check` cites it.
+-- What a check read and wrote, by its result; and what was read of a robots text.
+-- The contracts of `check` and of `lines` cite it.
 use Rattle.std.specs.Prelude.{◌≡◌, ◌⊎◌, ◌+◌, ℕ, List, [], ◌++◌, Option, Result, Ok, Err}
 use Rattle.std.specs.Io.KnownBytes.{Consumes, Appends, IsAtEnd}
 use Rattle.counted_io.specs.Device.{AppendsPrefix, one_more}
@@ -10,17 +10,21 @@ use Rattle.robots_text.specs.Lines.{KeepsSame, kept, text_limit}
 use Rattle.robots_text.specs.Records.{Numbered, numbered_records}
 use Rattle.robots_check.specs.Input.{AreUrlLines, HasUrls}
 use Rattle.robots_check.specs.Outcomes.{outcome_of}
-use Rattle.robots_check.specs.declared.fault.CheckFault.{CheckFault}
-use Rattle.robots_check.specs.declared.fault.CheckFault.TheVariants.{Read, Write, NoMemory}
+use Rattle.robots_check.specs.declared.fault.TextFault.{TextFault}
+use Rattle.robots_check.specs.declared.fault.TextFault.TheVariants.{Read, Write, NoMemory}
 use Rattle.robots_check.specs.Told.{Told, AreTold, answers_text}
 use Rattle.robots_check.specs.declared.detail.Detail.{Detail}
 use Rattle.robots_check.specs.declared.outcome.Outcome.{Outcome}
 
--- these are what was kept of the input as a robots text: the input was read, or one octet more than is kept
-pub record ReadsText (old new : Option (List ℕ)) (text : List ℕ) : Type 0 where
-  pub body : List ℕ
+-- the body of a robots text was read: all that the input has, but at most one octet more than the limit
+pub record ReadsBody (old new : Option (List ℕ)) (body : List ℕ) : Type 0 where
   pub reads : ReadsTo (text_limit + 1) old new body
   pub same : KeepsSame old body
+
+-- these are what was kept of the input as a robots text
+pub record ReadsText (old new : Option (List ℕ)) (text : List ℕ) : Type 0 where
+  pub body : List ℕ
+  pub reads : ReadsBody old new body
   pub text_is : text ≡ kept body
 
 -- the answers to all URLs were written, and come to this
@@ -40,7 +44,7 @@ pub record AnswersFront (detail : Detail) (lines : List Numbered) (word : List �
   pub wrote : AppendsPrefix old new (answers_text first answers)
 
 -- what was written of a text for the token, by the result
-abbrev pub Tells : Detail → List ℕ → List ℕ → List (List ℕ) → (written new : Option (List ℕ)) → Result Outcome CheckFault → Type 0
+abbrev pub Tells : Detail → List ℕ → List ℕ → List (List ℕ) → (written new : Option (List ℕ)) → Result Outcome TextFault → Type 0
 Tells detail text word urls written new (Ok outcome) = Answers detail (numbered_records text) word urls written new outcome
 Tells detail text word urls written new (Err Read) = ⊥
 Tells detail text word urls written new (Err Write) = AnswersFront detail (numbered_records text) word urls written new
@@ -51,13 +55,13 @@ abbrev pub StopsAtInput : (input left written new : Option (List ℕ)) → Type 
 StopsAtInput input left written new = ReadsFront (text_limit + 1) input left × Appends written new []
 
 -- the text was read, and what is told of it was written
-abbrev pub ReadsAndTells : Detail → (input left : Option (List ℕ)) → List ℕ → List (List ℕ) → (written new : Option (List ℕ)) → Result Outcome CheckFault → Type 0
+abbrev pub ReadsAndTells : Detail → (input left : Option (List ℕ)) → List ℕ → List (List ℕ) → (written new : Option (List ℕ)) → Result Outcome TextFault → Type 0
 ReadsAndTells detail input left word urls written new result =
     (text : List ℕ) × ReadsText input left text × Tells detail text word urls written new result
 
 -- the text was read and all was told; or a read failed or memory was refused, and nothing was written; or a write
 -- failed or memory was refused later, and no more than a front of what was to be told was written
-abbrev pub Checks : Detail → (input left : Option (List ℕ)) → List ℕ → List (List ℕ) → (written new : Option (List ℕ)) → Result Outcome CheckFault → Type 0
+abbrev pub Checks : Detail → (input left : Option (List ℕ)) → List ℕ → List (List ℕ) → (written new : Option (List ℕ)) → Result Outcome TextFault → Type 0
 Checks detail input left word urls written new (Ok outcome) = ReadsAndTells detail input left word urls written new (Ok outcome)
 Checks detail input left word urls written new (Err Read) = StopsAtInput input left written new
 Checks detail input left word urls written new (Err Write) = ReadsAndTells detail input left word urls written new (Err Write)
@@ -74,7 +78,7 @@ abbrev pub StopsWithin : (input left written new : Option (List ℕ)) → Type 0
 StopsWithin input left written new = ((front : List ℕ) × Consumes input left front) × Appends written new []
 
 -- the whole input was read, and what is told of its text and its URLs was written
-pub record ReadsAndTellsWhole (detail : Detail) (input left : Option (List ℕ)) (word : List ℕ) (written new : Option (List ℕ)) (result : Result Outcome CheckFault) : Type 0 where
+pub record ReadsAndTellsWhole (detail : Detail) (input left : Option (List ℕ)) (word : List ℕ) (written new : Option (List ℕ)) (result : Result Outcome TextFault) : Type 0 where
   pub whole : List ℕ
   pub reads : ReadsWhole input left whole
   pub text : List ℕ
@@ -83,7 +87,7 @@ pub record ReadsAndTellsWhole (detail : Detail) (input left : Option (List ℕ))
   pub tells : Tells detail text word urls written new result
 
 -- the same as `Checks` where the URLs stand in the input behind the text
-abbrev pub ChecksInput : Detail → (input left : Option (List ℕ)) → List ℕ → (written new : Option (List ℕ)) → Result Outcome CheckFault → Type 0
+abbrev pub ChecksInput : Detail → (input left : Option (List ℕ)) → List ℕ → (written new : Option (List ℕ)) → Result Outcome TextFault → Type 0
 ChecksInput detail input left word written new (Ok outcome) = ReadsAndTellsWhole detail input left word written new (Ok outcome)
 ChecksInput detail input left word written new (Err Read) = StopsWithin input left written new
 ChecksInput detail input left word written new (Err Write) = ReadsAndTellsWhole detail input left word written new (Err Write)
@@ -91,7 +95,7 @@ ChecksInput detail input left word written new (Err NoMemory) =
     StopsWithin input left written new ⊎ ReadsAndTellsWhole detail input left word written new (Err NoMemory)
 
 -- the whole input was read, and what is told of what is kept of a body and of the URLs of the lines was written
-pub record ReadsLinesAndTells (detail : Detail) (body : List ℕ) (input left : Option (List ℕ)) (word : List ℕ) (written new : Option (List ℕ)) (result : Result Outcome CheckFault) : Type 0 where
+pub record ReadsLinesAndTells (detail : Detail) (body : List ℕ) (input left : Option (List ℕ)) (word : List ℕ) (written new : Option (List ℕ)) (result : Result Outcome TextFault) : Type 0 where
   pub lines : List ℕ
   pub reads : ReadsWhole input left lines
   pub urls : List (List ℕ)
@@ -99,35 +103,35 @@ pub record ReadsLinesAndTells (detail : Detail) (body : List ℕ) (input left : 
   pub tells : Tells detail (kept body) word urls written new result
 
 -- the same as `Checks` where the input has the URLs alone, and the text is what is kept of a body
-abbrev pub ChecksLines : Detail → (body : List ℕ) → (input left : Option (List ℕ)) → List ℕ → (written new : Option (List ℕ)) → Result Outcome CheckFault → Type 0
+abbrev pub ChecksLines : Detail → (body : List ℕ) → (input left : Option (List ℕ)) → List ℕ → (written new : Option (List ℕ)) → Result Outcome TextFault → Type 0
 ChecksLines detail body input left word written new (Ok outcome) = ReadsLinesAndTells detail body input left word written new (Ok outcome)
 ChecksLines detail body input left word written new (Err Read) = StopsWithin input left written new
 ChecksLines detail body input left word written new (Err Write) = ReadsLinesAndTells detail body input left word written new (Err Write)
 ChecksLines detail body input left word written new (Err NoMemory) =
     StopsWithin input left written new ⊎ ReadsLinesAndTells detail body input left word written new (Err NoMemory)
 
--- the fault of a check whose read failed so
-abbrev pub check_fault : ReadLineFault → CheckFault
-check_fault causes.Read = Read
-check_fault causes.NoMemory = NoMemory
+-- the fault where a read failed so
+abbrev pub text_fault : ReadLineFault → TextFault
+text_fault causes.Read = Read
+text_fault causes.NoMemory = NoMemory
 
 -- the fault is one of reading
-abbrev pub IsReadFault : CheckFault → Type 0
+abbrev pub IsReadFault : TextFault → Type 0
 IsReadFault fault = (fault ≡ Read) ⊎ (fault ≡ NoMemory)
 
 -- the fault is one of telling
-abbrev pub IsTellFault : CheckFault → Type 0
+abbrev pub IsTellFault : TextFault → Type 0
 IsTellFault fault = (fault ≡ Write) ⊎ (fault ≡ NoMemory)
 
--- the reader's count of failures behind a check: it rises exactly where a read failed
-abbrev pub failures_after_reads : {T : Type 0} → ℕ → Result T CheckFault → ℕ
+-- the reader's count of failures behind it: it rises exactly where a read failed
+abbrev pub failures_after_reads : {T : Type 0} → ℕ → Result T TextFault → ℕ
 failures_after_reads failures (Ok _) = failures
 failures_after_reads failures (Err Read) = one_more failures
 failures_after_reads failures (Err Write) = failures
 failures_after_reads failures (Err NoMemory) = failures
 
--- the writer's count of failures behind a check: it rises exactly where a write failed
-abbrev pub failures_after_writes : {T : Type 0} → ℕ → Result T CheckFault → ℕ
+-- the writer's count of failures behind it: it rises exactly where a write failed
+abbrev pub failures_after_writes : {T : Type 0} → ℕ → Result T TextFault → ℕ
 failures_after_writes failures (Ok _) = failures
 failures_after_writes failures (Err Read) = failures
 failures_after_writes failures (Err Write) = one_more failures

@@ -1,13 +1,17 @@
--- What contracts say of a check: which page a URL names, what is said of it, and what was read and written.
+-- What contracts say of the lines of a robots text and of a check: which page a URL names, what is said of it, and what
+-- was read and written.
 pub mod AgentText
 pub mod AnswerText
 pub mod Answering
 pub mod Answers
 pub mod Checks
 pub mod Explained
+pub mod Forms
 pub mod Input
+pub mod LinesText
 pub mod Notes
 pub mod Outcomes
+pub mod Prints
 pub mod Ready
 pub mod Rows
 pub mod Rules

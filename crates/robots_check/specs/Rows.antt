@@ -1,13 +1,11 @@
 -- The rule lines for a token beside a path: which match it, and which of them is the strongest but for one.
 -- RFC 9309, section 2.2.2.
 use Rattle.std.specs.Prelude.{◌≡◌, ◌↔◌, ◌&&◌, ◌==◌, not, ℕ, Bool, true, false, IsTrue, List, [], ◌∷◌, Option, Some, None, Contains, length, if◌then◌else◌}
-use Rattle.std.specs.declared.cmp.Ordering.{Ordering}
-use Rattle.std.specs.Ordering.{is_lt, nat_cmp, ordering_then}
 use Rattle.path_normal.specs.Normal.{normal_pattern}
 use Rattle.path_pattern.specs.Matches.{Matches}
 use Rattle.robots_text.specs.Groups.{Ruled}
 use Rattle.robots_text.specs.Walk.{rule_seen}
-use Rattle.robots_verdict.specs.Weights.{kind_place}
+use Rattle.robots_verdict.specs.Weights.{is_above}
 use Rattle.robots_check.specs.declared.rows.Row.{Row}
 
 -- a rule line, the octets of its pattern in normal form, and whether that matches a path
@@ -33,16 +31,11 @@ AreRows path (ruled ∷ rules) (tried ∷ rows) = IsRow path ruled tried × AreR
 AreRows path [] (tried ∷ rows) = ⊥
 AreRows path (ruled ∷ rules) [] = ⊥
 
--- the order of rows, strongest first, as that of the weights of their lines (`falling`): more octets before fewer,
--- allow before disallow, and the smaller number before the greater
-abbrev pub falling_rows : Tried → Tried → Ordering
-falling_rows one other =
-    ordering_then (nat_cmp other.octets one.octets)
-    (ordering_then (nat_cmp (kind_place one.ruled.kind) (kind_place other.ruled.kind)) (nat_cmp one.ruled.line other.ruled.line))
-
--- the one is stronger than the other
+-- the one is stronger than the other, as their rule lines weigh
 abbrev pub is_row_above : Tried → Tried → Bool
-is_row_above one other = is_lt (falling_rows one other)
+is_row_above one other =
+    is_above (record { octets = one.octets; kind = one.ruled.kind; line = one.ruled.line })
+    (record { octets = other.octets; kind = other.ruled.kind; line = other.ruled.line })
 
 -- it matches, and is not the line of this number
 abbrev pub is_other : ℕ → Tried → Bool

@@ -7,8 +7,9 @@ ghost use Rattle.line_text.specs.Pieces.{piece_text, pieces_text};
 ghost use Rattle.robots_text.specs.Grouped.{grouped_left, grouped_seen};
 ghost use Rattle.robots_text.specs.Records.{numbered_records};
 ghost use Rattle.robots_text.specs.Walk.{speaks};
-ghost use Rattle.robots_check.specs.AgentText.{agent_line_text, agent_text, agents_for, agents_text, beside_text, groups_that, head_seen, heads_in, is_head_of};
+ghost use Rattle.robots_check.specs.AgentText.{AreHeadsAt, agent_line_text, agent_text, agents_for, agents_text, beside_text, groups_that, head_seen, heads_in, is_head_of};
 
+use crate::detail::Detail;
 use counted_io::{DeviceFault, Output, Sink};
 use line_text::{Piece, Pieces};
 use robots_text::{
@@ -25,8 +26,23 @@ pub(crate) struct Head<'t> {
     pub(crate) speaks: bool,
 }
 
-/// The user-agent lines of the groups that speak to the token.
-pub(crate) fn agents_for<'t>(
+/// The user-agent lines of the groups that speak to the token, where they are to be explained.
+pub(crate) fn agents_at<'t>(
+    alloc: Global,
+    text: &'t RobotsText,
+    token: &Token,
+    detail: Detail,
+) -> Result<Vec<Head<'t>>, AllocError>
+    ensures { IfOk result (λ agents.
+        AreHeadsAt detail (numbered_records text.now) token.now (map head_seen agents.items)) }
+{
+    match detail {
+        Detail::Plain => Ok(Vec::new(alloc)),
+        Detail::Explained => agents_for(alloc, text, token),
+    }
+}
+
+fn agents_for<'t>(
     alloc: Global,
     text: &'t RobotsText,
     token: &Token,

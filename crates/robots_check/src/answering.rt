@@ -8,11 +8,12 @@ ghost use Rattle.robots_check.specs.Targets.{HasFault, page_named};
 ghost use Rattle.robots_check.specs.Ready.{IsReady};
 ghost use Rattle.robots_check.specs.Checks.{IsTellFault, Tells, failures_after_writes};
 
-use crate::agents::agents_for;
+use crate::agents::agents_at;
 use crate::detail::Detail;
 use crate::explaining::{push_explanation, reason_pieces, second_for, winner_octets};
-use crate::fault::CheckFault;
+use crate::fault::TextFault;
 use crate::finding::{Finding, finding_pieces};
+use crate::forms::forms_at;
 use crate::judge::Judge;
 use crate::outcome::Outcome;
 use crate::page::read_page;
@@ -32,20 +33,23 @@ pub(crate) fn answer<W: Sink>(
     urls: &[&[u8]],
     detail: Detail,
     writer: &mut W,
-) -> Result<Outcome, CheckFault>
+) -> Result<Outcome, TextFault>
     ensures tells { Tells detail text token.now (map (λ url. url.now) urls.now)
         (W.written writer.old) (W.written writer.new) result }
     ensures writes { W.failures writer.new
         ≡ failures_after_writes (W.failures writer.old) result }
 {
     let policy = Policy::new(alloc, text)?.indexed(alloc)?;
-    let rules = rules_for(alloc, policy.text(), token)?;
-    let agents = agents_for(alloc, policy.text(), token)?;
+    let lines = rules_for(alloc, policy.text(), token)?;
+    let rules = lines.as_slice();
+    let forms = forms_at(alloc, rules, detail)?;
+    let agents = agents_at(alloc, policy.text(), token, detail)?;
     let mut output = Output::new(alloc)?;
     let judge = Judge {
         policy: &policy,
         token,
-        rules: rules.as_slice(),
+        rules,
+        forms: forms.as_slice(),
         agents: agents.as_slice(),
         detail,
     };
@@ -61,7 +65,7 @@ fn push_answers<W: Sink>(
     urls: &[&[u8]],
     output: &mut Output,
     sink: &mut W,
-) -> Result<Outcome, CheckFault>
+) -> Result<Outcome, TextFault>
     requires { IsReady judge }
     ensures passes { IfOk result (Passing judge.entry.detail
         (numbered_records judge.entry.policy.now) judge.entry.token.now (map (λ url. url.now) urls.now)
@@ -86,7 +90,7 @@ fn push_answer<W: Sink>(
     url: &[u8],
     output: &mut Output,
     sink: &mut W,
-) -> Result<Outcome, CheckFault>
+) -> Result<Outcome, TextFault>
     requires { IsReady judge }
     ensures passes { IfOk result (Passing judge.entry.detail
         (numbered_records judge.entry.policy.now) judge.entry.token.now (url.now ∷ [])
@@ -100,7 +104,7 @@ fn push_answer<W: Sink>(
     match read_page(alloc, url) {
         Ok(page) => push_page(alloc, judge, url, &page, output, sink),
         Err(Unread::Fault(fault)) => push_unread(judge, url, fault, output, sink),
-        Err(_) => Err(CheckFault::NoMemory),
+        Err(_) => Err(TextFault::NoMemory),
     }
 }
 
@@ -111,7 +115,7 @@ fn push_unread<W: Sink>(
     fault: UrlFault,
     output: &mut Output,
     sink: &mut W,
-) -> Result<Outcome, CheckFault>
+) -> Result<Outcome, TextFault>
     requires { HasFault url.now fault }
     ensures passes { IfOk result (Passing judge.entry.detail
         (numbered_records judge.entry.policy.now) judge.entry.token.now (url.now ∷ [])
@@ -135,7 +139,7 @@ fn push_page<W: Sink>(
     page: &PageUrl,
     output: &mut Output,
     sink: &mut W,
-) -> Result<Outcome, CheckFault>
+) -> Result<Outcome, TextFault>
     requires ready { IsReady judge }
     requires named { page_named url.now ≡ Ok page.now }
     ensures passes { IfOk result (Passing judge.entry.detail
@@ -161,7 +165,7 @@ fn push_before<W: Sink>(
     finding: Finding<'_>,
     output: &mut Output,
     sink: &mut W,
-) -> Result<(), CheckFault>
+) -> Result<(), TextFault>
     requires { IsReady judge }
     ensures passes { IfOk result (λ _. PassesBefore judge.entry.detail
         (numbered_records judge.entry.policy.now) judge.entry.token.now path.now
@@ -187,8 +191,9 @@ fn push_explained<W: Sink>(
     finding: Finding<'_>,
     output: &mut Output,
     sink: &mut W,
-) -> Result<(), CheckFault>
-    requires { IsReady judge }
+) -> Result<(), TextFault>
+    requires ready { IsReady judge }
+    requires explains { judge.detail ≡ Detail.Explained }
     ensures passes { IfOk result (λ _. PassesBefore Detail.Explained
         (numbered_records judge.entry.policy.now) judge.entry.token.now path.now
         (answer_seen finding.entry)
@@ -199,7 +204,7 @@ fn push_explained<W: Sink>(
     ensures faults { IfErr result IsTellFault }
     ensures count { W.failures sink.new ≡ failures_after_writes (W.failures sink.old) result }
 {
-    let rows = rows_of(alloc, judge.rules, path)?;
+    let rows = rows_of(alloc, judge.forms, path)?;
     let octets = winner_octets(alloc, finding)?;
     let second = second_for(rows.as_slice(), finding);
     let reason = reason_pieces(octets, finding, second);

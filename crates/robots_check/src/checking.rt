@@ -5,18 +5,15 @@ ghost use Rattle.robots_check.specs.Checks.{Checks, ChecksInput, ChecksLines, fa
 ghost use Rattle.robots_check.specs.Notes.{IsNoted, NotesFront, NotesText, notes_text};
 
 use crate::answering::answer;
-use crate::body::{read_to, read_whole};
+use crate::body::{read_body, read_whole};
 use crate::detail::Detail;
-use crate::fault::CheckFault;
+use crate::fault::TextFault;
 use crate::input::{split_input, urls_of};
 use crate::notes::tell_notes;
 use crate::outcome::Outcome;
 use counted_io::{Sink, Source};
-use robots_text::{MAX_TEXT, RobotsText, Token};
+use robots_text::{RobotsText, Token};
 use std::alloc::Global;
-
-/// How many octets of a robots text are read: one more than the limit tells that there is more.
-pub const MAX_BODY: usize = MAX_TEXT + 1;
 
 /// Reads a robots text, of which it takes at most one octet more than the limit, and writes of each
 /// URL whether a crawler of this token may fetch it, and by which line. A URL may be a path, and
@@ -30,7 +27,7 @@ pub fn check<R: Source, W: Sink, E: Sink>(
     token: &Token,
     urls: &[&[u8]],
     detail: Detail,
-) -> Result<Outcome, CheckFault>
+) -> Result<Outcome, TextFault>
     ensures checks { Checks detail (R.left reader.old) (R.left reader.new) token.now
         (map (λ url. url.now) urls.now) (W.written writer.old) (W.written writer.new) result }
     ensures reads { R.failures reader.new ≡ failures_after_reads (R.failures reader.old) result }
@@ -40,7 +37,7 @@ pub fn check<R: Source, W: Sink, E: Sink>(
         (E.written errors.old) (E.written errors.new)
         (E.failures errors.old) (E.failures errors.new)) }
 {
-    let body = read_to(alloc, reader, MAX_BODY)?;
+    let body = read_body(alloc, reader)?;
     let count = body.len();
     let text = RobotsText::of(body);
     tell_notes(alloc, &text, count, errors)?;
@@ -57,7 +54,7 @@ pub fn check_input<R: Source, W: Sink, E: Sink>(
     errors: &mut E,
     token: &Token,
     detail: Detail,
-) -> Result<Outcome, CheckFault>
+) -> Result<Outcome, TextFault>
     ensures checks { ChecksInput detail (R.left reader.old) (R.left reader.new) token.now
         (W.written writer.old) (W.written writer.new) result }
     ensures reads { R.failures reader.new ≡ failures_after_reads (R.failures reader.old) result }
@@ -85,7 +82,7 @@ pub fn check_lines<R: Source, W: Sink, E: Sink>(
     errors: &mut E,
     token: &Token,
     detail: Detail,
-) -> Result<Outcome, CheckFault>
+) -> Result<Outcome, TextFault>
     ensures checks { ChecksLines detail body.now (R.left reader.old) (R.left reader.new) token.now
         (W.written writer.old) (W.written writer.new) result }
     ensures reads { R.failures reader.new ≡ failures_after_reads (R.failures reader.old) result }

@@ -1,11 +1,11 @@
-//! Why a check stopped before its last URL.
-//! `check` answers with it.
+//! Why what is told of a robots text stopped before its end.
+//! `check` and `lines` answer with it.
 use counted_io::{DeviceFault, ReadLineFault};
 use std::alloc::AllocError;
 
-/// Why a check stopped.
+/// Why a check, or the lines of a robots text, stopped.
 #[derive(Clone, Copy, Debug, PartialEq, Eq)]
-pub enum CheckFault {
+pub enum TextFault {
     /// A read failed. Nothing was written.
     Read,
     /// A write failed. What was written is a part of what was to be written.
@@ -14,39 +14,39 @@ pub enum CheckFault {
     NoMemory,
 }
 
-impl From<AllocError> for CheckFault {
+impl From<AllocError> for TextFault {
     ghost use Rattle.std.specs.Prelude.{◌≡◌};
-    ghost use Rattle.robots_check.specs.declared.fault.CheckFault.TheVariants.{NoMemory};
+    ghost use Rattle.robots_check.specs.declared.fault.TextFault.TheVariants.{NoMemory};
 
     ghost from_gives = { λ _ fault. fault ≡ NoMemory };
 
-    fn from(_: AllocError) -> CheckFault {
-        CheckFault::NoMemory
+    fn from(_: AllocError) -> TextFault {
+        TextFault::NoMemory
     }
 }
 
-impl From<DeviceFault> for CheckFault {
+impl From<DeviceFault> for TextFault {
     ghost use Rattle.std.specs.Prelude.{◌≡◌};
-    ghost use Rattle.robots_check.specs.declared.fault.CheckFault.TheVariants.{Write};
+    ghost use Rattle.robots_check.specs.declared.fault.TextFault.TheVariants.{Write};
 
     ghost from_gives = { λ _ fault. fault ≡ Write };
 
-    /// Only the writes of a check report a device's fault as it is.
-    fn from(_: DeviceFault) -> CheckFault {
-        CheckFault::Write
+    /// Only writes report a device's fault as it is.
+    fn from(_: DeviceFault) -> TextFault {
+        TextFault::Write
     }
 }
 
-impl From<ReadLineFault> for CheckFault {
+impl From<ReadLineFault> for TextFault {
     ghost use Rattle.std.specs.Prelude.{◌≡◌};
-    ghost use Rattle.robots_check.specs.Checks.{check_fault};
+    ghost use Rattle.robots_check.specs.Checks.{text_fault};
 
-    ghost from_gives = { λ cause fault. fault ≡ check_fault cause };
+    ghost from_gives = { λ cause fault. fault ≡ text_fault cause };
 
-    fn from(fault: ReadLineFault) -> CheckFault {
+    fn from(fault: ReadLineFault) -> TextFault {
         match fault {
-            ReadLineFault::Read => CheckFault::Read,
-            ReadLineFault::NoMemory => CheckFault::NoMemory,
+            ReadLineFault::Read => TextFault::Read,
+            ReadLineFault::NoMemory => TextFault::NoMemory,
         }
     }
 }

@@ -9,6 +9,7 @@ ghost use Rattle.robots_check.specs.Ready.{IsReady};
 use crate::agents::Head;
 use crate::detail::Detail;
 use crate::finding::Finding;
+use crate::forms::Formed;
 use crate::rules::place_of;
 use path_normal::PageUrl;
 use robots_text::{RuleLine, Token};
@@ -20,6 +21,7 @@ pub(crate) struct Judge<'t> {
     pub(crate) policy: &'t Policy,
     pub(crate) token: &'t Token,
     pub(crate) rules: &'t [RuleLine<'t>],
+    pub(crate) forms: &'t [Formed<'t>],
     pub(crate) agents: &'t [Head<'t>],
     pub(crate) detail: Detail,
 }

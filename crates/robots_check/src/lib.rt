@@ -1,5 +1,6 @@
-//! Whether a robots text allows URLs to a crawler, and by which line, from any reader to any writer.
-//! docs/FORMATS.md has the lines; RFC 9309, section 2.2.2.
+//! What each line of a robots text says, and whether it allows URLs to a crawler, by which line and
+//! why; from any reader to any writer.
+//! docs/FORMATS.md has the lines; RFC 9309, section 2.2.
 #![tactic(auto)]
 
 mod agents;
@@ -10,17 +11,22 @@ mod detail;
 mod explaining;
 mod fault;
 mod finding;
+mod forms;
 mod input;
 mod judge;
 pub mod laws;
+mod lines_text;
 mod notes;
 mod outcome;
 mod page;
 mod rows;
 mod rules;
+mod writing;
 
-pub use checking::{MAX_BODY, check, check_input, check_lines};
+pub use body::{MAX_BODY, read_body};
+pub use checking::{check, check_input, check_lines};
 pub use detail::Detail;
-pub use fault::CheckFault;
+pub use fault::TextFault;
 pub use notes::tell_notes;
 pub use outcome::Outcome;
+pub use writing::{lines, lines_of};

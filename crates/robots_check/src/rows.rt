@@ -1,10 +1,11 @@
 //! The rule lines for a token beside a path: which match it, and the strongest of the others.
 //! RFC 9309, section 2.2.2.
 ghost use Rattle.std.specs.Prelude.{◌≡◌, IfOk, map, option_map};
-ghost use Rattle.robots_text.specs.Walk.{rule_seen};
+ghost use Rattle.std.specs.List.{All};
+ghost use Rattle.robots_check.specs.Forms.{IsFormed, formed_rule};
 ghost use Rattle.robots_check.specs.Rows.{AreRows, IsRow, IsSecond, is_row_above, row_seen, stronger_row, weighed_row};
 
-use path_normal::normal_pattern;
+use crate::forms::Formed;
 use path_pattern::{Path, matches};
 use robots_text::RuleLine;
 use robots_verdict::compare_kinds;
@@ -20,31 +21,33 @@ pub(crate) struct Row<'t> {
     pub(crate) matches: bool,
 }
 
-/// The rows of the rule lines.
+/// The rows of the rule lines that have these forms.
 pub(crate) fn rows_of<'t>(
     alloc: Global,
-    rules: &[RuleLine<'t>],
+    forms: &[Formed<'t>],
     path: &[u8],
 ) -> Result<Vec<Row<'t>>, AllocError>
+    requires { All IsFormed forms.now }
     ensures { IfOk result (λ rows.
-        AreRows path.now (map rule_seen rules.now) (map row_seen rows.items)) }
+        AreRows path.now (map formed_rule forms.now) (map row_seen rows.items)) }
 {
     let mut rows = Vec::new(alloc);
-    for rule in rules {
-        rows.push(row_of(alloc, *rule, path)?)?;
+    for formed in forms {
+        rows.push(row_of(formed, path))?;
     }
     Ok(rows)
 }
 
-fn row_of<'t>(alloc: Global, rule: RuleLine<'t>, path: &[u8]) -> Result<Row<'t>, AllocError>
-    ensures { IfOk result (λ row. IsRow path.now (rule_seen rule.entry) (row_seen row)) }
+fn row_of<'t>(formed: &Formed<'t>, path: &[u8]) -> Row<'t>
+    requires { IsFormed formed.now }
+    ensures { IsRow path.now (formed_rule formed.now) (row_seen result) }
 {
-    let form = normal_pattern(alloc, rule.pattern)?;
-    Ok(Row {
-        rule,
+    let form = formed.form.as_slice();
+    Row {
+        rule: formed.rule,
         octets: form.len(),
-        matches: matches(form.as_slice(), &mut Path::new(path)),
-    })
+        matches: matches(form, &mut Path::new(path)),
+    }
 }
 
 /// The strongest row that matches, but for that of the line of this number.

@@ -1,9 +1,8 @@
 //! `lines` over memory: how much it reads, and a fault at every read and write.
 
 use super::{demand, new_writer, reader_of};
-use command_server::SessionFault;
 use counted_io::FailAt;
-use robots_lines::lines;
+use robots_check::{TextFault, lines};
 use std::test::Fail;
 
 const TEXT: &[u8] = b"# c\nUser-agent: FooBot\r\nAllow: /a b\rDisallow:";
@@ -49,7 +48,7 @@ fn a_read_fails(rt: HostRuntime) -> Result<(), Fail> {
 fn check_read(rt: &HostRuntime, reader: &mut FailAt, octets: usize) -> Result<(), Fail> {
     let mut writer = new_writer(rt.alloc());
     let result = lines(rt.alloc(), reader, &mut writer);
-    let is_told = result == Err(SessionFault::Read) && reader.failures() == 1;
+    let is_told = result == Err(TextFault::Read) && reader.failures() == 1;
     demand(is_told && writer.bytes().is_empty(), "a read", octets)
 }
 
@@ -65,7 +64,7 @@ fn a_write_fails(rt: HostRuntime) -> Result<(), Fail> {
 fn check_write(rt: &HostRuntime, reader: &mut FailAt, call: usize) -> Result<(), Fail> {
     let mut writer = FailAt::new(Vec::new(rt.alloc()), 1, Some(call as u64));
     let result = lines(rt.alloc(), reader, &mut writer);
-    let is_told = result == Err(SessionFault::Write) && writer.failures() == 1;
+    let is_told = result == Err(TextFault::Write) && writer.failures() == 1;
     let written = writer.bytes();
     let is_front = OUTPUT.starts_with(written) && written.len() == call;
     demand(is_told && is_front, "a write", call)

@@ -57,10 +57,10 @@ impl Alarm for Unheard {
 }
 
 // Serves the two clients that have connected, and tells how many entries the history has.
-fn serve_two<G: Gate + Send + Sync, R: Threads + Wait + time::Clock + Sync>(
-    rt: &R,
+fn serve_two<'x, G: Gate + Send + Sync, R: Threads + Wait + time::Clock + Sync>(
+    rt: &'x R,
     alloc: Global,
-    listener: &Listener,
+    listener: &'x Listener,
     book: Book,
     blanks: Blanks,
 ) -> Result<u64, Fail>
@@ -75,10 +75,12 @@ fn serve_two<G: Gate + Send + Sync, R: Threads + Wait + time::Clock + Sync>(
     let clock = Rushing {
         readings: AtomicU64::new(0),
     };
+    let overseers: Option<&'x Listener> = None;
     let server = Server {
         rt,
         alloc,
         listener,
+        overseers,
         fetcher: &sites,
         clock: &clock,
         alarm: &Unheard,

@@ -13,3 +13,6 @@ returns-clause-arrived c = laws.arrives
 
 pub returns-clause-swept : goal.returns-clause-swept
 returns-clause-swept c = laws.swept_away
+
+pub returns-clause-limited : goal.returns-clause-limited
+returns-clause-limited c = laws.limit_tells

@@ -1,48 +1,22 @@
--- All jobs are done, each once, and stand at their places.
--- Used by `run_shift`.
-use Rattle.std.proofs.Common.{◌≡◌, ◌∙◌, ◌≤◌, List, ℕ, Vec, Global, length, sym, subst}
+-- All jobs are done, and the gate is settled.
+-- The lemma `is_shift` of `Shifting` says what that is.
+use Rattle.std.proofs.Common.{List, ℕ, Vec, Global, sym, subst}
 use Rattle.std.specs.Prelude.{map}
-use Rattle.job_line.specs.Sums.{weigh_all, weigh_below}
-use Rattle.crawl_workers.specs.Crews.{AreAllDone, all_numbers, one_below, one_at_number}
-use Rattle.crawl_workers.specs.Orders.{IsOrder}
+use Rattle.crawl_workers.specs.Shifts.{AreAllJobs, DoneView}
 use Rattle.crawl_workers.specs.World.{world_of}
-use Rattle.crawl_workers.proofs.Drawing.{drawn_once}
-use Rattle.crawl_workers.proofs.Shifting.{done_once, is_shift, lent_whole}
+use Rattle.crawl_workers.proofs.Shifting.{is_shift}
 use Rattle.crawl_workers.proofs.shift.run_shift.Goals as goal
-
-pub place_all-requires : goal.place_all-requires
-place_all-requires g c n =
-    let world = world_of (g.F.Fetcher.gives c.args.fetcher.now) (g.F.Fetcher.follows c.args.fetcher.now) (g.C.Clock.reads c.args.clock.now) in
-    let jobs = c.args.jobs.now in
-    let order = c.deref-3.result.now in
-    let counts = c.deref-4.result.now in
-    let drawn = map (λ (list : Vec ℕ Global). list.items) c.handover-2.inside.drawn.items in
-    let lists = map (λ list. list.items) c.handover-2.inside.done.items in
-    let receipts = c.handover-2.inside.receipts.items in
-    let all = subst (AreAllDone world jobs order c.in_ok-line.line counts c.in_ok-line.seats.len) (sym c.handover-2.view_is) (c.in_ok-do_all.ensures {u = tt}) in
-    let is : IsOrder (length jobs) counts order = subst (IsOrder (length jobs) counts) (sym c.deref-3.ensures.value)
-    (subst (λ (cs : List ℕ). IsOrder (length jobs) cs c.in_ok-names.field-0.numbers.items) (sym c.deref-4.ensures.value) (c.in_ok-names.ensures {u = tt})) in
-    let each : (weight : ℕ → ℕ) → weigh_all weight drawn ≡ weigh_below weight (length jobs) =
-    drawn_once (length jobs) counts order drawn c.handover-2.inside.seats.items is (c.gather.ensures.covers counts all.same_counts all.all_parts) all.one_ended all.have_drawn in
-    subst (λ (count : ℕ). weigh_all (one_at_number n) (all_numbers lists) ≤ one_below count n) (sym (c.deref_mut.ensures.len ∙ c.in_ok-outcomes.ensures))
-    (done_once world jobs drawn lists receipts (length jobs) all.have_done each n)
 
 pub returns : goal.returns
 returns g c =
     let world = world_of (g.F.Fetcher.gives c.args.fetcher.now) (g.F.Fetcher.follows c.args.fetcher.now) (g.C.Clock.reads c.args.clock.now) in
     let jobs = c.args.jobs.now in
-    let order = c.deref-3.result.now in
-    let counts = c.deref-4.result.now in
-    let drawn = map (λ (list : Vec ℕ Global). list.items) c.handover-2.inside.drawn.items in
-    let lists = map (λ list. list.items) c.handover-2.inside.done.items in
-    let receipts = c.handover-2.inside.receipts.items in
-    let all = subst (AreAllDone world jobs order c.in_ok-line.line counts c.in_ok-line.seats.len) (sym c.handover-2.view_is) (c.in_ok-do_all.ensures {u = tt}) in
-    let is : IsOrder (length jobs) counts order = subst (IsOrder (length jobs) counts) (sym c.deref-3.ensures.value)
-    (subst (λ (cs : List ℕ). IsOrder (length jobs) cs c.in_ok-names.field-0.numbers.items) (sym c.deref-4.ensures.value) (c.in_ok-names.ensures {u = tt})) in
-    let each : (weight : ℕ → ℕ) → weigh_all weight drawn ≡ weigh_below weight (length jobs) =
-    drawn_once (length jobs) counts order drawn c.handover-2.inside.seats.items is (c.gather.ensures.covers counts all.same_counts all.all_parts) all.one_ended all.have_drawn in
-    let len = c.deref_mut.ensures.len ∙ c.in_ok-outcomes.ensures in
-    is_shift world jobs c.args.workers drawn lists receipts c.deref-5.result.now _ c.place_all.new.outcomes c.in_ok-settled.settled
-    (all.all_workers ∙ (c.in_ok-line.ensures {u = tt}).count) each all.have_done
-    (lent_whole _ c.place_all.new.outcomes _ (c.place_all.ensures.len ∙ c.deref_mut.ensures.len)) (c.place_all.ensures.len ∙ len) c.place_all.ensures.placed
-    c.deref-5.ensures.value (c.in_ok-settled.ensures {u = tt}).settles (c.in_ok-settled.ensures {u = tt}).whole (c.in_ok-settled.ensures {u = tt}).starts
+    let inside = c.outcomes.inside in
+    let d : DoneView = record {
+      outcomes = inside.outcomes.items;
+      drawn = map (λ (list : Vec ℕ Global). list.items) inside.drawn.items;
+      receipts = inside.receipts.items;
+    } in
+    let done = subst (AreAllJobs world jobs c.args.workers) (sym c.outcomes.view_is) (c.in_ok-outcomes.ensures {u = tt}) in
+    is_shift world jobs c.args.workers d c.deref.result.now c.in_ok-settled.settled done c.deref.ensures.value (c.in_ok-settled.ensures {u = tt}).settles
+    (c.in_ok-settled.ensures {u = tt}).whole (c.in_ok-settled.ensures {u = tt}).starts

@@ -4,8 +4,8 @@ use Rattle.std.specs.Prelude.{IfOk}
 use Rattle.std.proofs.KnownBytes.{Appends-nil}
 use Rattle.std.proofs.lemmas.Result.{err_from_is_err_and}
 use Rattle.robots_check.specs.Notes.{IsNoted, NotesText, notes_text}
-use Rattle.robots_lines.specs.Prints.{ReadsBody}
-use Rattle.robots_lines.proofs.CallerLemmas.{as_part, prints_of, reads_none}
+use Rattle.robots_check.specs.Checks.{ReadsBody}
+use Rattle.robots_check.proofs.CallerLemmas.{as_front, prints_of, reads_none}
 use Rattle.program_streams.proofs.records.lines_noted.Goals as goal
 
 -- a fact that holds whatever the result
@@ -18,14 +18,14 @@ notes_read : (a b : Option (List ℕ)) (body slice : List ℕ) (written new : Op
     ReadsBody a b body → slice ≡ body → IsNoted (notes_text slice) written new failures after → NotesText a b written new failures after
 notes_read a b body slice written new failures after reads same noted = record {
   body = body;
-  reads = record { consumed = reads.consumed; fits = reads.fits; all = reads.all };
+  reads = reads.reads;
   noted = subst (λ (l : List ℕ). IsNoted (notes_text l) written new failures after) same noted;
 }
 
 pub returns-in_err-note_body-clause-prints : goal.returns-in_err-note_body-clause-prints
 returns-in_err-note_body-clause-prints g c =
     let p = err_from_is_err_and c.from_residual-in_err-note_body.result c.from_residual-in_err-note_body.ensures.1 in
-    rw (p.1, p.2) (as_part _ _ _ c.in_ok-body.ensures.body, Appends-nil _)
+    rw (p.1, p.2) (as_front _ _ _ c.in_ok-body.ensures.body, Appends-nil _)
 
 pub returns-clause-prints : goal.returns-clause-prints
 returns-clause-prints g c =

@@ -1,12 +1,13 @@
 -- The row of a rule line more stands behind those before.
 use Rattle.std.proofs.Common.{◌+◌, ◌∷◌, [], map, take, ap, sym, subst, ◌∙◌}
 use Rattle.std.proofs.lemmas.List.{map-append}
-use Rattle.robots_text.specs.Walk.{rule_seen}
-use Rattle.robots_check.specs.Rows.{AreRows, row_seen}
+use Rattle.robots_check.specs.Forms.{formed_rule}
+use Rattle.robots_check.specs.Rows.{AreRows, IsRow, row_seen}
 use Rattle.robots_check.proofs.Choosing.{row_added}
 use Rattle.robots_check.proofs.rows.rows_of.Goals as goal
 
-pub loop-rule-preserved : goal.loop-rule-preserved
-loop-rule-preserved c =
-    let added = row_added c.args.path.now rule_seen c.args.rules.now c.loop-rule.rule-index _ (map row_seen c.loop-rule.rows.items) (row_seen c.in_ok-row_of.field-0) c.loop-rule-test.true c.loop-rule.invariant c.in_ok-row_of.ensures in
-    subst (AreRows c.args.path.now (map rule_seen (take (c.loop-rule.rule-index + 1) c.args.rules.now))) (sym (ap (map row_seen) (c.in_ok-push.ensures {u = tt}).items ∙ map-append row_seen c.loop-rule.rows.items (c.in_ok-row_of.field-0 ∷ []))) added
+pub loop-formed-preserved : goal.loop-formed-preserved
+loop-formed-preserved c =
+    let added = row_added c.args.path.now formed_rule c.args.forms.now c.loop-formed.formed-index _ (map row_seen c.loop-formed.rows.items) (row_seen c.row_of.result) c.loop-formed-test.true c.loop-formed.invariant
+    (subst (λ formed. IsRow c.args.path.now (formed_rule formed) (row_seen c.row_of.result)) c.formed-item.is c.row_of.ensures) in
+    subst (AreRows c.args.path.now (map formed_rule (take (c.loop-formed.formed-index + 1) c.args.forms.now))) (sym (ap (map row_seen) (c.in_ok-push.ensures {u = tt}).items ∙ map-append row_seen c.loop-formed.rows.items (c.row_of.result ∷ []))) added

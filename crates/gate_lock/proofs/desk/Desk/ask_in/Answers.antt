@@ -23,6 +23,7 @@ returns-in-Ok g c = (
 
 pub invariant_of-self-in-Err-Denied : goal.invariant_of-self-in-Err-Denied
 invariant_of-self-in-Err-Denied g c = record {
+  none_before = search rules;
   entries_are = grind (arith, common_steps);
   starts_are = grind (arith, common_steps, starts_in_push);
   handed_are = grind (arith, common_steps);

@@ -22,6 +22,7 @@ invariant_of-self g c =
     let room = c.take_in.ensures.capacity in
     let seen : c.self.inside.seen ≤ c.entry_count-self-inside.result = search rules in
     record {
+      none_before = ap (λ (s : SealedView). s.before) taken.sealed_are ∙ c.self.invariant.none_before;
       entries_are = omega (arith, entries_are, count);
       starts_are = omega (arith, starts_are, starts);
       handed_are = c.self.invariant.handed_are ∙ sym (ap (λ (s : SealedView). s.handed) taken.sealed_are);

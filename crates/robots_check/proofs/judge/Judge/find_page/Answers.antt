@@ -13,24 +13,24 @@ use Rattle.robots_check.proofs.judge.Judge.find_page.Goals as goal
 
 pub place_of-requires-clause-there : goal.place_of-requires-clause-there
 place_of-requires-clause-there c =
-    place_there (numbered_records c.args.self.policy.now) c.args.self.token.now (normal_path (target_of c.args.page.now)) (map rule_seen c.args.self.rules.now) c.in-Allow-Line.line kinds.Allow c.requires.0
+    place_there (numbered_records c.args.self.policy.now) c.args.self.token.now (normal_path (target_of c.args.page.now)) (map rule_seen c.args.self.rules.now) c.in-Allow-Line.line kinds.Allow c.requires.rules
     (subst (λ path. Decides (numbered_records c.args.self.policy.now) c.args.self.token.now path c.in-Allow-Line.line kinds.Allow) c.path_to_match.ensures.value
     (subst (λ said. IsVerdict (numbered_records c.args.self.policy.now) c.args.self.token.now c.path_to_match.result.now (Allow said)) c.in-Allow-Line.field-0-is c.in-Allow-Line.ensures))
 
 pub place_of-requires-in-Deny-clause-there : goal.place_of-requires-in-Deny-clause-there
 place_of-requires-in-Deny-clause-there c =
-    place_there (numbered_records c.args.self.policy.now) c.args.self.token.now (normal_path (target_of c.args.page.now)) (map rule_seen c.args.self.rules.now) c.in-Deny.line kinds.Disallow c.requires.0
+    place_there (numbered_records c.args.self.policy.now) c.args.self.token.now (normal_path (target_of c.args.page.now)) (map rule_seen c.args.self.rules.now) c.in-Deny.line kinds.Disallow c.requires.rules
     (subst (λ path. Decides (numbered_records c.args.self.policy.now) c.args.self.token.now path c.in-Deny.line kinds.Disallow) c.path_to_match.ensures.value c.in-Deny.ensures)
 
 pub returns-in-Allow-Line : goal.returns-in-Allow-Line
 returns-in-Allow-Line c =
-    given_allow (numbered_records c.args.self.policy.now) c.args.self.token.now (normal_path (target_of c.args.page.now)) (map rule_seen c.args.self.rules.now) c.in-Allow-Line.line c.place_of.result _ c.requires.0
+    given_allow (numbered_records c.args.self.policy.now) c.args.self.token.now (normal_path (target_of c.args.page.now)) (map rule_seen c.args.self.rules.now) c.in-Allow-Line.line c.place_of.result _ c.requires.rules
     (subst (λ path. Decides (numbered_records c.args.self.policy.now) c.args.self.token.now path c.in-Allow-Line.line kinds.Allow) c.path_to_match.ensures.value
     (subst (λ said. IsVerdict (numbered_records c.args.self.policy.now) c.args.self.token.now c.path_to_match.result.now (Allow said)) c.in-Allow-Line.field-0-is c.in-Allow-Line.ensures))
     c.place_of.ensures (seen_at c.args.self.rules.now c.place_of.result c.place_of.ensures.0)
 
 pub returns-in-Deny : goal.returns-in-Deny
 returns-in-Deny c =
-    given_deny (numbered_records c.args.self.policy.now) c.args.self.token.now (normal_path (target_of c.args.page.now)) (map rule_seen c.args.self.rules.now) c.in-Deny.line c.place_of-in-Deny.result _ c.requires.0
+    given_deny (numbered_records c.args.self.policy.now) c.args.self.token.now (normal_path (target_of c.args.page.now)) (map rule_seen c.args.self.rules.now) c.in-Deny.line c.place_of-in-Deny.result _ c.requires.rules
     (subst (λ path. Decides (numbered_records c.args.self.policy.now) c.args.self.token.now path c.in-Deny.line kinds.Disallow) c.path_to_match.ensures.value c.in-Deny.ensures)
     c.place_of-in-Deny.ensures (seen_at c.args.self.rules.now c.place_of-in-Deny.result c.place_of-in-Deny.ensures.0)

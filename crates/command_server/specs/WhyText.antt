@@ -1,0 +1,21 @@
+-- The reply to WHY: the answer that stands for an authority. docs/FORMATS.md, replies.
+-- Cited by the contracts of `why_text` and `told`.
+use Rattle.std.specs.Prelude.{List, [], ◌∷◌, ◌++◌, ℕ, Option, Some, None, Result, Ok, Err, codes}
+use Rattle.authority_cache.specs.declared.standing_answer.StandingAnswer.{StandingAnswer}
+use Rattle.counted_io.specs.Lines.{line_feed}
+use Rattle.crawl_audit.specs.SpellBase.{answer_words}
+use Rattle.crawl_job.specs.declared.hop.Refusal.TheVariants as refusals
+use Rattle.gate_core.specs.declared.refusal.NoMemory.{NoMemory}
+use Rattle.line_text.specs.Pieces.{line_of}
+use Rattle.command_server.specs.RefusalText.{refusal_text}
+
+-- the answer as a base spells it behind the letter of its line: the authority, its turn, the moment of that turn's begin,
+-- and what it says
+abbrev pub explained_text : StandingAnswer → List ℕ
+explained_text answer = (codes "WHY " ++ answer_words answer) ++ line_feed ∷ []
+
+-- the reply
+abbrev pub why_text : List ℕ → Result (Option StandingAnswer) NoMemory → List ℕ
+why_text authority (Ok (Some answer)) = explained_text answer
+why_text authority (Ok None) = line_of (codes "WHY" ∷ authority ∷ codes "unknown" ∷ [])
+why_text authority (Err _) = refusal_text refusals.NoMemory

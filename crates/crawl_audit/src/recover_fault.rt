@@ -1,0 +1,48 @@
+//! Why no gate can go on from the text of a journal.
+//! docs/FORMATS.md has the causes of a bad line.
+use crate::fault::AuditFault;
+use std::alloc::AllocError;
+
+/// Why no gate can go on from a text.
+#[derive(Clone, Copy, Debug, PartialEq, Eq)]
+pub enum RecoverFault {
+    /// The line of this number, from 1, is whole or too long, and is the first with which no right text goes on.
+    BadLine(u64),
+    /// The text has no line of this number, or has it in part alone, and no entry may come there: it is empty, or
+    /// ends within its base.
+    NoEntries(u64),
+    /// The line of this number would end something that is out, and there is no room for it: a text has 1,000,000
+    /// entries at most. A gate keeps that room.
+    NoRoom(u64),
+    /// A read failed.
+    Read,
+    /// The allocator had no memory.
+    NoMemory,
+}
+
+impl From<AllocError> for RecoverFault {
+    ghost use Rattle.std.specs.Prelude.{◌≡◌};
+    ghost use Rattle.crawl_audit.specs.declared.recover_fault.RecoverFault.{RecoverFault};
+
+    ghost from_gives = { λ _ fault. fault ≡ RecoverFault.NoMemory };
+
+    fn from(_: AllocError) -> RecoverFault {
+        RecoverFault::NoMemory
+    }
+}
+
+impl From<AuditFault> for RecoverFault {
+    ghost use Rattle.std.specs.Prelude.{◌≡◌};
+    ghost use Rattle.crawl_audit.specs.declared.recover_fault.RecoverFault.{RecoverFault};
+    ghost use Rattle.crawl_audit.specs.Recovering.{fault_read};
+
+    ghost from_gives = { λ fault told. told ≡ fault_read fault };
+
+    fn from(fault: AuditFault) -> RecoverFault {
+        match fault {
+            AuditFault::BadLine(line) => RecoverFault::BadLine(line),
+            AuditFault::Read => RecoverFault::Read,
+            AuditFault::NoMemory => RecoverFault::NoMemory,
+        }
+    }
+}

@@ -1,0 +1,120 @@
+//! A shift over a gate that goes on from what was entered before it, as a gate with a journal does.
+ghost use Rattle.std.specs.Prelude.{◌≤◌, IfOk, length, map};
+ghost use Rattle.crawl_workers.specs.Shifts.{IsLaterShift};
+ghost use Rattle.crawl_workers.specs.World.{world_of};
+ghost use Rattle.job_line.specs.Limits.{IsCrew, max_jobs};
+
+use crate::both::Both;
+use crate::not_shifted::NotShifted;
+use crate::progress::Progress;
+use crate::shifting::Shift;
+use crate::table::Table;
+use counted_io::Sink;
+use crawl_job::Job;
+use crawl_workers::{Clock, Fetcher, Report, ShiftFault, Watcher, run_later_shift};
+use gate_lock::{Gate, GateLock, Receipts};
+use std::sync::Wait;
+use std::thread::Threads;
+use std::time;
+
+impl<
+    E: Sink + Send,
+    F: Fetcher + Sync,
+    C: Clock + Sync,
+    R: Threads + Wait + time::Clock + Sync,
+> Shift<'_, '_, E, F, C, R> {
+    /// Has the workers do these jobs, and writes the report, as `report_jobs` does, over a gate with these receipts of
+    /// what was entered before. The report has the starts of its own jobs alone.
+    pub fn report_later<G: Gate + Send + Sync, W: Sink + Send, V: Watcher + Sync>(
+        &self,
+        jobs: &[Job],
+        writer: &mut W,
+        gate: &GateLock<G>,
+        past: Vec<Receipts<G>>,
+        watcher: &V,
+    ) -> Result<(), NotShifted>
+        requires jobs { length jobs.now ≤ max_jobs }
+        requires workers { IsCrew self.now.workers }
+    {
+        let before = starts_of(past.as_slice());
+        let progress = Progress::new(self.rt, self.alloc, writer, self.fetcher, jobs.len())?;
+        let report = self.run_both_later(jobs, gate, past, &progress, watcher)?;
+        let starts = report.settled.starts.saturating_sub(before);
+        progress.finish(report.outcomes.as_slice(), starts)?;
+        Ok(())
+    }
+
+    /// Has the workers do these jobs, and writes the table, as `table_jobs` does, over such a gate.
+    pub fn table_later<G: Gate + Send + Sync, W: Sink + Send>(
+        &self,
+        jobs: &[Job],
+        writer: &mut W,
+        gate: &GateLock<G>,
+        past: Vec<Receipts<G>>,
+    ) -> Result<(), NotShifted>
+        requires jobs { length jobs.now ≤ max_jobs }
+        requires workers { IsCrew self.now.workers }
+    {
+        let table = Table::new(self.rt, self.alloc, writer, self.fetcher)?;
+        self.run_later(jobs, gate, past, &table)?;
+        table.finish()?;
+        Ok(())
+    }
+
+    // Does the jobs, and has both watchers and the status line told of them.
+    fn run_both_later<G: Gate + Send + Sync, A: Watcher + Sync, B: Watcher + Sync>(
+        &self,
+        jobs: &[Job],
+        gate: &GateLock<G>,
+        past: Vec<Receipts<G>>,
+        first: &A,
+        second: &B,
+    ) -> Result<Report<G>, ShiftFault>
+        requires jobs { length jobs.now ≤ max_jobs }
+        requires workers { IsCrew self.now.workers }
+    {
+        let both = Both { first, second };
+        self.run_later(jobs, gate, past, &both)
+    }
+
+    // Does the jobs, and has the watcher and the status line told of them.
+    fn run_later<G: Gate + Send + Sync, V: Watcher + Sync>(
+        &self,
+        jobs: &[Job],
+        gate: &GateLock<G>,
+        past: Vec<Receipts<G>>,
+        watcher: &V,
+    ) -> Result<Report<G>, ShiftFault>
+        requires jobs { length jobs.now ≤ max_jobs }
+        requires workers { IsCrew self.now.workers }
+        ensures { IfOk result (IsLaterShift
+            (world_of (F.gives self.now.fetcher.now) (F.follows self.now.fetcher.now) (C.reads self.now.clock.now))
+            jobs.now self.now.workers past.items) }
+    {
+        self.status.expect(jobs.len() as u64);
+        let both = Both {
+            first: watcher,
+            second: self.status,
+        };
+        let Shift {
+            rt,
+            alloc,
+            workers,
+            fetcher,
+            clock,
+            ..
+        } = *self;
+        let report = run_later_shift(rt, alloc, jobs, workers, gate, past, fetcher, clock, &both);
+        self.status.erase();
+        report
+    }
+}
+
+// How many fetches were started by what these receipts tell.
+fn starts_of<G: Gate>(receipts: &[Receipts<G>]) -> u64 {
+    let mut starts: u64 = 0;
+    for one in receipts {
+        starts = starts.saturating_add(one.starts());
+    }
+    starts
+}

@@ -1,0 +1,22 @@
+-- All jobs are done, and the gate is settled with the receipts of what was before.
+-- The lemma `is_later_shift` of `Shifting` says what that is.
+use Rattle.std.proofs.Common.{List, ℕ, Vec, Global, sym, subst, rules}
+use Rattle.std.specs.Prelude.{map}
+use Rattle.crawl_workers.specs.Shifts.{AreAllJobs, DoneView}
+use Rattle.crawl_workers.specs.World.{world_of}
+use Rattle.crawl_workers.proofs.Shifting.{is_later_shift}
+use Rattle.crawl_workers.proofs.shift.run_later_shift.Goals as goal
+
+pub returns : goal.returns
+returns g c =
+    let world = world_of (g.F.Fetcher.gives c.args.fetcher.now) (g.F.Fetcher.follows c.args.fetcher.now) (g.C.Clock.reads c.args.clock.now) in
+    let jobs = c.args.jobs.now in
+    let inside = c.outcomes.inside in
+    let d : DoneView = record {
+      outcomes = inside.outcomes.items;
+      drawn = map (λ (list : Vec ℕ Global). list.items) inside.drawn.items;
+      receipts = inside.receipts.items;
+    } in
+    let done = subst (AreAllJobs world jobs c.args.workers) (sym c.outcomes.view_is) (c.in_ok-outcomes.ensures {u = tt}) in
+    is_later_shift world jobs c.args.workers c.args.past.items d c.append.new.self.items c.deref.result.now c.in_ok-settled.settled done (search rules)
+    c.deref.ensures.value (c.in_ok-settled.ensures {u = tt}).settles (c.in_ok-settled.ensures {u = tt}).starts

@@ -1,0 +1,249 @@
+//! `crawlgate shift` with a journal: nothing is written, and no page is asked for, before what was entered until then stands
+//! in the journal's files. The shift goes on from where these end.
+ghost use Rattle.std.specs.Prelude.{◌≤◌, length};
+ghost use Rattle.job_line.specs.Limits.{IsCrew, max_jobs};
+
+use crate::journal::{OpenJournal, Past};
+use crate::shift_ending;
+use counted_io::{Counted, Sink};
+use crawl_job::Job;
+use crawl_shift::{ClosedSites, Shift};
+use crawl_workers::{Clock, Fetcher};
+use gate_journal::Recording;
+use gate_lock::{Gate, GateLock, Receipts};
+use job_line::{MAX_JOBS, MAX_WORKERS};
+use journal_files::{Abreast, GroupJournal, Records};
+use journal_keepers::FetchesBehind;
+use journal_tape::Behind;
+use keepers::{DeskKeeper, Keeper, NoKeeper};
+use path_normal::Authority;
+use program_streams::{Ending, Reasoned, Stream, tell_failed, tell_failed_journal};
+use program_words::Told;
+use std::sync::Wait;
+use std::sync::atomic::{AtomicU64, Ordering};
+use std::thread::Threads;
+use std::time::Duration;
+use std::{thread, time};
+
+// How long lie between two looks at what nobody waits for, and at every how many looks it is made to outlive the machine,
+// where that is done once a second.
+const NAP_MILLISECONDS: u64 = 20;
+
+const SYNC_LOOKS: u64 = 50;
+
+/// Begins the journal, and does these jobs behind it. Where it has failed that is told.
+pub(crate) fn shift_recorded<
+    G: Gate + Send + Sync,
+    E: Sink + Send,
+    F: Fetcher + Sync,
+    C: Clock + Sync,
+    R: Threads + Wait + time::Clock + Sync,
+>(
+    host: &HostRuntime,
+    shift: &Shift<'_, '_, E, F, C, R>,
+    jobs: &[Job],
+    gate: &GateLock<G>,
+    past: Past<G>,
+    journal: OpenJournal<'_>,
+    told: Told,
+) -> Ending {
+    let OpenJournal { name, folder, sync } = journal;
+    let chronicle = Recording {
+        alloc: shift.alloc,
+        rt: shift.rt,
+        gate,
+    };
+    match GroupJournal::begin(shift.alloc, &chronicle, folder, sync) {
+        Ok(journal) => {
+            let recorded = Recorded {
+                chronicle: &chronicle,
+                journal: &journal,
+            };
+            let ending = recorded.work(host, shift, jobs, past, told);
+            match journal.fault(shift.rt) {
+                Some(fault) => tell_failed_journal(host, name, fault),
+                None => ending,
+            }
+        }
+        Err(fault) => tell_failed_journal(host, name, fault),
+    }
+}
+
+// A gate, and what records it.
+#[derive(Clone, Copy)]
+struct Recorded<'r, 'a, G: Gate, J: Records, R: Wait> {
+    chronicle: &'r Recording<'a, G, R>,
+    journal: &'r J,
+}
+
+impl<
+    'r,
+    'a,
+    G: Gate + Send + Sync,
+    J: Records + Sync,
+    R: Threads + Wait + time::Clock + Sync,
+> Recorded<'r, 'a, G, J, R> {
+    // Does the jobs, and has what nobody waits for recorded meanwhile. What is named first is done last where no thread
+    // can be made.
+    fn work<E: Sink + Send, F: Fetcher + Sync, C: Clock + Sync>(
+        &self,
+        host: &HostRuntime,
+        shift: &Shift<'_, '_, E, F, C, R>,
+        jobs: &[Job],
+        past: Past<G>,
+        told: Told,
+    ) -> Ending {
+        let ended = AtomicU64::new(0);
+        let ((), ending) = thread::join(
+            self.chronicle.rt,
+            || self.record(&ended),
+            || {
+                let ending = self.do_some(host, shift, jobs, past, told);
+                ended.store(1, Ordering::SeqCst);
+                ending
+            },
+        );
+        ending
+    }
+
+    // Has recorded what is entered until the jobs have ended, and all of it then.
+    fn record(&self, ended: &AtomicU64) {
+        let rt = self.chronicle.rt;
+        let mut looks: u64 = 0;
+        for _ in rt.forever() {
+            let is_last = ended.load(Ordering::SeqCst) > 0;
+            looks = looks.wrapping_add(1);
+            // (a fault is kept, and each write meets it)
+            let _ = if is_last || looks % SYNC_LOOKS == 0 {
+                self.journal.see_to(rt, self.chronicle)
+            } else {
+                self.journal.come_up(rt, self.chronicle)
+            };
+            if is_last {
+                return;
+            }
+            thread::sleep(rt, Duration::from_millis(NAP_MILLISECONDS));
+        }
+    }
+
+    // Does the jobs, of which there are as many, and as many workers, as may be: a thread's closure knows nothing of what
+    // its maker was told.
+    fn do_some<E: Sink + Send, F: Fetcher + Sync, C: Clock + Sync>(
+        &self,
+        host: &HostRuntime,
+        shift: &Shift<'_, '_, E, F, C, R>,
+        jobs: &[Job],
+        past: Past<G>,
+        told: Told,
+    ) -> Ending {
+        let workers = shift.workers;
+        if jobs.len() as u64 > MAX_JOBS || workers == 0 || workers > MAX_WORKERS {
+            return Ending::Device;
+        }
+        self.do_jobs(host, shift, jobs, past, told)
+    }
+
+    // Fetches anew what the last process was fetching, and does the jobs.
+    fn do_jobs<E: Sink + Send, F: Fetcher + Sync, C: Clock + Sync>(
+        &self,
+        host: &HostRuntime,
+        shift: &Shift<'_, '_, E, F, C, R>,
+        jobs: &[Job],
+        past: Past<G>,
+        told: Told,
+    ) -> Ending
+        requires jobs { length jobs.now ≤ max_jobs }
+        requires workers { IsCrew shift.now.workers }
+    {
+        let fetcher = FetchesBehind {
+            ahead: self.abreast(),
+            fetcher: shift.fetcher,
+        };
+        let behind = Shift {
+            rt: shift.rt,
+            alloc: shift.alloc,
+            workers: shift.workers,
+            fetcher: &fetcher,
+            clock: shift.clock,
+            status: shift.status,
+        };
+        match self.receipts_before(&behind, past) {
+            Ok(receipts) => self.write_jobs(host, &behind, jobs, receipts, told),
+            Err(NoKeeper::NoMemory) => Ending::NoMemory,
+            Err(NoKeeper::DesksFull) => Ending::Device,
+        }
+    }
+
+    // Does the jobs, and writes what is to be told of them.
+    fn write_jobs<E: Sink + Send, F: Fetcher + Sync, C: Clock + Sync>(
+        &self,
+        host: &HostRuntime,
+        shift: &Shift<'_, '_, E, F, C, R>,
+        jobs: &[Job],
+        past: Vec<Receipts<G>>,
+        told: Told,
+    ) -> Ending
+        requires jobs { length jobs.now ≤ max_jobs }
+        requires workers { IsCrew shift.now.workers }
+    {
+        let gate = self.chronicle.gate;
+        let output = Counted::new(Reasoned::new(host.stdout()));
+        let mut writer = Behind::new(self.abreast(), output);
+        let closed = ClosedSites::new(shift.rt, shift.alloc);
+        let end = match told {
+            Told::Table => shift.table_later(jobs, &mut writer, gate, past),
+            // (no history is written beside the journal, which has it)
+            Told::Outcomes | Told::History => {
+                shift.report_later(jobs, &mut writer, gate, past, &closed)
+            }
+        };
+        // (a standard error that fails leaves the status alone)
+        let _ = closed.tell(&mut Counted::new(host.stderr()));
+        tell_failed(host, shift_ending(end), Stream::Output, writer.into_sink())
+    }
+
+    // The receipts of what was entered before the jobs: by an earlier process, and for the robots files that it was
+    // fetching, which are fetched anew.
+    fn receipts_before<E: Sink + Send, F: Fetcher + Sync, C: Clock + Sync>(
+        &self,
+        shift: &Shift<'_, '_, E, F, C, R>,
+        past: Past<G>,
+    ) -> Result<Vec<Receipts<G>>, NoKeeper> {
+        let Past { receipts, sites } = past;
+        let mut all = Vec::new(shift.alloc);
+        if all.push(receipts).is_err() {
+            return Err(NoKeeper::NoMemory);
+        }
+        if !sites.is_empty() {
+            let fetched = self.fetch_anew(shift, sites.as_slice())?;
+            if all.push(fetched).is_err() {
+                return Err(NoKeeper::NoMemory);
+            }
+        }
+        Ok(all)
+    }
+
+    // Has the robots files of these sites fetched, at a desk of its own.
+    fn fetch_anew<E: Sink + Send, F: Fetcher + Sync, C: Clock + Sync>(
+        &self,
+        shift: &Shift<'_, '_, E, F, C, R>,
+        sites: &[Authority],
+    ) -> Result<Receipts<G>, NoKeeper> {
+        let gate = self.chronicle.gate;
+        let mut keeper = DeskKeeper::open(shift.rt, shift.alloc, gate, shift.fetcher)?;
+        for site in sites {
+            // (without room in the history its answer stands)
+            let _ = keeper.refresh(shift.alloc, site, shift.clock);
+        }
+        Ok(keeper.close())
+    }
+
+    // What comes up before each write and each fetch.
+    fn abreast(&self) -> Abreast<'r, Recording<'a, G, R>, J, R> {
+        Abreast {
+            rt: self.chronicle.rt,
+            chronicle: self.chronicle,
+            journal: self.journal,
+        }
+    }
+}

@@ -1,0 +1,30 @@
+-- What a book goes on from after its end: a base in which nothing is out, whose grants fit its limits.
+-- RFC 9309, sections 2.3.1 and 2.4; cited by `resume.rt`.
+use Rattle.std.specs.Prelude.{◌≡◌, Bool, true, false, List, [], Result, Ok, Err, length}
+use Rattle.std.specs.List.{list_all}
+use Rattle.permit_book.specs.Outstanding.{TellsPermits}
+use Rattle.permit_book.specs.Table.{Table}
+use Rattle.gate_history.specs.declared.base.SlotGrant.{SlotGrant}
+use Rattle.gate_history.specs.Base.{Base}
+use Rattle.gate_history.specs.Grants.{greatest_of}
+use Rattle.gate_core.specs.declared.config.Limits.{Limits}
+use Rattle.gate_core.specs.declared.refusal.NotResumed.{NotResumed}
+use Rattle.gate_core.specs.declared.refusal.NotResumed.TheVariants as not_resumed
+use Rattle.gate_core.specs.Gate.{Gate}
+use Rattle.gate_core.specs.Kept.{is_grant_of}
+
+-- each grant of the base is in a slot of these limits, and of a generation from 1 to the last
+abbrev pub fits_limits : Limits → Base → Bool
+fits_limits limits base = list_all (is_grant_of limits) base.grants
+
+-- resume: Slots, where a grant of the base does not fit the limits, and only there
+abbrev pub Resumes : Limits → Base → Result Gate NotResumed → Type 0
+Resumes limits base (Ok book) = fits_limits limits base ≡ true
+Resumes limits base (Err not_resumed.Slots) = fits_limits limits base ≡ false
+Resumes limits base (Err not_resumed.NoMemory) = fits_limits limits base ≡ true
+
+-- the table has the slots of these limits, what was granted in them was granted before, and nothing is out
+pub record IsBehind (limits : Limits) (grants : List SlotGrant) (t : Table) : Type 0 where
+  pub tells : TellsPermits t [] [] (greatest_of grants)
+  pub slots : length t.slots ≡ limits.slots
+  pub first : t.first_generation ≡ limits.first_generation

@@ -1,0 +1,113 @@
+//! Who sees to the gate of a server connects at a listener of its own: clients that take all workers don't keep it out.
+//! One after the other is served.
+
+use crate::fault::ServeFault;
+use crate::recorded::Recorded;
+use crate::server::Server;
+use crate::warden::Alarm;
+use client_wire::{AcceptFault, ClientStream, Listener, Waiting, close};
+use command_server::{FirstLine, NumberedClock, serve_overseer};
+use counted_io::{Counted, DeviceFault};
+use crawl_workers::Fetcher;
+use gate_lock::{Gate, Receipts};
+use journal_files::Records;
+use journal_keepers::{FetchesBehind, RecordedKeeper};
+use journal_tape::Behind;
+use keepers::{DeskKeeper, Keeper};
+use std::cell::Cell;
+use std::net::TcpStream;
+use std::sync::Wait;
+use std::sync::atomic::{AtomicU64, Ordering};
+use std::time::Duration;
+use std::{thread, time};
+
+// How long it waits before it tries to shut a listener again, for which it had no descriptor.
+const NAP_MILLISECONDS: u64 = 100;
+
+impl<F: Fetcher, C: NumberedClock, A: Alarm, R: Wait + time::Clock> Server<'_, F, C, A, R> {
+    /// Serves who sees to the gate, at a desk of its own, until no worker is left and the listener is shut.
+    pub(crate) fn oversee<G: Gate, J: Records>(
+        &self,
+        recorded: &Recorded<'_, G, J, R>,
+        listener: &Listener,
+        left: &AtomicU64,
+    ) -> Result<Receipts<G>, ServeFault> {
+        let fetcher = FetchesBehind {
+            ahead: recorded.abreast(),
+            fetcher: self.fetcher,
+        };
+        let desk = DeskKeeper::open(self.rt, self.alloc, recorded.gate(), &fetcher)?;
+        let mut keeper = RecordedKeeper::new(
+            self.rt,
+            &recorded.chronicle,
+            recorded.journal,
+            &recorded.visits,
+            desk,
+        );
+        let ended = self.take_overseers(recorded, listener, left, &mut keeper);
+        let receipts = keeper.into_keeper().close();
+        ended?;
+        Ok(receipts)
+    }
+
+    // Takes one after the other until no worker is left.
+    fn take_overseers<G: Gate, J: Records, K: Keeper>(
+        &self,
+        recorded: &Recorded<'_, G, J, R>,
+        listener: &Listener,
+        left: &AtomicU64,
+        keeper: &mut K,
+    ) -> Result<(), DeviceFault> {
+        for _ in self.rt.forever() {
+            if left.load(Ordering::SeqCst) == 0 {
+                return Ok(());
+            }
+            match listener.accept(self.rt) {
+                Ok(stream) => {
+                    self.serve_one(recorded, stream, keeper);
+                    recorded.come_up()?;
+                }
+                Err(AcceptFault::Want) => {}
+                Err(AcceptFault::Client | AcceptFault::Device) => {
+                    // (a listener that was shut fails too)
+                    if left.load(Ordering::SeqCst) > 0 {
+                        return Err(DeviceFault);
+                    }
+                }
+            }
+        }
+        unreachable!()
+    }
+
+    // Serves one to its end. A fault of its session ends its connection alone.
+    fn serve_one<G: Gate, J: Records, K: Keeper>(
+        &self,
+        recorded: &Recorded<'_, G, J, R>,
+        stream: TcpStream,
+        keeper: &mut K,
+    ) {
+        let waiting = Cell::new(Waiting::new(self.patience));
+        let mut reader = Counted::new(ClientStream::new(self.rt, &stream, &waiting));
+        let writer = Counted::new(ClientStream::new(self.rt, &stream, &waiting));
+        let mut writer = Behind::new(recorded.abreast(), writer);
+        let _ = serve_overseer(
+            self.alloc,
+            &mut reader,
+            &mut writer,
+            keeper,
+            self.clock,
+            FirstLine::NoRequest,
+        );
+        close(self.rt, stream);
+    }
+
+    /// Shuts the listener, at which nobody is taken any more then.
+    pub(crate) fn shut(&self, listener: &Listener) {
+        for _ in self.rt.forever() {
+            if listener.shut().is_ok() {
+                return;
+            }
+            thread::sleep(self.rt, Duration::from_millis(NAP_MILLISECONDS));
+        }
+    }
+}

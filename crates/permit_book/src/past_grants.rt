@@ -1,0 +1,26 @@
+//! Grants of before the table was made, as a history that goes on has them.
+//! RFC 9309 has no permits: they make each fetch look at the answer in force (2.4).
+ghost use Rattle.std.specs.Prelude.{◌≡◌, ◌<◌, ◌≤◌, IsTrue, length};
+ghost use Rattle.permit_book.specs.Numbers.{last_generation};
+ghost use Rattle.permit_book.specs.Table.{is_nothing, noted, slot_at};
+
+use crate::number::LAST_GENERATION;
+use crate::permits::Permits;
+
+impl Permits {
+    /// Notes that this generation was granted before in a slot in which nothing is out: the next
+    /// grant there has a higher one, and after [`LAST_GENERATION`] there is none. A generation of
+    /// 0, or one that is not above the slot's last, changes nothing. It takes no memory.
+    pub fn note_grant(&mut self, slot: u64, generation: u64)
+        requires slot { slot < length self.old.slots }
+        requires generation { generation ≤ last_generation }
+        requires idle { IsTrue (is_nothing (slot_at self.old slot).out) }
+        ensures { self.new ≡ noted self.old slot generation }
+    {
+        let last = self.slots[slot as usize].last.max(generation);
+        self.slots[slot as usize].last = last;
+        if last == LAST_GENERATION {
+            self.free.remove(slot);
+        }
+    }
+}

@@ -1,0 +1,28 @@
+-- Rule lines with their patterns in normal form, from which the rows beside each path are made.
+-- RFC 9309, section 2.2.2.
+use Rattle.std.specs.Prelude.{◌≡◌, List, map}
+use Rattle.std.specs.List.{All}
+use Rattle.path_normal.specs.Normal.{normal_pattern}
+use Rattle.robots_text.specs.Groups.{Ruled}
+use Rattle.robots_text.specs.Walk.{rule_seen}
+use Rattle.robots_check.specs.declared.detail.Detail.{Detail}
+use Rattle.robots_check.specs.declared.detail.Detail.TheVariants.{Plain, Explained}
+use Rattle.robots_check.specs.declared.forms.Formed.{Formed}
+
+-- its rule line
+abbrev pub formed_rule : Formed → Ruled
+formed_rule formed = rule_seen formed.rule
+
+-- its pattern is that of its rule line
+abbrev pub IsFormed : Formed → Type 0
+IsFormed formed = formed.form.items ≡ normal_pattern (formed_rule formed).pattern
+
+-- these are the rule lines, in order, each with its pattern
+pub record AreFormsOf (rules : List Ruled) (forms : List Formed) : Type 0 where
+  pub of_rules : map formed_rule forms ≡ rules
+  pub formed : All IsFormed forms
+
+-- so it is where they are to be explained
+abbrev pub AreFormsAt : Detail → List Ruled → List Formed → Type 0
+AreFormsAt Plain rules forms = Unit {0}
+AreFormsAt Explained rules forms = AreFormsOf rules forms
