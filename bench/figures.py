@@ -1,8 +1,6 @@
 """What the scripts of bench have in common: the program, its time, tables, and what was installed when they ran."""
 import contextlib
-import importlib.machinery
 import importlib.metadata
-import importlib.util
 import multiprocessing
 import os
 import platform
@@ -13,11 +11,9 @@ import tempfile
 import time
 
 sys.dont_write_bytecode = True
-ROOT = os.path.dirname(os.path.dirname(os.path.realpath(__file__)))
-# (what plays with a server)
-sys.path.insert(0, f"{ROOT}/checks/serve")
-# (what opens TLS)
-sys.path.insert(0, f"{ROOT}/checks")
+sys.path.append(f"{os.path.dirname(os.path.dirname(os.path.realpath(__file__)))}/checks")
+from lib.program import BUILT, ROOT
+
 # how many seconds a peer may take for one figure
 PATIENCE = 5
 
@@ -28,22 +24,10 @@ def words_of(given, usage):
     left = [it for it in given if it != "--quick"]
     if len(left) > 1 or any(it.startswith("-") for it in left):
         sys.exit(usage)
-    program = left[0] if left else os.environ.get("CRAWLGATE", f"{ROOT}/crates/crawlgate/out/crawlgate")
+    program = left[0] if left else os.environ.get("CRAWLGATE", BUILT)
     if not os.path.isfile(program):
         sys.exit(f"there is no {program}: build it by checks/build, or name another")
     return os.path.realpath(program), 50 if quick else 1
-
-
-def script(name, path):
-    """Returns a script as a module of this name."""
-    loader = importlib.machinery.SourceFileLoader(name, f"{ROOT}/{path}")
-    module = importlib.util.module_from_spec(importlib.util.spec_from_loader(name, loader))
-    loader.exec_module(module)
-    return module
-
-
-def speed():
-    return script("speed", "checks/speed/run")
 
 
 def table(head, rows):

@@ -8,9 +8,11 @@ import subprocess
 import sys
 import tempfile
 
-import tls
-from example_sites import ROOT, Sites, Skipped, archive, check_folder, crawl, in_folder, jobs_of
-from line_server import SECONDS, Server, same
+from lib import tls
+from lib.cases import Skipped, same
+from lib.example_sites import Sites, archive, check_folder, crawl, in_folder, jobs_of
+from lib.program import ROOT
+from lib.server import SECONDS, Server
 
 CLIENTS = f"{ROOT}/examples/clients"
 # a program that fetches pages by permits, and writes what came of each

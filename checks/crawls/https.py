@@ -4,14 +4,12 @@ import asyncio
 import contextlib
 import socket
 import subprocess
-import sys
 import tempfile
 
 from headers import https_headers
-from loopback import NO_ROBOTS, PAGE, ROOT, RULES, Replies, Site, Skipped, answer, crawl, redirect
-
-sys.path.insert(0, f"{ROOT}/checks")
-import tls
+from lib import tls
+from lib.cases import Skipped
+from loopback import NO_ROBOTS, PAGE, RULES, Replies, Site, answer, crawl, redirect
 
 # what the table says of a job: outcome, status, octets, cause
 GOOD = ("PAGE", "200", "5", "norule")

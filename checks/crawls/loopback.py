@@ -1,12 +1,11 @@
 """What the crawls of checks/crawls are made with: sites on the loopback, what they answer, and a shift over them."""
 import asyncio
-import os
-import socket
-import struct
 import time
 
-ROOT = os.path.dirname(os.path.dirname(os.path.dirname(os.path.realpath(__file__))))
-PROGRAM = f"{ROOT}/crates/crawlgate/out/crawlgate"
+from lib.costly import FEW_RUNS
+from lib.server import Server
+from lib.sites import reset
+
 NO_ROBOTS = b"HTTP/1.1 404 None\r\nContent-Length: 0\r\n\r\n"
 PAGE = b"HTTP/1.1 200 OK\r\nContent-Length: 5\r\n\r\nhello"
 RULES = b"HTTP/1.1 200 OK\r\n\r\nuser-agent: *\ndisallow: /private\n"
@@ -21,10 +20,6 @@ async def answer(site, writer, target):
 
 def redirect(location):
     return b"HTTP/1.1 301 On\r\nLocation: " + location + b"\r\nContent-Length: 0\r\n\r\n"
-
-
-class Skipped(Exception):
-    """A crawl that can't be tried here, and why."""
 
 
 class Site:
@@ -72,7 +67,7 @@ async def crawl(words, jobs, before=(), meanwhile=None):
     happen meanwhile has happened before it is told the jobs."""
     began = time.monotonic()
     process = await asyncio.create_subprocess_exec(
-        *before, PROGRAM, "shift", *words, stdin=asyncio.subprocess.PIPE, stdout=asyncio.subprocess.PIPE, stderr=asyncio.subprocess.PIPE
+        *before, Server.program, "shift", *words, stdin=asyncio.subprocess.PIPE, stdout=asyncio.subprocess.PIPE, stderr=asyncio.subprocess.PIPE
     )
     if meanwhile:
         await meanwhile
@@ -97,8 +92,7 @@ class Replies:
             await asyncio.sleep(4 * SLOW)
         elif not reply:
             # unread octets and no wait for those unsent: the connection is reset
-            raw = writer.get_extra_info("socket")
-            raw.setsockopt(socket.SOL_SOCKET, socket.SO_LINGER, struct.pack("ii", 1, 0))
+            reset(writer.get_extra_info("socket"))
         elif callable(reply):
             await reply(writer)
         else:
@@ -112,3 +106,74 @@ async def drip_on(writer):
         await asyncio.sleep(0.1)
         writer.write(b"#")
         await writer.drain()
+
+
+async def drip(site, writer, target):
+    """The robots file comes an octet at a time."""
+    if target != "/robots.txt":
+        return await answer(site, writer, target)
+    writer.write(b"HTTP/1.1 200 OK\r\n\r\n")
+    for _ in range(int(SLOW * 10)):
+        await asyncio.sleep(0.1)
+        writer.write(b"#")
+        await writer.drain()
+
+
+async def hang(site, writer, target):
+    """Nothing comes of a robots file."""
+    if target != "/robots.txt":
+        return await answer(site, writer, target)
+    await asyncio.sleep(SLOW)
+
+
+async def lead_on(site, writer, target):
+    """The robots file is behind slow redirects."""
+    if target not in ("/robots.txt", "/1", "/2"):
+        return await answer(site, writer, target)
+    await asyncio.sleep(SLOW / 3)
+    following = {"/robots.txt": "/1", "/1": "/2", "/2": "/3"}[target]
+    writer.write(f"HTTP/1.1 302 On\r\nLocation: {following}\r\nContent-Length: 0\r\n\r\n".encode())
+
+
+async def linger(site, writer, target):
+    """A page takes a while."""
+    if target != "/robots.txt":
+        await asyncio.sleep(0.02)
+    await answer(site, writer, target)
+
+
+async def keep_open(site, writer, target):
+    """A whole page, behind which the connection stays open."""
+    await answer(site, writer, target)
+    if target != "/robots.txt":
+        await writer.drain()
+        await asyncio.sleep(SLOW)
+
+
+async def bind(site, writer, target):
+    """Rules that are dear to match: each has runs that stand in the path, and no two runs are the same."""
+    if target != "/robots.txt":
+        return await answer(site, writer, target)
+    writer.write(b"HTTP/1.1 200 OK\r\nContent-Length: %d\r\n\r\n" % len(FEW_RUNS) + FEW_RUNS)
+
+
+async def turn_aside(site, writer, target):
+    """The page `/x` is a redirect to `/y`."""
+    if target != "/x":
+        return await answer(site, writer, target)
+    writer.write(b"HTTP/1.1 302 On\r\nLocation: /y\r\nContent-Length: 0\r\n\r\n")
+
+
+async def be_mixed(site, writer, target):
+    """Pages, redirects, pages that are denied, and ones that break off."""
+    if target == "/robots.txt":
+        rules = b"user-agent: *\ndisallow: /private\n"
+        writer.write(b"HTTP/1.1 200 OK\r\nContent-Length: %d\r\n\r\n" % len(rules) + rules)
+    elif target.startswith("/moved"):
+        writer.write(b"HTTP/1.1 302 On\r\nLocation: /new%s\r\nContent-Length: 0\r\n\r\n" % target[6:].encode())
+    elif target.startswith("/hidden"):
+        writer.write(b"HTTP/1.1 301 On\r\nLocation: /private/x\r\nContent-Length: 0\r\n\r\n")
+    elif target.startswith("/broken"):
+        writer.write(PAGE[:-2])
+    else:
+        await answer(site, writer, target)

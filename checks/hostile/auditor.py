@@ -1,35 +1,23 @@
 """An auditor of histories in another language than the program's: it reads their texts as docs/FORMATS.md has them, and
-takes its verdicts from the second reading of RFC 9309 in checks/agreement.
+takes its verdicts from the second reading of RFC 9309 (checks/lib/reading.py).
 
 usage: checks/hostile/auditor.py < HISTORY
 """
 import functools
-import importlib.machinery
-import importlib.util
 import os
 import re
 import sys
 
 sys.dont_write_bytecode = True
-HERE = os.path.dirname(os.path.realpath(__file__))
-sys.path.insert(0, HERE)
+sys.path.append(os.path.dirname(os.path.dirname(os.path.realpath(__file__))))
+from lib import reading
+from lib.reading import TEXT_LIMIT, spelled
 import pages
 
-LINE_LIMIT, ENTRIES_LIMIT, TEXT_LIMIT, NUMBER_LIMIT, GENERATION_LIMIT = 2_097_152, 1_000_000, 512_000, 2**64 - 1, 2**48 - 1
+LINE_LIMIT, ENTRIES_LIMIT, NUMBER_LIMIT, GENERATION_LIMIT = 2_097_152, 1_000_000, 2**64 - 1, 2**48 - 1
 DAY = 86_400
 CLOSED = ("server", "network", "redirect", "scheme", "coding", "other")
 KINDS = "HILUYE"
-
-
-def script(path):
-    """Returns a script of another check as a module."""
-    loader = importlib.machinery.SourceFileLoader(path.replace("/", "_"), f"{os.path.dirname(HERE)}/{path}")
-    module = importlib.util.module_from_spec(importlib.util.spec_from_loader(loader.name, loader))
-    loader.exec_module(module)
-    return module
-
-
-agreement = script("agreement/run")
 
 
 class Bad(Exception):
@@ -46,16 +34,10 @@ def numeral(text):
     return int(text)
 
 
-def spelled(body):
-    """Returns the word that the octets of a robots file are."""
-    word = "".join(chr(it) if agreement.UNRESERVED.match(bytes([it])) else f"%{it:02X}" for it in body)
-    return {"": "-", "-": "%2D"}.get(word, word)
-
-
 @functools.lru_cache(10_000)
 def records_of(word):
     body = b"" if word == "-" else pages.unescaped(word)
-    return [agreement.record_of(line) for line in agreement.lines_of(body)]
+    return [reading.record_of(line) for line in reading.lines_of(body)]
 
 
 @functools.lru_cache(10_000)
@@ -116,7 +98,7 @@ class History:
         words = self.answers[site][3].split(" ")
         if words[0] != "R":
             return (True, "open") if words[0] == "O" else (False, "closed")
-        return agreement.verdict(records_of(words[2]), token, pages.target_of(url).encode())
+        return reading.verdict(records_of(words[2]), token, pages.target_of(url).encode())
 
     def begin(self, site, turn):
         self.begins += 1

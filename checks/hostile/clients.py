@@ -6,8 +6,8 @@ import threading
 import time
 
 from auditor import audit
-from tried import short
-import line_server
+from lib.cases import short
+from lib import server as servers
 import responses
 import sites
 import texts
@@ -171,7 +171,7 @@ class Client:
             self.fault = repr(fault)
 
 
-class Session(line_server.Session):
+class Session(servers.Session):
     """A connection of which octets can be read too."""
 
     def octets(self, count):
@@ -208,8 +208,7 @@ def try_clients(tried, play, dice, last):
 
 def try_all(tried, seconds, only=None):
     """Clients of one server for so long. Its memory is told for each tenth of the time."""
-    line_server.Server.program = tried.program
-    with line_server.Server("--workers", "4", "--endless", "--slots", "1024", "--log", "1000000") as server:
+    with servers.Server("--workers", "4", "--endless", "--slots", "1024", "--log", "1000000") as server:
         play, last, began, tenth, first = Play(server), [], time.monotonic(), 1, None
         with Session(server) as it:
             for authority, kind in play.kinds.items():

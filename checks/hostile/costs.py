@@ -1,131 +1,17 @@
-"""Robots files that are made to cost much, and what the lines of a replay take over them."""
-import os
-import random
+"""What the lines of a replay take over robots files that are made to cost much."""
 import re
 import subprocess
 import time
 
-from auditor import TEXT_LIMIT, spelled
+from lib.costly import PATHS, TEXTS
+from lib.program import resident
+from lib.reading import TEXT_LIMIT, spelled
 
 # how long a line may take that is no ARRIVE, in milliseconds; what takes longer is measured again, since the machine may be busy
 MOST, ATTEMPTS = 25, 3
 # how many times as long it may take on this machine
 slower = 1.0
-SIZE = 500_000
 WALKS = 16
-LONG = "/" + "ab" * 1_990
-
-
-def filled(line, head=b"user-agent: *\n"):
-    """Returns a text of about 500,000 octets of a line: {n} in it counts."""
-    if b"{n}" not in line:
-        return head + line * ((SIZE - len(head)) // len(line))
-    lines, size, at = [head], len(head), 0
-    while size < SIZE:
-        lines.append(line.replace(b"{n}", b"%d" % at))
-        size, at = size + len(lines[-1]), at + 1
-    return b"".join(lines)[:SIZE].rpartition(b"\n")[0] + b"\n"
-
-
-def distinct(signs, seed, most=15):
-    """Returns rules of five runs each that all stand in a path, and that path. No two runs are the same."""
-    dice = random.Random(seed)
-    path = "".join(dice.choices(signs, k=4_060))
-    runs = {path[at : at + count]: at for count in range(2, most) for at in range(len(path) - count)}
-    order = sorted(runs)
-    dice.shuffle(order)
-    fives = [sorted(order[at : at + 5], key=runs.get) for at in range(0, len(order), 5)]
-    text = b"user-agent: *\n" + "".join(f"allow:{''.join(f'*{it}' for it in five)}*~~\n" for five in fives).encode()
-    return text[:SIZE].rpartition(b"\n")[0] + b"\n", "/?" + path
-
-
-def stairs(piece, sign=b""):
-    """Rules each of which is longer than the one before."""
-    lines, size, at = [b"user-agent: *\n"], 14, 0
-    while size < SIZE:
-        at += 1
-        lines.append(b"disallow: /" + piece * at + sign + b"\n")
-        size += len(lines[-1])
-    return b"".join(lines[:-1])
-
-
-def stairs_of_runs(sign):
-    """Rules of one run, each one sign longer than that of the one before."""
-    lines, size, at = [b"user-agent: *\n"], 14, 0
-    while size < SIZE:
-        at += 1
-        lines.append(b"allow:*" + sign * at + b"*~\n")
-        size += len(lines[-1])
-    return b"".join(lines[:-1])
-
-
-# a path of which each 64 octets nearly hold an escape, with any two of its three octets, and some that hold it
-NEARLY = "\\{" * 4 + "a7C" + "\\{" * 5
-MANY_RUNS, MANY_PATH = distinct("^|{}`", 9309)
-FEW_RUNS, FEW_PATH = distinct("^|", 9309, 22)
-
-TEXTS = {
-    "plain rules": filled(b"disallow: /part{n}/page\n"),
-    "the shortest rules": filled(b"allow:/\n"),
-    "rules that all begin the path": stairs(b"ab"),
-    "stairs with a star at each step": stairs(b"a*"),
-    "stairs of stars": stairs(b"*"),
-    "stairs that end the path": stairs(b"ab", b"$"),
-    "rules with stars that nearly match": filled(b"allow:*abb*{n}\n"),
-    "rules of a star that nearly match": filled(b"allow:*bbab\n"),
-    "rules of two runs that nearly match": filled(b"allow:*aba*abb*{n}\n"),
-    "rules of escapes that nearly match": filled(b"allow:*^^|^\n"),
-    "rules of three escapes that nearly match": filled(b"allow:*{|}\n"),
-    "rules of twelve escapes that nearly match": filled(b"allow:*^^|^^^^|||^|\n"),
-    "rules of twenty runs that stand far apart": filled(b"allow:" + b"*<*>" * 10 + b"*}}\n"),
-    "rules of twenty runs that nearly stand where they are next": filled(b"allow:" + b"*{|}" * 19 + b"*}~\n"),
-    "rules that stand before a sign alone": filled(b"allow:*<*^^^^\n"),
-    "rules that fall behind where the path is": filled(b"allow:*" + b"^|" * 5 + b"^^\n"),
-    "rules that leave the path in their midst": filled(b"allow:*" + b"^|" * 6 + b"{^|\n"),
-    "rules that follow the path for 69 signs": filled(b"allow:*" + b"^|" * 34 + b"\n"),
-    "rules that follow the path for 900 signs": filled(b"allow:*" + b"^|" * 454 + b"\n"),
-    "rules of one sign that nearly stands in each block": filled(b"allow:*~" + b"*|" * 19 + b"*`\n"),
-    "rules of one sign, each from a place of its own": filled(b"allow:*^^|{n}" + b"*|" * 40 + b"*~\n"),
-    "rules of one letter that is nowhere": filled(b"allow:*z\n"),
-    "rules of runs of one sign, each longer": stairs_of_runs(b"|"),
-    "rules of runs of which no two are the same": MANY_RUNS,
-    "rules of such runs of two signs": FEW_RUNS,
-    "70 rules of one letter, and a long comment": b"user-agent: *\n" + b"allow:*q~\n" * 70 + b"#" + b"c" * 20_000 + b"\n",
-    "long rules that match to their end": filled(b"allow:*" + b"a" * 10 + b"b" + b"a" * 31 + b"b" + b"a" * 5 + b"ba\n"),
-    "rules of two stars": filled(b"disallow:*a*b{n}\n"),
-    "rules of 1,000 stars": filled(b"disallow: /" + b"a*" * 1_000 + b"x{n}\n"),
-    "rules of 1,000 stars alone": filled(b"disallow: /" + b"*" * 1_000 + b"x{n}\n"),
-    "rules that end the path": filled(b"disallow:*b$\n"),
-    "rules of 4,000 octets": filled(b"disallow: " + LONG.encode() + b"{n}\n"),
-    "one rule of 499,000 octets": b"user-agent: *\ndisallow: /" + b"ab" * 249_500 + b"\n",
-    "one rule of 249,000 stars": b"user-agent: *\ndisallow: /" + b"a*" * 249_000 + b"x\n",
-    "rules to be rewritten": filled(b"allow:/%7e%7e%7e{n}\n"),
-    "octets to be escaped": filled(b"allow:/\xff\xff\xff\xff{n}\n"),
-    "a group for each rule": filled(b"user-agent: foobot\nallow: /a{n}\n", b""),
-    "heads that name the token": filled(b"user-agent: foobot\n", b"user-agent: *\nallow: /\n") + b"disallow: /b\n",
-    "heads that name others": filled(b"user-agent: bot-{n}\n", b"") + b"disallow: /a\n",
-    "groups of others": filled(b"user-agent: x\ndisallow: /\n", b""),
-    "heads before each rule": filled(b"user-agent: foobot\nuser-agent: *\nuser-agent: x\ndisallow: /*a*{n}\n", b""),
-    "empty lines": filled(b"\n"),
-    "CR alone": filled(b"\r") + b"disallow: /b\n",
-    "colons": filled(b":"),
-    "comments": filled(b"#\n"),
-    "NULs": filled(b"\0"),
-    "UTF-16": filled(b"disallow: /a{n}\n").decode().encode("utf-16")[:SIZE],
-    "HTML": filled(b"<p>user-agent: *<br>disallow: /{n}</p>\n"),
-}
-DICE = random.Random(9309)
-# (a query's bars, carets and braces are escaped in the normal form alone, which has three times as many octets then)
-PATHS = [
-    LONG, "/" + "a" * 3_990, "/part7/page", "/x" * 1_990, "/" + "%2A" * 1_300, "/" + "aab" * 1_330, "/" + ("a" * 31 + "b") * 124,
-    "/?" + "||^" * 1_330, "/?" + "".join(DICE.choices(["||", "|^", "^^", "^|"], k=1_990)), "/?" + "".join(DICE.choices(["{||", "{{}", "||}"], k=1_330)),
-    "/?" + "".join("".join(DICE.choices("{|", k=197)) + it for it in "<>" * 10), "/?" + "^|" * 1_990, "/?" + "^" * 2_000 + "<" + "^^^|" * 490,
-    "/?" + "".join("".join(DICE.choices(["{||", "{{}", "||}"], k=64)) + "{|}" for _ in range(20)),
-    "/?" + ("^|" * 30 + "{|") * 64, "/?" + ("^|" * 450 + "{|") * 4,
-    "/?" + "|" * 2_000 + "~" + (NEARLY * 5 + "|") * 19, "/?" + "".join(DICE.choices("^|{}", k=2_030)) * 2, MANY_PATH, FEW_PATH,
-    # (all but these are asked before there is an index, too)
-    "/", "/ab", "/%7e%7e%7e7",
-]
 
 
 class Conversation:
@@ -170,8 +56,7 @@ class Conversation:
             return file.read()
 
     def resident(self):
-        """Returns the octets of memory that it has."""
-        return int(self.told("statm").split()[1]) * os.sysconf("SC_PAGE_SIZE")
+        return resident(self.process.pid)
 
 
 def lines_over(text):

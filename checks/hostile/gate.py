@@ -2,7 +2,8 @@
 import re
 
 import pages
-from auditor import DAY, GENERATION_LIMIT, NUMBER_LIMIT, TEXT_LIMIT, History, agreement, spelled
+from lib.reading import TEXT_LIMIT, spelled
+from auditor import DAY, GENERATION_LIMIT, NUMBER_LIMIT, History
 
 LINE_LIMIT = 2_097_152
 REDIRECTS = ("301", "302", "303", "307", "308")

@@ -11,8 +11,8 @@ import tempfile
 import threading
 import time
 
-import line_server
-from line_server import response
+from lib import server as servers, sites
+from lib.sites import response
 
 CLIENTS = 3
 ROUNDS = 8
@@ -21,21 +21,17 @@ LONGEST = 0.12
 FULL = b"crawlgate: device: journal: File too large (os error 27)\n"
 
 
-class Site(line_server.Site):
+class Site(sites.Site):
     """A site whose every page is there, and whose robots file may take its time."""
 
     def __init__(self):
         super().__init__({})
-        site = self
-
-        class Pages(dict):
-            def get(self, target, none):
-                if target == "/robots.txt":
-                    return (0.02 if site.is_slow else 0, response(200, b"User-agent: *\nDisallow: /no\n"))
-                return response(200, b"hello")
-
         self.is_slow = False
-        self.pages = Pages()
+
+    def page(self, target):
+        if target == "/robots.txt":
+            return (0.02 if self.is_slow else 0, response(200, b"User-agent: *\nDisallow: /no\n"))
+        return response(200, b"hello")
 
 
 class Told:
@@ -114,7 +110,7 @@ class Found:
         return {it: value for it, value in {**numbers, **counts}.items() if (value if isinstance(value, list) else value > 0)}
 
 
-class Server(line_server.Server):
+class Server(servers.Server):
     """A server with a journal, which may have files of so many octets at most, as on a disk that is full."""
 
     def __init__(self, folder, words, most=None):
@@ -136,7 +132,7 @@ class Server(line_server.Server):
 def work(server, site, told, dice, seals):
     """Says lines until the server is gone, and notes each reply once all of it is there."""
     out, running = [], []
-    with contextlib.suppress(OSError, AssertionError), line_server.Session(server) as it:
+    with contextlib.suppress(OSError, AssertionError), servers.Session(server) as it:
         while True:
             url = site.url(f"/{dice.randrange(10**12)}" if dice.random() < 0.9 else "/no")
             kind = dice.choice(["ask", "ask", "start", "start", "done", "back", "fetch", "state", "refresh"] + ["seal"] * seals)
@@ -194,7 +190,7 @@ class Case:
 
     def goes_on(self, server):
         """The site's answer stands as before, or is fetched anew at once; and a permit is granted."""
-        with line_server.Session(server) as it:
+        with servers.Session(server) as it:
             for _ in range(200):
                 state = it.say(f"STATE {self.site.authority}")
                 if state == f"STATE {self.site.authority} rules idle":

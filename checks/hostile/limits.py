@@ -9,7 +9,8 @@ import subprocess
 import tempfile
 import time
 
-from tried import SECONDS, short
+from lib.cases import short
+from tried import SECONDS
 import memory
 from auditor import audit
 

@@ -11,11 +11,15 @@ import tempfile
 import threading
 import time
 
-from auditor import audit, script, spelled
+from lib import growths
+from lib.cases import short
+from lib.reading import spelled
+from lib.server import Session
+from lib.sites import open_site, response
+from auditor import audit
 from dialogues import Dialogue
 from gate import Gate
-from tried import SECONDS, short
-import line_server
+from tried import SECONDS
 
 # so many runs in a row that met no refusal end a sweep
 IN_A_ROW = 20
@@ -187,7 +191,7 @@ class Serve:
             found = re.fullmatch(rb"LISTEN 127\.0\.0\.1:(\d+)\n", first)
             if found:
                 server = type("Listening", (), {"port": int(found[1]), "path": None})
-                session = reset_quietly(lambda: line_server.Session(server, SECONDS))
+                session = reset_quietly(lambda: Session(server, SECONDS))
                 if session:
                     with session:
                         wrong = reset_quietly(lambda: self.talk(session))
@@ -295,11 +299,11 @@ def sessions(dice, site):
     yield "serve", Serve(site)
 
 
-def open_site():
+def hostile_site():
     # (a client that wants no more of a page resets its connection, of which the site need not tell)
     threading.excepthook = lambda it: None if issubclass(it.exc_type, OSError) else threading.__excepthook__(it)
-    robots = line_server.response(200, b"user-agent: *\ndisallow: /no\n")
-    return line_server.open_site({"/robots.txt": robots, "/moved": line_server.response(302, b"", "Location: /x"), "/long": line_server.response(200, b"x" * 1_048_577)})
+    robots = response(200, b"user-agent: *\ndisallow: /no\n")
+    return open_site({"/robots.txt": robots, "/moved": response(302, b"", "Location: /x"), "/long": response(200, b"x" * 1_048_577)})
 
 
 def try_all(tried, seconds, only=None):
@@ -308,8 +312,8 @@ def try_all(tried, seconds, only=None):
         print("memory: there is no C compiler, so no memory is refused", flush=True)
         return
     with tempfile.TemporaryDirectory() as folder:
-        script("memory/run").Counter(tried.program, folder)
-        named = list(sessions(random.Random(f"{tried.seed} memory"), open_site()))
+        growths.build(folder)
+        named = list(sessions(random.Random(f"{tried.seed} memory"), hostile_site()))
         for tried.case, (name, session) in enumerate(named):
             session.name = name
             if only in (None, tried.case):

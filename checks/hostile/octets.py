@@ -4,9 +4,9 @@ import random
 import re
 import time
 
-from tried import short
+from lib.cases import short
+from lib.server import Server, Session, suppressed
 import costs
-import line_server
 import texts
 from dialogues import Dialogue
 
@@ -103,9 +103,8 @@ def try_words(tried, dice):
 
 def try_clients(tried, seconds, seed):
     """Octets that clients send. Behind each of them the server has to answer another one."""
-    line_server.Server.program = tried.program
     until = time.monotonic() + seconds
-    with line_server.Server("--patience", "5", "--workers", "2", "--endless") as server:
+    with Server("--patience", "5", "--workers", "2", "--endless") as server:
         for tried.case in range(1_000_000):
             if time.monotonic() > until and tried.case:
                 return
@@ -119,15 +118,15 @@ def talk(tried, server, dice, given):
     tried.count("octets", len(given))
     tried.count("clients")
     end = dice.choice(["finish", "reset", "close"])
-    with line_server.Session(server) as session:
-        line_server.suppressed(session.send, given)
+    with Session(server) as session:
+        suppressed(session.send, given)
         if end == "finish":
-            line_server.suppressed(session.finish)
-            line_server.suppressed(session.rest)
+            suppressed(session.finish)
+            suppressed(session.rest)
         elif end == "reset":
-            line_server.suppressed(session.reset)
+            suppressed(session.reset)
     try:
-        with line_server.Session(server) as session:
+        with Session(server) as session:
             told = session.say("STATE a.example")
     except OSError as error:
         told = repr(error)

@@ -1,7 +1,6 @@
 """Responses that are drawn, and what docs/FORMATS.md says of each: the reply that it is, or the fault. The text and what is
 said of it are made side by side, so nothing of it is read here."""
 import dataclasses
-import random
 
 HEAD_LIMIT, HEAD_LINES, RAW_LIMIT = 65_536, 100, 8_388_608
 REDIRECTS = (301, 302, 303, 307, 308)

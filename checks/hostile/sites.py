@@ -1,13 +1,12 @@
 """Crawls of hostile sites: each robots file, page and redirect is drawn, and the report of a shift must be the one that
-docs/FORMATS.md and the second reading of RFC 9309 in checks/agreement tell."""
+docs/FORMATS.md and the second reading of RFC 9309 tell."""
 import re
-import socket
-import struct
-import threading
 import time
 
-from auditor import agreement, audit
-from tried import short
+from lib import reading
+from lib.cases import short
+from lib.sites import Requests, reset
+from auditor import audit
 import pages
 import responses
 import texts
@@ -18,36 +17,19 @@ PAGE_LIMIT, ROBOTS_LIMIT, MOST_REDIRECTS = 1_048_576, 512_001, 5
 NOWHERE = ["", "https://a.example/", "ftp://x/y", "http://", "http://u@h/", "mailto:x"]
 
 
-class Site:
+class Site(Requests):
     """A site on a host of the loopback, whose responses change with each case."""
 
     def __init__(self, host):
         self.responses = {}
-        self.listener = socket.create_server((host, 0), backlog=512)
-        self.authority = f"{host}:{self.listener.getsockname()[1]}"
-        threading.Thread(target=self.listen, daemon=True).start()
+        super().__init__(host)
 
-    def listen(self):
-        while True:
-            peer = self.listener.accept()[0]
-            threading.Thread(target=self.answer, args=(peer,), daemon=True).start()
-
-    def answer(self, peer):
-        try:
-            with peer:
-                head = b""
-                while not head.endswith(b"\r\n\r\n"):
-                    piece = peer.recv(65_536)
-                    if not piece:
-                        return
-                    head += piece
-                response = self.responses[head.split(b" ")[1].decode("latin-1")]
-                time.sleep(response.seconds)
-                peer.sendall(response.octets)
-                if response.is_reset:
-                    peer.setsockopt(socket.SOL_SOCKET, socket.SO_LINGER, struct.pack("ii", 1, 0))
-        except OSError:
-            pass
+    def answer(self, peer, head, target):
+        response = self.responses[target]
+        time.sleep(response.seconds)
+        peer.sendall(response.octets)
+        if response.is_reset:
+            reset(peer)
 
 
 class World:
@@ -82,7 +64,7 @@ class World:
             if fault:
                 return "closed"
             if 200 <= response.status < 300:
-                return [agreement.record_of(it) for it in agreement.lines_of(body)]
+                return [reading.record_of(it) for it in reading.lines_of(body)]
             if response.status not in responses.REDIRECTS:
                 return "open" if 400 <= response.status < 500 else "closed"
             url, word = self.lead(url, response.location, followed)
@@ -97,7 +79,7 @@ class World:
         answer = self.answers[authority]
         if isinstance(answer, str):
             return answer == "open", answer
-        return agreement.verdict(answer, token, pages.target_of(url).encode())
+        return reading.verdict(answer, token, pages.target_of(url).encode())
 
     def hops(self, token, url):
         """Yields the hops of a job."""

@@ -1,10 +1,11 @@
 """Hostile robots files: what `lines`, `check` and `check --explain` write of them, and what is told of them on standard
-error, against the second reading of RFC 9309 in checks/agreement."""
+error, against the second reading of RFC 9309 in checks/reading."""
 import re
 import tempfile
 
 import pages
-from auditor import TEXT_LIMIT, agreement
+from lib import reading
+from lib.reading import TEXT_LIMIT
 
 TOKENS = ["foobot", "FooBot", "barbot", "foo-_bot", "crawlgate"]
 URLS = ["/", "/a", "/ab", "/b", "/robots.txt", "/robots.txt?", "https://h/a", "HTTPS://H:443/ab?c", "http://h/a/../b", "/a#b", "ftp://h/", "a", "http://u@h/", "/" + "a" * 4_094, "https://", "/%2a", "//a"]
@@ -28,10 +29,10 @@ def page_of(text):
 
 def ranked(records, token, path):
     """Returns the rules of a token: octets, kind, line and value of each, and whether it matches."""
-    form = agreement.normal_path(path)
-    for line, kind, value in agreement.rules_for(records, token):
-        pattern = agreement.normal_pattern(value)
-        yield len(pattern), kind, line, value, agreement.matches(pattern, form)
+    form = reading.normal_path(path)
+    for line, kind, value in reading.rules_for(records, token):
+        pattern = reading.normal_pattern(value)
+        yield len(pattern), kind, line, value, reading.matches(pattern, form)
 
 
 def reason(matching):
@@ -97,7 +98,7 @@ def answers(records, token, urls, is_explained):
             status = 2
             continue
         lines += explained(records, token, path) if is_explained else []
-        is_allowed, why = agreement.verdict(records, token, path)
+        is_allowed, why = reading.verdict(records, token, path)
         if why.startswith("line "):
             why = f"{why} {' '.join(map(str, rule_on(records, int(why[5:]))))}"
         lines.append(f"{'allowed' if is_allowed else 'denied'} {why} {url}")
@@ -117,12 +118,12 @@ def is_split(text):
 
 def soup(dice):
     """Octets that are nearly a robots file."""
-    text = agreement.octet_soup(dice, dice.choice([30, 300, 3_000]))
+    text = reading.octet_soup(dice, dice.choice([30, 300, 3_000]))
     return dice.choice([text, b"\xef\xbb\xbf" + text, text.replace(b"\n", b"\r"), text.replace(b"a", b"\xc3\xa9"), text + PLAIN])
 
 
 def drawn(dice):
-    return next(agreement.drawn_texts(dice, 1))[0]
+    return next(reading.drawn_texts(dice, 1))[0]
 
 
 def groups(dice):
@@ -149,7 +150,7 @@ KINDS = [(8, soup), (8, drawn), (6, groups), (2, otherwise_coded), (1, at_the_li
 
 
 def urls_of(dice):
-    drawn = ["/" + "".join(dice.choices(agreement.PIECES, k=dice.randrange(8))) for _ in range(4)]
+    drawn = ["/" + "".join(dice.choices(reading.PIECES, k=dice.randrange(8))) for _ in range(4)]
     return [it for it in dice.sample(URLS, 4) + drawn if is_told(it)]
 
 
@@ -166,8 +167,8 @@ def is_told(url):
 def try_text(tried, dice):
     """Compares what is written of a robots file."""
     text = dice.choices([it for _, it in KINDS], [it for it, _ in KINDS])[0](dice)
-    records = [agreement.record_of(line) for line in agreement.lines_of(text)]
-    lines = "".join(f"{agreement.line_text(number, it)}\n" for number, it in enumerate(records, 1))
+    records = [reading.record_of(line) for line in reading.lines_of(text)]
+    lines = "".join(f"{reading.line_text(number, it)}\n" for number, it in enumerate(records, 1))
     notes = told(text, records)
     tried.same("lines", text, ["lines"], lines.encode(), error=b"")
     with tempfile.NamedTemporaryFile() as file:

@@ -1,17 +1,14 @@
 """What the parts of checks/hostile have in common: runs of the program, how they must end, and the report of what failed."""
 import collections
-import os
 import random
 import re
 import shlex
 import subprocess
-import sys
 import tempfile
 import time
 
-HERE = os.path.dirname(os.path.realpath(__file__))
-# (what checks/serve is played with)
-sys.path.insert(0, f"{os.path.dirname(HERE)}/serve")
+from lib.cases import difference, short
+
 # how long a run may take, in seconds; what takes longer hangs
 SECONDS = 20
 # the exit statuses that docs/FORMATS.md lists
@@ -19,19 +16,6 @@ STATUSES = (0, 1, 2, 3)
 # the last line of standard error where the status is 3
 FAULT = re.compile(rb'(?m)^crawlgate: (no memory|device(: .+)?|cannot read ".*": .+)\n\Z')
 MOST_TOLD = 20
-
-
-def short(text):
-    said = repr(text)
-    return said if len(said) <= 200 else f"{said[:200]}.. ({len(text)} octets)"
-
-
-def difference(found, wanted):
-    """Returns where two texts differ first."""
-    ours, theirs = found.split(b"\n"), wanted.split(b"\n")
-    at = next((at for at, (one, other) in enumerate(zip(ours, theirs)) if one != other), min(len(ours), len(theirs)))
-    line = lambda them: short(them[at]) if at < len(them) else "missing"
-    return f"line {at + 1} is {line(ours)}, and not {line(theirs)}"
 
 
 class Tried:

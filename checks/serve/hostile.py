@@ -7,9 +7,10 @@ import sys
 import threading
 import time
 
-from line_server import (
-    HERE, SECONDS, Server, Session, free_port, in_time, open_site, response, same, side_by_side, suppressed,
-)
+from lib.cases import in_time, same
+from lib.program import ROOT
+from lib.server import SECONDS, Server, Session, side_by_side, suppressed
+from lib.sites import free_port, open_site, response
 
 
 def numbers_of_others():
@@ -45,7 +46,7 @@ def killed_clients():
     with Server("--workers", "16", "--slots", str(slots), "--endless") as server:
         with Session(server) as it:
             same(it.say(f"REFRESH {site.authority}"), f"TAKEN {site.authority} open")
-        words = [sys.executable, f"{HERE}/victims.py", str(server.port), x, str(1000 // parts)]
+        words = [sys.executable, f"{ROOT}/checks/serve/victims.py", str(server.port), x, str(1000 // parts)]
         began = time.monotonic()
         for it in [subprocess.Popen([*words, str(seed)]) for seed in range(parts)]:
             same(it.wait(), 0)
@@ -173,7 +174,7 @@ def lines_sent_ahead():
     one that waits for each reply keeps it for as long as it likes."""
     site = open_site({"/slow": (0.4, response(200, b"hello"))})
     line = f"FETCH foobot {site.url('/slow')}\n".encode()
-    reply = [f"HOP 1 PAGE open 200 5 whole", "BODY 5", "hello"]
+    reply = ["HOP 1 PAGE open 200 5 whole", "BODY 5", "hello"]
     with Server("--workers", "1", "--ahead", "2") as server:
         with Session(server) as it:
             same(it.say(f"REFRESH {site.authority}"), f"TAKEN {site.authority} open")

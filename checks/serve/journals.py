@@ -5,7 +5,9 @@ import subprocess
 import tempfile
 import time
 
-from line_server import SECONDS, Server, Session, open_site, response, same, short, side_by_side
+from lib.cases import same, short
+from lib.server import SECONDS, Server, Session, side_by_side
+from lib.sites import open_site, response
 from sessions import sealed
 
 FIRST = "0" * 20

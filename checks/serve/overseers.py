@@ -5,8 +5,11 @@ import tempfile
 import time
 
 from journals import Recorded, audit
-from line_server import HOST, SECONDS, Server, Session, in_time, open_site, response, same, short
-from sessions import python_client, sealed
+from lib.cases import in_time, same, short
+from lib.server import SECONDS, Server, Session
+from lib.sites import HOST, open_site, response
+from clients import python_client
+from sessions import sealed
 
 
 class Overseen(Server):

@@ -6,7 +6,9 @@ import tempfile
 import time
 
 from journals import FIRST, Recorded, audit, refused, text_of
-from line_server import SECONDS, Server, Session, open_site, response, same, site_with_rules
+from lib.cases import same
+from lib.server import SECONDS, Server, Session
+from lib.sites import open_site, response, site_with_rules
 from sessions import sealed
 
 
@@ -33,7 +35,7 @@ def goes_on_where_it_was_killed():
             with Session(server) as it:
                 same(it.say(f"REFRESH {a}"), f"TAKEN {a} rules")
                 same(it.say(f"ASK foobot {x}"), "PERMIT 65536")
-                same(it.say(f"START 65536 foobot {x}"), f"GO 65536 norule")
+                same(it.say(f"START 65536 foobot {x}"), "GO 65536 norule")
                 same(it.say(f"ASK foobot {x}"), "PERMIT 65537")
                 server.stop()
         site.pages.clear()

@@ -6,7 +6,9 @@ import random
 import threading
 import time
 
-from line_server import Server, Session, open_site, same
+from lib.cases import same
+from lib.server import Server, Session
+from lib.sites import open_site
 
 CLIENTS, ENTRIES, REPORTS = 16, 900_000, 12
 

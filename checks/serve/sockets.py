@@ -5,8 +5,10 @@ import stat
 import subprocess
 import tempfile
 
-from line_server import SECONDS, Server, Session, open_site, same
-from sessions import client_of
+from lib.cases import same
+from lib.server import SECONDS, Server, Session
+from lib.sites import open_site
+from clients import client_of
 
 
 def loopback_alone():

@@ -9,7 +9,9 @@ import subprocess
 import sys
 import time
 
-ROOT = os.path.dirname(os.path.dirname(os.path.realpath(__file__)))
+from lib.program import ROOT
+from lib.sites import free_port
+
 CONFIGURATION = f"{ROOT}/packaging/haproxy.cfg"
 AUTHORITIES = "/etc/ssl/certs/ca-certificates.crt"
 ADDRESS = "127.0.0.1:3131"
@@ -68,11 +70,6 @@ def old_context(folder):
     return context
 
 
-def free_port():
-    with socket.create_server(("127.0.0.1", 0)) as listener:
-        return listener.getsockname()[1]
-
-
 def configure(folder, port):
     """Writes the configuration that is shipped, with the port and the authority of the test."""
     with open(CONFIGURATION) as file:
@@ -118,7 +115,7 @@ def by_haproxy(folder):
 @contextlib.contextmanager
 def by_stand_in(folder):
     """stand_in.py, and its address."""
-    words = [sys.executable, f"{ROOT}/checks/stand_in.py", f"{folder}/ca.pem"]
+    words = [sys.executable, f"{ROOT}/checks/lib/stand_in.py", f"{folder}/ca.pem"]
     with open(f"{folder}/stand_in.log", "wb") as log:
         process = subprocess.Popen(words, stdout=subprocess.PIPE, stderr=log, text=True)
     with ended(process), process.stdout:

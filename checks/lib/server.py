@@ -1,67 +1,24 @@
-"""What the cases of checks/serve are played with: the built program, sites, and sessions."""
+"""The built program as a line server, and its clients' sessions."""
 import contextlib
-import os
 import re
 import select
 import socket
-import struct
 import subprocess
-import threading
-import time
 from concurrent.futures import ThreadPoolExecutor
 
-HERE = os.path.dirname(os.path.realpath(__file__))
-ROOT = os.path.dirname(os.path.dirname(HERE))
-HOST = "127.0.0.1"
+from lib.cases import short
+from lib.program import BUILT, resident
+from lib.sites import HOST, reset
+
 # how long a reply, or the program's end, may take where nothing else is said, in seconds
 SECONDS = 30
-
-
-def response(status, body=b"", *fields):
-    head = [f"HTTP/1.1 {status} Said", f"Content-Length: {len(body)}", *fields, "", ""]
-    return "\r\n".join(head).encode() + body
-
-
-class Site:
-    """A site on the loopback: responses by their targets, and 404 for every other target, the robots file too. A response
-    may be behind seconds to wait for it. It keeps the targets that it was asked for."""
-
-    def __init__(self, pages):
-        self.pages, self.asked = pages, []
-        self.listener = socket.create_server((HOST, 0), backlog=512)
-        self.authority = f"{HOST}:{self.listener.getsockname()[1]}"
-        threading.Thread(target=self._listen, daemon=True).start()
-
-    def url(self, target):
-        return f"http://{self.authority}{target}"
-
-    def _listen(self):
-        while True:
-            peer = self.listener.accept()[0]
-            threading.Thread(target=self._answer, args=(peer,), daemon=True).start()
-
-    def _answer(self, peer):
-        head = b""
-        with peer:
-            while not head.endswith(b"\r\n\r\n"):
-                piece = peer.recv(65536)
-                if not piece:
-                    return
-                head += piece
-            target = head.split(b" ")[1].decode()
-            self.asked.append(target)
-            page = self.pages.get(target, response(404))
-            if isinstance(page, tuple):
-                time.sleep(page[0])
-                page = page[1]
-            peer.sendall(page)
 
 
 class Server:
     """The built program as a line server, from its first line on, at a port or at a socket. It can be started without a
     standard stream, as `>&-`; then nothing is read of it, and the port must be told."""
 
-    program = None
+    program = BUILT
 
     def __init__(self, *words, without="", port=0, path=None):
         streams = {"stdin": subprocess.DEVNULL, "stdout": subprocess.PIPE, "stderr": subprocess.PIPE}
@@ -99,9 +56,7 @@ class Server:
         return output, self.process.returncode, error
 
     def resident(self):
-        """Returns how many octets of memory it has."""
-        with open(f"/proc/{self.process.pid}/statm") as file:
-            return int(file.read().split()[1]) * os.sysconf("SC_PAGE_SIZE")
+        return resident(self.process.pid)
 
 
 class Session:
@@ -134,7 +89,7 @@ class Session:
 
     def reset(self):
         """Breaks the connection off."""
-        self.peer.setsockopt(socket.SOL_SOCKET, socket.SO_LINGER, struct.pack("ii", 1, 0))
+        reset(self.peer)
         self.peer.close()
 
     def _read(self):
@@ -171,47 +126,6 @@ class Session:
             pass
         said, self.unread = self.unread, b""
         return said
-
-
-class OutOfTime(AssertionError):
-    """Something took longer than it may, or less long. It may be the machine, which was busy: the case is tried again."""
-
-
-def in_time(seconds, most, least=0):
-    if not least <= seconds <= most:
-        raise OutOfTime(f"it took {seconds:.1f} s, and not {least:g} to {most:g}")
-
-
-def same(found, wanted):
-    assert found == wanted, f"it is {short(found)}, and not {short(wanted)}"
-
-
-def short(value):
-    said = repr(value)
-    return said if len(said) <= 300 else f"{said[:300]}.. ({len(said)} characters)"
-
-
-RULES = b"user-agent: *\ndisallow: /private\n"
-OCTETS = bytes(range(256)) * 3
-
-
-def open_site(pages=None):
-    """A site with a page of five octets and with these, and without a robots file, if there is none among them."""
-    return Site({"/x": response(200, b"hello"), **(pages or {})})
-
-
-def site_with_rules():
-    return Site({
-        "/robots.txt": response(200, RULES),
-        "/moved": response(302, b"", "Location: /octets"),
-        "/octets": response(200, OCTETS),
-        "/long": response(200, b"x" * 1_048_577),
-    })
-
-
-def free_port():
-    with socket.create_server((HOST, 0)) as listener:
-        return listener.getsockname()[1]
 
 
 def side_by_side(call, values):

@@ -1,4 +1,4 @@
-/* A load of requests to a line server, for checks/serve/run --bench.
+/* A load of requests to a line server, for bench/serve and bench/journal.
 
    usage: load crawlgate PORT CONNECTIONS LANES LOOPS URL
           load redis PORT CONNECTIONS LANES LOOPS -

@@ -9,18 +9,15 @@ import sys
 import tempfile
 import threading
 
-ROOT = os.path.dirname(os.path.dirname(os.path.realpath(__file__)))
-sys.path.insert(0, f"{ROOT}/checks/serve")
-from line_server import HOST, SECONDS, Server, same
-from warc import pages_of, read_by_warcio
+from lib.cases import same
+from lib.program import ROOT
+from lib.server import SECONDS, Server
+from lib.sites import HOST
+from lib.warc import pages_of, read_by_warcio
 
 MOST_OF_A_PAGE = 1_048_576
 # what a careless reader would take for the next record
 TRAP = b"\r\n\r\nWARC/1.1\r\nWARC-Type: response\r\nContent-Length: 0\r\n\r\n"
-
-
-class Skipped(Exception):
-    """A case that can't be tried here, and why."""
 
 
 class Quiet(http.server.SimpleHTTPRequestHandler):

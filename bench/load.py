@@ -1,4 +1,4 @@
-"""The bench of checks/serve: requests a second, and how long each waits, beside redis-server where there is one.
+"""The load of bench/serve and bench/journal: requests a second, and how long each waits, of the program and of redis-server.
 
 The load is made by load.c, which a C compiler (cc) builds first. Of the program a loop is ASK, START and DONE; of redis-server
 SET with NX, and DEL, of a key of its own. Each setting is played on both one after the other, on the program with a history
@@ -13,24 +13,27 @@ import sys
 import tempfile
 import time
 
-from line_server import HERE, HOST, SECONDS, Server, Session, free_port, open_site, same
+from lib.cases import same
+from lib.program import ROOT
+from lib.server import SECONDS, Server, Session
+from lib.sites import HOST, free_port, open_site
 
 # connections, requests in flight on each, and loops in all: the history has room for 333,332
 SETTINGS = [(1, 1, 30_000), (4, 1, 60_000), (16, 1, 100_000), (1, 64, 300_000), (4, 64, 300_000), (16, 64, 300_000)]
 
 
-class Bench:
-    """The load's program, and a site for the gate."""
+class Load:
+    """The program that makes the load, and a site for the gate."""
 
     def __init__(self, folder):
-        self.load, self.folder, self.site = f"{folder}/load", folder, open_site()
-        subprocess.run(["cc", "-O2", "-pthread", "-o", self.load, f"{HERE}/load.c"], check=True)
+        self.made_by, self.folder, self.site = f"{folder}/load", folder, open_site()
+        subprocess.run(["cc", "-O2", "-pthread", "-o", self.made_by, f"{ROOT}/bench/load.c"], check=True)
 
     def row_of(self, process, words):
         """Returns requests a second, half and 99 of a hundred of the waits in microseconds, and the processor time that the
         process took for a request, in microseconds."""
         before = processor_time(process)
-        ran = subprocess.run([self.load, *map(str, words)], capture_output=True, timeout=10 * SECONDS)
+        ran = subprocess.run([self.made_by, *map(str, words)], capture_output=True, timeout=10 * SECONDS)
         if ran.returncode:
             sys.exit(ran.stderr.decode())
         requests, seconds, half, most = map(float, ran.stdout.split())
@@ -71,19 +74,3 @@ def wait_for(port):
             return socket.create_connection((HOST, port)).close()
         time.sleep(0.02)
     sys.exit("redis-server does not begin")
-
-
-def main():
-    if not shutil.which("cc"):
-        sys.exit("the load needs a C compiler (cc)")
-    has_redis = shutil.which("redis-server")
-    print(f"{'connections':>11}{'in flight':>10}  {'server':10}{'requests/s':>11}{'p50, us':>10}{'p99, us':>10}{'processor, us':>15}")
-    with tempfile.TemporaryDirectory() as folder:
-        bench = Bench(folder)
-        for setting in SETTINGS:
-            for name, play in [("crawlgate", bench.of_program)] + [("redis", bench.of_redis)] * bool(has_redis):
-                each, half, most, processor = play(setting)
-                print(f"{setting[0]:>11}{setting[1]:>10}  {name:10}{each:>11,.0f}{half:>10.1f}{most:>10.1f}{processor:>15.2f}", flush=True)
-    if not has_redis:
-        print("there is no redis-server here to compare with")
-    return 0

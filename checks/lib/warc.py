@@ -1,12 +1,9 @@
 """A strict reader of WARC files (ISO 28500:2017), for checks/examples."""
 import base64
 import hashlib
-import os
 import re
-import sys
 
-sys.path.insert(0, f"{os.path.dirname(os.path.realpath(__file__))}/serve")
-from line_server import same
+from lib.cases import same
 
 URI, ID, DIGEST = r"https?://[!-~]+", r"<urn:uuid:[0-9a-f-]{36}>", r"sha256:[A-Z2-7]{52}===="
 DATE, HTTP = r"\d{4}-\d\d-\d\dT\d\d:\d\d:\d\dZ", r"application/http; msgtype=response"
