@@ -32,7 +32,7 @@ impl Cache {
         self.begin_at(self.find(authority.text()), authority, turn, moment)
     }
 
-    /// The same, of an authority that was found.
+    /// Begins a turn of an authority whose site was found, without a second look-up of its name.
     pub fn begin_at(
         &mut self,
         found: Found,

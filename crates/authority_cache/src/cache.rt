@@ -55,8 +55,8 @@ impl Cache {
         }
     }
 
-    /// The same cache with another limit of authorities. Where more are known they stay known, and
-    /// none is added until fewer are. It takes no memory.
+    /// This cache with another limit of authorities. If more are known they stay known, and none is
+    /// added until fewer are. It takes no memory.
     pub fn limited(self, limit: u64) -> Cache
         ensures limit { result.limit ≡ limit }
         ensures sites { result.sites ≡ self.sites }

@@ -40,7 +40,7 @@ impl Cache {
         self.look_at(self.find(authority), moment)
     }
 
-    /// The same, of an authority that was found.
+    /// Looks for the answer of an authority whose site was found, without a second look-up of its name.
     pub fn look_at(&self, found: Found, moment: u64) -> Look<'_>
         ensures { LooksAt (state_at self.now found) moment result }
     {

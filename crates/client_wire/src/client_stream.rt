@@ -103,7 +103,7 @@ impl<'a, R: time::Clock, S: Waits> ClientStream<'a, R, S> {
         Ok(())
     }
 
-    // The same of a write.
+    // Tells the stream how long a write may wait, where it wasn't told the same last.
     fn limit_writes(&mut self, time: Duration) -> io::Result<()>
         ensures { self.new.stream ≡ self.old.stream }
     {

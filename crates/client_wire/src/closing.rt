@@ -40,7 +40,7 @@ pub fn close<R: time::Clock>(rt: &R, stream: TcpStream) {
     read_out(rt, &mut &stream);
 }
 
-/// The same, but for the closing.
+/// Says that nothing more comes, and takes what the client still sends, for a second at most and 65,536 octets.
 pub fn read_out<R: time::Clock, S: Closes>(rt: &R, stream: &mut S)
     ensures { TakesFew (S.remaining stream.old) (S.remaining stream.new) }
 {

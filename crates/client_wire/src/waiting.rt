@@ -34,7 +34,7 @@ impl Waiting {
         }
     }
 
-    /// The same with a patience of whole seconds.
+    /// No time was waited so far, with a patience of whole seconds.
     pub fn of_seconds(seconds: u64) -> Waiting
         ensures { IsNew (nanoseconds seconds) result }
     {

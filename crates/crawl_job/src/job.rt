@@ -14,7 +14,7 @@ pub struct Job {
 }
 
 impl Job {
-    /// The same job once more.
+    /// A copy of the job. It takes memory for its token and its URL.
     pub fn copy(&self) -> Result<Job, AllocError>
         ensures token { IfOk result (λ job. job.token ≡ self.now.token) }
         ensures url { IfOk result (λ job. job.url ≡ self.now.url) }

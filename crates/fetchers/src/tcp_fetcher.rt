@@ -107,7 +107,7 @@ impl<R: Net<Stream = TcpStream> + time::Clock> TcpFetcher<R> {
         })
     }
 
-    /// The same fetcher, which tells a contact in each request: a comment behind the agent, and behind a crawler's token.
+    /// This fetcher, with a contact in each request: a comment after the agent, and after a crawler's token.
     pub fn with_contact(self, contact: &[u8]) -> Result<TcpFetcher<R>, AllocError>
     where
         R: Drop,

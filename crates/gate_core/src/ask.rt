@@ -34,8 +34,8 @@ impl Book {
         self.ask_judged(judged, moment)
     }
 
-    /// The same, with all that it takes at hand. A verdict counts only where the answer then in force has
-    /// the text of the policy that was judged by.
+    /// Asks for a permit by an ask that was prepared before. Its verdict counts only if the answer in force now has
+    /// the text of the policy that it was judged by.
     pub fn ask_judged(&mut self, judged: Judged, moment: u64) -> Result<PermitNo, AskRefusal>
         ensures { Asks self.old judged.token judged.url moment result self.new }
     {

@@ -52,7 +52,7 @@ impl Judged {
         })
     }
 
-    /// The same ask, judged by a policy. It takes no memory.
+    /// This ask, judged by a policy. It takes no memory.
     pub fn judged_by(self, policy: Arc<Policy>) -> Judged
         ensures { result ≡ self }
     {

@@ -38,8 +38,8 @@ impl Book {
         self.start_standing(number, token, url, None, moment)
     }
 
-    /// The same, where a permit of that number, token and URL is known to stand and the verdict may be at
-    /// hand. It counts only where the answer then in force has the text of the policy that was judged by.
+    /// Starts the fetch of a permit that is known to stand with that token and URL, by a verdict that may be known
+    /// already. That counts only if the answer in force now has the text of the policy that it was judged by.
     pub fn start_standing(
         &mut self,
         number: PermitNo,

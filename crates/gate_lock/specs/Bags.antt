@@ -1,5 +1,5 @@
 -- What contracts see of a bag, and what its calls do to it and to its desk.
--- RFC 9309 has none of it: permits make each fetch look at the answer in force (2.4).
+-- Cited by the contracts of `Bag` and of the keepers of sessions above it.
 use Rattle.std.specs.Prelude.{◌≡◌, ℕ, ◌+◌, ◌==◌, ◌&&◌, Bool, false, MatchBool, List, [], ◌∷◌, ◌++◌, length, slice_get, Option, Result, Ok, Err}
 use Rattle.std.specs.List.{list_any}
 use Rattle.std.specs.List.Sorted.{IsPermutation}

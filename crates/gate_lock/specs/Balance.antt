@@ -1,5 +1,5 @@
 -- The numbers of a gate that its ledgers count, and how the ledgers are cut into parts.
--- RFC 9309 has none of it: permits make each fetch look at the answer in force (2.4).
+-- Cited by the settlement of a gate, and by what is told of a gate that is idle.
 use Rattle.std.specs.Prelude.{◌≡◌, ℕ, ◌+◌, ◌≤◌, length}
 use Rattle.gate_history.specs.Base.{Base, empty_base}
 use Rattle.gate_history.specs.History.{History, entry_count, started_count}

@@ -1,5 +1,5 @@
 -- What contracts see of a desk and of the values that must be spent at it, and what an entry does to a desk.
--- RFC 9309 has none of it: permits make each fetch look at the answer in force (2.4).
+-- Cited by each call of a desk, and by what is built of desks: workers, keepers of sessions, shifts.
 use Rattle.std.specs.Prelude.{◌≡◌, ℕ, ◌+◌, ◌*◌, ◌≤◌, List, [], ◌∷◌, ◌++◌, length, map}
 use Rattle.gate_history.specs.declared.entry.Entry.{Entry}
 use Rattle.gate_history.specs.declared.entry.Entry.TheVariants.{Begun, Arrived, Granted, AskDenied, Started, StartDenied, Returned, Finished, Swept}

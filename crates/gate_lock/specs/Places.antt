@@ -1,5 +1,5 @@
 -- Places of a history in several lists: each once, and ascending in each list.
--- What `MarksFit` asks of the marks of all desks; RFC 9309 has none of it.
+-- What `MarksFit` asks of the marks of all desks; cited by the settlement.
 use Rattle.std.specs.Prelude.{◌≡◌, ℕ, zero, suc, ◌+◌, ◌<◌, ◌≤◌, ◌==◌, nat_lt, List, [], ◌∷◌, ◌++◌}
 use Rattle.authority_cache.specs.Calls.{one_if}
 

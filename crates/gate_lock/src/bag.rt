@@ -1,5 +1,5 @@
 //! A bag: the permits and the started fetches of one desk, for a session that names them by number.
-//! RFC 9309 has none of it: permits make each fetch look at the answer in force (2.4).
+//! For what serves clients: the keeper of a session has one, since its lines name permits by numbers.
 ghost use Rattle.std.specs.Prelude.{◌≡◌, ◌+◌, ◌<◌, [], false, IfErr, IfNone, IfOk, IfSome, length, OnErr, OnOk, IsOk};
 ghost use Rattle.std.specs.List.{All};
 ghost use Rattle.gate_lock.specs.Bags.{BagFinishes, BagReturns, BagStarts, Clears, FinishesEach, has_permit, held_in, HoldsSame, IsCleared, KeepsBalance, KeepsPermit, kept_in, LosesPermit, ReturnsEach};

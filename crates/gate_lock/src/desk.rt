@@ -119,7 +119,7 @@ impl<'a, G: Gate> Desk<'a, G> {
         self.lend_when(rt, &Awaited::Nothing)
     }
 
-    // The same, once what is awaited is so.
+    // The lock, once what is awaited has happened and the history has the entries that this desk has seen.
     pub(crate) fn lend_when<'b, R: Wait>(&self, rt: &R, awaited: &'b Awaited<'b>) -> Held<'a, G>
         ensures gate { IsGateOf self.now.limits self.now.seen result }
         ensures met { IsMet awaited.now (history result) }

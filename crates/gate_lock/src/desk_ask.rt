@@ -51,7 +51,7 @@ impl DeskAsk {
         })
     }
 
-    /// The same ask, judged by a policy. It takes no memory.
+    /// This ask, judged by a policy. It takes no memory.
     pub fn judged_by(self, policy: Arc<Policy>) -> DeskAsk
         ensures { result ≡ self }
     {

@@ -52,7 +52,7 @@ fn list_fits(sealed: u64, history: &[Entry], marks: &[Mark]) -> bool
     marks_ascend(marks) && are_entries(sealed, history, marks)
 }
 
-/// The same of the receipts of desks, which may have places of sealed entries alone.
+/// Whether the receipts of all desks ascend and fit the history. They may have places of sealed entries alone.
 pub fn receipts_fit<G: Gate>(
     alloc: Global,
     sealed: u64,

@@ -119,7 +119,7 @@ pub(crate) fn ascend<G: Gate>(receipts: &Receipts<G>) -> bool
     kept.begin_from(receipts.sealed().before()) && all_ascend(kept)
 }
 
-// The same of marks alone.
+// Whether the places of marks ascend, where no receipts have ranges.
 pub(crate) fn marks_ascend(marks: &[Mark]) -> bool
     ensures { IsTrue result ↔ Ascend (places_of (alone marks.now)) }
 {
@@ -155,7 +155,7 @@ pub(crate) fn each_once<G: Gate>(
     Ok(merge(&mut left, first, count))
 }
 
-// The same of lists of marks alone.
+// Whether the places of lists of marks, which ascend in each, are all those below a number, each once.
 pub(crate) fn each_listed_once(
     alloc: Global,
     count: u64,

@@ -47,7 +47,7 @@ impl Last {
         }
     }
 
-    // The same, of a grant.
+    // What a desk keeps of a grant.
     pub fn granted(self, number: PermitNo, fetch: FetchText) -> Mark
         ensures { result ≡ mark_at self.place (Granted self.moment number fetch) }
     {
@@ -58,7 +58,7 @@ impl Last {
         })
     }
 
-    // The same, of an ask that was denied.
+    // What a desk keeps of an ask that was denied.
     pub fn ask_denied(self, fetch: FetchText, cause: Cause) -> Mark
         ensures { result ≡ mark_at self.place (AskDenied self.moment fetch cause) }
     {

@@ -1,5 +1,5 @@
 //! `settle`: the end of a gate, when all its desks are closed.
-//! Nothing is out, and the receipts are the whole history; RFC 9309 has none of it.
+//! Nothing is out, and the receipts are the whole history: for what ends a gate of several threads.
 ghost use Rattle.std.specs.Prelude.{◌≡◌, IfOk};
 ghost use Rattle.gate_lock.specs.Marks.{starts_of_all};
 ghost use Rattle.gate_lock.specs.Settling.{IsWholeUnlessSealed, Settles, SettlesSome};

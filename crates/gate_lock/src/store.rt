@@ -121,7 +121,7 @@ impl<T: Numbered> Store<T> {
         self.find_twin(number, sought)
     }
 
-    // The same, of those that are not the first of their numbers.
+    // Where one of the number is kept that is sought, among those that are not the first of their numbers.
     fn find_twin<S: Sought<T>>(&self, number: u64, sought: &S) -> Option<Spot>
         ensures some { IfSome result
             (λ spot. IfSome (kept_at self.now spot)

@@ -77,7 +77,7 @@ impl<'a, G: Gate> Desk<'a, G> {
         held.guard.refuse_begin(authority, moment)
     }
 
-    // The same with copies of the authority for the mark and for the turn.
+    // Begins a turn with copies of the authority for the mark and for the turn.
     fn begin_copied(
         &mut self,
         held: &mut Held<'_, G>,

@@ -50,7 +50,7 @@ pub fn read_response<S: Source>(
     read_reply(alloc, source, limit)
 }
 
-// The same, without the law that what stands in the input is found.
+// `read_response` without the law that what stands in the input is found.
 fn read_reply<S: Source>(
     alloc: Global,
     source: &mut S,

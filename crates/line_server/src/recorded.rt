@@ -54,7 +54,7 @@ impl<'a, G: Gate, J: Records, R: Wait> Recorded<'a, G, J, R> {
         self.journal.come_up(self.rt, &self.chronicle)
     }
 
-    /// The same, and has each crash keep it where that is done once a second.
+    /// Waits until all that is entered is recorded, and syncs it where that is done once a second.
     pub(crate) fn see_to(&self) -> Result<(), DeviceFault> {
         self.journal.see_to(self.rt, &self.chronicle)
     }

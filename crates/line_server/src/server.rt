@@ -81,7 +81,7 @@ impl<
         self.run_recorded(gate, &Unrecorded)
     }
 
-    /// The same over a gate that is recorded from its first entry on: nothing is told to a client, and no page or
+    /// `run` over a gate that is recorded from its first entry on: nothing is told to a client, and no page or
     /// robots file is fetched, before all that was entered until then is. Where that fails each session ends at
     /// its next write, no client is taken any more, and it has no end to tell of.
     pub fn run_recorded<G: Gate + Send + Sync, J: Records + Sync>(
@@ -96,7 +96,7 @@ impl<
         self.settle_served(gate, connections, receipts)
     }
 
-    /// The same over a gate that goes on from a base: it is settled with the receipts of what was before, which come
+    /// `run_recorded` over a gate that goes on from a base: it is settled with the receipts of what was before, which come
     /// last among those of its desks. The robots files of these sites, which were being fetched before, are fetched anew,
     /// on a thread of their own.
     pub fn run_resumed<G: Gate + Send + Sync, J: Records + Sync>(

@@ -55,7 +55,7 @@ pub(crate) fn first_by_blocks(path: &[u8], run: &[u8], from: usize) -> Option<us
     }
 }
 
-/// The same, in so many blocks at the most.
+/// The first place of the run that is not before this one, if it lies in the next blocks, so many at the most.
 pub(crate) fn search_from(path: &[u8], run: &[u8], from: usize, patience: usize) -> Search
     requires some { 0 < patience }
     requires pair { 1 < length run.now }

@@ -45,7 +45,7 @@ impl<'p, 'k> Path<'p, 'k> {
         }
     }
 
-    /// The same with its places, and with room for runs, of which it keeps none yet.
+    /// The path with its places, and with room for runs, of which it keeps none yet.
     pub fn with(text: &'p [u8], places: &'p Places, room: &'k mut Room) -> Path<'p, 'k>
         requires { ArePlacesOf text.now places.now }
         ensures { result ≡ text.now }

@@ -58,7 +58,7 @@ impl Pattern {
         self.matches_path(&mut Path::new(path))
     }
 
-    /// The same of a path that many patterns are tried on.
+    /// Whether the pattern matches a path that many patterns are tried on, and which keeps what was found for them.
     pub fn matches_path(&self, path: &mut Path<'_, '_>) -> bool
         ensures tells { IsTrue result ↔ Matches self.now path.old }
         ensures stays { path.new ≡ path.old }
@@ -118,7 +118,7 @@ fn fits(pattern: &[u8], star: Star, anchored: bool, path: &mut Path<'_, '_>) -> 
     }
 }
 
-// The same of a run without a star.
+// Whether a run without a wildcard fits the path from its first octet on.
 fn fits_run(run: &[u8], anchored: bool, path: &[u8]) -> bool
     requires { HasNoStar run.now }
     ensures { IsTrue result ↔ Spells run.now anchored path.now }
@@ -145,7 +145,7 @@ fn fits_after_star(pattern: &[u8], anchored: bool, path: &mut Path<'_, '_>, from
     fits_last(left, anchored, path, place)
 }
 
-// The same of a run without a star.
+// Whether a run without a wildcard, the last of its pattern, fits behind a place.
 fn fits_last(run: &[u8], anchored: bool, path: &mut Path<'_, '_>, from: usize) -> bool
     requires plain { HasNoStar run.now }
     requires within { from ≤ length path.old }

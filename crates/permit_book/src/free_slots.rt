@@ -15,7 +15,7 @@ pub struct FreeSlots {
     low: Vec<u64>,
     // A bit for each word of `low`, which is set while that word has one.
     middle: Vec<u64>,
-    // The same for the words of `middle`, of which there are at most 64.
+    // A bit for each word of `middle`, of which there are at most 64.
     top: [u64; 1],
 }
 

@@ -44,7 +44,7 @@ pub fn check<R: Source, W: Sink, E: Sink>(
     answer(alloc, text, token, urls, detail, writer)
 }
 
-/// The same where the URLs stand in the input, one a line, behind the robots text: that ends at the
+/// `check` where the URLs stand in the input, one a line, behind the robots text: that ends at the
 /// first empty line which a line follows that begins with `/`, `http:` or `https:`. Who writes the
 /// text can end it so, and bring URLs of their own: `check_lines` keeps the two apart.
 pub fn check_input<R: Source, W: Sink, E: Sink>(
@@ -72,7 +72,7 @@ pub fn check_input<R: Source, W: Sink, E: Sink>(
     answer(alloc, text, token, urls.as_slice(), detail, writer)
 }
 
-/// The same where the input has the URLs alone, one a line, and the robots text is what is kept of
+/// `check` where the input has the URLs alone, one a line, and the robots text is what is kept of
 /// this body: nothing in the body is read as a URL.
 pub fn check_lines<R: Source, W: Sink, E: Sink>(
     alloc: Global,

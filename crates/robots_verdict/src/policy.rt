@@ -80,7 +80,7 @@ impl Policy {
         })
     }
 
-    /// The same policy with an index. It takes memory for its rules, but none for the text.
+    /// This policy with an index. It takes memory for its rules, but none for the text.
     pub fn indexed(&self, alloc: Global) -> Result<Policy, AllocError>
         ensures { IfOk result (λ policy. policy ≡ self.now) }
     {
@@ -146,7 +146,7 @@ impl Policy {
             }
     }
 
-    // The same where many patterns may be tried on a long path. What is kept of the path takes much of the stack,
+    // The verdict where many patterns may be tried on a long path. What is kept of the path takes much of the stack,
     // which other verdicts need not have.
     #[inline(never)]
     fn dear_verdict(&self, token: &Token, path: &[u8]) -> Verdict
@@ -179,7 +179,7 @@ impl Policy {
         }
     }
 
-    // The same by the index.
+    // The verdict by the index, on a path that is not that of robots files.
     fn verdict_by(&self, index: &Index, token: &Token, path: &mut Path<'_, '_>) -> Verdict
         requires index { IsIndexOf self.now index.now }
         requires elsewhere { path.old ≢ robots_path }

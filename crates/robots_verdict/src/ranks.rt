@@ -63,7 +63,7 @@ impl Ranks {
         found
     }
 
-    // The same of one group, or the place that was found so far where that row is stronger.
+    // The place of the first such row of one group, or the one that was found so far if that row is stronger.
     fn first_of(
         &self,
         rows: &Rows,

@@ -1,5 +1,5 @@
 //! Why no response came over TCP, in as far as the system tells it.
-//! RFC 9112 has none of it.
+//! For whoever tells an operator why a site is closed or a page was not fetched.
 use std::io::ErrorKind;
 use std::time::Duration;
 

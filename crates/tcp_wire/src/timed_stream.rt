@@ -75,7 +75,7 @@ impl<'a, R: time::Clock, S: Waits> TimedStream<'a, R, S> {
         io::Error::from(ErrorKind::TimedOut)
     }
 
-    // The same of a fault that the system tells.
+    // Keeps why a read or a write fails for a fault that the system tells.
     fn break_off(&mut self, kind: ErrorKind) -> io::Error
         ensures { self.new.stream ≡ self.old.stream }
     {

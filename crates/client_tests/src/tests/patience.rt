@@ -91,7 +91,7 @@ fn reads_of<R: Read>(client: &mut R) -> u32 {
     MOST_CALLS
 }
 
-// The same of writes. What they write ends lines, but the client doesn't.
+// How many writes succeed before one fails. What they write ends lines, but the client doesn't.
 const WRITES: [(&str, &[Step], u32, u128); 4] = [
     ("nothing is taken", &[Step::Moves(900_000, "a")], 0, 300_000),
     (

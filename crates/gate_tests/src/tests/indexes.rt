@@ -1,5 +1,5 @@
 //! When the rules of an authority get an index: by the ask behind sixteen verdicts, or by one that hands an index in.
-//! That they say the same with it is proved (`Cache::make_index`, `take_index`); RFC 9309 has none of it.
+//! That they say the same with it is proved (`Cache::make_index`, `take_index`).
 
 use super::gates::{PAGE, book};
 use authority_cache::{LIFE, TimedAnswer};

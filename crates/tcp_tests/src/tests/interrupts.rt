@@ -119,7 +119,7 @@ fn reads_when_stopped(rt: &impl time::Clock) -> io::Result<(bool, Option<Failure
     Ok((reads, stream.failure))
 }
 
-// The same of a write.
+// Whether a write of a stream that was stopped succeeds, and why it failed.
 fn writes_when_stopped(rt: &impl time::Clock) -> io::Result<(bool, Option<Failure>)> {
     let stopped = AtomicBool::new(true);
     let mut stream = stream_of(rt, 0, 60, &stopped)?;

@@ -107,7 +107,7 @@ pub(super) fn fetch<R: Net<Stream = TcpStream> + time::Clock>(
     fetch_by(rt, alloc, &TcpClient::new(rt, limits), url, limit)
 }
 
-/// The same by a client.
+/// Fetches a page over TCP by a client of the test, and takes the time.
 pub(super) fn fetch_by<R: Net<Stream = TcpStream> + time::Clock>(
     rt: &impl time::Clock,
     alloc: Global,

@@ -104,7 +104,7 @@ const ROWS: [Row; 12] = [
     },
 ];
 
-// The same where LF alone ends a line.
+// Lines and their octets, where LF alone ends a line.
 const LF_ROWS: [Row; 4] = [
     Row {
         name: "a carriage return before the line feed stays",
