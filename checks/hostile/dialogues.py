@@ -1,7 +1,7 @@
 """Random dialogues of `replay`: what the program answers, the history that it writes, and what of that an audit says; and
 texts of histories that were changed. All of it is compared with the gate and the auditor that are written here."""
 import pages
-from lib import reading
+from lib import drawn
 from lib.reading import spelled
 from auditor import DAY, GENERATION_LIMIT, NUMBER_LIMIT, audit
 from gate import Gate
@@ -22,9 +22,9 @@ ODD_URLS = ["foo", "http:/a.example/x", "http:a.example/x", "https://a.example/x
 def file_of(dice):
     """Draws a robots file."""
     if dice.randrange(3) == 0:
-        return dice.choice(reading.SMALL) + dice.choice(reading.SMALL)
-    rule = lambda: dice.choice(reading.KINDS) + b"/" + "".join(dice.choices(reading.PIECES, k=dice.randrange(6))).encode() + b"\n"
-    return b"".join(dice.choice(reading.OTHERS) if dice.randrange(4) == 0 else rule() for _ in range(dice.randrange(1, 12)))
+        return dice.choice(drawn.SMALL) + dice.choice(drawn.SMALL)
+    rule = lambda: dice.choice(drawn.KINDS) + b"/" + "".join(dice.choices(drawn.PIECES, k=dice.randrange(6))).encode() + b"\n"
+    return b"".join(dice.choice(drawn.OTHERS) if dice.randrange(4) == 0 else rule() for _ in range(dice.randrange(1, 12)))
 
 
 class Dialogue:
@@ -79,7 +79,7 @@ class Dialogue:
     def url(self):
         if self.dice.randrange(20) == 0:
             return self.dice.choice(ODD_URLS)
-        path = self.dice.choice([*reading.PATHS, "/robots.txt", "/" + "".join(self.dice.choices(reading.PIECES, k=4))])
+        path = self.dice.choice([*drawn.PATHS, "/robots.txt", "/" + "".join(self.dice.choices(drawn.PIECES, k=4))])
         sites = sorted(self.gate.answers) if self.gate.answers and self.dice.randrange(4) else SITES
         return f"http://{self.dice.choice(sites)}{path}{self.dice.choice(ENDINGS)}"
 

@@ -125,7 +125,7 @@ def killed(tried, number):
 
 
 def try_all(tried, seconds, only=None):
-    site = memory.open_site()
+    site = memory.hostile_site()
     no_threads(tried, site)
     few_descriptors(tried, site)
     full_file(tried)

@@ -5,6 +5,7 @@ import tempfile
 
 import pages
 from lib import reading
+from lib.drawn import PIECES, drawn_texts, octet_soup
 from lib.reading import TEXT_LIMIT
 
 TOKENS = ["foobot", "FooBot", "barbot", "foo-_bot", "crawlgate"]
@@ -118,12 +119,12 @@ def is_split(text):
 
 def soup(dice):
     """Octets that are nearly a robots file."""
-    text = reading.octet_soup(dice, dice.choice([30, 300, 3_000]))
+    text = octet_soup(dice, dice.choice([30, 300, 3_000]))
     return dice.choice([text, b"\xef\xbb\xbf" + text, text.replace(b"\n", b"\r"), text.replace(b"a", b"\xc3\xa9"), text + PLAIN])
 
 
 def drawn(dice):
-    return next(reading.drawn_texts(dice, 1))[0]
+    return next(drawn_texts(dice, 1))[0]
 
 
 def groups(dice):
@@ -150,7 +151,7 @@ KINDS = [(8, soup), (8, drawn), (6, groups), (2, otherwise_coded), (1, at_the_li
 
 
 def urls_of(dice):
-    drawn = ["/" + "".join(dice.choices(reading.PIECES, k=dice.randrange(8))) for _ in range(4)]
+    drawn = ["/" + "".join(dice.choices(PIECES, k=dice.randrange(8))) for _ in range(4)]
     return [it for it in dice.sample(URLS, 4) + drawn if is_told(it)]
 
 
