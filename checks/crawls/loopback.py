@@ -126,6 +126,13 @@ async def hang(site, writer, target):
     await asyncio.sleep(SLOW)
 
 
+async def hang_at_last(site, writer, target):
+    """Nothing comes of the page `/last`."""
+    if target != "/last":
+        return await answer(site, writer, target)
+    await asyncio.sleep(4 * SLOW)
+
+
 async def lead_on(site, writer, target):
     """The robots file is behind slow redirects."""
     if target not in ("/robots.txt", "/1", "/2"):
