@@ -327,6 +327,8 @@ impl<R: Net<Stream = TcpStream> + time::Clock> TcpClient<R> {
             deadline,
             step: self.limits.step,
             stopped: &self.stopped,
+            read_limit: None,
+            write_limit: None,
             failure: None,
         }
     }

@@ -48,6 +48,9 @@ pub struct TimedStream<'a, R: time::Clock, S: Waits> {
     pub step: Duration,
     /// Whether it is to stop.
     pub stopped: &'a AtomicBool,
+    /// How long reads and writes of the connection wait by now, if that was told to it. It is told again where it changes.
+    pub read_limit: Option<Duration>,
+    pub write_limit: Option<Duration>,
     /// Why the last read or write that failed did so.
     pub failure: Option<Failure>,
 }
@@ -65,6 +68,28 @@ impl<'a, R: time::Clock, S: Waits> TimedStream<'a, R, S> {
             return Err(Failure::TooLong(self.deadline.whole));
         };
         step.left_at(now, left).ok_or(Failure::Silent(self.step))
+    }
+
+    // Has a read that waits longer fail.
+    fn limit_reads(&mut self, most: Duration) -> io::Result<()>
+        ensures { self.new.stream ≡ self.old.stream }
+    {
+        if self.read_limit != Some(most) {
+            self.stream.limit_reads(most)?;
+            self.read_limit = Some(most);
+        }
+        Ok(())
+    }
+
+    // Has a write that waits longer fail.
+    fn limit_writes(&mut self, most: Duration) -> io::Result<()>
+        ensures { self.new.stream ≡ self.old.stream }
+    {
+        if self.write_limit != Some(most) {
+            self.stream.limit_writes(most)?;
+            self.write_limit = Some(most);
+        }
+        Ok(())
     }
 
     // Keeps why a read or a write fails.
@@ -90,7 +115,7 @@ impl<'a, R: time::Clock, S: Waits> Read for TimedStream<'a, R, S> {
         let step = Deadline::begin(self.rt, self.step)?;
         for _ in 0..MOST_TRIES {
             match self.patience(&step) {
-                Ok(left) => self.stream.limit_reads(left)?,
+                Ok(left) => self.limit_reads(left)?,
                 Err(failure) => return Err(self.fail(failure)),
             }
             match self.stream.read(buf) {
@@ -110,7 +135,7 @@ impl<'a, R: time::Clock, S: Waits> Write for TimedStream<'a, R, S> {
         let step = Deadline::begin(self.rt, self.step)?;
         for _ in 0..MOST_TRIES {
             match self.patience(&step) {
-                Ok(left) => self.stream.limit_writes(left)?,
+                Ok(left) => self.limit_writes(left)?,
                 Err(failure) => return Err(self.fail(failure)),
             }
             match self.stream.write(buf) {

@@ -73,6 +73,8 @@ fn stream_of<'a, R: time::Clock>(
         },
         step: Duration::from_secs(30),
         stopped,
+        read_limit: None,
+        write_limit: None,
         failure: None,
     })
 }
