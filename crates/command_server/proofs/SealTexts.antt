@@ -3,7 +3,7 @@
 use Rattle.std.proofs.Common.{◌≡◌, ◌<◌, List, [], ◌∷◌, ◌++◌, length, refl, arith}
 use Rattle.gate_history.specs.declared.entry.Entry.{Entry}
 use Rattle.gate_history.specs.Segment.{Sealed}
-use Rattle.crawl_audit.specs.SpellBase.{spell_segment}
+use Rattle.history_text.specs.SpellBase.{spell_segment}
 use Rattle.command_server.specs.SealText.{handed_entries, line_count, sealed_line}
 
 -- the line, and the text

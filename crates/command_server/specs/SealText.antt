@@ -6,7 +6,7 @@ use Rattle.gate_history.specs.Base.{Base}
 use Rattle.gate_history.specs.Segment.{Sealed}
 use Rattle.gate_core.specs.declared.refusal.NoMemory.{NoMemory}
 use Rattle.crawl_job.specs.declared.hop.Refusal.TheVariants as refusals
-use Rattle.crawl_audit.specs.SpellBase.{spell_segment}
+use Rattle.history_text.specs.SpellBase.{spell_segment}
 use Rattle.line_text.specs.Pieces.{line_of}
 use Rattle.command_server.specs.RefusalText.{refusal_text}
 

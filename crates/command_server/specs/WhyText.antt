@@ -3,7 +3,7 @@
 use Rattle.std.specs.Prelude.{List, [], ◌∷◌, ◌++◌, ℕ, Option, Some, None, Result, Ok, Err, codes}
 use Rattle.authority_cache.specs.declared.standing_answer.StandingAnswer.{StandingAnswer}
 use Rattle.counted_io.specs.Lines.{line_feed}
-use Rattle.crawl_audit.specs.SpellBase.{answer_words}
+use Rattle.history_text.specs.SpellBase.{answer_words}
 use Rattle.crawl_job.specs.declared.hop.Refusal.TheVariants as refusals
 use Rattle.gate_core.specs.declared.refusal.NoMemory.{NoMemory}
 use Rattle.line_text.specs.Pieces.{line_of}

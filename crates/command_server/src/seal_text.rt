@@ -7,10 +7,10 @@ ghost use Rattle.line_text.specs.Pieces.{pieces_text};
 
 use crate::refusal_text::refusal_pieces;
 use counted_io::{DeviceFault, Output, Sink};
-use crawl_audit::push_segment_text;
 use crawl_job::Refusal;
 use gate_core::NoMemory;
 use gate_history::{Base, Segment};
+use history_text::push_segment_text;
 use line_text::{Piece, Pieces};
 
 // Pushes the reply.

@@ -7,9 +7,9 @@ ghost use Rattle.command_server.specs.WhyText.{explained_text, why_text};
 use crate::refusal_text::refusal_pieces;
 use authority_cache::StandingAnswer;
 use counted_io::{DeviceFault, Output, Sink};
-use crawl_audit::standing_pieces;
 use crawl_job::Refusal;
 use gate_core::NoMemory;
+use history_text::standing_pieces;
 use line_text::{Piece, Pieces};
 use path_normal::Authority;
 

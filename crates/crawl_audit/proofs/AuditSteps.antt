@@ -18,16 +18,16 @@ use Rattle.crawl_audit.specs.declared.next_base.BaseLine.TheVariants.{Last, Othe
 use Rattle.crawl_audit.specs.declared.next_base.NextBase.{NextBase}
 use Rattle.crawl_audit.specs.declared.unread_line.UnreadLine.{UnreadLine}
 use Rattle.crawl_audit.specs.declared.unread_line.UnreadLine.TheVariants as unread
-use Rattle.crawl_audit.specs.declared.version.Version.{Version}
-use Rattle.crawl_audit.specs.declared.version.Version.TheVariants.{One, Two}
+use Rattle.history_text.specs.declared.version.Version.{Version}
+use Rattle.history_text.specs.declared.version.Version.TheVariants.{One, Two}
 use Rattle.crawl_audit.specs.Audit.{AreEntries, CountsLine, EntersLine, EntersOne, GoesTo, is_entry_line, is_start_line, Moves, StandsAt}
 use Rattle.crawl_audit.specs.Chains.{most_lines}
-use Rattle.crawl_audit.specs.Entries.{HasLife, IsEntry}
+use Rattle.history_text.specs.Entries.{HasLife, IsEntry}
 use Rattle.crawl_audit.specs.FirstBase.{Reads, TakesBaseLine}
-use Rattle.crawl_audit.specs.Spell.{entry_line}
+use Rattle.history_text.specs.Spell.{entry_line}
 use Rattle.crawl_audit.specs.Loading.{risen, with_numbers}
 use Rattle.crawl_audit.specs.NextBase.{Expects, TakesNextLine}
-use Rattle.crawl_audit.specs.SpellBase.{base_lines}
+use Rattle.history_text.specs.SpellBase.{base_lines}
 use Rattle.crawl_audit.specs.Steps.{among, inside, IsBaseFor, Place, start, Steps, TakesEntry, TakesLine}
 use Rattle.crawl_audit.specs.Tables.{EntersAll, MayCome, TellsAll}
 use Rattle.crawl_audit.proofs.CountedLines.{entry_counted, in_base, IsUncounted, start_counted}

@@ -18,11 +18,11 @@ use Rattle.crawl_audit.specs.declared.auditor.Stage.TheVariants as stages
 use Rattle.crawl_audit.specs.declared.fault.AuditFault.{AuditFault}
 use Rattle.crawl_audit.specs.declared.fault.AuditFault.TheVariants.{BadLine, Read, NoMemory}
 use Rattle.crawl_audit.specs.declared.fault.Audited.{Audited}
-use Rattle.crawl_audit.specs.declared.version.Version.TheVariants.{One}
+use Rattle.history_text.specs.declared.version.Version.TheVariants.{One}
 use Rattle.crawl_audit.specs.Audit.{AddsLine, GoesTo, Heard, HeardAll, Holds, is_entry_line, is_start_line, IsFault, LeadsNowhere}
 use Rattle.crawl_audit.specs.ChainAudit.{IsAmong, IsChainAudited, IsChainBadAt}
 use Rattle.crawl_audit.specs.Chains.{IsFront, line_limit, most_lines}
-use Rattle.crawl_audit.specs.SpellBase.{ended, lines_text}
+use Rattle.history_text.specs.SpellBase.{ended, lines_text}
 use Rattle.crawl_audit.specs.Steps.{MayEnd, Place, Runs, start, Steps}
 use Rattle.crawl_audit.specs.Tables.{TellsAll}
 use Rattle.crawl_audit.proofs.ChainLines.{good_begins, IsGoodLine}

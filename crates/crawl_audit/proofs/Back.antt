@@ -27,9 +27,9 @@ use Rattle.path_normal.specs.PageText.{authority_of}
 use Rattle.path_normal.specs.PageUrl.{IsPage, page_url_among}
 use Rattle.robots_text.specs.Lines.{kept}
 use Rattle.line_text.specs.Number.{is_number, is_numeral, is_small, number_of}
-use Rattle.crawl_audit.specs.Spell.{body_word}
+use Rattle.history_text.specs.Spell.{body_word}
 use Rattle.line_text.specs.Escapes.{escaped_body}
-use Rattle.crawl_audit.specs.Entries.{IsBody, IsNumber}
+use Rattle.history_text.specs.Entries.{IsBody, IsNumber}
 use Rattle.crawl_audit.proofs.NamedEntries.{authority_named, body_named, page_named}
 
 own : IsNumeralModel (λ ds. list_all is_ascii_digit ds ≡ true) (digits_value 10)

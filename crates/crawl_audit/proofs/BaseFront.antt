@@ -8,12 +8,12 @@ use Rattle.std.proofs.lemmas.Bool.{and_parts}
 use Rattle.authority_cache.specs.declared.standing_answer.StandingAnswer.{StandingAnswer}
 use Rattle.gate_history.specs.declared.base.SlotGrant.{SlotGrant}
 use Rattle.std.specs.Prelude.{true}
-use Rattle.crawl_audit.specs.BaseFields.{IsAnswerRow, IsGrantRow, IsPermitRow, IsTurnRow}
+use Rattle.history_text.specs.BaseFields.{IsAnswerRow, IsGrantRow, IsPermitRow, IsTurnRow}
 use Rattle.gate_history.specs.Grants.{IsSlotGrant}
-use Rattle.crawl_audit.specs.Chains.{IsTextBase}
+use Rattle.history_text.specs.Texts.{IsTextBase}
 use Rattle.crawl_audit.specs.OpenRows.{OpenRow, Answered, InFlight, Greatest, Unspent, Running, IsOpenRow, MayStand, row_line, rows_of}
 use Rattle.crawl_audit.specs.Reading.{head_word, tail_words}
-use Rattle.crawl_audit.specs.SpellBase.{base_lines, numbers_line}
+use Rattle.history_text.specs.SpellBase.{base_lines, numbers_line}
 use Rattle.crawl_audit.proofs.OneRow.{one_numbers, one_row, open_rows, row_is_not_end}
 use Rattle.crawl_audit.proofs.RowFronts.{text_base_cut}
 use Rattle.crawl_audit.proofs.RowKinds.{FromKind, answers_at, based_back, based_on, based_push, grants_at, kinds_front, rows_by_kinds, running_at, stands_behind, turns_at, unspent_at}

@@ -10,15 +10,16 @@ use Rattle.gate_history.specs.declared.base.SlotGrant.{SlotGrant}
 use Rattle.gate_history.specs.declared.entry.Entry.{Entry}
 use Rattle.gate_history.specs.Base.{Base}
 use Rattle.gate_history.specs.History.{History}
-use Rattle.crawl_audit.specs.declared.version.Version.{Version}
-use Rattle.crawl_audit.specs.declared.version.Version.TheVariants.{One, Two}
-use Rattle.crawl_audit.specs.BaseFields.{HasNumbers, IsGrantRow, IsPermitRow, IsTurnRow}
-use Rattle.crawl_audit.specs.Chains.{AllGoOn, chain_lines, head_lines, IsChain, IsFront, IsText, IsTextBase, Text, text_history, text_lines, version_lines, line_limit}
-use Rattle.crawl_audit.specs.Entries.{IsEntry}
+use Rattle.history_text.specs.declared.version.Version.{Version}
+use Rattle.history_text.specs.declared.version.Version.TheVariants.{One, Two}
+use Rattle.history_text.specs.BaseFields.{HasNumbers, IsGrantRow, IsPermitRow, IsTurnRow}
+use Rattle.history_text.specs.Texts.{head_lines, IsText, IsTextBase, Text, text_history, text_lines, version_lines}
+use Rattle.crawl_audit.specs.Chains.{AllGoOn, chain_lines, IsChain, IsFront, line_limit}
+use Rattle.history_text.specs.Entries.{IsEntry}
 use Rattle.crawl_audit.specs.Laws.{RightChainIsNeverBad}
-use Rattle.crawl_audit.specs.Spell.{answer_fields, entry_line}
+use Rattle.history_text.specs.Spell.{answer_fields, entry_line}
 use Rattle.crawl_audit.specs.ChainAudit.{IsAmong}
-use Rattle.crawl_audit.specs.SpellBase.{answer_line, base_lines, grant_line, lines_text, numbers_line, open_lines, permit_line, running_line, turn_line, unspent_line}
+use Rattle.history_text.specs.SpellBase.{answer_line, base_lines, grant_line, lines_text, numbers_line, open_lines, permit_line, running_line, turn_line, unspent_line}
 use Rattle.crawl_audit.proofs.Returning.{answer_length, digits, line_length, more, token_length}
 use Rattle.crawl_audit.proofs.RowSpelling.{IsLivedRow, lived, row_feedless, shown_flight, shown_grant, shown_numbers, shown_permit, shown_standing}
 use Rattle.crawl_audit.proofs.Shown.{IsShownOctet}

@@ -6,12 +6,13 @@ use Rattle.gate_history.specs.declared.entry.Entry.{Entry}
 use Rattle.gate_history.specs.declared.entry.Entry.TheVariants.{Begun, Arrived, Granted, AskDenied, Started, StartDenied, Returned, Finished, Swept}
 use Rattle.gate_history.specs.Base.{Base}
 use Rattle.gate_history.specs.History.{is_start}
-use Rattle.crawl_audit.specs.declared.version.Version.{Version}
-use Rattle.crawl_audit.specs.declared.version.Version.TheVariants.{One, Two}
+use Rattle.history_text.specs.declared.version.Version.{Version}
+use Rattle.history_text.specs.declared.version.Version.TheVariants.{One, Two}
 use Rattle.crawl_audit.specs.Audit.{is_entry_line, is_start_line}
-use Rattle.crawl_audit.specs.Chains.{chain_entries, chain_lines, head_lines, starts_in, Text, text_lines, version_lines}
-use Rattle.crawl_audit.specs.Spell.{entry_line}
-use Rattle.crawl_audit.specs.SpellBase.{answer_line, base_lines, grant_line, numbers_line, open_lines, running_line, turn_line, unspent_line}
+use Rattle.history_text.specs.Texts.{head_lines, Text, text_lines, version_lines}
+use Rattle.crawl_audit.specs.Chains.{chain_entries, chain_lines, starts_in}
+use Rattle.history_text.specs.Spell.{entry_line}
+use Rattle.history_text.specs.SpellBase.{answer_line, base_lines, grant_line, numbers_line, open_lines, running_line, turn_line, unspent_line}
 
 -- the line is that of no entry
 pub record IsUncounted (line : List ℕ) : Type 0 where

@@ -20,16 +20,16 @@ use Rattle.crawl_audit.specs.declared.fault.AuditFault.TheVariants.{BadLine}
 use Rattle.crawl_audit.specs.declared.record.Record.{Record}
 use Rattle.crawl_audit.specs.declared.recover_fault.RecoverFault.{RecoverFault}
 use Rattle.crawl_audit.specs.declared.recover_fault.RecoverFault.TheVariants as faults
-use Rattle.crawl_audit.specs.declared.version.Version.{Version}
-use Rattle.crawl_audit.specs.declared.version.Version.TheVariants.{One, Two}
+use Rattle.history_text.specs.declared.version.Version.{Version}
+use Rattle.history_text.specs.declared.version.Version.TheVariants.{One, Two}
 use Rattle.crawl_audit.specs.Audit.{AddsLine, Holds, is_entry_line}
 use Rattle.crawl_audit.specs.ChainAudit.{IsAmong}
 use Rattle.crawl_audit.specs.Chains.{most_lines}
 use Rattle.crawl_audit.specs.Ending.{AllFollow, EndsAll, EndsOne, HaveRoom, IsEnding, RefusesEnds, TakesEnds, ends_of, finish, give_back, lines_of, unanswered}
-use Rattle.crawl_audit.specs.Entries.{HasFields, HasLife, IsEntry}
+use Rattle.history_text.specs.Entries.{HasFields, HasLife, IsEntry}
 use Rattle.crawl_audit.specs.Records.{entry_of}
-use Rattle.crawl_audit.specs.Spell.{entry_line}
-use Rattle.crawl_audit.specs.SpellBase.{ended, lines_text}
+use Rattle.history_text.specs.Spell.{entry_line}
+use Rattle.history_text.specs.SpellBase.{ended, lines_text}
 use Rattle.crawl_audit.specs.Steps.{Place, Runs, Steps, TakesEntry, among, start}
 use Rattle.crawl_audit.proofs.CountedLines.{all_behind, entry_counted}
 use Rattle.crawl_audit.proofs.Spelling.{one_entry}

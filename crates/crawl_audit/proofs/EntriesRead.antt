@@ -13,15 +13,15 @@ use Rattle.gate_history.specs.declared.entry.Entry.{Entry}
 use Rattle.gate_history.specs.declared.entry.Entry.TheVariants.{Begun, Arrived, Granted, AskDenied, Started, StartDenied, Returned, Finished, Swept}
 use Rattle.line_text.specs.Number.{number_of}
 use Rattle.line_text.specs.Words.{words_of}
-use Rattle.crawl_audit.specs.declared.version.Version.{Version}
-use Rattle.crawl_audit.specs.declared.version.Version.TheVariants.{One, Two}
+use Rattle.history_text.specs.declared.version.Version.{Version}
+use Rattle.history_text.specs.declared.version.Version.TheVariants.{One, Two}
 use Rattle.crawl_audit.specs.declared.unread_line.UnreadLine.{UnreadLine}
 use Rattle.crawl_audit.specs.declared.unread_line.UnreadLine.TheVariants.{NotOne, NoMemory}
 use Rattle.crawl_audit.specs.declared.record.Record.{Record}
-use Rattle.crawl_audit.specs.Entries.{HasLife, IsBody, IsEntry, IsLife, IsSaid}
+use Rattle.history_text.specs.Entries.{HasLife, IsBody, IsEntry, IsLife, IsSaid}
 use Rattle.crawl_audit.specs.Reading.{IsRead, ReadsAnswer, ReadsEntry, head_word, tail_words}
 use Rattle.crawl_audit.specs.Records.{entry_of}
-use Rattle.crawl_audit.specs.Spell.{answer_fields, body_word, entry_fields, entry_line, letter_of}
+use Rattle.history_text.specs.Spell.{answer_fields, body_word, entry_fields, entry_line, letter_of}
 use Rattle.crawl_audit.proofs.Back.{authority_back, body_back, number_back}
 use Rattle.crawl_audit.proofs.NamedEntries.{Lasting, NamesAnswer, NamesEntry, answer_named, authority_named, body_named, entry_behind}
 use Rattle.crawl_audit.proofs.Spelling.{answer_back, behind_back, entry_words}

@@ -11,14 +11,14 @@ use Rattle.crawl_audit.specs.declared.first_base.LastLine.TheVariants as lasts
 use Rattle.crawl_audit.specs.declared.ledger.Ledger.{Ledger}
 use Rattle.crawl_audit.specs.declared.unread_line.UnreadLine.{UnreadLine}
 use Rattle.crawl_audit.specs.declared.unread_line.UnreadLine.TheVariants.{NotOne, NoMemory}
-use Rattle.crawl_audit.specs.BaseFields.{HasNumbers, IsAnswerRow, IsGrantRow, IsPermitRow, IsTurnRow}
-use Rattle.crawl_audit.specs.Chains.{IsTextBase}
+use Rattle.history_text.specs.BaseFields.{HasNumbers, IsAnswerRow, IsGrantRow, IsPermitRow, IsTurnRow}
+use Rattle.history_text.specs.Texts.{IsTextBase}
 use Rattle.crawl_audit.specs.FirstBase.{HasRead, ReadsHead, ReadsRows, SaysBase, TakesBaseLine, is_used}
 use Rattle.crawl_audit.specs.Loading.{counted_from}
 use Rattle.crawl_audit.specs.Numbered.{numbered}
 use Rattle.crawl_audit.specs.OpenRows.{OpenRow, Answered, InFlight, Greatest, Unspent, Running, IsOpenRow, MayStand, row_line, rows_of, with_row}
 use Rattle.crawl_audit.specs.Reading.{head_word, tail_words}
-use Rattle.crawl_audit.specs.SpellBase.{numbers_line}
+use Rattle.history_text.specs.SpellBase.{numbers_line}
 use Rattle.crawl_audit.specs.Steps.{Place, Steps, inside}
 use Rattle.crawl_audit.proofs.BaseFront.{IsRowBehind, base_front, lines_by_rows}
 use Rattle.crawl_audit.proofs.Growing.{map_push}

@@ -10,9 +10,10 @@ use Rattle.gate_history.specs.Legal.{IsLegal, MayFollow, Rises}
 use Rattle.gate_history.specs.Seal.{SaysAs}
 use Rattle.gate_history.proofs.CallerLemmas.{followed_push, rise_push}
 use Rattle.gate_core.specs.Limits.{greatest_number, most_entries}
-use Rattle.crawl_audit.specs.Chains.{AllGoOn, chain_lines, FollowsBase, GoesOn, head_lines, IsText, Text, text_history, text_lines}
-use Rattle.crawl_audit.specs.Entries.{IsEntry}
-use Rattle.crawl_audit.specs.Spell.{entry_line}
+use Rattle.history_text.specs.Texts.{FollowsBase, head_lines, IsText, Text, text_history, text_lines}
+use Rattle.crawl_audit.specs.Chains.{AllGoOn, chain_lines, GoesOn}
+use Rattle.history_text.specs.Entries.{IsEntry}
+use Rattle.history_text.specs.Spell.{entry_line}
 
 -- ---- one more entry at the end of a chain
 

@@ -31,13 +31,13 @@ use Rattle.gate_history.specs.declared.outcome.Reason.{Reason}
 use Rattle.gate_history.specs.declared.outcome.Reason.TheVariants as reasons
 use Rattle.gate_history.specs.Wording.{cause_words, reason_words}
 use Rattle.line_text.specs.Escapes.{body_octet, escaped_body}
-use Rattle.crawl_audit.specs.declared.version.Version.{Version}
-use Rattle.crawl_audit.specs.declared.version.Version.TheVariants.{One, Two}
+use Rattle.history_text.specs.declared.version.Version.{Version}
+use Rattle.history_text.specs.declared.version.Version.TheVariants.{One, Two}
 use Rattle.crawl_audit.specs.ChainAudit.{names_https}
-use Rattle.crawl_audit.specs.Entries.{IsCause, IsEntry, IsLife, IsNumber, IsReason}
+use Rattle.history_text.specs.Entries.{IsCause, IsEntry, IsLife, IsNumber, IsReason}
 use Rattle.crawl_audit.specs.HttpChains.{is_https_entry}
 use Rattle.crawl_audit.specs.OpenRows.{OpenRow, Answered, InFlight, Greatest, Unspent, Running, IsOpenRow, row_line}
-use Rattle.crawl_audit.specs.Spell.{answer_fields, body_word, closure_word, entry_fields, entry_line, letter_of, opening_word}
+use Rattle.history_text.specs.Spell.{answer_fields, body_word, closure_word, entry_fields, entry_line, letter_of, opening_word}
 use Rattle.crawl_audit.proofs.RowReading.{lived_row, row_fields, row_letter, row_words}
 use Rattle.crawl_audit.proofs.Shown.{weaker}
 use Rattle.crawl_audit.proofs.Spelling.{entry_words}

@@ -14,17 +14,18 @@ use Rattle.gate_history.specs.declared.base.SlotGrant.{SlotGrant}
 use Rattle.gate_history.specs.Base.{Base, empty_base, has_its_life}
 use Rattle.gate_history.specs.Grants.{IsSlotGrant}
 use Rattle.gate_history.specs.History.{History}
-use Rattle.crawl_audit.specs.declared.version.Version.{Version}
-use Rattle.crawl_audit.specs.declared.version.Version.TheVariants.{One, Two}
-use Rattle.crawl_audit.specs.BaseFields.{HasNumbers, IsAnswerRow, IsGrantRow, IsPermitRow, IsTurnRow}
+use Rattle.history_text.specs.declared.version.Version.{Version}
+use Rattle.history_text.specs.declared.version.Version.TheVariants.{One, Two}
+use Rattle.history_text.specs.BaseFields.{HasNumbers, IsAnswerRow, IsGrantRow, IsPermitRow, IsTurnRow}
 use Rattle.crawl_audit.specs.ChainAudit.{IsAmong, names_https}
-use Rattle.crawl_audit.specs.Chains.{AllGoOn, head_lines, IsText, IsTextBase, Text, text_history, text_lines, version_lines}
-use Rattle.crawl_audit.specs.Entries.{IsEntry}
+use Rattle.history_text.specs.Texts.{head_lines, IsText, IsTextBase, Text, text_history, text_lines, version_lines}
+use Rattle.crawl_audit.specs.Chains.{AllGoOn}
+use Rattle.history_text.specs.Entries.{IsEntry}
 use Rattle.crawl_audit.specs.HttpChains.{is_https_entry, IsHttpAnswer, IsHttpBase, IsHttpPermit, IsHttpText, IsHttpTurn}
 use Rattle.crawl_audit.specs.Laws.{HttpChainIsNeverBad, HttpChainsNameHttp}
 use Rattle.crawl_audit.specs.OpenRows.{Answered, InFlight, Greatest, Unspent, Running}
-use Rattle.crawl_audit.specs.Spell.{entry_line}
-use Rattle.crawl_audit.specs.SpellBase.{answer_line, base_lines, grant_line, numbers_line, open_lines, running_line, turn_line, unspent_line}
+use Rattle.history_text.specs.Spell.{entry_line}
+use Rattle.history_text.specs.SpellBase.{answer_line, base_lines, grant_line, numbers_line, open_lines, running_line, turn_line, unspent_line}
 use Rattle.crawl_audit.proofs.ChainLines.{all_after, right_chain}
 use Rattle.crawl_audit.proofs.HttpLines.{entry_names, names_any, passed, plain_decimal, row_names}
 use Rattle.crawl_audit.proofs.RowReading.{number_words}

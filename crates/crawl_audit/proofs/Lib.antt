@@ -8,7 +8,6 @@ pub mod CountedLines
 pub mod EndedHistories
 pub mod EndingLines
 pub mod EntriesRead
-pub mod Exporting
 pub mod FirstLines
 pub mod Following
 pub mod Growing

@@ -11,7 +11,7 @@ use Rattle.permit_book.specs.Outstanding.{permit_for}
 use Rattle.gate_history.specs.declared.base.Numbers.{Numbers}
 use Rattle.line_text.specs.Number.{number_of}
 use Rattle.line_text.specs.Words.{words_of}
-use Rattle.crawl_audit.specs.declared.version.Version.TheVariants.{Two}
+use Rattle.history_text.specs.declared.version.Version.TheVariants.{Two}
 use Rattle.crawl_audit.specs.declared.base_row.BaseRow.{BaseRow}
 use Rattle.crawl_audit.specs.declared.unread_line.UnreadLine.{UnreadLine}
 use Rattle.crawl_audit.specs.declared.unread_line.UnreadLine.TheVariants.{NotOne, NoMemory}

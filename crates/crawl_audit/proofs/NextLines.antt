@@ -5,7 +5,7 @@ use Rattle.std.specs.Prelude.{◌↔◌, IsTrue, Option, Some, None, slice_get, 
 use Rattle.std.proofs.lemmas.List.{length-map}
 use Rattle.gate_history.specs.Base.{Base}
 use Rattle.crawl_audit.specs.NextBase.{lines_behind}
-use Rattle.crawl_audit.specs.SpellBase.{answer_line, grant_line, numbers_line, open_lines, running_line, turn_line, unspent_line}
+use Rattle.history_text.specs.SpellBase.{answer_line, grant_line, numbers_line, open_lines, running_line, turn_line, unspent_line}
 use Rattle.crawl_audit.proofs.RowSpelling.{open_apart}
 
 -- ---- a list at a place

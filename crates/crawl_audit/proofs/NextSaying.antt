@@ -20,7 +20,7 @@ use Rattle.gate_history.specs.Standing.{in_flight, standing}
 use Rattle.gate_history.proofs.CallerLemmas.{covered_alike, granted_covered, greatest_alike, greatest_is, keys_say, reordering_says, says_base, says_on}
 use Rattle.crawl_audit.specs.declared.ledger.Ledger.{Ledger}
 use Rattle.crawl_audit.specs.declared.next_base.NextBase.{NextBase}
-use Rattle.crawl_audit.specs.Chains.{IsTextBase}
+use Rattle.history_text.specs.Texts.{IsTextBase}
 use Rattle.crawl_audit.specs.Loading.{risen, with_numbers}
 use Rattle.crawl_audit.specs.NextBase.{Expects, IsNextOf, TellsLeft, base_in, lines_behind}
 use Rattle.crawl_audit.specs.Tables.{Lasts, Tells, TellsAll, TellsNumbers, grants_under}

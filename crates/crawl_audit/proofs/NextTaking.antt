@@ -8,9 +8,9 @@ use Rattle.gate_history.specs.Base.{Base}
 use Rattle.gate_history.specs.History.{History, from}
 use Rattle.gate_history.specs.Seal.{SaysAs}
 use Rattle.crawl_audit.specs.declared.next_base.NextBase.{NextBase}
-use Rattle.crawl_audit.specs.Chains.{IsTextBase}
+use Rattle.history_text.specs.Texts.{IsTextBase}
 use Rattle.crawl_audit.specs.NextBase.{Awaits, Expects, IsWholeBase, base_in, lines_behind, row_count}
-use Rattle.crawl_audit.specs.SpellBase.{answer_line, base_lines, grant_line, open_lines, running_line, turn_line, unspent_line}
+use Rattle.history_text.specs.SpellBase.{answer_line, base_lines, grant_line, open_lines, running_line, turn_line, unspent_line}
 use Rattle.crawl_audit.specs.Steps.{EndsBase, Place, TakesLine, inside}
 use Rattle.crawl_audit.proofs.NextLines.{get_behind, get_tail}
 use Rattle.crawl_audit.proofs.OneOrder.{one_next_base}

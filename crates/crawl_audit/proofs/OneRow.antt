@@ -3,9 +3,9 @@
 use Rattle.std.proofs.Common.{◌≡◌, ◌≢◌, ℕ, List, [], ◌∷◌, ◌++◌, get_or, map, sym, ap, ◌∙◌, refl, arith, codes}
 use Rattle.std.specs.Prelude.{unwrap_or}
 use Rattle.gate_history.specs.Base.{Base}
-use Rattle.crawl_audit.specs.BaseFields.{HasNumbers}
+use Rattle.history_text.specs.BaseFields.{HasNumbers}
 use Rattle.crawl_audit.specs.OpenRows.{OpenRow, Answered, InFlight, Greatest, Unspent, Running, IsOpenRow, row_line, rows_of}
-use Rattle.crawl_audit.specs.SpellBase.{answer_line, grant_line, numbers_line, open_lines, running_line, turn_line, unspent_line}
+use Rattle.history_text.specs.SpellBase.{answer_line, grant_line, numbers_line, open_lines, running_line, turn_line, unspent_line}
 use Rattle.crawl_audit.proofs.NamedRows.{row_named}
 use Rattle.crawl_audit.proofs.RowReading.{line_of_fields, row_back, row_letter}
 use Rattle.crawl_audit.proofs.RowSpelling.{same_numbers}

@@ -6,13 +6,14 @@ use Rattle.gate_history.specs.declared.entry.Entry.{Entry}
 use Rattle.gate_history.specs.Base.{Base, empty_base}
 use Rattle.gate_history.specs.History.{from}
 use Rattle.gate_history.proofs.CallerLemmas.{followed_count}
-use Rattle.crawl_audit.specs.declared.version.Version.{Version}
-use Rattle.crawl_audit.specs.declared.version.Version.TheVariants.{One, Two}
-use Rattle.crawl_audit.specs.Chains.{chain_text, IsText, version_lines}
-use Rattle.crawl_audit.specs.Exports.{IsExport, plain_text}
+use Rattle.history_text.specs.declared.version.Version.{Version}
+use Rattle.history_text.specs.declared.version.Version.TheVariants.{One, Two}
+use Rattle.history_text.specs.Texts.{IsText, version_lines}
+use Rattle.crawl_audit.specs.Chains.{chain_text}
+use Rattle.history_text.specs.Exports.{IsExport, plain_text}
 use Rattle.crawl_audit.specs.Laws.{ExportIsChain, SegmentIsChain, SegmentsGoOn}
-use Rattle.crawl_audit.specs.Spell.{entry_line, entry_lines, spell}
-use Rattle.crawl_audit.specs.SpellBase.{base_lines, base_text, ended, lines_text}
+use Rattle.history_text.specs.Spell.{entry_line, entry_lines, spell}
+use Rattle.history_text.specs.SpellBase.{base_lines, base_text, ended, lines_text}
 
 lines_of : (v : Version) (es : List Entry) → entry_lines v es ≡ lines_text (map (entry_line v) es)
 lines_of v [] = refl

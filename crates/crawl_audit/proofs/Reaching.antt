@@ -9,15 +9,16 @@ use Rattle.gate_history.specs.History.{History, ◌▸◌, entry_count, from}
 use Rattle.gate_history.specs.Legal.{MayFollow, Rises}
 use Rattle.gate_history.specs.Seal.{SaysAs}
 use Rattle.gate_history.proofs.CallerLemmas.{followed_push}
-use Rattle.crawl_audit.specs.declared.version.Version.{Version}
-use Rattle.crawl_audit.specs.declared.version.Version.TheVariants.{One, Two}
-use Rattle.crawl_audit.specs.BaseFields.{IsAnswerRow, IsGrantRow, IsPermitRow, IsTurnRow}
+use Rattle.history_text.specs.declared.version.Version.{Version}
+use Rattle.history_text.specs.declared.version.Version.TheVariants.{One, Two}
+use Rattle.history_text.specs.BaseFields.{IsAnswerRow, IsGrantRow, IsPermitRow, IsTurnRow}
 use Rattle.gate_history.specs.Grants.{IsSlotGrant}
-use Rattle.crawl_audit.specs.Chains.{chain_lines, FollowsBase, IsChain, IsFront, IsText, IsTextBase, most_lines, Text, text_history, text_lines}
-use Rattle.crawl_audit.specs.Entries.{IsEntry}
+use Rattle.history_text.specs.Texts.{FollowsBase, IsText, IsTextBase, Text, text_history, text_lines}
+use Rattle.crawl_audit.specs.Chains.{chain_lines, IsChain, IsFront, most_lines}
+use Rattle.history_text.specs.Entries.{IsEntry}
 use Rattle.crawl_audit.specs.Laws.{EndsAreChains, ReadsAreFronts}
-use Rattle.crawl_audit.specs.Spell.{entry_line}
-use Rattle.crawl_audit.specs.SpellBase.{base_lines, numbers_line, open_lines}
+use Rattle.history_text.specs.Spell.{entry_line}
+use Rattle.history_text.specs.SpellBase.{base_lines, numbers_line, open_lines}
 use Rattle.crawl_audit.specs.Steps.{IsBaseFor, Place, among, inside, Runs, start, Steps, TakesEntry}
 use Rattle.crawl_audit.proofs.Growing.{empty_is_base, HasRoomFor, base_grows, based, chain_grows, grow_first, grow_last, grow_later, grow_lines, last_text, snoc_all, snoc_last, snoc_lines, with_entry}
 

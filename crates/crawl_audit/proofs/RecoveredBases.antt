@@ -20,13 +20,13 @@ use Rattle.crawl_audit.specs.declared.ledger.Ledger.{Ledger}
 use Rattle.crawl_audit.specs.declared.recover_fault.RecoverFault.{RecoverFault}
 use Rattle.crawl_audit.specs.declared.recover_fault.RecoverFault.TheVariants as faults
 use Rattle.crawl_audit.specs.declared.recovering.Recovered.{Recovered}
-use Rattle.crawl_audit.specs.declared.version.Version.{Version}
+use Rattle.history_text.specs.declared.version.Version.{Version}
 use Rattle.crawl_audit.specs.declared.whole_lines.WholeLines.{WholeLines}
 use Rattle.crawl_audit.specs.Audit.{Holds}
 use Rattle.crawl_audit.specs.Ending.{EndsAll, HasBegun, IsEnding, TakesEnds, ends_of, lines_of}
 use Rattle.crawl_audit.specs.NextBase.{TellsLeft}
 use Rattle.crawl_audit.specs.Recovering.{CanGoOn, HeardCut, IsCut, IsRecovered, LeaveOpen, Recovers}
-use Rattle.crawl_audit.specs.SpellBase.{lines_text}
+use Rattle.history_text.specs.SpellBase.{lines_text}
 use Rattle.crawl_audit.specs.Steps.{Place, among, inside, start}
 use Rattle.crawl_audit.specs.Tables.{TellsAll}
 use Rattle.crawl_audit.proofs.EndedHistories.{IsIdle, ended, none_left}

@@ -19,12 +19,12 @@ use Rattle.gate_history.specs.declared.outcome.Cause.{Cause}
 use Rattle.gate_history.specs.declared.outcome.Cause.TheVariants as causes
 use Rattle.gate_history.specs.declared.outcome.Reason.{Reason}
 use Rattle.gate_history.specs.declared.outcome.Reason.TheVariants as reasons
-use Rattle.crawl_audit.specs.declared.version.Version.{Version}
-use Rattle.crawl_audit.specs.declared.version.Version.TheVariants.{One, Two}
+use Rattle.history_text.specs.declared.version.Version.{Version}
+use Rattle.history_text.specs.declared.version.Version.TheVariants.{One, Two}
 use Rattle.crawl_audit.specs.Chains.{line_limit}
 use Rattle.line_text.specs.Escapes.{body_octet, escaped_body}
-use Rattle.crawl_audit.specs.Entries.{IsBody, IsCause, IsEntry, IsLife, IsNumber, IsReason, IsSaid}
-use Rattle.crawl_audit.specs.Spell.{answer_fields, body_word, entry_line, spaced_fields}
+use Rattle.history_text.specs.Entries.{IsBody, IsCause, IsEntry, IsLife, IsNumber, IsReason, IsSaid}
+use Rattle.history_text.specs.Spell.{answer_fields, body_word, entry_line, spaced_fields}
 use Rattle.gate_history.specs.Wording.{cause_words, reason_words}
 
 -- ---- how long a line is

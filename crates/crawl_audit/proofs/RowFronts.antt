@@ -19,8 +19,8 @@ use Rattle.gate_history.specs.declared.base.SlotGrant.{SlotGrant}
 use Rattle.gate_history.specs.Base.{ArePermits, AreTurns, Base, is_of_turn, times_out, times_turned}
 use Rattle.gate_history.specs.Grants.{IsSlotGrant, is_covered, is_in}
 use Rattle.gate_history.specs.Order.{IsInOrder}
-use Rattle.crawl_audit.specs.BaseFields.{HasBaseFields, IsAnswerRow, IsGrantRow, IsPermitRow, IsTurnRow}
-use Rattle.crawl_audit.specs.Chains.{IsTextBase}
+use Rattle.history_text.specs.BaseFields.{HasBaseFields, IsAnswerRow, IsGrantRow, IsPermitRow, IsTurnRow}
+use Rattle.history_text.specs.Texts.{IsTextBase}
 use Rattle.crawl_audit.specs.OpenRows.{OpenRow}
 use Rattle.crawl_audit.proofs.RowKinds.{FromKind, answers_at, based_on, grants_at, grants_before, running_at, turns_at, unspent_at}
 

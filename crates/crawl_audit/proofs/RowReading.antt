@@ -9,12 +9,12 @@ use Rattle.authority_cache.specs.Lives.{life_of}
 use Rattle.gate_history.specs.declared.base.Numbers.{Numbers}
 use Rattle.gate_history.specs.Base.{Base}
 use Rattle.line_text.specs.Words.{words_of}
-use Rattle.crawl_audit.specs.declared.version.Version.TheVariants.{Two}
-use Rattle.crawl_audit.specs.BaseFields.{HasNumbers}
+use Rattle.history_text.specs.declared.version.Version.TheVariants.{Two}
+use Rattle.history_text.specs.BaseFields.{HasNumbers}
 use Rattle.crawl_audit.specs.OpenRows.{OpenRow, Answered, InFlight, Greatest, Unspent, Running, IsInRange, IsOpenRow, row_line}
 use Rattle.crawl_audit.specs.Reading.{head_word, tail_words}
-use Rattle.crawl_audit.specs.Spell.{answer_fields, spaced_fields}
-use Rattle.crawl_audit.specs.SpellBase.{numbers_line}
+use Rattle.history_text.specs.Spell.{answer_fields, spaced_fields}
+use Rattle.history_text.specs.SpellBase.{numbers_line}
 use Rattle.crawl_audit.proofs.NamedRows.{numbers_named, row_behind, row_named}
 use Rattle.crawl_audit.proofs.Back.{authority_back, number_back, page_back}
 use Rattle.crawl_audit.proofs.RowSpelling.{IsLivedRow, row_utf8, shown_flight, shown_grant, shown_letter, shown_numbers, shown_permit, shown_standing}

@@ -17,12 +17,12 @@ use Rattle.gate_history.specs.declared.base.SlotGrant.{SlotGrant}
 use Rattle.gate_history.specs.Base.{Base, has_its_life}
 use Rattle.line_text.specs.Number.{number_of}
 use Rattle.line_text.specs.Words.{words_of}
-use Rattle.crawl_audit.specs.declared.version.Version.TheVariants.{Two}
-use Rattle.crawl_audit.specs.BaseFields.{HasBaseFields, HasNumbers, IsAnswerRow, IsGrantRow, IsPermitRow, IsTurnRow}
-use Rattle.crawl_audit.specs.Entries.{IsNumber}
+use Rattle.history_text.specs.declared.version.Version.TheVariants.{Two}
+use Rattle.history_text.specs.BaseFields.{HasBaseFields, HasNumbers, IsAnswerRow, IsGrantRow, IsPermitRow, IsTurnRow}
+use Rattle.history_text.specs.Entries.{IsNumber}
 use Rattle.crawl_audit.specs.Reading.{head_word, tail_words}
-use Rattle.crawl_audit.specs.Spell.{answer_fields, spaced_fields}
-use Rattle.crawl_audit.specs.SpellBase.{answer_line, base_lines, grant_line, numbers_line, open_lines, permit_line, running_line, turn_line, unspent_line}
+use Rattle.history_text.specs.Spell.{answer_fields, spaced_fields}
+use Rattle.history_text.specs.SpellBase.{answer_line, base_lines, grant_line, numbers_line, open_lines, permit_line, running_line, turn_line, unspent_line}
 use Rattle.crawl_audit.proofs.NamedEntries.{answer_named, Lasting}
 use Rattle.crawl_audit.proofs.Back.{number_back}
 use Rattle.crawl_audit.proofs.Shown.{IsShown, IsShownOctet, shown_authority, shown_decimal, shown_page, shown_token, weaker, words_of_fields}

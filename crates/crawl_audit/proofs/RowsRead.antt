@@ -13,15 +13,15 @@ use Rattle.gate_history.specs.declared.base.Numbers.{Numbers}
 use Rattle.gate_history.specs.Base.{Base}
 use Rattle.line_text.specs.Number.{number_of}
 use Rattle.line_text.specs.Words.{words_of}
-use Rattle.crawl_audit.specs.declared.version.Version.TheVariants.{Two}
+use Rattle.history_text.specs.declared.version.Version.TheVariants.{Two}
 use Rattle.crawl_audit.specs.declared.base_row.BaseRow.{BaseRow}
 use Rattle.crawl_audit.specs.declared.unread_line.UnreadLine.{UnreadLine}
 use Rattle.crawl_audit.specs.declared.unread_line.UnreadLine.TheVariants.{NotOne, NoMemory}
-use Rattle.crawl_audit.specs.BaseFields.{HasNumbers, IsPermitRow}
+use Rattle.history_text.specs.BaseFields.{HasNumbers, IsPermitRow}
 use Rattle.crawl_audit.specs.Numbered.{numbered}
 use Rattle.crawl_audit.specs.OpenRows.{OpenRow, Answered, InFlight, Greatest, Unspent, Running, IsInRange, IsOpenRow, row_line, row_of}
 use Rattle.crawl_audit.specs.Reading.{IsRead, ReadsAnswer, ReadsRow, head_word, tail_words}
-use Rattle.crawl_audit.specs.SpellBase.{numbers_line}
+use Rattle.history_text.specs.SpellBase.{numbers_line}
 use Rattle.crawl_audit.proofs.Back.{authority_back, number_back, page_back}
 use Rattle.crawl_audit.proofs.EntriesRead.{behind_three, other_word, refused}
 use Rattle.crawl_audit.proofs.NamedEntries.{authority_named}

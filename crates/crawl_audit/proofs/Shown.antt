@@ -20,8 +20,8 @@ use Rattle.std.proofs.lemmas.List.Elements.{All-nil, All-cons, All-head, All-tai
 use Rattle.std.proofs.lemmas.List.Splits.{slice_split_none, slice_split_at}
 use Rattle.line_text.specs.Words.{is_space, words_of}
 use Rattle.line_text.specs.Escapes.{body_octet, escaped_body}
-use Rattle.crawl_audit.specs.Entries.{IsNumber}
-use Rattle.crawl_audit.specs.Spell.{body_word, spaced_fields}
+use Rattle.history_text.specs.Entries.{IsNumber}
+use Rattle.history_text.specs.Spell.{body_word, spaced_fields}
 
 -- an octet above the space and below 128
 abbrev pub IsShownOctet : ℕ → Type 0

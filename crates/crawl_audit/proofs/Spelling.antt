@@ -24,11 +24,11 @@ use Rattle.gate_history.specs.declared.outcome.Cause.TheVariants as causes
 use Rattle.gate_history.specs.declared.outcome.Reason.{Reason}
 use Rattle.gate_history.specs.declared.outcome.Reason.TheVariants as reasons
 use Rattle.line_text.specs.Words.{words_of}
-use Rattle.crawl_audit.specs.declared.version.Version.{Version}
-use Rattle.crawl_audit.specs.declared.version.Version.TheVariants.{One, Two}
-use Rattle.crawl_audit.specs.Entries.{IsCause, IsEntry, IsLife, IsReason, IsSaid}
+use Rattle.history_text.specs.declared.version.Version.{Version}
+use Rattle.history_text.specs.declared.version.Version.TheVariants.{One, Two}
+use Rattle.history_text.specs.Entries.{IsCause, IsEntry, IsLife, IsReason, IsSaid}
 use Rattle.crawl_audit.specs.Reading.{head_word, tail_words}
-use Rattle.crawl_audit.specs.Spell.{answer_fields, body_word, entry_line, entry_text, entry_fields, version_line, letter_of, line_end, entry_lines, spaced_fields, spell}
+use Rattle.history_text.specs.Spell.{answer_fields, body_word, entry_line, entry_text, entry_fields, version_line, letter_of, line_end, entry_lines, spaced_fields, spell}
 use Rattle.gate_history.specs.Wording.{cause_words, reason_words}
 use Rattle.crawl_audit.proofs.NamedEntries.{answer_named, entry_behind, entry_named, Lasting, next_cause, next_reason}
 use Rattle.crawl_audit.proofs.Back.{authority_back, body_back, number_back, page_back}

@@ -30,7 +30,7 @@ use Rattle.crawl_audit.specs.declared.first_base.LastLine.TheVariants as lasts
 use Rattle.crawl_audit.specs.declared.ledger.Ledger.{Ledger}
 use Rattle.crawl_audit.specs.declared.numbers.Phase.{Phase}
 use Rattle.crawl_audit.specs.declared.numbers.Phase.TheVariants as phases
-use Rattle.crawl_audit.specs.Chains.{IsTextBase}
+use Rattle.history_text.specs.Texts.{IsTextBase}
 use Rattle.crawl_audit.specs.FirstBase.{SaysBase, fits, is_behind, is_granted, is_used, last_from, last_of, may_have_begun}
 use Rattle.crawl_audit.specs.OpenRows.{OpenRow, Answered, InFlight, Greatest, Unspent, Running, IsOpenRow, MayStand, rows_of, with_row}
 use Rattle.crawl_audit.specs.Tables.{Tells, TellsNumbers, lasts_of, phases_of, running_under, unspent_under}

@@ -11,15 +11,16 @@ use Rattle.gate_history.specs.History.{History, ◌▸◌, entry_count, followed
 use Rattle.gate_history.specs.Legal.{AllRise, IsLegal}
 use Rattle.gate_history.proofs.CallerLemmas.{followed_count}
 use Rattle.gate_core.specs.Limits.{greatest_number, most_entries}
-use Rattle.crawl_audit.specs.declared.version.Version.{Version}
-use Rattle.crawl_audit.specs.declared.version.Version.TheVariants.{One, Two}
-use Rattle.crawl_audit.specs.Chains.{AllGoOn, chain_lines, FollowsBase, GoesOn, head_lines, IsChain, IsText, IsTextBase, Text, text_history, text_lines, version_lines}
-use Rattle.crawl_audit.specs.Entries.{IsEntry}
+use Rattle.history_text.specs.declared.version.Version.{Version}
+use Rattle.history_text.specs.declared.version.Version.TheVariants.{One, Two}
+use Rattle.history_text.specs.Texts.{FollowsBase, head_lines, IsText, IsTextBase, Text, text_history, text_lines, version_lines}
+use Rattle.crawl_audit.specs.Chains.{AllGoOn, chain_lines, GoesOn, IsChain}
+use Rattle.history_text.specs.Entries.{IsEntry}
 use Rattle.crawl_audit.specs.Laws.{FrontsAreRead, OneStep}
-use Rattle.crawl_audit.specs.Spell.{entry_line}
-use Rattle.crawl_audit.specs.SpellBase.{base_lines, numbers_line, open_lines}
+use Rattle.history_text.specs.Spell.{entry_line}
+use Rattle.history_text.specs.SpellBase.{base_lines, numbers_line, open_lines}
 use Rattle.crawl_audit.specs.Steps.{EndsBase, IsBaseFor, IsHead, MayEnd, Place, among, inside, Runs, start, Steps, TakesEntry, TakesLine}
-use Rattle.crawl_audit.proofs.Exporting.{legal_before}
+use Rattle.history_text.proofs.Exporting.{legal_before}
 use Rattle.crawl_audit.proofs.RowSpelling.{IsSpelledBase, one_base}
 use Rattle.crawl_audit.proofs.Spelling.{one_entry}
 

@@ -18,8 +18,8 @@ use Rattle.authority_cache.proofs.CallerLemmas.{all-push, count-push}
 use Rattle.gate_history.specs.declared.base.SlotGrant.{SlotGrant}
 use Rattle.gate_history.specs.Base.{Base, has_its_life, is_of_turn, times_out, times_turned}
 use Rattle.gate_history.specs.Grants.{IsSlotGrant, is_covered, is_in}
-use Rattle.crawl_audit.specs.BaseFields.{HasNumbers, IsAnswerRow, IsGrantRow, IsPermitRow, IsTurnRow}
-use Rattle.crawl_audit.specs.Chains.{IsTextBase}
+use Rattle.history_text.specs.BaseFields.{HasNumbers, IsAnswerRow, IsGrantRow, IsPermitRow, IsTurnRow}
+use Rattle.history_text.specs.Texts.{IsTextBase}
 use Rattle.crawl_audit.specs.OpenRows.{Answered, InFlight, Greatest, Unspent, Running, IsOpenRow, with_row}
 use Rattle.crawl_audit.proofs.OneOrder.{irreflexive}
 use Rattle.crawl_audit.proofs.RowFronts.{answer_before, grant_before, permit_before, turn_before}

@@ -15,7 +15,7 @@ use Rattle.crawl_audit.specs.declared.whole_lines.WholeLines.{WholeLines}
 use Rattle.crawl_audit.specs.Audit.{AddsLine, Holds, LeadsNowhere}
 use Rattle.crawl_audit.specs.Chains.{line_limit, most_lines}
 use Rattle.crawl_audit.specs.Recovering.{HeardCut, HeardWhole, IsBadWhole, IsCut, IsWholeFault}
-use Rattle.crawl_audit.specs.SpellBase.{lines_text}
+use Rattle.history_text.specs.SpellBase.{lines_text}
 use Rattle.crawl_audit.specs.Steps.{Place}
 use Rattle.crawl_audit.proofs.Auditing.{bad_line, bad_line_behind, bad_part, bad_part_behind, ended_at, split_known, split_twice, text_more}
 

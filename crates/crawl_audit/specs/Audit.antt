@@ -8,8 +8,8 @@ use Rattle.path_normal.specs.declared.schemes.Schemes.{Schemes}
 use Rattle.gate_history.specs.Base.{empty_base}
 use Rattle.gate_history.specs.History.{History, from}
 use Rattle.gate_history.specs.Legal.{IsLegal}
-use Rattle.crawl_audit.specs.declared.version.Version.{Version}
-use Rattle.crawl_audit.specs.declared.version.Version.TheVariants.{One, Two}
+use Rattle.history_text.specs.declared.version.Version.{Version}
+use Rattle.history_text.specs.declared.version.Version.TheVariants.{One, Two}
 use Rattle.crawl_audit.specs.declared.fault.AuditFault.{AuditFault}
 use Rattle.crawl_audit.specs.declared.fault.AuditFault.TheVariants.{BadLine, Read, NoMemory}
 use Rattle.crawl_audit.specs.declared.auditor.Auditor.{Auditor}
@@ -22,7 +22,7 @@ use Rattle.crawl_audit.specs.ChainAudit.{IsAmong, IsChainBadAt}
 use Rattle.crawl_audit.specs.Chains.{most_lines}
 use Rattle.crawl_audit.specs.FirstBase.{Reads}
 use Rattle.crawl_audit.specs.NextBase.{Expects}
-use Rattle.crawl_audit.specs.SpellBase.{lines_text}
+use Rattle.history_text.specs.SpellBase.{lines_text}
 use Rattle.crawl_audit.specs.Steps.{among, inside, MayEnd, Place, Runs, start, Steps, TakesEntry}
 use Rattle.crawl_audit.specs.Tables.{TellsAll}
 

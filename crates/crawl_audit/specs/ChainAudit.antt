@@ -7,8 +7,9 @@ use Rattle.path_normal.specs.declared.schemes.Schemes.TheVariants.{Http, HttpAnd
 use Rattle.path_normal.specs.PageText.{is_https}
 use Rattle.line_text.specs.Words.{words_of}
 use Rattle.crawl_audit.specs.declared.fault.Audited.{Audited}
-use Rattle.crawl_audit.specs.Chains.{chain_entries, chain_lines, chain_text, IsChain, IsFront, most_lines, starts_in, Text, line_limit}
-use Rattle.crawl_audit.specs.SpellBase.{ended, lines_text}
+use Rattle.history_text.specs.Texts.{Text}
+use Rattle.crawl_audit.specs.Chains.{chain_entries, chain_lines, chain_text, IsChain, IsFront, most_lines, starts_in, line_limit}
+use Rattle.history_text.specs.SpellBase.{ended, lines_text}
 
 -- a word of the line begins with `https://`
 abbrev pub names_https : List ℕ → Bool

@@ -17,12 +17,12 @@ use Rattle.gate_core.specs.Limits.{greatest_number, most_entries}
 use Rattle.crawl_audit.specs.declared.auditor.Auditor.{Auditor}
 use Rattle.crawl_audit.specs.declared.recover_fault.RecoverFault.{RecoverFault}
 use Rattle.crawl_audit.specs.declared.recover_fault.RecoverFault.TheVariants.{BadLine, NoEntries, NoRoom, Read, NoMemory}
-use Rattle.crawl_audit.specs.declared.version.Version.{Version}
+use Rattle.history_text.specs.declared.version.Version.{Version}
 use Rattle.crawl_audit.specs.Audit.{Holds}
 use Rattle.crawl_audit.specs.ChainAudit.{IsAmong}
 use Rattle.crawl_audit.specs.Chains.{most_lines}
-use Rattle.crawl_audit.specs.Spell.{entry_line}
-use Rattle.crawl_audit.specs.SpellBase.{lines_text}
+use Rattle.history_text.specs.Spell.{entry_line}
+use Rattle.history_text.specs.SpellBase.{lines_text}
 use Rattle.crawl_audit.specs.Steps.{Place, among, inside, start}
 
 -- ---- the entries

@@ -20,9 +20,9 @@ use Rattle.crawl_audit.specs.declared.numbers.Phase.{Phase}
 use Rattle.crawl_audit.specs.declared.numbers.Phase.TheVariants as phases
 use Rattle.crawl_audit.specs.declared.unread_line.UnreadLine.{UnreadLine}
 use Rattle.crawl_audit.specs.declared.unread_line.UnreadLine.TheVariants.{NotOne, NoMemory}
-use Rattle.crawl_audit.specs.Chains.{IsTextBase}
+use Rattle.history_text.specs.Texts.{IsTextBase}
 use Rattle.crawl_audit.specs.OpenRows.{OpenRow, Answered, InFlight, Greatest, Unspent, Running, IsOpenRow, MayStand, row_line, rows_of, with_row}
-use Rattle.crawl_audit.specs.SpellBase.{base_lines, numbers_line}
+use Rattle.history_text.specs.SpellBase.{base_lines, numbers_line}
 use Rattle.crawl_audit.specs.Steps.{Place, Steps, TakesLine, inside}
 use Rattle.crawl_audit.specs.Tables.{TellsAll, is_above, lasts_of, phases_of}
 

@@ -8,7 +8,7 @@ use Rattle.authority_cache.specs.declared.turn.Turn.{Turn}
 use Rattle.gate_history.specs.declared.entry.Entry.{Entry}
 use Rattle.gate_history.specs.declared.entry.Entry.TheVariants.{Begun, Arrived, Granted, AskDenied}
 use Rattle.gate_history.specs.Base.{Base}
-use Rattle.crawl_audit.specs.Chains.{Text}
+use Rattle.history_text.specs.Texts.{Text}
 
 -- the entry names a site or a page of `https`
 abbrev pub is_https_entry : Entry → Bool

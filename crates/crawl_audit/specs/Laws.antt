@@ -9,14 +9,15 @@ use Rattle.gate_history.specs.History.{History, from}
 use Rattle.gate_history.specs.Order.{IsInOrder}
 use Rattle.gate_history.specs.Seal.{SaysAs}
 use Rattle.gate_history.specs.Segment.{Sealed}
-use Rattle.crawl_audit.specs.declared.version.Version.{Version}
+use Rattle.history_text.specs.declared.version.Version.{Version}
 use Rattle.crawl_audit.specs.ChainAudit.{IsAmong, IsChainBadAt}
-use Rattle.crawl_audit.specs.Entries.{IsEntry}
-use Rattle.crawl_audit.specs.Exports.{IsExport, plain_text, text_of}
+use Rattle.history_text.specs.Entries.{IsEntry}
+use Rattle.history_text.specs.Exports.{IsExport, plain_text, text_of}
 use Rattle.crawl_audit.specs.HttpChains.{IsHttpChain}
-use Rattle.crawl_audit.specs.Chains.{chain_lines, chain_text, GoesOn, IsChain, IsFront, IsText, IsTextBase, most_lines, Text}
-use Rattle.crawl_audit.specs.Spell.{entry_line, spell}
-use Rattle.crawl_audit.specs.SpellBase.{base_lines, spell_segment}
+use Rattle.history_text.specs.Texts.{IsText, IsTextBase, Text}
+use Rattle.crawl_audit.specs.Chains.{chain_lines, chain_text, GoesOn, IsChain, IsFront, most_lines}
+use Rattle.history_text.specs.Spell.{entry_line, spell}
+use Rattle.history_text.specs.SpellBase.{base_lines, spell_segment}
 use Rattle.crawl_audit.specs.Steps.{MayEnd, Place, Runs, start, Steps}
 
 -- a line is the spelling of one entry at most

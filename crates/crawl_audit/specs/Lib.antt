@@ -1,12 +1,9 @@
--- What the contracts of exports and audits cite.
+-- What the contracts of audits cite.
 -- docs/FORMATS.md has the text.
 pub mod Audit
-pub mod BaseFields
 pub mod ChainAudit
 pub mod Chains
 pub mod Ending
-pub mod Entries
-pub mod Exports
 pub mod FirstBase
 pub mod HttpChains
 pub mod Laws
@@ -14,11 +11,14 @@ pub mod Loading
 pub mod NextBase
 pub mod Numbered
 pub mod OpenRows
-pub mod Parts
 pub mod Reading
 pub mod Records
 pub mod Recovering
-pub mod Spell
-pub mod SpellBase
 pub mod Steps
 pub mod Tables
+pub use Rattle.history_text.specs.BaseFields
+pub use Rattle.history_text.specs.Entries
+pub use Rattle.history_text.specs.Exports
+pub use Rattle.history_text.specs.Spell
+pub use Rattle.history_text.specs.SpellBase
+pub use Rattle.history_text.specs.Texts

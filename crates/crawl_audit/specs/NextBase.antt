@@ -13,9 +13,9 @@ use Rattle.crawl_audit.specs.declared.ledger.Ledger.{Ledger}
 use Rattle.crawl_audit.specs.declared.next_base.NextBase.{NextBase}
 use Rattle.crawl_audit.specs.declared.next_base.BaseLine.{BaseLine}
 use Rattle.crawl_audit.specs.declared.next_base.BaseLine.TheVariants.{Taken, Last, Other}
-use Rattle.crawl_audit.specs.BaseFields.{HasBaseFields}
-use Rattle.crawl_audit.specs.Chains.{IsTextBase}
-use Rattle.crawl_audit.specs.SpellBase.{base_lines, numbers_line, open_lines}
+use Rattle.history_text.specs.BaseFields.{HasBaseFields}
+use Rattle.history_text.specs.Texts.{IsTextBase}
+use Rattle.history_text.specs.SpellBase.{base_lines, numbers_line, open_lines}
 use Rattle.crawl_audit.specs.Steps.{EndsBase, Place, TakesLine, inside}
 use Rattle.crawl_audit.specs.Tables.{ListsGrants, ListsRunning, ListsUnspent}
 

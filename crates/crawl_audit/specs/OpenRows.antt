@@ -10,10 +10,10 @@ use Rattle.gate_history.specs.declared.base.SlotGrant.{SlotGrant}
 use Rattle.gate_history.specs.Base.{Base, has_its_life}
 use Rattle.crawl_audit.specs.declared.base_row.BaseRow.{BaseRow}
 use Rattle.crawl_audit.specs.declared.base_row.BaseRow.TheVariants as rows
-use Rattle.crawl_audit.specs.BaseFields.{IsAnswerRow, IsGrantRow, IsPermitRow, IsTurnRow}
+use Rattle.history_text.specs.BaseFields.{IsAnswerRow, IsGrantRow, IsPermitRow, IsTurnRow}
 use Rattle.gate_history.specs.Grants.{IsSlotGrant}
-use Rattle.crawl_audit.specs.Chains.{IsTextBase}
-use Rattle.crawl_audit.specs.SpellBase.{answer_line, grant_line, running_line, turn_line, unspent_line}
+use Rattle.history_text.specs.Texts.{IsTextBase}
+use Rattle.history_text.specs.SpellBase.{answer_line, grant_line, running_line, turn_line, unspent_line}
 
 -- a thing that a base left open
 pub data OpenRow : Type 0 where

@@ -6,15 +6,15 @@ use Rattle.robots_verdict.specs.declared.said.Said.{Said}
 use Rattle.robots_verdict.specs.Answer.{said}
 use Rattle.gate_history.specs.declared.entry.Entry.{Entry}
 use Rattle.line_text.specs.Words.{words_of}
-use Rattle.crawl_audit.specs.declared.version.Version.{Version}
+use Rattle.history_text.specs.declared.version.Version.{Version}
 use Rattle.crawl_audit.specs.declared.base_row.BaseRow.{BaseRow}
 use Rattle.crawl_audit.specs.declared.unread_line.UnreadLine.{UnreadLine}
 use Rattle.crawl_audit.specs.declared.unread_line.UnreadLine.TheVariants.{NotOne, NoMemory}
 use Rattle.crawl_audit.specs.declared.record.Record.{Record}
-use Rattle.crawl_audit.specs.Entries.{IsEntry, IsLife, IsSaid}
+use Rattle.history_text.specs.Entries.{IsEntry, IsLife, IsSaid}
 use Rattle.crawl_audit.specs.OpenRows.{IsOpenRow, OpenRow, row_line, row_of}
 use Rattle.crawl_audit.specs.Records.{entry_of}
-use Rattle.crawl_audit.specs.Spell.{answer_fields, entry_line}
+use Rattle.history_text.specs.Spell.{answer_fields, entry_line}
 
 -- the first word, or the empty one where there is none
 abbrev pub head_word : List (List ℕ) → List ℕ

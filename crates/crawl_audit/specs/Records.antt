@@ -1,20 +1,10 @@
--- What entries and answers as the audit holds them stand for.
+-- What entries as the audit holds them stand for.
 -- Cited by the contracts of all that reads, writes or enters them.
-use Rattle.robots_verdict.specs.declared.said.Said.{Said}
-use Rattle.robots_verdict.specs.declared.said.Said.TheVariants as says
 use Rattle.robots_verdict.specs.Answer.{said}
 use Rattle.gate_history.specs.declared.entry.Entry.{Entry}
 use Rattle.gate_history.specs.declared.entry.Entry.TheVariants.{Begun, Arrived, Granted, AskDenied, Started, StartDenied, Returned, Finished, Swept}
-use Rattle.crawl_audit.specs.declared.kinds.Told.{Told}
-use Rattle.crawl_audit.specs.declared.kinds.Told.TheVariants as told
 use Rattle.crawl_audit.specs.declared.record.Record.{Record}
 use Rattle.crawl_audit.specs.declared.record.Record.TheVariants as records
-
--- what an answer says
-abbrev pub told_said : Told → Said
-told_said (told.Rules octets) = says.Rules octets.now
-told_said (told.Open opening) = says.Open opening
-told_said (told.Closed closure) = says.Closed closure
 
 -- the entry that a record is
 abbrev pub entry_of : Record → Entry

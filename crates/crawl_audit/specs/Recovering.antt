@@ -20,13 +20,13 @@ use Rattle.crawl_audit.specs.declared.fault.AuditFault.TheVariants as faults
 use Rattle.crawl_audit.specs.declared.recover_fault.RecoverFault.{RecoverFault}
 use Rattle.crawl_audit.specs.declared.recover_fault.RecoverFault.TheVariants.{BadLine, NoEntries, NoRoom, Read, NoMemory}
 use Rattle.crawl_audit.specs.declared.recovering.Recovered.{Recovered}
-use Rattle.crawl_audit.specs.declared.version.Version.{Version}
+use Rattle.history_text.specs.declared.version.Version.{Version}
 use Rattle.crawl_audit.specs.declared.whole_lines.WholeLines.{WholeLines}
 use Rattle.crawl_audit.specs.Audit.{Heard, Holds}
 use Rattle.crawl_audit.specs.ChainAudit.{IsAmong, IsChainBadAt}
 use Rattle.crawl_audit.specs.Chains.{line_limit, most_lines}
 use Rattle.crawl_audit.specs.Ending.{EndsAll, HasBegun, HaveRoom, IsEnding, ends_of, lines_of}
-use Rattle.crawl_audit.specs.SpellBase.{lines_text}
+use Rattle.history_text.specs.SpellBase.{lines_text}
 use Rattle.crawl_audit.specs.Steps.{Place, Runs, among, start}
 use Rattle.crawl_audit.specs.Tables.{TellsAll}
 

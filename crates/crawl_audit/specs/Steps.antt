@@ -6,12 +6,12 @@ use Rattle.gate_history.specs.Base.{Base, empty_base}
 use Rattle.gate_history.specs.History.{History, ◌▸◌, entry_count, from}
 use Rattle.gate_history.specs.Seal.{SaysAs}
 use Rattle.gate_core.specs.Limits.{greatest_number, most_entries}
-use Rattle.crawl_audit.specs.declared.version.Version.{Version}
-use Rattle.crawl_audit.specs.declared.version.Version.TheVariants.{One, Two}
-use Rattle.crawl_audit.specs.Chains.{IsTextBase}
-use Rattle.crawl_audit.specs.Entries.{IsEntry}
-use Rattle.crawl_audit.specs.Spell.{entry_line}
-use Rattle.crawl_audit.specs.SpellBase.{base_lines}
+use Rattle.history_text.specs.declared.version.Version.{Version}
+use Rattle.history_text.specs.declared.version.Version.TheVariants.{One, Two}
+use Rattle.history_text.specs.Texts.{IsTextBase}
+use Rattle.history_text.specs.Entries.{IsEntry}
+use Rattle.history_text.specs.Spell.{entry_line}
+use Rattle.history_text.specs.SpellBase.{base_lines}
 use Rattle.crawl_audit.specs.Tables.{MayCome}
 
 -- where a reader stands: before the first line; behind so many entries of a text, after a history, where

@@ -11,9 +11,9 @@ ghost use Rattle.path_normal.specs.PageText.{authority_of};
 ghost use Rattle.path_normal.specs.PageUrl.{page_url_among};
 ghost use Rattle.path_normal.specs.declared.schemes.Schemes.TheVariants.{HttpAndHttps};
 ghost use Rattle.robots_text.specs.Token.{token_of};
-ghost use Rattle.crawl_audit.specs.Entries.{IsBody};
+ghost use Rattle.history_text.specs.Entries.{IsBody};
 ghost use Rattle.crawl_audit.specs.Reading.{Reads, head_word, tail_words};
-ghost use Rattle.crawl_audit.specs.Spell.{body_word};
+ghost use Rattle.history_text.specs.Spell.{body_word};
 
 use crate::unread_line::UnreadLine;
 use line_text::{Words, number_of};

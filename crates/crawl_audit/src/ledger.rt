@@ -7,16 +7,16 @@ ghost use Rattle.gate_history.specs.declared.entry.Entry.TheVariants.{AskDenied,
 ghost use Rattle.gate_history.specs.Base.{empty_base};
 ghost use Rattle.gate_history.specs.History.{History, from, is_start};
 ghost use Rattle.gate_history.specs.Legal.{IsLegal, SpendsAs};
-ghost use Rattle.crawl_audit.specs.Entries.{HasLife};
+ghost use Rattle.history_text.specs.Entries.{HasLife};
 ghost use Rattle.crawl_audit.specs.Records.{entry_of};
 ghost use Rattle.crawl_audit.specs.Tables.{EntersLegally, FollowsLegally, KeepsCounts, Tells, TellsAll};
 ghost use Rattle.gate_core.specs.Limits.{greatest_number};
 
 use crate::numbers::Numbers;
 use crate::record::Record;
-use crate::version::Version;
 use authority_cache::{Cache, TimedAnswer, TurnNo};
 use gate_history::{Cause, Reason, decide};
+use history_text::Version;
 use path_normal::Authority;
 use permit_book::{Fetch, PermitNo};
 use robots_verdict::Answer;

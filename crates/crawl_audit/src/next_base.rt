@@ -5,15 +5,15 @@ ghost use Rattle.std.specs.Prelude.{IfOk, IfSome, IsTrue, length, map, slice_get
 ghost use Rattle.gate_history.specs.History.{History};
 ghost use Rattle.gate_history.specs.Legal.{IsLegal};
 ghost use Rattle.gate_history.specs.Kept.{base_with};
-ghost use Rattle.crawl_audit.specs.BaseFields.{HasBaseFields};
+ghost use Rattle.history_text.specs.BaseFields.{HasBaseFields};
 ghost use Rattle.crawl_audit.specs.NextBase.{Expects, IsNextOf, TakesNextLine};
 ghost use Rattle.crawl_audit.specs.NextBase.{base_in, lines_behind, row_count};
 ghost use Rattle.crawl_audit.specs.Tables.{TellsAll};
 
-use crate::base_kinds::counts;
 use crate::ledger::Ledger;
-use crate::row::Row;
 use gate_history::{LeftOpen, Numbers};
+use history_text::Row;
+use history_text::base_kinds::counts;
 use line_text::Pieces;
 use std::alloc::{AllocError, Global};
 

@@ -10,22 +10,21 @@ ghost use Rattle.permit_book.specs.declared.granted_permit.GrantedPermit.{Grante
 ghost use Rattle.gate_history.specs.Base.{Base};
 ghost use Rattle.gate_history.specs.declared.base.Numbers.{Numbers};
 ghost use Rattle.gate_history.specs.Grants.{IsSlotGrant};
-ghost use Rattle.crawl_audit.specs.BaseFields.{HasNumbers, IsPermitRow};
+ghost use Rattle.history_text.specs.BaseFields.{HasNumbers, IsPermitRow};
 ghost use Rattle.crawl_audit.specs.Numbered.{numbered};
 ghost use Rattle.crawl_audit.specs.OpenRows.{HasRowFields, IsInRange, IsOpenRow};
 ghost use Rattle.crawl_audit.specs.OpenRows.{OpenRow, row_line, row_of};
 ghost use Rattle.crawl_audit.specs.Reading.{IsRead, ReadsRow};
-ghost use Rattle.crawl_audit.specs.SpellBase.{numbers_line};
+ghost use Rattle.history_text.specs.SpellBase.{numbers_line};
 
-use crate::base_kinds::{counts, greatest, in_flight, permit, standing};
 use crate::base_row::BaseRow;
-use crate::entry_pieces::told_by;
 use crate::fields::{next_number, next_word, read_authority, read_page, read_token};
 use crate::read::read_answer;
 use crate::unread_line::UnreadLine;
-use crate::version::Version;
 use authority_cache::{TurnNo, life_of};
 use gate_history::{Numbers, SlotGrant};
+use history_text::base_kinds::{counts, greatest, in_flight, permit, standing};
+use history_text::{Version, told_by};
 use line_text::{Pieces, Words, number_of};
 use permit_book::{Fetch, LAST_GENERATION, MAX_SLOTS, PermitNo};
 use std::alloc::Global;

@@ -3,13 +3,13 @@
 //! docs/crawlgate.1.md has the options.
 ghost use Rattle.std.specs.Prelude.{IfOk};
 ghost use Rattle.gate_core.specs.Limits.{AreLimits};
-ghost use Rattle.gate_journal.specs.Resuming.{IsIdle};
+ghost use Rattle.journal_resume.specs.Resuming.{IsIdle};
 
 use counted_io::Counted;
 use gate_core::{Book, Limits};
-use gate_journal::{ResumeFault, Resumed, resume};
 use gate_lock::{Gate, Receipts};
 use journal_files::{Folder, JournalFault, LastFile, SyncPolicy};
+use journal_resume::{ResumeFault, Resumed, resume};
 use path_normal::{Authority, Schemes};
 use program_streams::{
     Ending, Reasoned, new_book, tell_bad_folder, tell_bad_journal, tell_few_slots,

@@ -1,6 +1,6 @@
 //! `crawlgate serve`: clients that connect, served over a new gate.
 ghost use Rattle.std.specs.Prelude.{◌≡◌};
-ghost use Rattle.gate_journal.specs.Resuming.{IsIdle};
+ghost use Rattle.journal_resume.specs.Resuming.{IsIdle};
 ghost use Rattle.job_line.specs.Limits.{IsCrew};
 ghost use Rattle.program_words.specs.Options.{AreForServe};
 

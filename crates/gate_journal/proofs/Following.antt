@@ -5,9 +5,9 @@ use Rattle.std.specs.Prelude.{if◌then◌else◌, ◌==◌}
 use Rattle.std.proofs.lemmas.Grind.{flat_map-append}
 use Rattle.gate_history.specs.declared.entry.Entry.{Entry}
 use Rattle.gate_history.specs.Segment.{Sealed}
-use Rattle.crawl_audit.specs.declared.version.Version.TheVariants.{Two}
-use Rattle.crawl_audit.specs.Spell.{entry_lines, entry_text, version_line}
-use Rattle.crawl_audit.specs.SpellBase.{base_text, spell_segment}
+use Rattle.history_text.specs.declared.version.Version.TheVariants.{Two}
+use Rattle.history_text.specs.Spell.{entry_lines, entry_text, version_line}
+use Rattle.history_text.specs.SpellBase.{base_text, spell_segment}
 use Rattle.journal_files.specs.declared.place.Place.{Place}
 use Rattle.gate_journal.specs.Follows.{Follows, AreBehind, spelled_count, spelled_of}
 

@@ -4,7 +4,7 @@ use Rattle.std.specs.Prelude.{◌≡◌, ℕ, ◌-◌, ◌≤◌, List, [], ◌+
 use Rattle.gate_history.specs.declared.entry.Entry.{Entry}
 use Rattle.gate_history.specs.Segment.{Sealed}
 use Rattle.gate_core.specs.declared.refusal.NoMemory.{NoMemory}
-use Rattle.crawl_audit.specs.SpellBase.{spell_segment}
+use Rattle.history_text.specs.SpellBase.{spell_segment}
 use Rattle.journal_files.specs.declared.place.Place.{Place}
 
 -- how many entries of the last file were spelled, where the text ends at this place

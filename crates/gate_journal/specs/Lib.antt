@@ -2,4 +2,3 @@
 -- `crates/gate_journal/src` has the code.
 pub mod Follows
 pub mod Recorded
-pub mod Resuming

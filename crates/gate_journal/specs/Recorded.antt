@@ -5,8 +5,8 @@ use Rattle.gate_history.specs.History.{entry_count}
 use Rattle.gate_core.specs.Gate.{Gate, history}
 use Rattle.gate_core.specs.declared.config.Limits.{Limits}
 use Rattle.gate_lock.specs.Desks.{IsGateOf}
-use Rattle.crawl_audit.specs.Exports.{present_segment}
-use Rattle.crawl_audit.specs.SpellBase.{spell_segment}
+use Rattle.history_text.specs.Exports.{present_segment}
+use Rattle.history_text.specs.SpellBase.{spell_segment}
 use Rattle.journal_files.specs.declared.place.Place.{Place}
 use Rattle.gate_journal.specs.Follows.{Follows}
 

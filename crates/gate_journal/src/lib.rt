@@ -3,12 +3,8 @@
 
 mod desk_sealer;
 mod recording;
-mod resume_fault;
-mod resuming;
 mod spelling;
 
 pub use crate::desk_sealer::DeskSealer;
 pub use crate::recording::Recording;
-pub use crate::resume_fault::ResumeFault;
-pub use crate::resuming::{MOST_CLOSED, Resumed, resume};
 pub use crate::spelling::rest_of;

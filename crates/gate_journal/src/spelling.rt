@@ -2,16 +2,16 @@
 //! docs/FORMATS.md has the texts.
 ghost use Rattle.std.specs.Prelude.{◌≡◌, [], None, IfOk, IfSome, OnOk};
 ghost use Rattle.std.specs.Io.KnownBytes.{Appends};
-ghost use Rattle.crawl_audit.specs.declared.version.Version.TheVariants.{Two};
-ghost use Rattle.crawl_audit.specs.Exports.{present_segment};
-ghost use Rattle.crawl_audit.specs.Spell.{entry_lines};
-ghost use Rattle.crawl_audit.specs.SpellBase.{spell_segment};
+ghost use Rattle.history_text.specs.declared.version.Version.TheVariants.{Two};
+ghost use Rattle.history_text.specs.Exports.{present_segment};
+ghost use Rattle.history_text.specs.Spell.{entry_lines};
+ghost use Rattle.history_text.specs.SpellBase.{spell_segment};
 ghost use Rattle.gate_journal.specs.Follows.{AreBehind, EndsFile, Follows, HandsNothing};
 
 use counted_io::{Counted, DeviceFault, Output, Sink};
-use crawl_audit::{export, push_entries};
 use gate_core::{Book, NoMemory};
 use gate_history::{Base, Entry, Segment};
+use history_text::{export, push_entries};
 use journal_files::{JournalFault, Place};
 use std::alloc::Global;
 

@@ -10,8 +10,8 @@ use Rattle.crawl_audit.specs.declared.fault.Audited.{Audited}
 use Rattle.crawl_audit.specs.declared.fault.AuditFault.TheVariants as audit
 use Rattle.crawl_audit.specs.Audit.{IsFault}
 use Rattle.crawl_audit.specs.ChainAudit.{IsChainAudited}
-use Rattle.crawl_audit.specs.Exports.{present_segment}
-use Rattle.crawl_audit.specs.SpellBase.{spell_segment}
+use Rattle.history_text.specs.Exports.{present_segment}
+use Rattle.history_text.specs.SpellBase.{spell_segment}
 use Rattle.command_server.specs.declared.session_fault.SessionFault.{SessionFault}
 use Rattle.command_server.specs.Limits.{max_lines}
 use Rattle.command_server.specs.Replay.{AnswersLineAmong}

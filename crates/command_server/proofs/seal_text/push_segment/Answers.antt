@@ -5,7 +5,7 @@ use Rattle.std.proofs.lemmas.Bool.{eqb-false}
 use Rattle.counted_io.specs.Device.{AppendsPrefix}
 use Rattle.counted_io.specs.Output.{Passes}
 use Rattle.counted_io.proofs.CallerLemmas.{prefix_piece}
-use Rattle.crawl_audit.specs.SpellBase.{spell_segment}
+use Rattle.history_text.specs.SpellBase.{spell_segment}
 use Rattle.line_text.proofs.CallerLemmas.{pushes_cut, pushes_then}
 use Rattle.command_server.specs.SealText.{sealed_line}
 use Rattle.command_server.proofs.SealTexts.{some_handed}

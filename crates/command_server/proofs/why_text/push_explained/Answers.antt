@@ -4,7 +4,7 @@ use Rattle.counted_io.specs.Device.{AppendsPrefix}
 use Rattle.counted_io.specs.Lines.{line_feed}
 use Rattle.counted_io.specs.Output.{Passes}
 use Rattle.counted_io.proofs.CallerLemmas.{prefix_piece}
-use Rattle.crawl_audit.specs.SpellBase.{answer_words}
+use Rattle.history_text.specs.SpellBase.{answer_words}
 use Rattle.line_text.proofs.CallerLemmas.{pushes_cut, pushes_then}
 use Rattle.command_server.proofs.why_text.push_explained.Goals as goal
 

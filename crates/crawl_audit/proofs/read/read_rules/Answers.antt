@@ -3,9 +3,9 @@ use Rattle.std.proofs.Common.{◌≡◌, ℕ, ◌∷◌, codes, rules, subst, sy
 use Rattle.robots_verdict.specs.declared.said.Said.{Said}
 use Rattle.robots_verdict.specs.Answer.{said}
 use Rattle.line_text.specs.Words.{words_left}
-use Rattle.crawl_audit.specs.declared.version.Version.{Version}
-use Rattle.crawl_audit.specs.Entries.{IsLife, IsSaid}
-use Rattle.crawl_audit.specs.Spell.{answer_fields}
+use Rattle.history_text.specs.declared.version.Version.{Version}
+use Rattle.history_text.specs.Entries.{IsLife, IsSaid}
+use Rattle.history_text.specs.Spell.{answer_fields}
 use Rattle.crawl_audit.proofs.EntriesRead.{answer_read, rules_of_one, rules_of_two}
 use Rattle.crawl_audit.proofs.read.read_rules.Goals.{in-One, in-Two+in_ok-life-in-Two}
 use Rattle.crawl_audit.proofs.read.read_rules.Goals as goal

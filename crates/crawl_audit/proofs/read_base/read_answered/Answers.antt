@@ -4,7 +4,7 @@ use Rattle.std.specs.Prelude.{Result}
 use Rattle.line_text.specs.Words.{words_left}
 use Rattle.crawl_audit.specs.declared.base_row.BaseRow.{BaseRow}
 use Rattle.crawl_audit.specs.declared.unread_line.UnreadLine.{UnreadLine}
-use Rattle.crawl_audit.specs.declared.version.Version.TheVariants.{Two}
+use Rattle.history_text.specs.declared.version.Version.TheVariants.{Two}
 use Rattle.crawl_audit.specs.Reading.{ReadsAnswer, ReadsRow}
 use Rattle.crawl_audit.proofs.EntriesRead.{behind_three}
 use Rattle.crawl_audit.proofs.RowsRead.{row_read, standing_is, standing_refused}

@@ -7,8 +7,8 @@ use Rattle.gate_history.specs.History.{followed_by}
 use Rattle.crawl_audit.specs.declared.record.Record.{Record}
 use Rattle.crawl_audit.specs.Ending.{EndsAll, IsEnding, TakesEnds, lines_of}
 use Rattle.crawl_audit.specs.Records.{entry_of}
-use Rattle.crawl_audit.specs.Spell.{entry_line}
-use Rattle.crawl_audit.specs.SpellBase.{ended}
+use Rattle.history_text.specs.Spell.{entry_line}
+use Rattle.history_text.specs.SpellBase.{ended}
 use Rattle.crawl_audit.proofs.CountedLines.{all_behind}
 use Rattle.crawl_audit.proofs.EndingLines.{front_more, parts, refuses_one, takes_more}
 use Rattle.crawl_audit.proofs.auditor.Auditor.end_each.Goals as goal

@@ -2,7 +2,7 @@
 use Rattle.std.proofs.Common.{◌≡◌, ℕ, All, Bool, List, [], map, take}
 use Rattle.path_normal.specs.declared.schemes.Schemes.{Schemes}
 use Rattle.gate_history.specs.History.{History}
-use Rattle.crawl_audit.specs.declared.version.Version.{Version}
+use Rattle.history_text.specs.declared.version.Version.{Version}
 use Rattle.crawl_audit.specs.Audit.{Holds}
 use Rattle.crawl_audit.specs.Ending.{IsEnding, TakesEnds}
 use Rattle.crawl_audit.specs.Records.{entry_of}

@@ -3,7 +3,7 @@ use Rattle.std.proofs.Common.{◌+◌, List, ℕ, Err, Ok, ap, refl, subst, ◌�
 use Rattle.crawl_audit.specs.declared.fault.AuditFault.TheVariants.{BadLine}
 use Rattle.crawl_audit.specs.Audit.{AddsLine}
 use Rattle.crawl_audit.specs.Records.{entry_of}
-use Rattle.crawl_audit.specs.Spell.{entry_line}
+use Rattle.history_text.specs.Spell.{entry_line}
 use Rattle.crawl_audit.specs.Steps.{among}
 use Rattle.crawl_audit.proofs.Auditing.{moved}
 use Rattle.crawl_audit.proofs.EndingLines.{refused_one, took_one}

@@ -3,7 +3,7 @@ use Rattle.std.proofs.Common.{◌≡◌, ℕ, ◌-◌, ◌<◌, Global, Vec, len
 use Rattle.std.proofs.lemmas.Bool.Decides.{nat_tests}
 use Rattle.gate_history.specs.Base.{Base}
 use Rattle.crawl_audit.specs.NextBase.{base_in, lines_behind}
-use Rattle.crawl_audit.specs.SpellBase.{answer_line, grant_line, running_line, turn_line, unspent_line}
+use Rattle.history_text.specs.SpellBase.{answer_line, grant_line, running_line, turn_line, unspent_line}
 use Rattle.crawl_audit.proofs.NextLines.{at_answers, at_end, at_grants, at_last, at_permits, at_runs, at_turns, from_grants, from_permits, from_runs, from_turns, in_list, last_line, past_end}
 use Rattle.crawl_audit.proofs.next_base.NextBase.is_line_at.Goals as goal
 

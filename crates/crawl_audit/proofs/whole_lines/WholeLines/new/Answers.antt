@@ -1,6 +1,6 @@
 -- No line was read, of no octet.
 use Rattle.std.proofs.Common.{◌≡◌, ℕ, List, [], ◌∷◌, arith, length, refl, sym, ◌∙◌}
-use Rattle.crawl_audit.specs.SpellBase.{lines_text}
+use Rattle.history_text.specs.SpellBase.{lines_text}
 use Rattle.crawl_audit.proofs.whole_lines.WholeLines.new.Goals as goal
 
 no_octets : (lines : List (List ℕ)) → length lines ≡ 0 → length (lines_text lines) ≡ 0

@@ -1,0 +1,9 @@
+-- The octets of a robots text are octets, and what is kept of them is they.
+use Rattle.std.proofs.Common.{◌∙◌, sym, subst}
+use Rattle.history_text.specs.Entries.{IsBody, IsSaid}
+use Rattle.history_text.proofs.entry_pieces.told_in.Goals as goal
+
+pub returns-in-Rules-clause-body : goal.returns-in-Rules-clause-body
+returns-in-Rules-clause-body c =
+    let is = c.bytes.ensures.value ∙ c.text.ensures ∙ c.policy.ensures in
+    subst IsSaid (sym c.in-Rules.is) (subst IsBody is (record { own = c.bytes.ensures.own; few = c.bytes.ensures.few; octets = c.octets.ensures.octets }))

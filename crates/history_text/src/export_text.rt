@@ -1,0 +1,122 @@
+//! The export: a segment of a history as a text of version 2 or 3, or the present one of a book.
+//! docs/FORMATS.md has the texts.
+ghost use Rattle.std.specs.Prelude.{◌≡◌, ◌++◌, ◌<◌, All, OnErr, OnOk};
+ghost use Rattle.std.specs.Io.KnownBytes.{Appends};
+ghost use Rattle.counted_io.specs.Device.{AppendsPrefix, failures_after};
+ghost use Rattle.counted_io.specs.Output.{Pushes};
+ghost use Rattle.gate_history.specs.Base.{empty_base};
+ghost use Rattle.gate_history.specs.Grants.{IsSlotGrant};
+ghost use Rattle.gate_history.specs.Order.{IsInOrder};
+ghost use Rattle.history_text.specs.declared.version.Version.TheVariants.{Two};
+ghost use Rattle.history_text.specs.BaseFields.{HasBaseFields};
+ghost use Rattle.history_text.specs.Entries.{HasFields};
+ghost use Rattle.history_text.specs.Exports.{IsExport, IsSegmentText, present_segment};
+ghost use Rattle.history_text.specs.Spell.{entry_lines, spell};
+ghost use Rattle.history_text.specs.SpellBase.{spell_segment};
+
+use crate::parts::{push_base, push_rows};
+use counted_io::{DeviceFault, Output, Sink};
+use gate_core::Book;
+use gate_history::{Base, Entry, Segment};
+
+/// Writes what is pending in the output, and behind it the present segment of the book: its base, where
+/// something was sealed, and the entries since. It takes no memory. After a fault a front of that was
+/// written, and nothing is pending.
+pub fn export<W: Sink>(book: &Book, output: &mut Output, sink: &mut W) -> Result<(), DeviceFault>
+    ensures ok { OnOk result (Appends (W.written sink.old) (W.written sink.new)
+        (output.old ++ spell_segment (present_segment book.now))) }
+    ensures err { OnErr result (AppendsPrefix (W.written sink.old) (W.written sink.new)
+        (output.old ++ spell_segment (present_segment book.now))) }
+    ensures count { W.failures sink.new ≡ failures_after (W.failures sink.old) result }
+    ensures segment { OnOk result (IsSegmentText (present_segment book.now)) }
+    ensures export { OnOk result (book.now.base ≡ empty_base → IsExport Two book.now.entries) }
+{
+    let _ = book.limits();
+    push_segment(book.base(), book.history(), output, sink)?;
+    output.flush(sink)
+}
+
+/// Writes what is pending in the output, and behind it the segment: its base, where something was sealed
+/// before it, and its entries. It takes no memory. After a fault a front of that was written, and nothing
+/// is pending.
+pub fn export_segment<W: Sink>(
+    segment: &Segment,
+    output: &mut Output,
+    sink: &mut W,
+) -> Result<(), DeviceFault>
+    ensures ok { OnOk result (Appends (W.written sink.old) (W.written sink.new)
+        (output.old ++ spell_segment segment.now)) }
+    ensures err { OnErr result (AppendsPrefix (W.written sink.old) (W.written sink.new)
+        (output.old ++ spell_segment segment.now)) }
+    ensures count { W.failures sink.new ≡ failures_after (W.failures sink.old) result }
+    ensures segment { OnOk result (IsSegmentText segment.now) }
+{
+    push_segment(segment.base(), segment.entries(), output, sink)?;
+    output.flush(sink)
+}
+
+/// Pushes the text of a segment. It takes no memory. What fits the output stays pending there.
+pub fn push_segment_text<W: Sink>(
+    segment: &Segment,
+    output: &mut Output,
+    sink: &mut W,
+) -> Result<(), DeviceFault>
+    ensures { Pushes (W.written sink.old) (W.written sink.new)
+        (W.failures sink.old) (W.failures sink.new) output.old output.new
+        (spell_segment segment.now) result }
+{
+    push_segment(segment.base(), segment.entries(), output, sink)
+}
+
+/// Pushes the lines of entries, as they stand behind those of entries before them. It takes no memory. What fits
+/// the output stays pending there.
+pub fn push_entries<W: Sink>(
+    entries: &[Entry],
+    output: &mut Output,
+    sink: &mut W,
+) -> Result<(), DeviceFault>
+    ensures pushes { Pushes (W.written sink.old) (W.written sink.new)
+        (W.failures sink.old) (W.failures sink.new) output.old output.new
+        (entry_lines Two entries.now) result }
+    ensures fields { OnOk result (All HasFields entries.now) }
+{
+    push_rows("", entries, output, sink)
+}
+
+// Pushes the text of a base and the entries that follow it.
+fn push_segment<W: Sink>(
+    base: &Base,
+    entries: &[Entry],
+    output: &mut Output,
+    sink: &mut W,
+) -> Result<(), DeviceFault>
+    ensures pushes { Pushes (W.written sink.old) (W.written sink.new)
+        (W.failures sink.old) (W.failures sink.new) output.old output.new
+        (spell_segment (record { base = base.now; entries = entries.now })) result }
+    ensures base { OnOk result (0 < base.now.entries → HasBaseFields base.now) }
+    ensures fields { OnOk result (All HasFields entries.now) }
+    ensures grants { All IsSlotGrant base.now.grants }
+    ensures order { IsInOrder base.now }
+{
+    let _ = base.grants();
+    if base.entries() == 0 {
+        return push_history(entries, output, sink);
+    }
+    push_base(base, output, sink)?;
+    push_rows("", entries, output, sink)
+}
+
+// Pushes the text of a history before which nothing was sealed.
+fn push_history<W: Sink>(
+    entries: &[Entry],
+    output: &mut Output,
+    sink: &mut W,
+) -> Result<(), DeviceFault>
+    ensures pushes { Pushes (W.written sink.old) (W.written sink.new)
+        (W.failures sink.old) (W.failures sink.new) output.old output.new
+        (spell Two entries.now) result }
+    ensures fields { OnOk result (All HasFields entries.now) }
+{
+    output.push(sink, b"V 2\n")?;
+    push_rows("", entries, output, sink)
+}

@@ -1,0 +1,16 @@
+//! Histories of the gate as texts: the lines of entries and of bases, and the text of a segment or of a book
+//! (docs/FORMATS.md). What reads such texts is in `crawl_audit`.
+#![tactic(auto)]
+
+pub mod base_kinds;
+mod entry_pieces;
+mod export_text;
+pub mod kinds;
+mod parts;
+mod row;
+mod version;
+
+pub use entry_pieces::{token_octets, told_by, url_octets};
+pub use export_text::{export, export_segment, push_entries, push_segment_text};
+pub use row::{Row, standing_pieces};
+pub use version::Version;

@@ -1,0 +1,8 @@
+//! A book that goes on from the text of a journal's last file, and what ends that text (docs/FORMATS.md).
+#![tactic(auto)]
+
+mod resume_fault;
+mod resuming;
+
+pub use crate::resume_fault::ResumeFault;
+pub use crate::resuming::{MOST_CLOSED, Resumed, resume};

@@ -1,0 +1,131 @@
+//! A book that goes on from the text of a journal's last file, and what ends that text.
+//! docs/FORMATS.md has the texts; RFC 9309, sections 2.3.1 and 2.4.
+ghost use Rattle.std.specs.Prelude.{◌≡◌, List, [], Some, ℕ, IfOk, OnOk};
+ghost use Rattle.authority_cache.specs.Lists.{TellsCache};
+ghost use Rattle.gate_core.specs.Limits.{AreLimits};
+ghost use Rattle.journal_resume.specs.Resuming.{AreFirst, GoesOnFrom, IsIdle, IsResumed};
+
+use crate::resume_fault::ResumeFault;
+use authority_cache::{Cache, StandingAnswer};
+use counted_io::Source;
+use crawl_audit::{Recovered, recover_among};
+use gate_core::{Book, Config, Limits};
+use gate_history::Base;
+use path_normal::{Authority, Schemes};
+use robots_verdict::{Closure, Said};
+use std::alloc::{AllocError, Global};
+use std::cmp::Reverse;
+use std::hash::RandomState;
+
+// As many started fetches are more than the receipts of a gate count.
+const MOST_STARTS: u64 = 1 << 63;
+
+/// How many sites that faults of the network closed are fetched anew, beside those whose fetch was under way.
+pub const MOST_CLOSED: usize = 16;
+
+/// What a text leads to.
+#[derive(Drop)]
+pub struct Resumed {
+    /// The book that goes on from it.
+    pub book: Book,
+    /// How many octets of the text are whole lines. A line behind them was torn by a crash.
+    pub whole: u64,
+    /// The lines that end what was out: to be written behind the whole ones.
+    pub ending: Vec<u8>,
+    /// The sites whose robots files were being fetched; and behind them those which faults of the network closed last,
+    /// as many as `MOST_CLOSED`, since an earlier process may have ended before it fetched its own anew.
+    pub begun: Vec<Authority>,
+}
+
+/// Reads the text of a journal's last file, which names sites of these schemes, and makes the book of these limits that
+/// goes on from it. The tables of both get these keys.
+pub fn resume<R: Source>(
+    alloc: Global,
+    keys: RandomState,
+    schemes: Schemes,
+    limits: Limits,
+    reader: &mut R,
+) -> Result<Resumed, ResumeFault>
+    requires { AreLimits limits }
+    ensures idle { IfOk result (λ resumed. IsIdle resumed.book) }
+    ensures limits { IfOk result (λ resumed. resumed.book.limits ≡ limits) }
+    ensures ok { IfOk result (λ resumed. (text : List ℕ) → R.left reader.old ≡ Some text
+        → IsResumed schemes text resumed) }
+{
+    let found = recover_among(alloc, keys, schemes, reader)?;
+    let Recovered {
+        whole,
+        ending,
+        begun,
+        base,
+        cache,
+    } = found;
+    let book = book_from(alloc, Config { limits, keys }, base, cache)?;
+    let mut begun = begun;
+    add_closed(alloc, book.base(), &mut begun)?;
+    Ok(Resumed {
+        book,
+        whole,
+        ending,
+        begun,
+    })
+}
+
+// The book that goes on from a base, and a new one where it has no entry.
+fn book_from(alloc: Global, config: Config, base: Base, cache: Cache) -> Result<Book, ResumeFault>
+    requires limits { AreLimits config.limits }
+    requires turns { base.in_flight ≡ [] }
+    requires permits { base.unspent ≡ [] }
+    requires runs { base.running ≡ [] }
+    requires cache { TellsCache cache base.standing base.in_flight }
+    ensures idle { IfOk result IsIdle }
+    ensures limits { IfOk result (λ book. book.limits ≡ config.limits) }
+    ensures base { IfOk result (GoesOnFrom base) }
+{
+    if base.entries() == 0 {
+        return Ok(Book::new(alloc, config)?);
+    }
+    if base.started() >= MOST_STARTS {
+        return Err(ResumeFault::Starts);
+    }
+    Ok(Book::resume(alloc, config, base, cache)?)
+}
+
+// Adds the sites which faults of the network closed last.
+fn add_closed(alloc: Global, base: &Base, sites: &mut Vec<Authority>) -> Result<(), AllocError>
+    ensures { OnOk result (AreFirst sites.old.items sites.new.items) }
+{
+    let mut closed = closed_last(alloc, base.standing(), sites.as_slice())?;
+    sites.append(&mut closed)
+}
+
+// The sites which faults of the network closed last, but for those that are known.
+fn closed_last(
+    alloc: Global,
+    standing: &[StandingAnswer],
+    known: &[Authority],
+) -> Result<Vec<Authority>, AllocError> {
+    let mut closed = closed_by_network(alloc, standing)?;
+    closed.sort_unstable_by_key(|answer| Reverse(answer.turn.number()));
+    let mut sites = Vec::new(alloc);
+    for answer in closed.iter().take(MOST_CLOSED) {
+        if !known.iter().any(|site| *site == answer.authority) {
+            sites.push(answer.authority.copy()?)?;
+        }
+    }
+    Ok(sites)
+}
+
+// The answers of sites which faults of the network closed.
+fn closed_by_network<'a>(
+    alloc: Global,
+    standing: &'a [StandingAnswer],
+) -> Result<Vec<&'a StandingAnswer>, AllocError> {
+    let mut closed = Vec::new(alloc);
+    for answer in standing {
+        if let Said::Closed(Closure::Network) = &answer.says {
+            closed.push(answer)?;
+        }
+    }
+    Ok(closed)
+}
