@@ -1,5 +1,7 @@
 -- Lemmas that several proofs share.
 pub mod PlainText
+pub mod LineScan
+pub mod LineFaults
 pub mod Giving
 pub mod Serving
 pub mod Lent

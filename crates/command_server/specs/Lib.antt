@@ -5,6 +5,7 @@ pub mod WhyText
 pub mod Arguments
 pub mod Arrival
 pub mod CallOf
+pub mod LineWords
 pub mod RefusalText
 pub mod FaultText
 pub mod ReplyText

@@ -13,6 +13,7 @@ use crate::calls::{
     read_start,
 };
 use crate::fault::LineFault;
+use crate::line_words::LineWords;
 use crate::verbs::{Dialogue, Verb};
 use crawl_job::Job;
 use gate_core::Call;
@@ -67,13 +68,10 @@ pub fn read_command_among(
     ensures read { IsRead result (command_of_among schemes dialogue line.now) }
     ensures spare { IfOk result CanBeMade }
 {
-    let Some(text) = plain_text(line) else {
-        return Err(LineFault::Chars);
+    let words = match LineWords::of(line) {
+        Ok(words) => words,
+        Err(fault) => return Err(fault),
     };
-    let words = Words::of(text);
-    if words.has_empty() {
-        return Err(LineFault::Words);
-    }
     match dialogue {
         Dialogue::Replay => read_timed(alloc, schemes, words),
         Dialogue::Client { moment, .. } | Dialogue::Overseer { moment } => {
@@ -104,8 +102,12 @@ fn is_line_octet(octet: u8) -> bool
     (32..=126).contains(&octet)
 }
 
-fn read_timed(alloc: Global, schemes: Schemes, words: Words<'_>) -> Result<Command<'_>, LineFault>
-    ensures read { IsRead result (timed_words_of schemes (words_left words.entry)) }
+fn read_timed(
+    alloc: Global,
+    schemes: Schemes,
+    words: LineWords<'_>,
+) -> Result<Command<'_>, LineFault>
+    ensures read { IsRead result (timed_words_of schemes words.entry) }
     ensures spare { IfOk result CanBeMade }
 {
     let mut words = words;
@@ -123,9 +125,9 @@ fn read_verb(
     schemes: Schemes,
     dialogue: Dialogue,
     moment: u64,
-    words: Words<'_>,
+    words: LineWords<'_>,
 ) -> Result<Command<'_>, LineFault>
-    ensures read { IsRead result (verb_words_of schemes dialogue moment (words_left words.entry)) }
+    ensures read { IsRead result (verb_words_of schemes dialogue moment words.entry) }
     ensures spare { IfOk result CanBeMade }
 {
     let mut words = words;
@@ -139,7 +141,7 @@ fn read_verb(
     if !words.count_is_within(row.least, row.most) {
         return Err(LineFault::Words);
     }
-    read_arguments(alloc, schemes, verb, moment, words)
+    read_arguments(alloc, schemes, verb, moment, words.left())
 }
 
 fn read_arguments(

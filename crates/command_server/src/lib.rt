@@ -17,6 +17,7 @@ mod hop_lines;
 mod hop_text;
 mod info_text;
 mod job_words;
+mod line_words;
 mod numbered_clock;
 mod refusal_text;
 mod reply_text;
