@@ -1,11 +1,11 @@
 -- What a line has that has no fault before its first word.
 -- Used by the proofs of `LineWords::of` and of `read_command_among`.
-use Rattle.std.proofs.Common.{◌≡◌, ◌⊎◌, sym, subst, ℕ, Bool, true, false, cond, List, Result, Ok, Err, refl, ap, ◌∙◌, inl, inr}
+use Rattle.std.proofs.Common.{◌≡◌, ◌⊎◌, sym, subst, ℕ, Bool, true, false, cond, List, Result, Ok, Err, refl, ◌∙◌, inl, inr}
 use Rattle.std.specs.List.{list_any}
 use Rattle.path_normal.specs.Capacity.{Capacity, Enough, Overflows, Refused, IsRead}
 use Rattle.path_normal.specs.declared.schemes.Schemes.{Schemes}
 use Rattle.command_server.specs.CallOf.{command_of_among, dialogue_words_of, has_line_octets, verb_words_of}
-use Rattle.command_server.specs.LineWords.{if_full, line_words_of, made_of_words}
+use Rattle.command_server.specs.LineWords.{line_words_of, made_of_words}
 use Rattle.command_server.specs.declared.command.Command.{Command}
 use Rattle.command_server.specs.declared.fault.LineFault.{LineFault}
 use Rattle.command_server.specs.declared.fault.LineFault.TheVariants as faults

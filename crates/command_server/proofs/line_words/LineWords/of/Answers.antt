@@ -4,7 +4,7 @@ use Rattle.command_server.proofs.LineFaults.{made_parts}
 use Rattle.command_server.proofs.PlainText.{utf8_of_plain}
 use Rattle.command_server.proofs.line_words.LineWords.of.Goals as goal
 
-pub returns-in-Err-from_utf8 : goal.returns-in-Err-from_utf8
-returns-in-Err-from_utf8 c =
+pub from_utf8_unchecked-text-requires : goal.from_utf8_unchecked-text-requires
+from_utf8_unchecked-text-requires c =
     let counted = made_parts length c.args.line.now c.in-Ok.count (sym c.word_count.ensures ∙ c.in-Ok.is) in
-    absurd (c.in-Err-from_utf8.ensures.cases.0 (utf8_of_plain c.args.line.now counted.0))
+    utf8_of_plain c.args.line.now counted.0
