@@ -35,7 +35,7 @@ impl<'a> LineWords<'a> {
             Ok(count) => count,
             Err(fault) => return Err(fault),
         };
-        // Each octet is ASCII, so the line is a text: it isn't looked at once more.
+        // Each octet is ASCII, so the line is a text, which isn't looked at once more: that it is UTF-8 is a goal of the proof.
         let text = unsafe { std::str::from_utf8_unchecked(line) };
         Ok(LineWords {
             words: Words::of(text),

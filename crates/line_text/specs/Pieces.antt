@@ -1,6 +1,6 @@
 -- The text of a line: a line of words, and a line that is kept as pieces.
 -- Cited by the contracts of all that writes lines or compares with them.
-use Rattle.std.specs.Prelude.{◌++◌, ℕ, List, codes, decimal, flat_map}
+use Rattle.std.specs.Prelude.{◌++◌, ℕ, List, codes, decimal, flat_map, take}
 use Rattle.std.specs.List.{join_with_byte}
 use Rattle.robots_text.specs.Octets.{space}
 use Rattle.robots_text.specs.Token.{lower_case}
@@ -18,9 +18,9 @@ piece_text (LowerCase octets) = lower_case octets.now
 piece_text (Escaped octets) = escaped octets.now
 piece_text (Body octets) = escaped_body octets.now
 
--- the text of the pieces, in order
+-- the text of the pieces, in order; the places behind them are no part of the line
 abbrev pub pieces_text : Pieces → List ℕ
-pieces_text pieces = flat_map piece_text pieces.pieces
+pieces_text pieces = flat_map piece_text (take pieces.len pieces.pieces)
 
 -- the most pieces that a line has
 abbrev pub most_pieces : ℕ

@@ -1,6 +1,6 @@
 //! A line as a few borrowed pieces: it is written, or compared with a text, without memory.
 //! Made by all that writes replies, records, entries or reports.
-ghost use Rattle.std.specs.Prelude.{◌≡◌, ◌↔◌, ◌≤◌, ◌++◌, [], ◌∷◌, IsTrue, codes, decimal, flat_map, length};
+ghost use Rattle.std.specs.Prelude.{◌≡◌, ◌↔◌, ◌≤◌, ◌++◌, [], ◌∷◌, IsTrue, codes, decimal, flat_map, length, take};
 ghost use Rattle.counted_io.specs.Output.{Pushes};
 ghost use Rattle.line_text.specs.Pieces.{line_of, most_pieces, piece_text, pieces_text};
 
@@ -11,10 +11,11 @@ const SPACE: Piece<'static> = Piece::Text(" ");
 
 const END: Piece<'static> = Piece::Text("\n");
 
-/// The pieces of a line, in order. A place that is not needed has an empty text.
+/// The pieces of a line, in order: the first `len` places. The others are not looked at.
 #[derive(Clone, Copy)]
 pub struct Pieces<'a> {
     pieces: [Piece<'a>; 10],
+    len: usize,
 }
 
 impl<'a> Pieces<'a> {
@@ -23,9 +24,10 @@ impl<'a> Pieces<'a> {
         requires { length pieces.now ≤ most_pieces }
         ensures { pieces_text result ≡ flat_map piece_text pieces.now }
     {
-        let mut row = no_pieces();
-        row[..pieces.len()].copy_from_slice(pieces);
-        Pieces { pieces: row }
+        let mut row = [Piece::Text(""); 10];
+        let len = pieces.len();
+        row[..len].copy_from_slice(pieces);
+        Pieces { pieces: row, len }
     }
 
     /// A line that is written out, with its line feed.
@@ -93,22 +95,23 @@ impl<'a> Pieces<'a> {
             (W.failures sink.old) (W.failures sink.new) output.old output.new
             (pieces_text self.now) result }
     {
-        push_all(&self.pieces, output, sink)
+        push_all(self.row(), output, sink)
     }
 
     /// Whether this is the line.
     pub fn is(&self, line: &[u8]) -> bool
         ensures { IsTrue result ↔ (line.now ≡ pieces_text self.now) }
     {
-        is_row(&self.pieces, line)
+        is_row(self.row(), line)
     }
-}
 
-// A row of which each place has an empty text.
-fn no_pieces<'a>() -> [Piece<'a>; 10]
-    ensures { flat_map piece_text result ≡ [] }
-{
-    [Piece::Text(""); 10]
+    // The places that have a piece of the line.
+    fn row(&self) -> &[Piece<'a>]
+        ensures { result.now ≡ take self.now.len self.now.pieces }
+    {
+        let places = self.pieces.as_slice();
+        &places[..self.len.min(places.len())]
+    }
 }
 
 fn push_all<W: Sink>(
