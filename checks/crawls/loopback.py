@@ -23,12 +23,13 @@ def redirect(location):
 
 
 class Site:
-    """A site on a port of its own, the moments at which it was asked for its pages and its robots file, and by which agents."""
+    """A site on a port of its own, the moments at which it was asked for its pages and for all, and by which agents."""
 
     scheme = "http"
 
     def __init__(self, behave):
         self.behave, self.pages, self.targets, self.robots, self.agents = behave, [], [], 0, set()
+        self.moments = []
 
     async def listen(self, host="127.0.0.1", port=0, context=None, name=None):
         """With a context of TLS it is a site of https. Its URLs have a name, where one is given, in place of the address."""
@@ -42,6 +43,7 @@ class Site:
             head = await reader.readuntil(b"\r\n\r\n")
             target = head.split(b" ")[1].decode()
             self.agents.add((target, head.partition(b"User-Agent: ")[2].partition(b"\r\n")[0].decode()))
+            self.moments.append(time.monotonic())
             if target == "/robots.txt":
                 self.robots += 1
             else:
@@ -158,7 +160,7 @@ async def keep_open(site, writer, target):
 
 
 async def bind(site, writer, target):
-    """Rules that are dear to match: each has runs that stand in the path, and no two runs are the same."""
+    """Rules that cost much to match: each has runs that stand in the path, and no two runs are the same."""
     if target != "/robots.txt":
         return await answer(site, writer, target)
     writer.write(b"HTTP/1.1 200 OK\r\nContent-Length: %d\r\n\r\n" % len(FEW_RUNS) + FEW_RUNS)

@@ -19,4 +19,8 @@ impl<A: Watcher, B: Watcher> Watcher for Both<'_, '_, A, B> {
         self.first.done(number, job, outcome);
         self.second.done(number, job, outcome);
     }
+
+    fn is_over(&self) -> bool {
+        self.first.is_over() || self.second.is_over()
+    }
 }

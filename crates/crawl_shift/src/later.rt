@@ -100,11 +100,14 @@ impl<
             rt,
             alloc,
             workers,
+            delay,
             fetcher,
             clock,
             ..
         } = *self;
-        let report = run_later_shift(rt, alloc, jobs, workers, gate, past, fetcher, clock, &both);
+        let report = run_later_shift(
+            rt, alloc, jobs, workers, delay, gate, past, fetcher, clock, &both,
+        );
         self.status.erase();
         report
     }

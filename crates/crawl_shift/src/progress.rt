@@ -74,6 +74,10 @@ impl<W: Sink, F: Fetcher, R: Wait> Watcher for Progress<'_, W, F, R> {
             self.fetcher.stop();
         }
     }
+
+    fn is_over(&self) -> bool {
+        self.lines.lock(self.rt).failed
+    }
 }
 
 impl<W: Sink> Lines<'_, W> {

@@ -14,20 +14,23 @@ use crate::status_line::StatusLine;
 use crate::table::Table;
 use counted_io::{Output, Sink, Source};
 use crawl_job::Job;
-use crawl_workers::{Clock, Fetcher, Report, ShiftFault, Watcher, run_shift};
+use crawl_workers::{Clock, Fetcher, Report, ShiftFault, Watcher, run_shift_paced};
 use gate_lock::{Gate, GateLock, Held, Receipts, SettleFault, settle_in};
 use history_text::export;
 use std::alloc::Global;
 use std::sync::Wait;
 use std::thread::Threads;
 use std::time;
+use std::time::Duration;
 
-/// How a shift is done: so many workers fetch with `fetcher` by `clock`, and `status` is written meanwhile.
+/// How a shift is done: so many workers fetch with `fetcher` by `clock`, at each site with a delay between the begins of two
+/// fetches, and `status` is written meanwhile.
 #[derive(Drop)]
 pub struct Shift<'a, 's, E: Sink, F, C, R: Wait + time::Clock> {
     pub rt: &'a R,
     pub alloc: Global,
     pub workers: u64,
+    pub delay: Duration,
     pub fetcher: &'a F,
     pub clock: &'a C,
     pub status: &'a StatusLine<'s, E, R>,
@@ -179,11 +182,12 @@ impl<
             rt,
             alloc,
             workers,
+            delay,
             fetcher,
             clock,
             ..
         } = *self;
-        let report = run_shift(rt, alloc, jobs, workers, gate, fetcher, clock, &both);
+        let report = run_shift_paced(rt, alloc, jobs, workers, delay, gate, fetcher, clock, &both);
         self.status.erase();
         report
     }

@@ -76,6 +76,10 @@ impl<W: Sink, F: Fetcher, R: Wait + time::Clock> Watcher for Table<'_, W, F, R> 
     fn done(&self, number: u64, _job: &Job, _outcome: &Outcome) {
         self.rows.lock(self.rt).under_way.leave(number);
     }
+
+    fn is_over(&self) -> bool {
+        self.rows.lock(self.rt).wrote.is_err()
+    }
 }
 
 impl<W: Sink> Rows<'_, W> {

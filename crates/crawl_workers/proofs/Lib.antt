@@ -8,6 +8,7 @@ mod Handing
 mod Hops
 mod InForce
 mod Ordering
+mod Pausing
 mod Placing
 mod Shifting
 pub mod Starting

@@ -6,6 +6,7 @@ pub mod Limits
 pub mod OutcomeLaws
 pub mod Orders
 pub mod Outcomes
+pub mod Pauses
 pub mod Refreshes
 pub mod Shifts
 pub mod Sites

@@ -11,6 +11,7 @@ ghost use Rattle.crawl_workers.specs.World.{world_of};
 
 use crate::clock::Clock;
 use crate::event::Event;
+use crate::pace::Pace;
 use crate::report::{Crawled, ShiftFault, Watcher};
 use crate::sites::Sites;
 use crate::worker::{Notes, Worker};
@@ -25,7 +26,7 @@ use std::sync::Wait;
 
 /// What the workers of a shift have in common.
 #[derive(Drop)]
-pub(crate) struct Crew<'a, F, C, W> {
+pub(crate) struct Crew<'a, F, C, W, P> {
     pub(crate) jobs: &'a [Job],
     pub(crate) line: &'a JobLine,
     /// Which job an index of the line stands for, and how many jobs of the line each site has.
@@ -35,19 +36,21 @@ pub(crate) struct Crew<'a, F, C, W> {
     pub(crate) fetcher: &'a F,
     pub(crate) clock: &'a C,
     pub(crate) watcher: &'a W,
+    pub(crate) pace: &'a P,
     ghost is_order: { IsOrder (length jobs.now) counts.now order.now },
 }
 
-// Who is told of the job of a number: the sites, of robots files, and the watcher.
+// Who is told of the job of a number: the sites, of robots files and of fetches, and the watcher.
 #[derive(Drop)]
-struct Told<'t, W: Watcher, R: Wait> {
+struct Told<'t, W: Watcher, P: Pace, R: Wait> {
     rt: &'t R,
     sites: &'t Sites,
     watcher: &'t W,
+    pace: &'t P,
     number: u64,
 }
 
-impl<W: Watcher, R: Wait> Notes for Told<'_, W, R> {
+impl<W: Watcher, P: Pace, R: Wait> Notes for Told<'_, W, P, R> {
     fn sees(&self, event: Event<'_>) {
         match event {
             Event::AsksRobots(authority) => self.sites.asks(self.rt, authority),
@@ -55,6 +58,14 @@ impl<W: Watcher, R: Wait> Notes for Told<'_, W, R> {
             _ => {}
         }
         self.watcher.sees(self.number, event);
+    }
+
+    fn awaits_turn(&self, authority: &str) {
+        self.sites.await_turn(self.rt, self.pace, authority);
+    }
+
+    fn begins_at(&self, authority: &str) {
+        self.sites.note_fetch(self.rt, self.pace, authority);
     }
 }
 
@@ -105,7 +116,7 @@ impl<G: Gate> Model for Member<G> {
     } };
 }
 
-impl<F: Fetcher, C: Clock, W: Watcher> Crew<'_, F, C, W> {
+impl<F: Fetcher, C: Clock, W: Watcher, P: Pace> Crew<'_, F, C, W, P> {
     /// Lets a new worker work until no job is left.
     pub(crate) fn employ<G: Gate, R: Wait>(
         &self,
@@ -161,7 +172,7 @@ impl<F: Fetcher, C: Clock, W: Watcher> Crew<'_, F, C, W> {
             self.now.jobs.now self.now.order.now work.new (receipt_of desk.new)) }
     {
         'draws: for _ in rt.forever() {
-            let Some(site) = self.sites.enter(rt) else {
+            let Some(site) = self.sites.enter(rt, self.pace) else {
                 return self.draw_rest(rt, alloc, desk, work);
             };
             let drew = self.draw_one(rt, alloc, site, desk, work);
@@ -309,11 +320,15 @@ impl<F: Fetcher, C: Clock, W: Watcher> Crew<'_, F, C, W> {
                 rt,
                 sites: self.sites,
                 watcher: self.watcher,
+                pace: self.pace,
                 number,
             },
         };
         let outcome = work_by(&worker, job.copy()?, desk)?;
         self.watcher.done(number, job, &outcome);
+        if self.sites.pauses() && self.watcher.is_over() {
+            self.sites.end_pauses(rt);
+        }
         let Outcome { hops, body: _ } = outcome;
         Ok(Done {
             number,

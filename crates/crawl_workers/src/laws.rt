@@ -1,8 +1,9 @@
-//! What is true of every outcome of a job, and the limits of jobs.
+//! What is true of every outcome of a job, the limits of jobs, and the pauses of a shift.
 //! RFC 9309, sections 2.2 and 2.3.1.2.
 ghost use Rattle.std.specs.Prelude.{◌≡◌};
 ghost use Rattle.crawl_workers.specs.Limits.{max_hops, page_limit};
 ghost use Rattle.crawl_workers.specs.OutcomeLaws.{FetchesAreCounted, FetchesAreStarted};
+ghost use Rattle.crawl_workers.specs.Pauses.{PausesAreKept};
 ghost use Rattle.crawl_workers.specs.World.{world_of};
 
 use crate::clock::Clock;
@@ -21,4 +22,10 @@ pub fn limits_are()
 pub fn fetches_are_started<F: Fetcher, C: Clock>(_fetcher: &F, _clock: &C)
     ensures started { FetchesAreStarted (world_of (F.gives _fetcher.now) (F.follows _fetcher.now) (C.reads _clock.now)) }
     ensures counted { FetchesAreCounted }
+{}
+
+/// Of the fetches that come to a site with a delay, at whatever moments and in whatever order, those that wait begin no sooner
+/// than the delay after the last begin before them.
+pub fn pauses_are_kept()
+    ensures { PausesAreKept }
 {}

@@ -60,7 +60,7 @@ pub(crate) fn bring_answer<G: Gate, F: Fetcher, C: Clock, N: Notes, R: Wait>(
     ensures out { HasOut desk.old desk.new 0 0 0 0 0 1 }
 {
     let mut why = ClosedBy::NoMemory;
-    let mut answer = fetch_answer(alloc, &turn, fetcher, &mut why);
+    let mut answer = fetch_answer(alloc, &turn, fetcher, notes, &mut why);
     share_text(rt, desk, turn.authority(), &mut answer);
     let closed_by = match answer.answer() {
         Answer::Closed(_) => Some(why),
@@ -74,10 +74,11 @@ pub(crate) fn bring_answer<G: Gate, F: Fetcher, C: Clock, N: Notes, R: Wait>(
 
 // The answer that the authority's robots file gives, with its life. `why` is told what decided it, where
 // that was a reply.
-fn fetch_answer<G: Gate, F: Fetcher>(
+fn fetch_answer<G: Gate, F: Fetcher, N: Notes>(
     alloc: Global,
     turn: &RobotsTurn<G>,
     fetcher: &F,
+    notes: &N,
     why: &mut ClosedBy,
 ) -> TimedAnswer
     ensures brings { IsBrought (F.follows fetcher.now) (F.gives fetcher.now robots_limit)
@@ -91,7 +92,9 @@ fn fetch_answer<G: Gate, F: Fetcher>(
     let time = fetcher.begin_walk();
     loop {
         let mut failure = None;
-        let given = fetcher.fetch_robots(turn, walk.url(), time, &mut failure);
+        let url = walk.url();
+        notes.begins_at(url.authority());
+        let given = fetcher.fetch_robots(turn, url, time, &mut failure);
         let met = ClosedBy::met(&given, failure);
         let reply = robots_reply(given);
         walk = match walk.step_among(alloc, schemes, &reply) {

@@ -91,6 +91,12 @@ pub trait Watcher {
 
     /// The job of this number, from 0, is done, and has this outcome, bodies too.
     fn done(&self, number: u64, job: &Job, outcome: &Outcome);
+
+    /// Whether nothing more is to be fetched: who waits for a fetch then waits no longer. It is asked after each job of a
+    /// shift with pauses.
+    fn is_over(&self) -> bool {
+        false
+    }
 }
 
 /// Nobody watches.

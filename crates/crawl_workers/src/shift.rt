@@ -11,6 +11,7 @@ use crate::clock::Clock;
 use crate::crew::{Crew, Member, Work};
 use crate::handover::Handover;
 use crate::order::Order;
+use crate::pace::{Pace, Pauses};
 use crate::places::place_all;
 use crate::report::{Crawled, Report, ShiftFault, Watcher};
 use crate::sites::Sites;
@@ -21,8 +22,9 @@ use job_line::{JobLine, JobSeat, MAX_WORKERS};
 use std::alloc::{AllocError, Global};
 use std::marker::Model;
 use std::sync::Wait;
-use std::thread;
 use std::thread::Threads;
+use std::time::Duration;
+use std::{thread, time};
 
 /// Does all jobs over a gate that has made no entry, by so many workers, 1 to 16, and settles the gate.
 /// Each worker has a thread of its own, and one is the caller's; where no thread can be had, a worker
@@ -56,18 +58,38 @@ pub fn run_shift<
     ensures { IfOk result (IsShift (world_of (F.gives fetcher.now) (F.follows fetcher.now) (C.reads clock.now))
         jobs.now workers) }
 {
-    let AllDone {
-        outcomes,
-        drawn,
-        receipts,
-    } = do_jobs(rt, alloc, jobs, workers, gate, fetcher, clock, watcher)?;
-    let settled = settle(rt, alloc, gate, &receipts)?;
-    Ok(Report {
-        outcomes,
-        drawn,
-        receipts,
-        settled,
-    })
+    run_at_pace(rt, alloc, jobs, workers, &(), gate, fetcher, clock, watcher)
+}
+
+/// The same with pauses: each fetch of a page begins no sooner than the delay after the begin of the fetch before it at the
+/// same site, be that a page, a robots file or what a redirect led to. Robots files wait for nobody. While a site rests
+/// workers draw jobs of others. A delay of zero pauses nowhere.
+pub fn run_shift_paced<
+    G: Gate + Send + Sync,
+    F: Fetcher + Sync,
+    C: Clock + Sync,
+    W: Watcher + Sync,
+    R: Threads + Wait + time::Clock + Sync,
+>(
+    rt: &R,
+    alloc: Global,
+    jobs: &[Job],
+    workers: u64,
+    delay: Duration,
+    gate: &GateLock<G>,
+    fetcher: &F,
+    clock: &C,
+    watcher: &W,
+) -> Result<Report<G>, ShiftFault>
+    requires jobs { length jobs.now ≤ max_jobs }
+    requires workers { (1 ≤ workers) × (workers ≤ max_workers) }
+    ensures { IfOk result (IsShift (world_of (F.gives fetcher.now) (F.follows fetcher.now) (C.reads clock.now))
+        jobs.now workers) }
+{
+    let pauses = Pauses { rt, delay };
+    run_at_pace(
+        rt, alloc, jobs, workers, &pauses, gate, fetcher, clock, watcher,
+    )
 }
 
 /// The same over a gate that goes on from a base: it is settled with the receipts of what was before, which come last
@@ -77,12 +99,13 @@ pub fn run_later_shift<
     F: Fetcher + Sync,
     C: Clock + Sync,
     W: Watcher + Sync,
-    R: Threads + Wait + Sync,
+    R: Threads + Wait + time::Clock + Sync,
 >(
     rt: &R,
     alloc: Global,
     jobs: &[Job],
     workers: u64,
+    delay: Duration,
     gate: &GateLock<G>,
     past: Vec<Receipts<G>>,
     fetcher: &F,
@@ -94,13 +117,56 @@ pub fn run_later_shift<
     ensures { IfOk result (IsLaterShift (world_of (F.gives fetcher.now) (F.follows fetcher.now) (C.reads clock.now))
         jobs.now workers past.items) }
 {
+    let pauses = Pauses { rt, delay };
     let AllDone {
         outcomes,
         drawn,
         mut receipts,
-    } = do_jobs(rt, alloc, jobs, workers, gate, fetcher, clock, watcher)?;
+    } = do_jobs(
+        rt, alloc, jobs, workers, &pauses, gate, fetcher, clock, watcher,
+    )?;
     let mut past = past;
     receipts.append(&mut past)?;
+    let settled = settle(rt, alloc, gate, &receipts)?;
+    Ok(Report {
+        outcomes,
+        drawn,
+        receipts,
+        settled,
+    })
+}
+
+// Does all jobs at this pace over a gate that has made no entry, and settles the gate.
+fn run_at_pace<
+    G: Gate + Send + Sync,
+    F: Fetcher + Sync,
+    C: Clock + Sync,
+    W: Watcher + Sync,
+    P: Pace + Sync,
+    R: Threads + Wait + Sync,
+>(
+    rt: &R,
+    alloc: Global,
+    jobs: &[Job],
+    workers: u64,
+    pace: &P,
+    gate: &GateLock<G>,
+    fetcher: &F,
+    clock: &C,
+    watcher: &W,
+) -> Result<Report<G>, ShiftFault>
+    requires jobs { length jobs.now ≤ max_jobs }
+    requires workers { (1 ≤ workers) × (workers ≤ max_workers) }
+    ensures { IfOk result (IsShift (world_of (F.gives fetcher.now) (F.follows fetcher.now) (C.reads clock.now))
+        jobs.now workers) }
+{
+    let AllDone {
+        outcomes,
+        drawn,
+        receipts,
+    } = do_jobs(
+        rt, alloc, jobs, workers, pace, gate, fetcher, clock, watcher,
+    )?;
     let settled = settle(rt, alloc, gate, &receipts)?;
     Ok(Report {
         outcomes,
@@ -137,12 +203,14 @@ fn do_jobs<
     F: Fetcher + Sync,
     C: Clock + Sync,
     W: Watcher + Sync,
+    P: Pace + Sync,
     R: Threads + Wait + Sync,
 >(
     rt: &R,
     alloc: Global,
     jobs: &[Job],
     workers: u64,
+    pace: &P,
     gate: &GateLock<G>,
     fetcher: &F,
     clock: &C,
@@ -161,7 +229,7 @@ fn do_jobs<
         numbers,
     } = Order::of_jobs(alloc, jobs)?;
     let places = gate.lend(rt).book().limits().places;
-    let sites = Sites::new(alloc, names, &counts, workers, places)?;
+    let sites = Sites::new(alloc, names, &counts, workers, places, pace.delay())?;
     let (line, seats) = JobLine::of_sites(alloc, &counts, workers)?;
     {
         let crew = Crew {
@@ -173,6 +241,7 @@ fn do_jobs<
             fetcher,
             clock,
             watcher,
+            pace,
         };
         crew.do_all(rt, alloc, gate, seats, &mut handover)?;
     }
@@ -223,7 +292,7 @@ fn hire<G: Gate>(alloc: Global, seats: Vec<JobSeat>) -> Result<Vec<Member<G>>, A
     Ok(members)
 }
 
-impl<F: Fetcher + Sync, C: Clock + Sync, W: Watcher + Sync> Crew<'_, F, C, W> {
+impl<F: Fetcher + Sync, C: Clock + Sync, W: Watcher + Sync, P: Pace + Sync> Crew<'_, F, C, W, P> {
     // Lets a worker at each seat do all jobs with the others, and takes what they hand over.
     fn do_all<G: Gate + Send + Sync, R: Threads + Wait + Sync>(
         &self,

@@ -1,18 +1,21 @@
 //! The sites of a shift: at which of them a worker may do a job now. Sites take turns, and a site that
 //! would have a worker wait is passed by.
-ghost use Rattle.std.specs.Prelude.{◌≡◌, false, IsTrue};
-ghost use Rattle.crawl_workers.specs.Sites.{entered_by, left_by, may_enter};
-
+use crate::pace::{Begun, Pace};
+use crate::site::{Robots, Site};
+use crate::strangers::Strangers;
 use crate::turns::Turns;
 use std::alloc::{AllocError, Global};
 use std::collections::BTreeMap;
-use std::sync::{Condvar, Mutex, Wait};
+use std::sync::{Condvar, Mutex, MutexGuard, Wait};
+use std::time::{Duration, Instant};
 
 /// What is known of each site. It has a lock of its own, which is taken while a worker has no other.
 #[derive(Drop)]
 pub(crate) struct Sites {
     // The sites by their authorities.
     names: BTreeMap<String, usize>,
+    // How long lies between the begins of two fetches at a site; where it is zero none is taken down.
+    delay: Duration,
     waiting: Mutex<Waiting>,
     // Told of each site that may be entered again, and when no job is left.
     freed: Condvar,
@@ -28,36 +31,20 @@ struct Waiting {
     // less than all.
     places: u64,
     crowd: u64,
-}
-
-// What is known of the robots file of a site.
-#[derive(Clone, Copy, PartialEq, Eq)]
-enum Robots {
-    Unknown,
-    // A worker fetches it, or is about to.
-    Fetched,
-    Answered,
-}
-
-// A site.
-#[derive(Drop)]
-struct Site {
-    // For how many of its jobs no worker has entered.
-    left: u64,
-    // How many workers do jobs of it.
-    workers: u64,
-    robots: Robots,
+    delay: Duration,
+    strangers: Strangers,
 }
 
 impl Sites {
     /// Sites that have these names and so many jobs, for so many workers, of which at most so many have a
-    /// place at one site.
+    /// place at one site. At each so long lies between the begins of two fetches.
     pub(crate) fn new(
         alloc: Global,
         names: BTreeMap<String, usize>,
         counts: &[u64],
         workers: u64,
         places: u64,
+        delay: Duration,
     ) -> Result<Sites, AllocError> {
         let mut waiting = Waiting {
             sites: Vec::with_capacity(alloc, counts.len())?,
@@ -65,12 +52,15 @@ impl Sites {
             left: 0,
             places,
             crowd: workers.saturating_sub(1).max(1),
+            delay,
+            strangers: Strangers::new(alloc),
         };
         for count in counts {
             waiting.add(*count)?;
         }
         Ok(Sites {
             names,
+            delay,
             waiting: Mutex::new(waiting),
             freed: Condvar::new(),
         })
@@ -78,13 +68,12 @@ impl Sites {
 
     /// Enters the site whose turn it is, for one job; none once workers have entered for all jobs. It waits
     /// while each site that has jobs left would have a worker wait.
-    pub(crate) fn enter<R: Wait>(&self, rt: &R) -> Option<usize> {
+    pub(crate) fn enter<P: Pace, R: Wait>(&self, rt: &R, pace: &P) -> Option<usize> {
         'tries: for _ in rt.forever() {
+            let now = self.moment_by(pace);
             let waiting = self.waiting.lock(rt);
-            let mut waiting = self
-                .freed
-                .wait_while(rt, waiting, |waiting| waiting.is_stuck());
-            let entered = waiting.enter();
+            let mut waiting = self.wait_while_stuck(rt, pace, waiting, now);
+            let entered = waiting.enter(now);
             if waiting.left == 0 {
                 self.freed.notify_all();
                 return entered;
@@ -94,6 +83,83 @@ impl Sites {
             }
         }
         unreachable!()
+    }
+
+    // Waits while no site's turn comes; where fetches pause, once, and no longer than until a site has rested.
+    fn wait_while_stuck<'w, P: Pace, R: Wait>(
+        &self,
+        rt: &R,
+        pace: &P,
+        waiting: MutexGuard<'w, Waiting>,
+        now: Option<Instant>,
+    ) -> MutexGuard<'w, Waiting> {
+        if self.delay.is_zero() {
+            return self
+                .freed
+                .wait_while(rt, waiting, |waiting| waiting.is_stuck());
+        }
+        let mut waiting = waiting;
+        let most = waiting.line_up_rested(now).unwrap_or(self.delay);
+        if waiting.is_stuck() {
+            pace.wait(&self.freed, waiting, most)
+        } else {
+            waiting
+        }
+    }
+
+    // The moment now, where fetches pause.
+    fn moment_by<P: Pace>(&self, pace: &P) -> Option<Instant> {
+        if self.delay.is_zero() {
+            return None;
+        }
+        pace.now()
+    }
+
+    /// Waits until a fetch at the authority may begin, and takes down that it does.
+    pub(crate) fn await_turn<P: Pace, R: Wait>(&self, rt: &R, pace: &P, authority: &str) {
+        if self.delay.is_zero() {
+            return;
+        }
+        for _ in rt.forever() {
+            let Some(now) = pace.now() else {
+                // A clock that can't be read tells nothing of the last fetch.
+                pace.sleep(self.delay);
+                return;
+            };
+            let mut waiting = self.waiting.lock(rt);
+            let left = match self.names.get(authority) {
+                Some(site) => waiting.begin(*site, now),
+                None => waiting.begin_elsewhere(authority, now),
+            };
+            if left.is_zero() {
+                self.freed.notify_all();
+                return;
+            }
+            drop(pace.wait(&self.freed, waiting, left));
+        }
+    }
+
+    /// Whether fetches pause.
+    pub(crate) fn pauses(&self) -> bool {
+        !self.delay.is_zero()
+    }
+
+    /// Ends all pauses, and the waits for them.
+    pub(crate) fn end_pauses<R: Wait>(&self, rt: &R) {
+        self.waiting.lock(rt).delay = Duration::ZERO;
+        self.freed.notify_all();
+    }
+
+    /// Takes down that a fetch at the authority begins now, which waits for nobody.
+    pub(crate) fn note_fetch<P: Pace, R: Wait>(&self, rt: &R, pace: &P, authority: &str) {
+        let Some(now) = self.moment_by(pace) else {
+            return;
+        };
+        let mut waiting = self.waiting.lock(rt);
+        match self.names.get(authority) {
+            Some(site) => waiting.note(*site, now),
+            None => waiting.strangers.note(authority, now),
+        }
     }
 
     /// A worker that has entered the site leaves it.
@@ -132,6 +198,8 @@ impl Waiting {
             left: count,
             workers: 0,
             robots: Robots::Unknown,
+            begun: Begun::never(),
+            next_is_taken: false,
         })?;
         self.left = self.left.saturating_add(count);
         self.line_up(site);
@@ -143,12 +211,15 @@ impl Waiting {
         self.left > 0 && self.turns.is_empty()
     }
 
-    // Enters the first site in turn that a worker may enter, and that is not crowded while others may be
-    // entered. One that may not be entered is lined up again when it may.
-    fn enter(&mut self) -> Option<usize> {
+    // Enters the first site in turn that a worker may enter now, and that is not crowded while others may be
+    // entered. One that may not be entered is lined up again when it may, and one that rests when it has rested.
+    fn enter(&mut self, now: Option<Instant>) -> Option<usize> {
         let mut crowded = None;
         for _ in 0..self.sites.len().saturating_add(1) {
             let site = self.turns.take()?;
+            if !self.rest_of(site, now).is_zero() {
+                continue;
+            }
             if crowded != Some(site) && self.is_crowded(site) {
                 crowded = Some(site);
                 self.line_up(site);
@@ -161,6 +232,49 @@ impl Waiting {
         None
     }
 
+    // How long a fetch at the site would have to wait now.
+    fn rest_of(&self, site: usize, now: Option<Instant>) -> Duration {
+        match (self.sites.get(site), now) {
+            (Some(site), Some(now)) => site.begun.wait(self.delay, now),
+            _ => Duration::ZERO,
+        }
+    }
+
+    // Lines up the sites at which a fetch need not wait, and tells how long it is until another one has rested.
+    fn line_up_rested(&mut self, now: Option<Instant>) -> Option<Duration> {
+        let mut first: Option<Duration> = None;
+        for site in 0..self.sites.len() {
+            let rest = self.rest_of(site, now);
+            if rest.is_zero() {
+                self.line_up(site);
+            } else {
+                first = Some(first.map_or(rest, |other| other.min(rest)));
+            }
+        }
+        first
+    }
+
+    // Takes down that a fetch at the site begins now, where it need not wait, and tells how long it must.
+    fn begin(&mut self, site: usize, now: Instant) -> Duration {
+        let delay = self.delay;
+        match self.sites.get_mut(site) {
+            Some(site) => site.begin(delay, now),
+            None => Duration::ZERO,
+        }
+    }
+
+    // The same at an authority that no job names.
+    fn begin_elsewhere(&mut self, authority: &str, now: Instant) -> Duration {
+        self.strangers.begin(authority, self.delay, now)
+    }
+
+    // Takes down that a fetch at the site begins now, whatever was before it.
+    fn note(&mut self, site: usize, now: Instant) {
+        if let Some(site) = self.sites.get_mut(site) {
+            site.begun.note(now);
+        }
+    }
+
     // Whether all workers but one are there.
     fn is_crowded(&self, site: usize) -> bool {
         self.sites
@@ -171,10 +285,11 @@ impl Waiting {
     // Lets a worker enter a site, whose turn comes again behind the others, and tells whether it may.
     fn let_in(&mut self, site: usize) -> bool {
         let places = self.places;
+        let pauses = !self.delay.is_zero();
         let may = self
             .sites
             .get_mut(site)
-            .is_some_and(|site| site.enter(places));
+            .is_some_and(|site| site.enter(places, pauses));
         if may {
             self.left = self.left.saturating_sub(1);
             self.line_up(site);
@@ -205,42 +320,5 @@ impl Waiting {
             .get(site)
             .is_some_and(|site| site.may_enter(places))
             && self.turns.line_up(site)
-    }
-}
-
-impl Site {
-    // Whether a worker may enter: for a job that is left, while no worker fetches the robots file, and at a
-    // place that is free.
-    fn may_enter(&self, places: u64) -> bool
-        ensures { result ≡ may_enter self.now places }
-    {
-        self.left > 0 && self.workers < places && self.robots != Robots::Fetched
-    }
-
-    // Lets a worker enter for a job, and tells whether it may. Who enters first fetches the robots file.
-    fn enter(&mut self, places: u64) -> bool
-        ensures may { result ≡ may_enter self.old places }
-        ensures entered { IsTrue result → self.new ≡ entered_by self.old }
-        ensures refused { result ≡ false → self.new ≡ self.old }
-    {
-        if !self.may_enter(places) {
-            return false;
-        }
-        self.left -= 1;
-        self.workers += 1;
-        if self.robots == Robots::Unknown {
-            self.robots = Robots::Fetched;
-        }
-        true
-    }
-
-    // A worker has left. Where nobody else is there, nobody fetches the robots file.
-    fn leave(&mut self)
-        ensures { self.new ≡ left_by self.old }
-    {
-        self.workers = self.workers.saturating_sub(1);
-        if self.workers == 0 && self.robots == Robots::Fetched {
-            self.robots = Robots::Unknown;
-        }
     }
 }

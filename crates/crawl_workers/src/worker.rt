@@ -31,6 +31,12 @@ pub(crate) const PAGE_LIMIT: usize = 1_048_576;
 pub(crate) trait Notes {
     /// This comes next.
     fn sees(&self, event: Event<'_>);
+
+    /// A page of this authority is fetched next. It returns once its fetch may begin.
+    fn awaits_turn(&self, _authority: &str) {}
+
+    /// A robots file of this authority, or what a redirect of one leads to there, is fetched from now on.
+    fn begins_at(&self, _authority: &str) {}
 }
 
 /// Nobody is told.
@@ -172,7 +178,8 @@ impl<F: Fetcher, C: Clock, N: Notes, R: Wait> Worker<'_, F, C, N, R> {
         begin_if_stale(url, desk, &mut held, moment)
     }
 
-    // Asks for a page, and fetches it where that is granted.
+    // Asks for a page, and fetches it where that is granted, once it is its turn at the site: a page that is denied takes
+    // none.
     fn fetch_asked<G: Gate>(
         &self,
         token: Token,
@@ -187,7 +194,10 @@ impl<F: Fetcher, C: Clock, N: Notes, R: Wait> Worker<'_, F, C, N, R> {
         ensures out { KeepsOut desk.old desk.new }
     {
         match desk.ask(self.rt, token, url, self.clock.now()) {
-            Ok(permit) => self.fetch_granted(permit, followed, desk),
+            Ok(permit) => {
+                self.notes.awaits_turn(permit.url().authority());
+                self.fetch_granted(permit, followed, desk)
+            }
             Err(refusal) => WayOn::Ends(ask_hop(refusal), Vec::new(self.alloc)),
         }
     }

@@ -36,6 +36,7 @@ use std::process::ExitCode;
 use std::sync::Wait;
 use std::thread::Threads;
 use std::time;
+use std::time::Duration;
 
 fn main(rt: HostRuntime) -> ExitCode {
     let ending = match run(&rt) {
@@ -153,6 +154,7 @@ fn shift_told<
         rt,
         alloc: host.alloc(),
         workers: options.workers,
+        delay: Duration::from_secs(options.delay),
         fetcher,
         clock,
         status,

@@ -163,6 +163,7 @@ impl<
             rt: shift.rt,
             alloc: shift.alloc,
             workers: shift.workers,
+            delay: shift.delay,
             fetcher: &fetcher,
             clock: shift.clock,
             status: shift.status,

@@ -1,6 +1,6 @@
 -- What the program's words may ask for: where they are taken, each option is a number in its range, and
 -- the one that was matched under its own name. docs/crawlgate.1.md has the ranges.
-use Rattle.std.specs.Prelude.{◌≡◌, ℕ, ◌^◌, ◌-◌, IfSome, List, Option, Some, None, codes, string_bytes}
+use Rattle.std.specs.Prelude.{◌≡◌, ◌≤◌, ℕ, ◌^◌, ◌-◌, IfSome, List, Option, Some, None, codes, string_bytes}
 use Rattle.std.specs.Str.Parse.{digits_value, without_leading_plus}
 use Rattle.clap.specs.Words.{first_value, one_text}
 use Rattle.clap.specs.declared.parser.matches.Found.{Found}
@@ -42,10 +42,15 @@ use Rattle.tcp_wire.specs.declared.reach.Reach.{Reach}
 use Rattle.tcp_wire.specs.declared.reach.Reach.TheVariants.{Anywhere, PublicOnly}
 use Rattle.tcp_wire.specs.declared.time_limits.TimeLimits.{TimeLimits}
 
--- a shift has as many workers as may share it, its book's limits are in their ranges, its fetches take no
+-- so many seconds may lie between the begins of two fetches at a site: none, or up to ten minutes
+abbrev pub IsDelay : ℕ → Type 0
+IsDelay seconds = seconds ≤ 600
+
+-- a shift has as many workers as may share it and pauses no longer than may be, its book's limits are in their ranges, its fetches take no
 -- longer than those of crawlers, and what opens TLS for them is a program of this machine
 pub record AreForShift (options : ShiftOptions) : Type 0 where
   pub crew : IsCrew options.workers
+  pub delay : IsDelay options.delay
   pub limits : AreLimits options.limits
   pub times : AreWithin options.times
   pub tls : IfSome options.tls_by IsLoopback
@@ -140,6 +145,7 @@ pub record AreShiftOf (words : Found) (options : ShiftOptions) : Type 0 where
   pub tls : IsTlsByOf words options.tls_by
   pub contact : IsContactOf words options.contact
   pub workers : IsNumberOf words (codes "workers") options.workers
+  pub delay : IsNumberOf words (codes "delay") options.delay
   pub limits : AreLimitsOf words options.limits
   pub times : AreTimesOf words options.times
   pub skips : AreBadJobsOf words options.bad_jobs

@@ -60,7 +60,9 @@ fn shift_words<'a>(alloc: Global, defaults: &'a Defaults) -> Result<Command<'a>,
     let shift = Command::new(alloc, "shift")
         .about("Fetches the pages of the jobs on standard input, and writes what came of them")
         .after_help(help::SHIFT);
-    let shift = limit_words(alloc, defaults, shift)?.arg(number(alloc, "workers", &defaults.jobs))?;
+    let shift = limit_words(alloc, defaults, shift)?
+        .arg(number(alloc, "workers", &defaults.jobs))?
+        .arg(number(alloc, "delay", &defaults.delay))?;
     time_words(alloc, defaults, shift)?
         .arg(flag(
             alloc,

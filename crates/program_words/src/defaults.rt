@@ -13,6 +13,12 @@ use tcp_wire::{CONNECT_SECONDS, STEP_SECONDS, WHOLE_SECONDS};
 /// How many jobs of a shift are done, or clients are served, at a time.
 const USUAL_WORKERS: u64 = 4;
 
+/// The seconds between the begins of two fetches at a site: none.
+const USUAL_DELAY: u64 = 0;
+
+/// The most of them.
+pub(crate) const MAX_DELAY: u64 = 600;
+
 /// The port at which clients connect: one that is free.
 const USUAL_PORT: u64 = 0;
 
@@ -37,6 +43,7 @@ pub(crate) struct NumberOption {
 pub(crate) struct Defaults {
     pub(crate) book: BookOptions,
     pub(crate) jobs: NumberOption,
+    pub(crate) delay: NumberOption,
     pub(crate) clients: ClientOptions,
     pub(crate) times: TimeOptions,
 }
@@ -104,9 +111,11 @@ impl Defaults {
     /// The options with the usual limits.
     pub(crate) fn new(alloc: Global) -> Result<Defaults, AllocError> {
         let about = "Jobs that are done at a time";
+        let delay = "Seconds between the begins of two fetches at a site";
         Ok(Defaults {
             book: BookOptions::new(alloc)?,
             jobs: NumberOption::new(alloc, about, USUAL_WORKERS, MAX_WORKERS)?,
+            delay: NumberOption::from_least(alloc, delay, USUAL_DELAY, 0, MAX_DELAY)?,
             clients: ClientOptions::new(alloc)?,
             times: TimeOptions::new(alloc)?,
         })

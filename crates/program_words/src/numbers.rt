@@ -5,9 +5,10 @@ ghost use Rattle.permit_book.specs.Numbers.{last_generation};
 ghost use Rattle.gate_core.specs.Limits.{AreLimits};
 ghost use Rattle.clap.specs.Words.{found_of};
 ghost use Rattle.client_wire.specs.Accepts.{AreServed};
-ghost use Rattle.program_words.specs.Options.{AreConnectionsOf, AreLimitsOf, AreTimesOf, IsAheadOf, IsAllowedAhead, IsBoundOf, IsNumberOf};
+ghost use Rattle.program_words.specs.Options.{AreConnectionsOf, AreLimitsOf, AreTimesOf, IsAheadOf, IsAllowedAhead, IsBoundOf, IsDelay, IsNumberOf};
 ghost use Rattle.tcp_wire.specs.TimeLimits.{AreWithin};
 
+use crate::defaults::MAX_DELAY;
 use crate::subcommand::Ahead;
 use clap::ArgMatches;
 use client_wire::{AHEAD_SECONDS, Connections, MAX_CONNECTIONS};
@@ -60,6 +61,19 @@ pub(crate) fn read_number(matches: &ArgMatches<'_>, name: &str) -> Option<u64>
     ensures { IfSome result (IsNumberOf (found_of matches.now) name.now) }
 {
     matches.get_one::<u64>(name)
+}
+
+/// The seconds between the begins of two fetches at a site, where they are in their range.
+pub(crate) fn delay_of(matches: &ArgMatches<'_>) -> Option<u64>
+    ensures range { IfSome result IsDelay }
+    ensures word { IfSome result (IsNumberOf (found_of matches.now) (codes "delay")) }
+{
+    let seconds = read_number(matches, "delay")?;
+    if seconds <= MAX_DELAY {
+        Some(seconds)
+    } else {
+        None
+    }
 }
 
 /// The limits of time that the options set, where each is in its range.

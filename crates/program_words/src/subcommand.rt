@@ -51,6 +51,8 @@ pub enum Notes {
 pub struct ShiftOptions {
     /// How many jobs are done at a time.
     pub workers: u64,
+    /// The seconds, from 0 to 600, that lie at least between the begins of two fetches at a site.
+    pub delay: u64,
     /// The limits of its book.
     pub limits: Limits,
     /// The limits of time of its fetches.

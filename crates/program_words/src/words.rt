@@ -13,7 +13,7 @@ use crate::contact::contact_of;
 use crate::defaults::Defaults;
 use crate::journal::{NoSync, journal_of, sync_of};
 use crate::numbers::{
-    ahead_of, bound_of, connections_of, limits_of, number_of, read_number, times_of,
+    ahead_of, bound_of, connections_of, delay_of, limits_of, number_of, read_number, times_of,
 };
 use crate::subcommand::{
     BadJobs, Contact, JournalOptions, Notes, Place, ReplayOptions, ServeOptions, ShiftOptions,
@@ -238,6 +238,7 @@ fn shift_by(
 {
     Some(Subcommand::Shift(ShiftOptions {
         workers: number_of(matches, "workers", MAX_WORKERS)?,
+        delay: delay_of(matches)?,
         limits: limits_of(matches, Limits::usual().first_generation)?,
         times: times_of(matches)?,
         reach: reach_of(matches),

@@ -7,6 +7,7 @@ mod jobs;
 mod leaves;
 mod overlap;
 mod pages;
+mod pauses;
 mod readings;
 mod refreshes;
 mod schemes;

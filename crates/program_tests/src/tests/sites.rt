@@ -15,6 +15,7 @@ use std::sync::Wait;
 use std::test::Fail;
 use std::thread::Threads;
 use std::time;
+use std::time::Duration;
 
 /// A shift of so many workers over a new gate and what a fetcher fetches.
 pub(super) fn crawl_over<
@@ -37,6 +38,7 @@ pub(super) fn crawl_over<
         rt,
         alloc: rt.alloc(),
         workers,
+        delay: Duration::ZERO,
         fetcher,
         clock,
         status: &status,

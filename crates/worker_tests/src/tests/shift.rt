@@ -68,7 +68,10 @@ fn shift_text<G: Gate + Send + Sync, F: Fetcher + Sync, R: Threads + Wait + Sync
 }
 
 // The hops of all jobs in words, without the numbers of their permits, and the started fetches.
-fn report_text<G: Gate>(alloc: Global, report: &Report<G>) -> Result<String, AllocError> {
+pub(super) fn report_text<G: Gate>(
+    alloc: Global,
+    report: &Report<G>,
+) -> Result<String, AllocError> {
     let mut text = String::new(alloc);
     push_all(alloc, &mut text, report.outcomes.as_slice())?;
     let starts = report.settled.starts;

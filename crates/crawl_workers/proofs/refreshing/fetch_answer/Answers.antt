@@ -16,7 +16,7 @@ fetch_robots-given-requires g c =
     let gives = g.F.Fetcher.gives c.args.fetcher.now robots_limit in
     let under = c.loop-next.invariant in
     let P : List ℕ → Type 0 = λ url. AreLed schemes gives (robots_url_of c.args.turn.now.authority) under.way url in
-    (under.way, subst P (sym c.url.ensures) under.are_led)
+    (under.way, subst P (sym c.url-url.ensures) under.are_led)
 
 pub returns-in-Done-clause-brings : goal.returns-in-Done-clause-brings
 returns-in-Done-clause-brings g c =
@@ -27,7 +27,7 @@ returns-in-Done-clause-brings g c =
     let Q : RobotsReply → Type 0 = λ reply. StepsAmong c.schemes-schemes.result walk reply (Done c.in-Done.answer) in
     let R : Schemes → Type 0 = λ s. StepsAmong s walk (robots_reply_of c.fetch_robots-given.result) (Done c.in-Done.answer) in
     inl (fetched schemes gives c.args.turn.now.authority walk c.fetch_robots-given.result c.in-Done.answer c.loop-next.invariant
-    (subst P c.url.ensures c.fetch_robots-given.ensures) (subst R c.schemes-schemes.ensures (subst Q c.robots_reply-reply.ensures c.in-Done.ensures)))
+    (subst P c.url-url.ensures c.fetch_robots-given.ensures) (subst R c.schemes-schemes.ensures (subst Q c.robots_reply-reply.ensures c.in-Done.ensures)))
 
 pub loop-next-preserved-in-Go : goal.loop-next-preserved-in-Go
 loop-next-preserved-in-Go g c =
@@ -38,7 +38,7 @@ loop-next-preserved-in-Go g c =
     let Q : RobotsReply → Type 0 = λ reply. StepsAmong c.schemes-schemes.result walk reply (Go c.in-Go.next) in
     let R : Schemes → Type 0 = λ s. StepsAmong s walk (robots_reply_of c.fetch_robots-given.result) (Go c.in-Go.next) in
     go_on schemes gives c.args.turn.now.authority walk c.in-Go.next c.fetch_robots-given.result c.loop-next.invariant
-    (subst P c.url.ensures c.fetch_robots-given.ensures) (subst R c.schemes-schemes.ensures (subst Q c.robots_reply-reply.ensures c.in-Go.ensures))
+    (subst P c.url-url.ensures c.fetch_robots-given.ensures) (subst R c.schemes-schemes.ensures (subst Q c.robots_reply-reply.ensures c.in-Go.ensures))
 
 pub loop-next-init : goal.loop-next-init
 loop-next-init g c =

@@ -1,6 +1,6 @@
 -- All jobs are done, and the gate is settled with the receipts of what was before.
 -- The lemma `is_later_shift` of `Shifting` says what that is.
-use Rattle.std.proofs.Common.{List, ℕ, Vec, Global, sym, subst, rules}
+use Rattle.std.proofs.Common.{ℕ, Vec, Global, sym, subst, rules}
 use Rattle.std.specs.Prelude.{map}
 use Rattle.crawl_workers.specs.Shifts.{AreAllJobs, DoneView}
 use Rattle.crawl_workers.specs.World.{world_of}

@@ -1,11 +1,11 @@
 -- All jobs are done, and the gate is settled.
 -- The lemma `is_shift` of `Shifting` says what that is.
-use Rattle.std.proofs.Common.{List, ℕ, Vec, Global, sym, subst}
+use Rattle.std.proofs.Common.{ℕ, Vec, Global, sym, subst}
 use Rattle.std.specs.Prelude.{map}
 use Rattle.crawl_workers.specs.Shifts.{AreAllJobs, DoneView}
 use Rattle.crawl_workers.specs.World.{world_of}
 use Rattle.crawl_workers.proofs.Shifting.{is_shift}
-use Rattle.crawl_workers.proofs.shift.run_shift.Goals as goal
+use Rattle.crawl_workers.proofs.shift.run_at_pace.Goals as goal
 
 pub returns : goal.returns
 returns g c =

@@ -1,0 +1,88 @@
+//! A site of a shift: when a worker may enter it for a job, and when a fetch there may begin.
+//! RFC 9309 has none of it.
+ghost use Rattle.std.specs.Prelude.{◌≡◌, ◌<◌, false, IsTrue};
+ghost use Rattle.std.specs.Duration.{as_nanos};
+ghost use Rattle.std.specs.Time.{instant_nanos};
+ghost use Rattle.crawl_workers.specs.Pauses.{begun_at, wait_of};
+ghost use Rattle.crawl_workers.specs.Sites.{HasBegun, awaited_by, entered_by, left_by, may_enter};
+
+use crate::pace::Begun;
+use std::time::{Duration, Instant};
+
+/// What is known of the robots file of a site.
+#[derive(Clone, Copy, PartialEq, Eq)]
+pub(crate) enum Robots {
+    Unknown,
+    /// A worker fetches it, or is about to.
+    Fetched,
+    Answered,
+}
+
+/// A site.
+#[derive(Drop)]
+pub(crate) struct Site {
+    /// For how many of its jobs no worker has entered.
+    pub(crate) left: u64,
+    /// How many workers do jobs of it.
+    pub(crate) workers: u64,
+    pub(crate) robots: Robots,
+    /// When the last fetch there began, and whether a worker is to fetch there next: it has entered, and its fetch has not
+    /// begun yet. Neither is known where fetches don't pause.
+    pub(crate) begun: Begun,
+    pub(crate) next_is_taken: bool,
+}
+
+impl Site {
+    /// Whether a worker may enter: for a job that is left, while no worker fetches the robots file or is to fetch next, and
+    /// at a place that is free.
+    pub(crate) fn may_enter(&self, places: u64) -> bool
+        ensures { result ≡ may_enter self.now places }
+    {
+        self.left > 0
+            && self.workers < places
+            && self.robots != Robots::Fetched
+            && !self.next_is_taken
+    }
+
+    /// Lets a worker enter for a job, and tells whether it may. Who enters first fetches the robots file, and where fetches
+    /// pause each is to fetch next.
+    pub(crate) fn enter(&mut self, places: u64, pauses: bool) -> bool
+        ensures may { result ≡ may_enter self.old places }
+        ensures entered { IsTrue result → self.new ≡ entered_by pauses self.old }
+        ensures refused { result ≡ false → self.new ≡ self.old }
+    {
+        if !self.may_enter(places) {
+            return false;
+        }
+        self.left -= 1;
+        self.workers += 1;
+        if self.robots == Robots::Unknown {
+            self.robots = Robots::Fetched;
+        }
+        self.next_is_taken = pauses;
+        true
+    }
+
+    /// A worker has left. Where nobody else is there, nobody fetches the robots file.
+    pub(crate) fn leave(&mut self)
+        ensures { self.new ≡ left_by self.old }
+    {
+        self.workers = self.workers.saturating_sub(1);
+        if self.workers == 0 && self.robots == Robots::Fetched {
+            self.robots = Robots::Unknown;
+        }
+        self.next_is_taken = false;
+    }
+
+    /// A fetch begins now where it need not wait, and else a worker waits to fetch next. How long it must wait is told.
+    pub(crate) fn begin(&mut self, delay: Duration, now: Instant) -> Duration
+        ensures wait { as_nanos result
+            ≡ wait_of (as_nanos delay) (begun_at self.old.begun) (instant_nanos now) }
+        ensures begins { as_nanos result ≡ 0 → HasBegun self.old self.new (instant_nanos now) }
+        ensures waits { 0 < as_nanos result → self.new ≡ awaited_by self.old }
+    {
+        let left = self.begun.begin(delay, now);
+        self.next_is_taken = !left.is_zero();
+        left
+    }
+}
