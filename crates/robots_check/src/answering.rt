@@ -23,7 +23,10 @@ use counted_io::{Output, Sink};
 use path_normal::{PageUrl, Unread, UrlFault};
 use robots_text::{RobotsText, Token};
 use robots_verdict::Policy;
-use std::alloc::Global;
+use std::alloc::{AllocError, Global};
+
+// The most URLs for which no index is made: that takes as long as several walks over the text.
+const FEW_URLS: usize = 16;
 
 /// Writes what a text says to a crawler of each URL, and tells what that comes to.
 pub(crate) fn answer<W: Sink>(
@@ -39,7 +42,7 @@ pub(crate) fn answer<W: Sink>(
     ensures writes { W.failures writer.new
         ≡ failures_after_writes (W.failures writer.old) result }
 {
-    let policy = Policy::new(alloc, text)?.indexed(alloc)?;
+    let policy = policy_for(alloc, text, urls.len())?;
     let lines = rules_for(alloc, policy.text(), token)?;
     let rules = lines.as_slice();
     let forms = forms_at(alloc, rules, detail)?;
@@ -56,6 +59,18 @@ pub(crate) fn answer<W: Sink>(
     let outcome = push_answers(alloc, judge, urls, &mut output, writer)?;
     output.flush(writer)?;
     Ok(outcome)
+}
+
+// The policy of a text that answers so many URLs, with an index if they are many.
+fn policy_for(alloc: Global, text: RobotsText, urls: usize) -> Result<Policy, AllocError>
+    ensures { IfOk result (λ policy. policy ≡ text) }
+{
+    let policy = Policy::new(alloc, text)?;
+    if urls <= FEW_URLS {
+        Ok(policy)
+    } else {
+        policy.indexed(alloc)
+    }
 }
 
 // Pushes the answer to each URL.

@@ -1,6 +1,6 @@
 -- What passed to the output is written, or cut there.
 -- The lemmas of `Passing` say so.
-use Rattle.std.proofs.Common.{◌∙◌, map, subst, sym}
+use Rattle.std.proofs.Common.{map, subst, sym}
 use Rattle.std.proofs.lemmas.Result.{err_from_is_err_and}
 use Rattle.robots_text.specs.Groups.{AreRulesFor}
 use Rattle.robots_text.specs.Records.{numbered_records}
@@ -10,14 +10,9 @@ use Rattle.robots_check.specs.Forms.{AreFormsAt}
 use Rattle.robots_check.proofs.Passing.{front_none, told_all, told_front}
 use Rattle.robots_check.proofs.answering.answer.Goals as goal
 
-pub returns-in_err-new-clause-tells : goal.returns-in_err-new-clause-tells
-returns-in_err-new-clause-tells g c =
-    let p = err_from_is_err_and c.from_residual.result c.from_residual.ensures.1 in
-    rw (p.1, p.2) (front_none _ _ _ _ _)
-
 pub returns-in_err-policy-clause-tells : goal.returns-in_err-policy-clause-tells
 returns-in_err-policy-clause-tells g c =
-    let p = err_from_is_err_and c.from_residual-in_err-policy.result c.from_residual-in_err-policy.ensures.1 in
+    let p = err_from_is_err_and c.from_residual.result c.from_residual.ensures.1 in
     rw (p.1, p.2) (front_none _ _ _ _ _)
 
 pub returns-in_err-lines-clause-tells : goal.returns-in_err-lines-clause-tells
@@ -43,13 +38,13 @@ returns-in_err-output-clause-tells g c =
 pub returns-in_err-flush-clause-tells : goal.returns-in_err-flush-clause-tells
 returns-in_err-flush-clause-tells g c =
     let p = err_from_is_err_and c.from_residual-in_err-flush.result c.from_residual-in_err-flush.ensures.1 in
-    let same = c.in_ok-policy.ensures ∙ c.in_ok-new.ensures in
+    let same = c.in_ok-policy.ensures in
     rw (p.1, p.2)
     (told_front _ _ _ _ _ _ _ _ _ _ _ same c.in_ok-output.ensures.empty c.in_ok-outcome.ensures.passes c.in_err-flush.ensures.err)
 
 pub returns-clause-tells : goal.returns-clause-tells
 returns-clause-tells g c =
-    let same = c.in_ok-policy.ensures ∙ c.in_ok-new.ensures in
+    let same = c.in_ok-policy.ensures in
     told_all _ _ _ _ _ _ _ _ _ _ _ same c.in_ok-output.ensures.empty c.in_ok-outcome.ensures.passes c.in_ok-flush.ensures.ok
 
 pub push_answers-requires : goal.push_answers-requires
