@@ -100,7 +100,7 @@ def try_costs(tried, only=None):
             slow = {verb: f"{took:.1f} ms" for verb, took in most.items() if took > slower * MOST and verb != "ARRIVE"}
             if not slow:
                 break
-        tried.count("dear texts")
+        tried.count("costly texts")
         given = "".join(f"{it}\n" for it in said).encode()
         tried.expect(f"{name}: a line that takes long", given, not slow, str(slow), ["replay"])
         odd = [it for it in replies if not re.match("TURN|TAKEN|PERMIT|GO|NO|BACK|DONE|STATE|SEALED|SWEPT", it)]

@@ -118,7 +118,7 @@ HOP = "(PAGE (line 1|norule) (200 5|302 0|200 1048576|404 0) (whole|cut)|NO SITE
 
 
 def is_for_memory(status, error):
-    """Returns whether a shift ended for want of memory. Sites that were closed may be told before that."""
+    """Returns whether a shift ended because memory ran out. Sites that were closed may be told before that."""
     return status == NO_MEMORY[0] and error.endswith(NO_MEMORY[1])
 
 

@@ -135,7 +135,7 @@ def talk(tried, server, dice, given):
 
 
 def try_all(tried, seconds, only=None):
-    """Tries dear texts for half of the time, clients for a sixth, and octets and words for the rest."""
+    """Tries costly texts for half of the time, clients for a sixth, and octets and words for the rest."""
     if only is None:
         names, until = list(costs.TEXTS), time.monotonic() + seconds / 2
         random.Random(f"{tried.seed} costs").shuffle(names)

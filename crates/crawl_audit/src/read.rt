@@ -1,5 +1,5 @@
-//! A line read as an entry. More is read than the one spelling of each entry, so what was read is
-//! spelled and compared with the line.
+//! A line read as an entry. The reader is lenient: to accept only the canonical text, the entry is written again and
+//! compared with the line.
 //! docs/FORMATS.md has the lines.
 ghost use Rattle.std.specs.Prelude.{◌≡◌, ◌≢◌, ◌↔◌, ◌∷◌, codes, Err, IfOk, IfSome, IsTrue, Some};
 ghost use Rattle.line_text.specs.Number.{number_of};

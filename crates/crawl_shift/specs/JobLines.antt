@@ -113,7 +113,7 @@ Skips old fault (Ok _) new =
     (told : BadJobLine) × ((told.number ≡ next_number old) × (told.fault ≡ fault) × (new.bad.items ≡ old.bad.items ++ told ∷ []) × (new.list.jobs.items ≡ old.list.jobs.items) × (new.list.fault ≡ old.list.fault))
 Skips old fault (Err _) new = (new.bad.items ≡ old.bad.items) × (new.list.jobs.items ≡ old.list.jobs.items) × (new.list.fault ≡ old.list.fault)
 
--- a line with this fault was kept, or it ends the reading: where no line is kept, or for want of memory
+-- a line with this fault was kept, or it ends the reading: where no line is kept, or memory ran out
 abbrev pub MeetsFault : BadLines → Reading → LineFault → Bool → Reading → Type 0
 MeetsFault bad_lines old fault false new =
     (bad_lines ≡ Skip) × (fault ≢ faults.Memory) × Skips old fault (Ok tt) new

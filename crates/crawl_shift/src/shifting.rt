@@ -74,7 +74,7 @@ impl<
         Ok(())
     }
 
-    /// The same, but what is written is a table with a line for each hop, as soon as the hop has ended.
+    /// Reads the jobs, has them done as `report` does, and writes a table: a line for each hop as soon as it has ended.
     pub fn table<G: Gate + Send + Sync, S: Source, W: Sink + Send>(
         &self,
         reader: &mut S,

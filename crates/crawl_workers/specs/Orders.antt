@@ -1,5 +1,5 @@
 -- The order in which a line of jobs has the jobs of a list: those of one site behind those of another.
--- Cited by the contracts of `Order`, `Crew` and `Turns`; RFC 9309 has none of it.
+-- Cited by the contracts of `Order`, `Crew` and `Turns`.
 use Rattle.std.specs.Prelude.{◌≡◌, ℕ, suc, Bool, true, false, List, [], ◌∷◌, length, map, slice_index, Vec}
 use Rattle.std.specs.declared.alloc.Global.{Global}
 use Rattle.job_line.specs.Sums.{jobs_in, weigh, weigh_below}

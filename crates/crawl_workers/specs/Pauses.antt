@@ -1,5 +1,5 @@
 -- How long lies between the begins of fetches at a site, in nanoseconds of a clock that never goes back.
--- Cited by the contracts of `Begun` and `Site`, and by the law of pauses; RFC 9309 has none of it.
+-- Cited by the contracts of `Begun` and `Site`, and by the law of pauses.
 use Rattle.std.specs.Prelude.{◌≡◌, ◌<◌, ◌≤◌, ◌+◌, ◌-◌, ◌==◌, ◌∷◌, [], ℕ, Bool, true, if◌then◌else◌, List, Option, Some, None, max}
 use Rattle.std.specs.Time.{instant_nanos}
 use Rattle.std.specs.declared.time.Instant.{Instant}

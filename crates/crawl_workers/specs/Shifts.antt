@@ -1,6 +1,6 @@
 -- What a shift of several workers does: each job is drawn by one worker, once, and what each worker's desk
 -- did is told by the outcomes of the jobs that it drew, in the order of its draws.
--- The contract of `run_shift`; RFC 9309 has none of it.
+-- Cited by the contract of `run_shift`, and by those of shifts over texts.
 use Rattle.std.specs.Prelude.{◌≡◌, ℕ, ◌+◌, ◌++◌, List, [], ◌∷◌, length, map, Ok, Some}
 use Rattle.std.specs.List.{AllZip, slice_get}
 use Rattle.gate_lock.specs.Settling.{IsWhole, SettlesSome}

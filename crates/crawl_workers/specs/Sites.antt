@@ -1,5 +1,5 @@
 -- A site of a shift: when a worker may enter it for a job, and what it is then and when the worker leaves.
--- Cited by the contracts of `Site`; RFC 9309 has none of it.
+-- Cited by the contracts of `Site`.
 use Rattle.std.specs.Prelude.{◌≡◌, ◌+◌, ◌-◌, ◌==◌, ◌&&◌, ℕ, Bool, Some, true, false, if◌then◌else◌, nat_lt, not}
 use Rattle.crawl_workers.specs.Pauses.{begun_at, later_of}
 use Rattle.crawl_workers.specs.declared.site.Site.{Site}

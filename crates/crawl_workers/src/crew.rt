@@ -1,5 +1,5 @@
 //! The workers of a shift: each draws jobs of the sites that it has entered, and does them at a desk of its own.
-//! RFC 9309 has none of it.
+//! Called by `run_shift`, once for each worker.
 ghost use Rattle.std.specs.Prelude.{◌≡◌, ◌<◌, ◌++◌, ◌∷◌, [], false, IfOk, OnOk, Some, length, true};
 ghost use Rattle.std.specs.List.{slice_get};
 ghost use Rattle.gate_lock.specs.Desks.{KeepsOut, receipt_of};

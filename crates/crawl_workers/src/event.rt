@@ -1,5 +1,5 @@
 //! What workers tell of a job while they do it.
-//! RFC 9309 has none of it.
+//! For whoever shows a crawl while it runs: a table, a line of progress, the sites that are closed.
 ghost use Rattle.std.specs.Prelude.{◌≡◌};
 ghost use Rattle.robots_verdict.specs.Answer.{said};
 ghost use Rattle.crawl_workers.specs.Closings.{closing_of, decided_by, leads_to_https};
@@ -64,7 +64,7 @@ impl ClosedBy {
         }
     }
 
-    /// The same, where it decided this answer: of a redirect why it is not followed.
+    /// What decided this answer, which a fetch brought: of a redirect why it is not followed.
     pub(crate) fn decided(self, reply: &RobotsReply, answer: &Answer) -> ClosedBy
         ensures { result ≡ decided_by self reply.now (said answer.now) }
     {

@@ -1,5 +1,5 @@
 //! What the workers of a shift hand over when they have ended.
-//! RFC 9309 has none of it.
+//! Called by `run_shift`, behind the last job.
 ghost use Rattle.std.specs.Prelude.{◌≡◌, ◌≤◌, ◌<◌, All, IfOk, OnOk, length, vec_len};
 ghost use Rattle.std.specs.Option.{IsSome};
 ghost use Rattle.job_line.specs.Limits.{max_workers};

@@ -1,5 +1,5 @@
 //! The jobs of a shift by their sites: how many each site has, and in which order a line of jobs has them.
-//! RFC 9309 has none of it.
+//! Called by `run_shift`, before a worker begins.
 ghost use Rattle.std.specs.Prelude.{◌≡◌, ◌+◌, ◌<◌, ℕ, IfOk, IfSome, OnOk, length, map, vec_len};
 ghost use Rattle.job_line.specs.Sums.{jobs_in, weigh, weigh_all, weigh_below};
 ghost use Rattle.crawl_workers.specs.Orders.{IsOrder, lists_in};

@@ -1,5 +1,5 @@
 //! The pauses between fetches at a site: when the last one began, and who tells the time and waits.
-//! RFC 9309 has none of it.
+//! Called by the table of sites, for `shift --delay`.
 ghost use Rattle.std.specs.Prelude.{◌≡◌, ◌≢◌, ◌<◌, None, Some};
 ghost use Rattle.std.specs.Duration.{as_nanos};
 ghost use Rattle.std.specs.Time.{instant_nanos};

@@ -1,5 +1,5 @@
 //! The outcomes of a shift, each put in the place of its job.
-//! RFC 9309 has none of it.
+//! Called by `run_shift`, behind the last job.
 ghost use Rattle.std.specs.Prelude.{◌≡◌, ◌≤◌, ℕ, length, map};
 ghost use Rattle.std.specs.List.{slice_get};
 ghost use Rattle.job_line.specs.Sums.{weigh, weigh_all};

@@ -1,5 +1,5 @@
 //! What a shift of several workers reports, and why one does not.
-//! RFC 9309 has none of it.
+//! For callers of `run_shift`.
 
 use crate::event::Event;
 use crawl_job::{Hop, Job, Outcome};

@@ -61,7 +61,7 @@ pub fn run_shift<
     run_at_pace(rt, alloc, jobs, workers, &(), gate, fetcher, clock, watcher)
 }
 
-/// The same with pauses: each fetch of a page begins no sooner than the delay after the begin of the fetch before it at the
+/// `run_shift` with pauses: each fetch of a page begins no sooner than the delay after the begin of the fetch before it at the
 /// same site, be that a page, a robots file or what a redirect led to. Robots files wait for nobody. While a site rests
 /// workers draw jobs of others. A delay of zero pauses nowhere.
 pub fn run_shift_paced<
@@ -92,7 +92,7 @@ pub fn run_shift_paced<
     )
 }
 
-/// The same over a gate that goes on from a base: it is settled with the receipts of what was before, which come last
+/// `run_shift_paced` over a gate that goes on from a base: it is settled with the receipts of what was before, which come last
 /// in the report. The report has the started fetches of these too.
 pub fn run_later_shift<
     G: Gate + Send + Sync,

@@ -1,5 +1,5 @@
 //! A site of a shift: when a worker may enter it for a job, and when a fetch there may begin.
-//! RFC 9309 has none of it.
+//! Called by the table of sites, under its lock.
 ghost use Rattle.std.specs.Prelude.{◌≡◌, ◌<◌, false, IsTrue};
 ghost use Rattle.std.specs.Duration.{as_nanos};
 ghost use Rattle.std.specs.Time.{instant_nanos};

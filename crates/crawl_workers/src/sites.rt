@@ -263,7 +263,7 @@ impl Waiting {
         }
     }
 
-    // The same at an authority that no job names.
+    // Takes down that a fetch at an authority that no job names begins now, where it need not wait, and tells how long it must.
     fn begin_elsewhere(&mut self, authority: &str, now: Instant) -> Duration {
         self.strangers.begin(authority, self.delay, now)
     }

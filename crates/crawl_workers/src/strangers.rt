@@ -1,5 +1,5 @@
 //! The sites that no job of a shift names, to which redirects lead: when the last fetch began there.
-//! RFC 9309 has none of it.
+//! Called by the table of sites, for `shift --delay`.
 
 use crate::pace::Begun;
 use std::alloc::Global;

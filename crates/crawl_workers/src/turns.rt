@@ -1,5 +1,5 @@
 //! The turns of sites: a line in which each site stands at most once.
-//! RFC 9309 has none of it.
+//! Called by the table of sites, under its lock.
 ghost use Rattle.std.specs.Prelude.{◌≤◌, ◌+◌};
 ghost use Rattle.std.specs.VecDeque.{deque_capacity, deque_len};
 ghost use Rattle.crawl_workers.specs.Orders.{how_many_false};

@@ -22,8 +22,8 @@ pub(crate) const MAX_HOPS: usize = 7;
 /// and a start of its own. Before the ask the robots answer of the page's authority is refreshed
 /// where none is in force; where another desk is refreshing it, that is waited for.
 ///
-/// The room of the hops is taken first, and only that can be refused here. Later want of memory
-/// ends the list of hops.
+/// The room of the hops is taken first, and only that can be refused here. If memory runs out later,
+/// the list of hops ends.
 pub fn work<G: Gate, F: Fetcher, C: Clock, R: Wait>(
     rt: &R,
     alloc: Global,
@@ -50,7 +50,7 @@ pub fn work<G: Gate, F: Fetcher, C: Clock, R: Wait>(
     work_by(&worker, job, desk)
 }
 
-/// The same by a worker.
+/// `work` by a worker of a shift.
 pub(crate) fn work_by<G: Gate, F: Fetcher, C: Clock, N: Notes, R: Wait>(
     worker: &Worker<'_, F, C, N, R>,
     job: Job,

@@ -1,4 +1,4 @@
-//! An ask with all that it takes made before the book is at hand: another caller may have the book meanwhile.
+//! An ask prepared without the book, which another caller may have meanwhile: its copies are made, and its verdict may be.
 //! RFC 9309, section 2.2.2.
 ghost use Rattle.std.specs.Prelude.{◌≡◌, IfOk};
 

@@ -16,7 +16,7 @@ use journal_files::{JournalFault, Place};
 use std::alloc::Global;
 
 /// The text that ends a file behind a seal: the lines of the segment's entries behind those that the file has; none
-/// where nothing was handed out. It fails for want of memory, and where the segment does not go on from there.
+/// where nothing was handed out. It fails if memory runs out, and where the segment does not go on from there.
 pub fn rest_of(
     alloc: Global,
     sealed: &Result<Segment, NoMemory>,
@@ -37,7 +37,7 @@ pub fn rest_of(
     }
 }
 
-/// The text of the book's present segment. It fails only for want of memory.
+/// The text of the book's present segment. It fails only if memory runs out.
 pub(crate) fn segment_text(alloc: Global, book: &Book) -> Result<Vec<u8>, JournalFault>
     ensures { IfOk result (λ text. text.items ≡ spell_segment (present_segment book.now)) }
 {
@@ -68,7 +68,7 @@ pub(crate) fn follow(
     }
 }
 
-// The lines of entries. It fails only for want of memory.
+// The lines of entries. It fails only if memory runs out.
 fn lines(alloc: Global, entries: &[Entry], output: &mut Output) -> Result<Vec<u8>, JournalFault>
     requires { output.old ≡ [] }
     ensures lines { IfOk result (λ text. text.items ≡ entry_lines Two entries.now) }

@@ -1,5 +1,5 @@
-//! What a call of a desk waits for before it is made. Of values that the gate itself handed out it holds at
-//! once; a contract knows it only because the call looks. RFC 9309, section 2.4.
+//! What a call of a desk waits for before it is made. For values that this gate issued the condition is already true; it
+//! is looked at so that a contract can rely on it. RFC 9309, section 2.4.
 ghost use Rattle.std.specs.Prelude.{◌↔◌, IsTrue};
 ghost use Rattle.gate_core.specs.Gate.{history};
 ghost use Rattle.gate_lock.specs.Awaiting.{IsMet};

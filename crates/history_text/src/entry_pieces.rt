@@ -103,7 +103,7 @@ pub(crate) fn told_in(says: &Said) -> Told<'_>
     }
 }
 
-// The same octets, of which a clause then knows that they are octets.
+// These octets, of which a clause then knows that each is below 256.
 fn octets(octets: &[u8]) -> &[u8]
     ensures value { result.now ≡ octets.now }
     ensures octets { All (λ octet. octet < 256) octets.now }

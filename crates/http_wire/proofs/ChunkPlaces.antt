@@ -219,7 +219,7 @@ stands_append decoder bytes more s = record {
       (subst (Decoded decoder.limit (drop decoder.start bytes ++ more) decoder.octets.items decoder.place) rest d);
 }
 
--- The same where the bytes are the prefix of a text.
+-- What stands in a prefix of a text stands in a longer one.
 pub stands_longer : (decoder : ChunkDecoder) (text : List ℕ) (n m : ℕ) → n ≤ m → Stands decoder (take n text) → Stands decoder (take m text)
 stands_longer decoder text n m le s =
     let whole : take n text ++ drop n (take m text) ≡ take m text = ap (λ t. t ++ drop n (take m text)) (sym (take-take n m text le)) ∙ take-append-drop n (take m text) in

@@ -24,14 +24,14 @@ pub trait Chronicle {
     /// How many entries there are, from the first one ever.
     fn entry_count(&self) -> u64;
 
-    /// The text of the entries behind a place. It fails for want of memory, and where what is recorded does not go on
+    /// The text of the entries behind a place. It fails if memory runs out, and where what is recorded does not go on
     /// from there.
     fn follow(&self, output: &mut Output, place: Place) -> Result<Spelled, JournalFault>
         requires { output.old ≡ [] }
         ensures follows { IfOk result (λ text. follows self.now place text.0.items text.1) }
         ensures idle { output.new ≡ [] };
 
-    /// The text that a file begins with. It fails for want of memory.
+    /// The text that a file begins with. It fails if memory runs out.
     fn begin(&self, output: &mut Output) -> Result<Spelled, JournalFault>
         requires { output.old ≡ [] }
         ensures begins { IfOk result (λ text. begins self.now text.0.items text.1) }

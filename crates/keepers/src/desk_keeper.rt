@@ -102,7 +102,7 @@ impl<'a, 'g, G: Gate, F: Fetcher, R: Wait> DeskKeeper<'a, 'g, G, F, R> {
                 bag,
             }),
             Err(_) => {
-                // A desk that made no entry is missed by nobody.
+                // Safe to close: it made no entries.
                 desk.close();
                 Err(NoKeeper::NoMemory)
             }

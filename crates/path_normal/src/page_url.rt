@@ -137,7 +137,7 @@ impl PageUrl {
         PageUrl::of_parsed(self.allocator(), schemes, &url)
     }
 
-    /// The URL of an authority's robots file (RFC 9309, 2.3). It fails for want of memory alone.
+    /// The URL of an authority's robots file (RFC 9309, 2.3). It fails only if memory runs out.
     pub fn of_robots(authority: &Authority) -> Result<PageUrl, AllocError>
         ensures url { IfOk result (λ url. url ≡ robots_url_of authority.now) }
         ensures authority { IfOk result (λ url. authority_of url ≡ authority.now) }

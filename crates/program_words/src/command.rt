@@ -233,7 +233,7 @@ fn number<'a>(alloc: Global, name: &'static str, option: &'a NumberOption) -> Ar
     bound(alloc, name, option).default_value(option.usual.as_str())
 }
 
-// The same without a usual number.
+// An option with a number in its range, and no usual one.
 fn bound<'a>(alloc: Global, name: &'static str, option: &'a NumberOption) -> Arg<'a>
     ensures id { result.id.now ≡ name.entry.now }
     ensures long { result.long ≡ Some name.entry }

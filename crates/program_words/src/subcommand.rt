@@ -14,7 +14,7 @@ use tcp_wire::{Reach, TimeLimits};
 pub enum Subcommand {
     /// Reads replay lines from standard input, and writes their replies to standard output.
     Replay(ReplayOptions),
-    /// The same, but what is written is the text of the book's history at the end.
+    /// Reads replay lines from standard input, and writes the text of the book's history at the end.
     Export(ReplayOptions),
     /// Reads a robots text from standard input, and writes what each of its lines says.
     Lines(Notes),
