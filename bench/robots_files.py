@@ -27,7 +27,7 @@ ROWS = [
     ("8,000 groups, 500 the token's", groups(8_000, "User-agent: bot{1}\nDisallow: /p*{0}\n"), "/part3/page803", 2_000),
     ("19,000 groups", groups(19_000, "User-agent: b{1}\nDisallow: /{0}\n"), "/part3/page803", 2_000),
     ("980 rules, each an octet longer", ALL + "".join(f"Disallow: /{'z' * at}\n" for at in range(1, 981)), f"/{'z' * 500}y", 2_000),
-    ("250 rules of 1,000 stars", ALL + numbered(f"Disallow: /{'*a' * 999}b{{0}}\n", 250), f"/{'a' * 4_000}", 8),
+    ("250 rules of 1,000 wildcards", ALL + numbered(f"Disallow: /{'*a' * 999}b{{0}}\n", 250), f"/{'a' * 4_000}", 8),
     ("19,000 heads, 29,000 rules *q", times(ALL, 19_000) + times("allow:*q\n", 29_000), f"/{'b' * 4_000}", 50),
     ("19,000 heads, 26,000 rules *ab", times(ALL, 19_000) + times("allow:*ab\n", 26_000), f"/{'b' * 4_000}", 50),
     ("51,000 rules *ab", ALL + times("allow:*ab\n", 51_000), f"/{'b' * 4_000}", 50),

@@ -48,6 +48,31 @@ def stairs_of_runs(sign):
     return b"".join(lines[:-1])
 
 
+def in_turn(literals):
+    """Returns rules that ask for a few literals again and again, each behind the one before, and a path that has them so."""
+    line = "*" + "*".join(literals * (160 // sum(len(it) + 1 for it in literals)))
+    path, room = "", 4_060
+    for sign in "".join(literals) * room:
+        # (a URL writes a quotation mark of a query as `%22`)
+        room -= 3 if sign == '"' else 1
+        if room < 0:
+            break
+        path += sign
+    return filled(f"allow:{line}*~~\n".encode()), "/?" + path
+
+
+def nowhere(signs, count, seed):
+    """Returns rules of a literal each, of so many signs, that mostly stands nowhere in a path of these signs."""
+    dice = random.Random(seed)
+    lines = ["".join(dice.choices(signs, k=count)) for _ in range(SIZE // (count + 8))]
+    return b"user-agent: *\n" + "".join(f"allow:*{it}\n" for it in lines).encode()
+
+
+# literals that had one place among those that `path_pattern` keeps (by `number_of` in kept.rt), when each had one: they pushed each other out
+PUSHED_OUT, PUSHED_PATH = in_turn(["!", "f"])
+PUSHED_PAIRS, PUSHED_PAIRS_PATH = in_turn(['{"', "}}", "`|", '"e'])
+# literals that have both their places in common, of which two are kept (the search for them took a minute)
+CROWDED, CROWDED_PATH = in_turn(["{`Ak", "{`qu", "{`Ax", "{`qE", "{`AH"])
 # a path of which each 64 octets nearly hold an escape, with any two of its three octets, and some that hold it
 NEARLY = "\\{" * 4 + "a7C" + "\\{" * 5
 MANY_RUNS, MANY_PATH = distinct("^|{}`", 9309)
@@ -79,12 +104,19 @@ TEXTS = {
     "rules of runs of one sign, each longer": stairs_of_runs(b"|"),
     "rules of runs of which no two are the same": MANY_RUNS,
     "rules of such runs of two signs": FEW_RUNS,
+    "rules of two literals that pushed each other out": PUSHED_OUT,
+    "rules of four such literals of escapes": PUSHED_PAIRS,
+    "rules of five literals that push each other out": CROWDED,
+    "rules of five signs that stand nowhere": nowhere("^|{}", 5, 4),
+    "rules of nine signs that stand nowhere": nowhere("^|{}", 9, 4),
+    "rules of 24 signs that nearly stand": filled(b"allow:*" + b"^|" * 11 + b"^{\n"),
     "70 rules of one letter, and a long comment": b"user-agent: *\n" + b"allow:*q~\n" * 70 + b"#" + b"c" * 20_000 + b"\n",
     "long rules that match to their end": filled(b"allow:*" + b"a" * 10 + b"b" + b"a" * 31 + b"b" + b"a" * 5 + b"ba\n"),
     "rules of two stars": filled(b"disallow:*a*b{n}\n"),
     "rules of 1,000 stars": filled(b"disallow: /" + b"a*" * 1_000 + b"x{n}\n"),
     "rules of 1,000 stars alone": filled(b"disallow: /" + b"*" * 1_000 + b"x{n}\n"),
     "rules that end the path": filled(b"disallow:*b$\n"),
+    "short rules, many of them the same": filled(b"".join(b"allow:/%c%c\n" % (97 + at % 26, 97 + at // 26 % 26) for at in range(676))),
     "rules of 4,000 octets": filled(b"disallow: " + LONG.encode() + b"{n}\n"),
     "one rule of 499,000 octets": b"user-agent: *\ndisallow: /" + b"ab" * 249_500 + b"\n",
     "one rule of 249,000 stars": b"user-agent: *\ndisallow: /" + b"a*" * 249_000 + b"x\n",
@@ -112,6 +144,7 @@ PATHS = [
     "/?" + "".join("".join(DICE.choices(["{||", "{{}", "||}"], k=64)) + "{|}" for _ in range(20)),
     "/?" + ("^|" * 30 + "{|") * 64, "/?" + ("^|" * 450 + "{|") * 4,
     "/?" + "|" * 2_000 + "~" + (NEARLY * 5 + "|") * 19, "/?" + "".join(DICE.choices("^|{}", k=2_030)) * 2, MANY_PATH, FEW_PATH,
+    PUSHED_PATH, PUSHED_PAIRS_PATH, CROWDED_PATH, "/?" + "".join(DICE.choices("^|{}", k=4_060)), "/?" + ("^|" * 11 + "^}") * 169,
     # (all but these are asked before there is an index, too)
     "/", "/ab", "/%7e%7e%7e7",
 ]

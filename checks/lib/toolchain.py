@@ -1,6 +1,6 @@
 """How `rt` checks and builds a crate, for checks/build and checks/edits: they do what no words of `rt` do, several crates at
 a time and copies of crates with an edit, and so take it from `rt`'s own modules. Those belong to no interface: they were read
-in the kit of the name below, and what is taken of them is looked for before anything is done.
+in the kits of the names below, and what is taken of them is looked for before anything is done.
 """
 import importlib.machinery
 import importlib.util
@@ -10,7 +10,7 @@ import sys
 import threading
 
 sys.dont_write_bytecode = True
-KIT = "rattle-kit-13f"
+KITS = ("rattle-kit-13b", "rattle-kit-13f")
 # what is taken of each module
 TAKEN = {
     "rt": ["free", "read_files", "rtlib"],
@@ -43,7 +43,7 @@ rtlib = getattr(rt, "rtlib", None)
 for _name, _owner in (("rt", rt), ("rtlib", rtlib), ("Crate", getattr(rtlib, "Crate", None))):
     for _part in TAKEN[_name]:
         if not hasattr(_owner, _part):
-            sys.exit(f"{_name} of {_kit} has no {_part}: checks/lib/toolchain.py was written for {KIT}, and has to be read again")
+            sys.exit(f"{_name} of {_kit} has no {_part}: checks/lib/toolchain.py was written for {' and '.join(KITS)}, and has to be read again")
 _stamp_of, _call = rtlib.Crate.stamp, threading.local()
 
 
@@ -63,5 +63,5 @@ def _stamp(crate):
 
 
 # (of another kit `rt`'s own stamp is taken, which is right, and slower)
-if _kit == KIT:
+if _kit in KITS:
     rtlib.Crate.stamp = _stamp

@@ -9,7 +9,7 @@ use Rattle.std.specs.Option.{option_map}
 use Rattle.std.specs.Str.{bytes_eq}
 use Rattle.std.proofs.lemmas.Slice.Eq.{bytes_eq-Decides}
 use Rattle.indexmap.specs.IndexMap.{set_value_at}
-use Rattle.authority_cache.specs.declared.find.Found.{Found}
+use Rattle.authority_cache.specs.declared.find.FoundSite.{FoundSite}
 use Rattle.authority_cache.specs.declared.site.Site.{Site}
 use Rattle.authority_cache.specs.Calls.{IsFound, state_at}
 use Rattle.authority_cache.specs.Kept.{AllKnown, known_in, said_entries, said_entry}
@@ -18,7 +18,7 @@ use Rattle.authority_cache.proofs.EntryLaws.{all-at, all-map}
 use Rattle.authority_cache.proofs.SiteLaws.{found-said, is_named, same_text}
 
 -- what is known of an authority that was found
-pub state_found : (k : Known) (authority : List ℕ) (found : Found) → IsFound k authority found → state_at k found ≡ site_of k authority
+pub state_found : (k : Known) (authority : List ℕ) (found : FoundSite) → IsFound k authority found → state_at k found ≡ site_of k authority
 state_found k authority found is = by found.index refl is.some is.none
   where
     by : (index : Option ℕ) → found.index ≡ index → IfSome index (λ i. slice_get k.sites i ≡ Some (authority, site_of k authority)) →
@@ -154,7 +154,7 @@ empty_index (Some i) none = absurd (true≢false none)
 
 module _ {Y : Type 0} where
   -- an authority that stands somewhere is known
-  pub found_known : (limit : ℕ) (a : List ℕ) (es : List (String Y × Site)) (found : Found) → AllKnown es → IsFound (known_in limit es) a found →
+  pub found_known : (limit : ℕ) (a : List ℕ) (es : List (String Y × Site)) (found : FoundSite) → AllKnown es → IsFound (known_in limit es) a found →
       is_some found.index ≡ true → is_known (site_of (known_in limit es) a) ≡ true
   found_known limit a es found all is some = by found.index is.some some
     where
@@ -167,5 +167,5 @@ module _ {Y : Type 0} where
       by (Some i) at some = all-at (λ (p : List ℕ × State). is_known p.1) (said_entries es) i (a, site_of (known_in limit es) a) known at
 
 -- an authority stands where it was found
-pub found_index : (k : Known) (a : List ℕ) (found : Found) (i : ℕ) → IsFound k a found → found.index ≡ Some i → slice_get k.sites i ≡ Some (a, site_of k a)
+pub found_index : (k : Known) (a : List ℕ) (found : FoundSite) (i : ℕ) → IsFound k a found → found.index ≡ Some i → slice_get k.sites i ≡ Some (a, site_of k a)
 found_index k a found i is at = subst (λ (o : Option ℕ). IfSome o (λ i. slice_get k.sites i ≡ Some (a, site_of k a))) at is.some

@@ -5,7 +5,7 @@ use Rattle.std.specs.Map.{lookup}
 use Rattle.std.specs.Option.{option_map}
 use Rattle.std.specs.Str.{bytes_eq}
 use Rattle.robots_verdict.specs.Answer.{said}
-use Rattle.authority_cache.specs.declared.find.Found.{Found}
+use Rattle.authority_cache.specs.declared.find.FoundSite.{FoundSite}
 use Rattle.authority_cache.specs.declared.look.Look.{Look}
 use Rattle.authority_cache.specs.declared.look.Look.TheVariants.{Unknown, Expired, InForce}
 use Rattle.authority_cache.specs.declared.refusal.FlightRefusal.{FlightRefusal}
@@ -28,12 +28,12 @@ pub record Changes (old : Known) (authority : List ℕ) (state : State) (new : K
       count_of test new + one_if (test (site_of old authority)) ≡ count_of test old + one_if (test state)
 
 -- what is known of an authority that was found
-abbrev pub state_at : Known → Found → State
+abbrev pub state_at : Known → FoundSite → State
 state_at k found = unwrap_or (option_map (λ e. e.1) (option_and_then (slice_get k.sites) found.index)) nothing_known
 
 -- find: where the authority stands with what is known of it, or that it stands nowhere, and whether a
 -- turn of it is in flight
-pub record IsFound (k : Known) (authority : List ℕ) (found : Found) : Type 0 where
+pub record IsFound (k : Known) (authority : List ℕ) (found : FoundSite) : Type 0 where
   pub some : IfSome found.index (λ i. slice_get k.sites i ≡ Some (authority, site_of k authority))
   pub none : IfNone found.index (lookup (bytes_eq authority) k.sites ≡ None)
   pub fetching : found.is_fetching ≡ is_flying (site_of k authority)
@@ -46,7 +46,8 @@ cannot_know k authority = not (is_known (site_of k authority)) && nat_le k.limit
 abbrev pub MayBegin : Known → List ℕ → Result Unit FlightRefusal → Type 0
 MayBegin k authority (Ok _) = (is_flying (site_of k authority) ≡ false) × (cannot_know k authority ≡ false)
 MayBegin k authority (Err refusals.InFlight) = is_flying (site_of k authority) ≡ true
-MayBegin k authority (Err refusals.AuthoritiesFull) = (is_flying (site_of k authority) ≡ false) × (cannot_know k authority ≡ true)
+MayBegin k authority (Err refusals.AuthoritiesFull) =
+    (is_flying (site_of k authority) ≡ false) × (cannot_know k authority ≡ true)
 MayBegin k authority (Err refusals.NoMemory) = ⊥
 
 -- begin: InFlight; AuthoritiesFull; NoMemory where neither holds
@@ -83,4 +84,5 @@ pub record Sweeps (old : Known) (moment count : ℕ) (new : Known) : Type 0 wher
   pub limit : new.limit ≡ old.limit
   pub sites : (authority : List ℕ) → site_of new authority ≡ swept moment (site_of old authority)
   pub dropped : count ≡ past_count moment old
-  pub counts : (test : State → Bool) → test nothing_known ≡ false → count_of test new ≡ count_of (λ state. test (swept moment state)) old
+  pub counts : (test : State → Bool) → test nothing_known ≡ false
+      → count_of test new ≡ count_of (λ state. test (swept moment state)) old

@@ -86,7 +86,8 @@ module _ {Y : Type 0} where
 
   -- the end of each is, but perhaps of the one at this index
   abbrev pub CoversBut : ℕ → KeptEnds → List (String Y × Site) → Type 0
-  CoversBut site kept entries = (i : ℕ) (e : String Y × Site) → i ≢ site → slice_get entries i ≡ Some e → CoversAt kept i (said_site e.1)
+  CoversBut site kept entries =
+      (i : ℕ) (e : String Y × Site) → i ≢ site → slice_get entries i ≡ Some e → CoversAt kept i (said_site e.1)
 
   -- the end of the one at this index is, unless it is past
   abbrev pub CoversYoung : ℕ → ℕ → KeptEnds → List (String Y × Site) → Type 0
@@ -100,7 +101,8 @@ module _ {Y : Type 0} where
 
   -- whether the answer at this index is older than its life
   abbrev pub SaysPastAt : ℕ → List (String Y × Site) → ℕ → Bool → Type 0
-  SaysPastAt moment entries site says = (e : String Y × Site) → slice_get entries site ≡ Some e → says ≡ has_past moment (said_site e.1)
+  SaysPastAt moment entries site says =
+      (e : String Y × Site) → slice_get entries site ≡ Some e → says ≡ has_past moment (said_site e.1)
 
   -- the end of the answer at this index is kept now, with all that were
   pub record KeepsEnd (entries : List (String Y × Site)) (site : ℕ) (old new : KeptEnds) : Type 0 where
@@ -116,7 +118,8 @@ module _ {Y : Type 0} where
   -- no answer stands at this index any more; whether a turn is in flight there
   abbrev pub DropsAnswer : List (String Y × Site) → ℕ → Bool → List (String Y × Site) → Type 0
   DropsAnswer old site is_fetching new = (e : String Y × Site) → slice_get old site ≡ Some e →
-      (is_fetching ≡ is_flying (said_site e.1)) × Writes old site (record { standing = None; in_flight = (said_site e.1).in_flight }) new
+      (is_fetching ≡ is_flying (said_site e.1))
+      × Writes old site (record { standing = None; in_flight = (said_site e.1).in_flight }) new
 
   -- the entry of this index is there no more, and the last is in its place
   abbrev pub Removes : List (String Y × Site) → ℕ → List (String Y × Site) → Type 0

@@ -17,7 +17,8 @@ NewTells = (limit : ℕ) → TellsCache (record { limit = limit; sites = [] }) [
 
 -- a begin adds its turn
 abbrev pub BeginTells : Type 0
-BeginTells = (old new : Known) (standing : List StandingAnswer) (in_flight : List Turn) (authority : List ℕ) (flight : Flight)
+BeginTells =
+    (old new : Known) (standing : List StandingAnswer) (in_flight : List Turn) (authority : List ℕ) (flight : Flight)
     → TellsCache old standing in_flight → is_flying (site_of old authority) ≡ false
     → Changes old authority (with_flight flight (site_of old authority)) new
     → TellsCache new standing (in_flight ++ turn_for authority flight ∷ [])
@@ -25,12 +26,14 @@ BeginTells = (old new : Known) (standing : List StandingAnswer) (in_flight : Lis
 -- an arrival takes its turn away, whose number no other authority's turn has, and its answer
 -- replaces the authority's
 abbrev pub ArriveTells : Type 0
-ArriveTells = (old new : Known) (standing : List StandingAnswer) (in_flight : List Turn) (authority : List ℕ) (turn life : ℕ) (says : Said)
+ArriveTells = (old new : Known) (standing : List StandingAnswer) (in_flight : List Turn) (authority : List ℕ)
+    (turn life : ℕ) (says : Said)
     → TellsCache old standing in_flight → has_turn turn (site_of old authority) ≡ true
     → filter (has_number turn) in_flight ≡ filter (is_turn_of authority) in_flight
     → Changes old authority (arrived turn says life (site_of old authority)) new
     → TellsCache new
-    (filter (λ s. not (is_answer_for authority s)) standing ++ map (answered says life) (filter (has_number turn) in_flight))
+    (filter (λ s. not (is_answer_for authority s)) standing
+    ++ map (answered says life) (filter (has_number turn) in_flight))
     (filter (λ t. not (has_number turn t)) in_flight)
 
 -- a sweep takes the answers away that are older than their lives
@@ -60,9 +63,11 @@ pub record ReadsAlike (k : Known) (standing : List StandingAnswer) (in_flight : 
   pub flying : (authority : List ℕ) → is_flying (site_of k authority) ≡ list_any (is_turn_of authority) in_flight
   pub turns : (authority : List ℕ) (turn : ℕ)
       → has_turn turn (site_of k authority) ≡ list_any (λ t. has_number turn t && is_turn_of authority t) in_flight
-  pub answers : (authority : List ℕ) → option_map (answer_for authority) (site_of k authority).standing ≡ find (is_answer_for authority) standing
+  pub answers : (authority : List ℕ)
+      → option_map (answer_for authority) (site_of k authority).standing ≡ find (is_answer_for authority) standing
   pub known : (authority : List ℕ)
-      → is_known (site_of k authority) ≡ (list_any (is_answer_for authority) standing || list_any (is_turn_of authority) in_flight)
+      → is_known (site_of k authority)
+      ≡ (list_any (is_answer_for authority) standing || list_any (is_turn_of authority) in_flight)
 
 -- a cache that says what the lists say is read alike
 abbrev pub TellingReadsAlike : Type 0

@@ -48,11 +48,13 @@ turns_in authority state = option_to_list (option_map (turn_for authority) state
 
 -- the list has each answer that stands in the cache, once
 abbrev pub ListsAnswers : Known → List StandingAnswer → Type 0
-ListsAnswers k standing = (authority : List ℕ) → filter (is_answer_for authority) standing ≡ answers_in authority (site_of k authority)
+ListsAnswers k standing =
+    (authority : List ℕ) → filter (is_answer_for authority) standing ≡ answers_in authority (site_of k authority)
 
 -- the list has each turn that is in flight in the cache, once
 abbrev pub ListsTurns : Known → List Turn → Type 0
-ListsTurns k in_flight = (authority : List ℕ) → filter (is_turn_of authority) in_flight ≡ turns_in authority (site_of k authority)
+ListsTurns k in_flight =
+    (authority : List ℕ) → filter (is_turn_of authority) in_flight ≡ turns_in authority (site_of k authority)
 
 -- the cache says what the lists say: of each authority the answers are none or the one that stands,
 -- and the turns none or the one in flight

@@ -79,7 +79,8 @@ with_flight flight site = record { standing = site.standing; in_flight = Some fl
 -- the answer stands now, with its age counted from the begin of the turn, which is no longer in flight
 abbrev pub arrived : ℕ → Said → ℕ → State → State
 arrived turn says life site = record {
-  standing = option_map (λ flight. record { turn = turn; begun = flight.begun; life = life; says = says }) site.in_flight;
+  standing =
+      option_map (λ flight. record { turn = turn; begun = flight.begun; life = life; says = says }) site.in_flight;
   in_flight = None;
 }
 

@@ -1,4 +1,4 @@
-//! The begin of a turn to fetch an authority's robots file.
+//! The begin of a turn to fetch an authority's robots.txt.
 //! RFC 9309, section 2.3.
 ghost use Rattle.std.specs.Prelude.{◌≡◌, ℕ, ◌+◌, ◌*◌, ◌^◌, ◌<◌, ◌≤◌, List, ◌∷◌, ◌++◌, [], None, IfErr, OnErr, OnOk, length};
 ghost use Rattle.std.specs.HashMap.{get_by_text};
@@ -10,7 +10,7 @@ ghost use Rattle.authority_cache.specs.Kept.{AllKnown, known_in, said_entries};
 
 use crate::cache::{Cache, Sites};
 use crate::ends::{Ends, keep_end};
-use crate::find::Found;
+use crate::find::FoundSite;
 use crate::refusal::FlightRefusal;
 use crate::site::{Flight, Site};
 use crate::turn::TurnNo;
@@ -35,7 +35,7 @@ impl Cache {
     /// Begins a turn of an authority whose site was found, without a second look-up of its name.
     pub fn begin_at(
         &mut self,
-        found: Found,
+        found: FoundSite,
         authority: &Authority,
         turn: TurnNo,
         moment: u64,
@@ -58,7 +58,7 @@ impl Cache {
 }
 
 // Whether a turn may begin: none is in flight, and a site that is new is not one too many.
-fn may_begin(sites: &Sites, limit: u64, found: Found) -> Result<(), FlightRefusal>
+fn may_begin(sites: &Sites, limit: u64, found: FoundSite) -> Result<(), FlightRefusal>
     requires all { AllKnown sites.now.entries }
     ensures may { (authority : List ℕ) → IsFound (known_in limit sites.now.entries) authority found
         → MayBegin (known_in limit sites.now.entries) authority result }
@@ -107,7 +107,7 @@ fn renew(sites: &Sites, ends: &mut Ends)
 // Begins a turn that may begin.
 fn open(
     sites: &mut Sites,
-    found: Found,
+    found: FoundSite,
     authority: &Authority,
     flight: Flight,
 ) -> Result<(), FlightRefusal>

@@ -7,12 +7,12 @@ use crate::cache::Cache;
 
 /// Where an authority stands in a cache, until the cache changes, and whether a turn is in flight.
 #[derive(Clone, Copy, Debug, PartialEq, Eq)]
-pub struct Found {
+pub struct FoundSite {
     pub(crate) index: Option<usize>,
     pub(crate) is_fetching: bool,
 }
 
-impl Found {
+impl FoundSite {
     /// Whether a turn of the authority is in flight.
     pub fn is_fetching(&self) -> bool
         ensures { result ≡ self.now.is_fetching }
@@ -23,15 +23,15 @@ impl Found {
 
 impl Cache {
     /// Finds an authority. It takes no memory.
-    pub fn find(&self, authority: &str) -> Found
+    pub fn find(&self, authority: &str) -> FoundSite
         ensures { IsFound self.now authority.now result }
     {
         match self.sites.get_full(authority) {
-            Some((index, _authority, site)) => Found {
+            Some((index, _authority, site)) => FoundSite {
                 index: Some(index),
                 is_fetching: site.in_flight.is_some(),
             },
-            None => Found {
+            None => FoundSite {
                 index: None,
                 is_fetching: false,
             },

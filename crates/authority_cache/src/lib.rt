@@ -1,5 +1,5 @@
 //! What is known of authorities: of each the robots answer that stands, and the turn to fetch its
-//! robots file that is in flight (RFC 9309, sections 2.3.1 and 2.4).
+//! robots.txt that is in flight (RFC 9309, sections 2.3.1 and 2.4).
 #![tactic(auto)]
 
 mod arrive;
@@ -19,7 +19,7 @@ mod sweep;
 mod turn;
 
 pub use cache::Cache;
-pub use find::Found;
+pub use find::FoundSite;
 pub use life::{LEAST_LIFE, LIFE, TimedAnswer, life_of};
 pub use look::Look;
 pub use refusal::{FlightRefusal, Stale};

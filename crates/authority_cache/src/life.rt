@@ -11,7 +11,7 @@ use std::sync::Arc;
 /// The seconds for which an answer is in force at most: 24 hours.
 pub const LIFE: u64 = 86_400;
 
-/// The seconds for which the rules of a robots file are in force at least.
+/// The seconds for which the rules of a robots.txt are in force at least.
 pub const LEAST_LIFE: u64 = 60;
 
 /// The seconds for which an answer is in force, where its reply asked for so many: rules from 60

@@ -6,7 +6,7 @@ ghost use Rattle.authority_cache.specs.Sites.{said_cached, said_site, site_of};
 ghost use Rattle.authority_cache.specs.Calls.{Looks, LooksAt, state_at};
 
 use crate::cache::Cache;
-use crate::find::Found;
+use crate::find::FoundSite;
 use crate::site::{CachedAnswer, Site};
 use robots_verdict::Answer;
 
@@ -41,7 +41,7 @@ impl Cache {
     }
 
     /// Looks for the answer of an authority whose site was found, without a second look-up of its name.
-    pub fn look_at(&self, found: Found, moment: u64) -> Look<'_>
+    pub fn look_at(&self, found: FoundSite, moment: u64) -> Look<'_>
         ensures { LooksAt (state_at self.now found) moment result }
     {
         let Some(index) = found.index else {

@@ -1,11 +1,11 @@
-//! A turn to fetch an authority's robots file.
+//! A turn to fetch an authority's robots.txt.
 //! RFC 9309, section 2.3.
 ghost use Rattle.std.specs.Prelude.{◌≡◌};
 
 use path_normal::Authority;
 use std::marker::Model;
 
-/// The number of a turn: the how manyth begin of a history it is, from 1.
+/// The number of a turn: which begin of its history it is, from 1.
 #[derive(Clone, Copy, Debug, PartialEq, Eq)]
 pub struct TurnNo {
     number: u64,
@@ -40,7 +40,7 @@ impl TurnNo {
 /// A turn in flight, as lists of turns have it: that of a history, or of a segment of one.
 #[derive(Drop)]
 pub struct Turn {
-    /// Whose robots file is fetched.
+    /// Whose robots.txt is fetched.
     pub authority: Authority,
     /// The number of the turn.
     pub turn: TurnNo,

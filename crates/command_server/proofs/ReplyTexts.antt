@@ -8,7 +8,7 @@ use Rattle.line_text.specs.Words.{GivesWord}
 use Rattle.command_server.specs.Arrival.{head_written, or_later, replies_fault, reply_fault}
 use Rattle.command_server.specs.declared.fault.LineFault.{LineFault}
 use Rattle.command_server.specs.declared.fault.LineFault.TheVariants as faults
-use Rattle.command_server.specs.declared.reply_words.Head.{Head}
+use Rattle.command_server.specs.declared.reply_words.ReplyHead.{ReplyHead}
 
 -- either fault is one
 some_fault : (t : Bool) → cond t (Some faults.Status) (Some faults.Replies) ≢ None
@@ -32,7 +32,7 @@ first_clean (Some fault) later is = absurd (none-some fault (sym is))
 first_clean None later is = (refl, is)
 
 -- a reply without a fault has a head
-head_clean : (head : Option Head) (second : List ℕ) → reply_fault head second ≡ None → IsSome head
+head_clean : (head : Option ReplyHead) (second : List ℕ) → reply_fault head second ≡ None → IsSome head
 head_clean None second is = absurd (none-some faults.Status (sym is))
 head_clean (Some head) second is = search
 

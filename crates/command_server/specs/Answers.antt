@@ -17,7 +17,8 @@ pub record GivesReply (is_reply : List ℕ → Type 0) (old new : Option (List �
   pub answered : is_reply reply
   pub passed : Passes old new (pending ++ reply) left
 
--- a line was answered, ending the session or not, but no more than a part of the pending octets and its reply was written
+-- a line was answered, ending the session or not, but no more than a part of the pending octets and its reply was
+-- written
 pub record LosesReply (is_reply : List ℕ → Bool → Type 0) (old new : Option (List ℕ)) (pending : List ℕ) : Type 0 where
   pub reply : List ℕ
   pub ended : Bool
@@ -31,7 +32,8 @@ pub record EndsAtLine (ends : List ℕ → Type 0) (rest : List (List ℕ)) (tex
   pub ended_is : ended ≡ true
 
 -- the first line gets a reply, and the rest is answered from the state after it
-pub record GoesOn {S : Type 0} (goes : List ℕ → S → Type 0) (rest_is_answered : S → List ℕ → Type 0) (text : List ℕ) : Type 0 where
+pub record GoesOn {S : Type 0} (goes : List ℕ → S → Type 0) (rest_is_answered : S → List ℕ → Type 0)
+    (text : List ℕ) : Type 0 where
   pub reply : List ℕ
   pub state : S
   pub rest : List ℕ
@@ -39,12 +41,15 @@ pub record GoesOn {S : Type 0} (goes : List ℕ → S → Type 0) (rest_is_answe
   pub answered : goes reply state
   pub then : rest_is_answered state rest
 
--- from a state, the lines are answered in turn by what makes up the text, and lead to a state; a line that ends the session is the last
-abbrev pub AnswersLines : {S : Type 0} → (S → List ℕ → List ℕ → Bool → S → Type 0) → S → List (List ℕ) → List ℕ → Bool → S → Type 0
+-- from a state, the lines are answered in turn by what makes up the text, and lead to a state; a line that ends the
+-- session is the last
+abbrev pub AnswersLines : {S : Type 0} → (S → List ℕ → List ℕ → Bool → S → Type 0) → S → List (List ℕ) → List ℕ → Bool
+    → S → Type 0
 AnswersLines answers old [] text ended new = (text ≡ []) × (ended ≡ false) × (new ≡ old)
 AnswersLines answers old (line ∷ lines) text ended new =
     EndsAtLine (λ reply. answers old line reply true new) lines text ended
-    ⊎ GoesOn (λ reply state. answers old line reply false state) (λ state rest. AnswersLines answers state lines rest ended new) text
+    ⊎ GoesOn (λ reply state. answers old line reply false state)
+    (λ state rest. AnswersLines answers state lines rest ended new) text
 
 -- a reply was given, but no more than a part of the pending octets and of it was written
 pub record CutsReply (is_reply : List ℕ → Type 0) (old new : Option (List ℕ)) (pending : List ℕ) : Type 0 where

@@ -21,8 +21,8 @@ use Rattle.robots_fetch.specs.Walk.{AnswerOfAmong}
 use Rattle.line_text.specs.Number.{number_of}
 use Rattle.command_server.specs.declared.fault.LineFault.{LineFault}
 use Rattle.command_server.specs.declared.fault.LineFault.TheVariants as faults
-use Rattle.command_server.specs.declared.reply_words.Head.{Head}
-use Rattle.command_server.specs.declared.reply_words.Head.TheVariants as heads
+use Rattle.command_server.specs.declared.reply_words.ReplyHead.{ReplyHead}
+use Rattle.command_server.specs.declared.reply_words.ReplyHead.TheVariants as heads
 
 -- the status that a word writes: a number of three digits from 100 to 999
 abbrev pub status_written : List ℕ → Option ℕ
@@ -43,7 +43,7 @@ has_text classes.Redirect = true
 has_text _ = false
 
 -- a status and the seconds for which its rules may be kept, as `200/60`
-abbrev pub lasting_of : List ℕ → List ℕ → Option Head
+abbrev pub lasting_of : List ℕ → List ℕ → Option ReplyHead
 lasting_of status life =
     option_and_then (λ code. if has_rules (class_of code)
     then option_map (λ seconds. heads.Status code (Some seconds)) (number_of life) else None) (status_written status)
@@ -57,16 +57,16 @@ abbrev pub has_slash : List ℕ → Bool
 has_slash word = nat_lt (position_or_len is_slash word) (length word)
 
 -- a status alone
-abbrev pub plain_of : List ℕ → Option Head
+abbrev pub plain_of : List ℕ → Option ReplyHead
 plain_of word = option_map (λ code. heads.Status code None) (status_written word)
 
 -- what a word says of a response: its status, and behind a `/` its life
-abbrev pub response_written : List ℕ → Option Head
+abbrev pub response_written : List ℕ → Option ReplyHead
 response_written word =
     if has_slash word then lasting_of (before_first is_slash word) (after_first is_slash word) else plain_of word
 
 -- what the first word of a reply says
-abbrev pub head_written : List ℕ → Option Head
+abbrev pub head_written : List ℕ → Option ReplyHead
 head_written word =
     if bytes_eq word (codes "NET") then Some heads.Network
     else (if bytes_eq word (codes "CODING") then Some heads.Coding else response_written word)
@@ -76,13 +76,13 @@ abbrev pub is_none_word : List ℕ → Bool
 is_none_word word = bytes_eq word (codes "-")
 
 -- the reply may have this second word
-abbrev pub may_have : Head → List ℕ → Bool
+abbrev pub may_have : ReplyHead → List ℕ → Bool
 may_have (heads.Status code max_age) word = if has_text (class_of code) then true else is_none_word word
 may_have heads.Coding word = is_none_word word
 may_have heads.Network word = is_none_word word
 
 -- the fault of a reply by what its two words say
-abbrev pub reply_fault : Option Head → List ℕ → Option LineFault
+abbrev pub reply_fault : Option ReplyHead → List ℕ → Option LineFault
 reply_fault None second = Some faults.Status
 reply_fault (Some head) second = if may_have head second then None else Some faults.Replies
 
@@ -117,7 +117,7 @@ body_written classes.Successful word = if is_none_word word then [] else percent
 body_written _ word = []
 
 -- the reply has this head and this second word
-abbrev pub HasWords : Head → List ℕ → RobotsReply → Type 0
+abbrev pub HasWords : ReplyHead → List ℕ → RobotsReply → Type 0
 HasWords (heads.Status code max_age) word (replies.Status own location body age) =
     (own ≡ code) × (age ≡ max_age) × (option_map string_bytes location ≡ location_written (class_of code) word)
     × (body.items ≡ body_written (class_of code) word)
@@ -127,7 +127,7 @@ HasWords _ word _ = ⊥
 
 -- the reply is that of the two words
 abbrev pub IsReply : List ℕ → List ℕ → RobotsReply → Type 0
-IsReply first second reply = (head : Head) × ((head_written first ≡ Some head) × HasWords head second reply)
+IsReply first second reply = (head : ReplyHead) × ((head_written first ≡ Some head) × HasWords head second reply)
 
 -- the replies are those of the words
 abbrev pub AreReplies : List (List ℕ) → List RobotsReply → Type 0
@@ -165,7 +165,8 @@ pub record GoesOnAfter (schemes : Schemes) (authority : List ℕ) (words : List 
 -- the answer and its life that the words bring for the authority where these schemes are read, or why they bring none
 abbrev pub BringsAmong : Schemes → List ℕ → List (List ℕ) → Result Timed LineFault → Type 0
 BringsAmong schemes authority words (Ok brought) = IsDecided schemes authority words brought.says brought.life
-BringsAmong schemes authority words (Err faults.Replies) = EndsBefore schemes authority words ⊎ GoesOnAfter schemes authority words
+BringsAmong schemes authority words (Err faults.Replies) =
+    EndsBefore schemes authority words ⊎ GoesOnAfter schemes authority words
 BringsAmong schemes authority words (Err faults.Memory) = Unit {0}
 BringsAmong schemes authority words (Err _) = ⊥
 

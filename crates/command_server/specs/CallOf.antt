@@ -32,7 +32,8 @@ authority_alone schemes _ capacity = Err faults.Words
 
 -- `BEGIN <authority>`
 abbrev pub begin_of : Schemes → ℕ → List (List ℕ) → Capacity → Result Call LineFault
-begin_of schemes moment words capacity = read_on (authority_alone schemes words capacity) (λ a. Ok (calls.Begin a moment))
+begin_of schemes moment words capacity =
+    read_on (authority_alone schemes words capacity) (λ a. Ok (calls.Begin a moment))
 
 -- `ARRIVE <authority> <turn> <reply> ..`
 abbrev pub arrive_of : Schemes → ℕ → List (List ℕ) → Capacity → Result Arrival LineFault
@@ -103,8 +104,10 @@ arguments_of schemes verbs.Sweep moment words capacity = Ok (commands.Call (call
 arguments_of schemes verbs.Seal moment words capacity = Ok commands.Seal
 arguments_of schemes verbs.Refresh moment words capacity =
     read_on (authority_alone schemes words capacity) (λ authority. Ok (commands.Refresh authority))
-arguments_of schemes verbs.Fetch moment words capacity = read_on (job_words_of schemes words capacity) (λ job. Ok (commands.Fetch job))
-arguments_of schemes verbs.Url moment words capacity = read_on (page_alone schemes words capacity) (λ url. Ok (commands.Url url))
+arguments_of schemes verbs.Fetch moment words capacity =
+    read_on (job_words_of schemes words capacity) (λ job. Ok (commands.Fetch job))
+arguments_of schemes verbs.Url moment words capacity =
+    read_on (page_alone schemes words capacity) (λ url. Ok (commands.Url url))
 arguments_of schemes verbs.Info moment words capacity = Ok commands.Info
 arguments_of schemes verbs.Why moment words capacity =
     read_on (authority_alone schemes words capacity) (λ authority. Ok (commands.Why authority))
@@ -134,8 +137,10 @@ timed_words_of schemes (first ∷ words) capacity =
 -- a client's line has none
 abbrev pub dialogue_words_of : Schemes → Dialogue → List (List ℕ) → Capacity → Result Command LineFault
 dialogue_words_of schemes Replay words capacity = timed_words_of schemes words capacity
-dialogue_words_of schemes (Client moment fetches) words capacity = verb_words_of schemes (Client moment fetches) moment words capacity
-dialogue_words_of schemes (Overseer moment) words capacity = verb_words_of schemes (Overseer moment) moment words capacity
+dialogue_words_of schemes (Client moment fetches) words capacity =
+    verb_words_of schemes (Client moment fetches) moment words capacity
+dialogue_words_of schemes (Overseer moment) words capacity =
+    verb_words_of schemes (Overseer moment) moment words capacity
 
 -- check 4: no word is empty
 abbrev pub full_words_of : Schemes → Dialogue → List (List ℕ) → Capacity → Result Command LineFault

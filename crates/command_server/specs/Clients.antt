@@ -19,32 +19,32 @@ use Rattle.command_server.specs.FirstLines.{is_turned_away}
 use Rattle.command_server.specs.Limits.{max_client_line, max_lines}
 use Rattle.command_server.specs.Readings.{next_reading}
 use Rattle.command_server.specs.Session.{Session}
-use Rattle.command_server.specs.ToldText.{told_text}
+use Rattle.command_server.specs.ClientReplyText.{client_reply_text}
 use Rattle.command_server.specs.declared.command.Command.{Command}
 use Rattle.command_server.specs.declared.command.Command.TheVariants as commands
 use Rattle.command_server.specs.declared.fault.LineFault.{LineFault}
 use Rattle.command_server.specs.declared.fault.LineFault.TheVariants as faults
 use Rattle.command_server.specs.declared.first_line.FirstLine.{FirstLine}
 use Rattle.command_server.specs.declared.session_fault.SessionFault.{SessionFault}
-use Rattle.command_server.specs.declared.told.Told.{Told}
-use Rattle.command_server.specs.declared.told.Told.TheVariants as tolds
+use Rattle.command_server.specs.declared.client_reply.ClientReply.{ClientReply}
+use Rattle.command_server.specs.declared.client_reply.ClientReply.TheVariants as replies
 use Rattle.command_server.specs.declared.verbs.Speaker.{Speaker}
 use Rattle.command_server.specs.Verbs.{dialogue_of}
 
 -- what a refresh is told as; a keeper that fetches nothing does not know the verb
-abbrev pub refreshed : List ℕ → Option (Result Standing BeginRefusal) → Told
-refreshed authority (Some result) = tolds.Refreshed authority result
-refreshed authority None = tolds.Fault faults.Verb
+abbrev pub refreshed : List ℕ → Option (Result Standing BeginRefusal) → ClientReply
+refreshed authority (Some result) = replies.Refreshed authority result
+refreshed authority None = replies.Fault faults.Verb
 
 -- and a fetch
-abbrev pub fetched : Option (Result Outcome NoMemory) → Told
-fetched (Some (Ok outcome)) = tolds.Fetched outcome
-fetched (Some (Err _)) = tolds.NoMemory
-fetched None = tolds.Fault faults.Verb
+abbrev pub fetched : Option (Result Outcome NoMemory) → ClientReply
+fetched (Some (Ok outcome)) = replies.Fetched outcome
+fetched (Some (Err _)) = replies.NoMemory
+fetched None = replies.Fault faults.Verb
 
 -- the farewell ends the session
-abbrev pub is_farewell : Told → Bool
-is_farewell tolds.Bye = true
+abbrev pub is_farewell : ClientReply → Bool
+is_farewell replies.Bye = true
 is_farewell _ = false
 
 -- a client's session between two lines: its keeper, and the number of the clock's next reading
@@ -54,62 +54,72 @@ pub record ClientState (S : Type 0) : Type 0 where
 
 module _ {S : Type 0} (deals : Deals S) where
   -- a fault is told, and nothing is done
-  abbrev pub TellsFault : S → LineFault → Told → S → Type 0
-  TellsFault old fault told new = (told ≡ tolds.Fault fault) × (new ≡ old)
+  abbrev pub TellsFault : S → LineFault → ClientReply → S → Type 0
+  TellsFault old fault told new = (told ≡ replies.Fault fault) × (new ≡ old)
 
   -- a call of a client is the keeper's, and its result is told; the others no client makes
-  abbrev pub DoesCall : S → Call → Told → S → Type 0
-  DoesCall old (calls.Ask token url m) (tolds.Asked result) new = deals.asks old token url m result new
-  DoesCall old (calls.Start number token url m) (tolds.Begun named result) new =
+  abbrev pub DoesCall : S → Call → ClientReply → S → Type 0
+  DoesCall old (calls.Ask token url m) (replies.Asked result) new = deals.asks old token url m result new
+  DoesCall old (calls.Start number token url m) (replies.Started named result) new =
       (named ≡ number) × deals.starts old number token url m result new
-  DoesCall old (calls.Back number) (tolds.Returned named result) new = (named ≡ number) × deals.returns old number result new
-  DoesCall old (calls.Finish number) (tolds.Finished named result) new = (named ≡ number) × deals.finishes old number result new
+  DoesCall old (calls.Back number) (replies.Returned named result) new =
+      (named ≡ number) × deals.returns old number result new
+  DoesCall old (calls.Finish number) (replies.Finished named result) new =
+      (named ≡ number) × deals.finishes old number result new
   DoesCall old (calls.Begin authority m) told new = TellsFault old faults.Verb told new
   DoesCall old (calls.Arrive authority turn answer m) told new = TellsFault old faults.Verb told new
   DoesCall old (calls.Sweep m) told new = TellsFault old faults.Verb told new
   DoesCall old _ _ new = ⊥
 
   -- a command is done by the keeper, and what comes of it is told; a line with a fault does nothing
-  abbrev pub DoesCommand : (ℕ → Type 0) → S → Result Command LineFault → Told → S → Type 0
+  abbrev pub DoesCommand : (ℕ → Type 0) → S → Result Command LineFault → ClientReply → S → Type 0
   DoesCommand reads old (Ok (commands.Call call)) told new = DoesCall old call told new
   DoesCommand reads old (Ok (commands.Arrive arrival)) told new = TellsFault old faults.Verb told new
   DoesCommand reads old (Ok (commands.State authority m)) told new =
-      (state : State) × (deals.reads old authority m state new × (told ≡ tolds.Known authority state))
+      (state : State) × (deals.reads old authority m state new × (told ≡ replies.Known authority state))
   DoesCommand reads old (Ok commands.Seal) told new =
-      (result : Result Sealed NoMemory) × (deals.seals old result new × (told ≡ tolds.Sealed result))
+      (result : Result Sealed NoMemory) × (deals.seals old result new × (told ≡ replies.Sealed result))
   DoesCommand reads old (Ok (commands.Refresh authority)) told new =
-      (result : Option (Result Standing BeginRefusal)) × (deals.refreshes reads old authority result new × (told ≡ refreshed authority result))
+      (result : Option (Result Standing BeginRefusal))
+      × (deals.refreshes reads old authority result new × (told ≡ refreshed authority result))
   DoesCommand reads old (Ok (commands.Fetch job)) told new =
       (result : Option (Result Outcome NoMemory)) × (deals.fetches reads old job result new × (told ≡ fetched result))
-  DoesCommand reads old (Ok (commands.Url url)) told new = (told ≡ tolds.Written url) × (new ≡ old)
+  DoesCommand reads old (Ok (commands.Url url)) told new = (told ≡ replies.Written url) × (new ≡ old)
   DoesCommand reads old (Ok commands.Info) told new =
-      (counts : Counts) × ((visitors : Visitors) × (deals.counts old counts × (told ≡ tolds.Counted counts visitors) × (new ≡ old)))
+      (counts : Counts) × ((visitors : Visitors)
+      × (deals.counts old counts × (told ≡ replies.Counted counts visitors) × (new ≡ old)))
   DoesCommand reads old (Ok (commands.Why authority)) told new =
       (result : Result (Option StandingAnswer) NoMemory)
-      × (deals.answers old authority result × (told ≡ tolds.Explained authority result) × (new ≡ old))
-  DoesCommand reads old (Ok commands.Quit) told new = deals.ends old new × (told ≡ tolds.Bye)
+      × (deals.answers old authority result × (told ≡ replies.Explained authority result) × (new ≡ old))
+  DoesCommand reads old (Ok commands.Quit) told new = deals.ends old new × (told ≡ replies.Bye)
   DoesCommand reads old (Err fault) told new = TellsFault old fault told new
 
   -- a line is what it means at the clock's reading of this number for who speaks, where the keeper's schemes are read,
   -- with enough capacity; or, with too little, the fault of the word that needs more. What it fetches reads the clock
   -- anew, under the next number
-  abbrev pub DoesRequest : Speaker → (ℕ → ℕ → Type 0) → ℕ → S → List ℕ → Told → S → Type 0
+  abbrev pub DoesRequest : Speaker → (ℕ → ℕ → Type 0) → ℕ → S → List ℕ → ClientReply → S → Type 0
   DoesRequest speaker reads number old line told new =
       (m : ℕ) × (reads number m
-      × (DoesCommand (reads (next_reading number)) old (command_of_among (deals.schemes old) (dialogue_of speaker m (deals.can_fetch old)) line Enough) told new
-      ⊎ DoesCommand (reads (next_reading number)) old (command_of_among (deals.schemes old) (dialogue_of speaker m (deals.can_fetch old)) line Overflows) told new
-      ⊎ DoesCommand (reads (next_reading number)) old (command_of_among (deals.schemes old) (dialogue_of speaker m (deals.can_fetch old)) line Refused) told new))
+      × (DoesCommand (reads (next_reading number)) old
+      (command_of_among (deals.schemes old) (dialogue_of speaker m (deals.can_fetch old)) line Enough) told new
+      ⊎ DoesCommand (reads (next_reading number)) old
+      (command_of_among (deals.schemes old) (dialogue_of speaker m (deals.can_fetch old)) line Overflows) told new
+      ⊎ DoesCommand (reads (next_reading number)) old
+      (command_of_among (deals.schemes old) (dialogue_of speaker m (deals.can_fetch old)) line Refused) told new))
 
   -- what a line of a client is answered: the text of what it is told. The session ends behind a farewell, and behind a
   -- first line that is turned away. The next line has readings of its own
-  abbrev pub AnswersClient : Speaker → FirstLine → (ℕ → ℕ → Type 0) → ClientState S → List ℕ → List ℕ → Bool → ClientState S → Type 0
+  abbrev pub AnswersClient : Speaker → FirstLine → (ℕ → ℕ → Type 0) → ClientState S → List ℕ → List ℕ → Bool
+      → ClientState S → Type 0
   AnswersClient speaker first reads old line text ended new =
-      (told : Told) × (DoesRequest speaker reads old.number old.keeper line told new.keeper
-      × ((text ≡ told_text told) × (ended ≡ (is_turned_away first old.number line || is_farewell told))
+      (told : ClientReply) × (DoesRequest speaker reads old.number old.keeper line told new.keeper
+      × ((text ≡ client_reply_text told) × (ended ≡ (is_turned_away first old.number line || is_farewell told))
       × (new.number ≡ next_reading (next_reading old.number))))
 
   -- a session of a client, and its end, which comes whatever the session met
-  pub record Serves (speaker : Speaker) (first : FirstLine) (reads : ℕ → ℕ → Type 0) (old new : S) (input left written written_new : Option (List ℕ)) (result : Result (Unit {0}) SessionFault) : Type 0 where
+  pub record Serves (speaker : Speaker) (first : FirstLine) (reads : ℕ → ℕ → Type 0) (old new : S)
+      (input left written written_new : Option (List ℕ)) (result : Result (Unit {0}) SessionFault) : Type 0 where
     pub last : ClientState S
-    pub session : Session (AnswersClient speaker first reads) max_client_line max_lines (record { keeper = old; number = 0 }) last input left written written_new result
+    pub session : Session (AnswersClient speaker first reads) max_client_line max_lines
+        (record { keeper = old; number = 0 }) last input left written written_new result
     pub ends : deals.ends last.keeper new

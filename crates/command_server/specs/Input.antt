@@ -15,7 +15,8 @@ pub record IsLastLine (behind : Option (List ℕ)) (line : List ℕ) : Type 0 wh
   pub some : 0 < length line
   pub at_end : IsAtEnd behind
 
--- the front of an input is these lines, each within the limit, without its line feed and one carriage return before that; a last line may have no line feed, and stands whole
+-- the front of an input is these lines, each within the limit, without its line feed and one carriage return before
+-- that; a last line may have no line feed, and stands whole
 pub record TakesLines (limit : ℕ) (input behind : Option (List ℕ)) (lines : List (List ℕ)) : Type 0 where
   pub raws : List (List ℕ)
   pub last : Option (List ℕ)
@@ -26,7 +27,8 @@ pub record TakesLines (limit : ℕ) (input behind : Option (List ℕ)) (lines : 
   pub consumed : Consumes input behind (with_line_feeds raws ++ unwrap_or last [])
 
 -- nothing was taken of what follows, and if the session hasn't ended, nothing follows
-pub record FindsNoMore (behind : Option (List ℕ)) (unread : List ℕ) (left : Option (List ℕ)) (has_ended : Type 0) : Type 0 where
+pub record FindsNoMore (behind : Option (List ℕ)) (unread : List ℕ) (left : Option (List ℕ))
+    (has_ended : Type 0) : Type 0 where
   pub kept : Consumes behind (prepend_known unread left) []
   pub none : has_ended ⊎ IsDrained unread left
 

@@ -12,7 +12,8 @@ use Rattle.command_server.specs.CallOf.{has_line_octets, job_words_of}
 
 -- the job of a line where these schemes are read, or its first fault
 abbrev pub job_of_among : Schemes → List ℕ → Capacity → Result Job LineFault
-job_of_among schemes line capacity = if has_line_octets line then job_words_of schemes (words_of line) capacity else Err faults.Chars
+job_of_among schemes line capacity =
+    if has_line_octets line then job_words_of schemes (words_of line) capacity else Err faults.Chars
 
 -- the job of a line where `http` alone is read, or its first fault
 abbrev pub job_of : List ℕ → Capacity → Result Job LineFault

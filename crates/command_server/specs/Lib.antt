@@ -17,7 +17,7 @@ pub mod Steps
 pub mod Replay
 pub mod HopText
 pub mod InfoText
-pub mod ToldText
+pub mod ClientReplyText
 pub mod Readings
 pub mod FirstLines
 pub mod Clients

@@ -67,8 +67,10 @@ AnswersNoVerb old text ended new = (text ≡ line_fault_text faults.Verb) × (en
 -- fault that fault; and but for a call nothing changes
 abbrev pub AnswersCommand : Schemes → Gate → Result Command LineFault → List ℕ → Bool → Gate → Type 0
 AnswersCommand schemes old (Ok (commands.Call call)) text ended new = AnswersCall old call text new × (ended ≡ false)
-AnswersCommand schemes old (Ok (commands.Arrive arrival)) text ended new = AnswersArrival schemes old arrival text new × (ended ≡ false)
-AnswersCommand schemes old (Ok (commands.State authority m)) text ended new = AnswersState old authority m text new × (ended ≡ false)
+AnswersCommand schemes old (Ok (commands.Arrive arrival)) text ended new =
+    AnswersArrival schemes old arrival text new × (ended ≡ false)
+AnswersCommand schemes old (Ok (commands.State authority m)) text ended new =
+    AnswersState old authority m text new × (ended ≡ false)
 AnswersCommand schemes old (Ok commands.Seal) text ended new = AnswersSeal old text new × (ended ≡ false)
 AnswersCommand schemes old (Ok (commands.Refresh authority)) text ended new = AnswersNoVerb old text ended new
 AnswersCommand schemes old (Ok (commands.Fetch job)) text ended new = AnswersNoVerb old text ended new

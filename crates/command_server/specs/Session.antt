@@ -22,10 +22,12 @@ last_words (Err Write) = []
 last_words (Err NoMemory) = []
 
 -- what follows the lines taken, by what the session met there
-abbrev pub Meets : (limit most count : ℕ) (ended : Bool) (behind : Option (List ℕ)) (unread : List ℕ) (left : Option (List ℕ)) → Result (Unit {0}) SessionFault → Type 0
+abbrev pub Meets : (limit most count : ℕ) (ended : Bool) (behind : Option (List ℕ)) (unread : List ℕ)
+    (left : Option (List ℕ)) → Result (Unit {0}) SessionFault → Type 0
 Meets limit most count ended behind unread left (Ok _) = FindsNoMore behind unread left (ended ≡ true)
 Meets limit most count ended behind unread left (Err LongLine) = (ended ≡ false) × FindsTooLong limit behind unread left
-Meets limit most count ended behind unread left (Err Lines) = (ended ≡ false) × (count ≡ most) × FindsLine limit behind unread left
+Meets limit most count ended behind unread left (Err Lines) =
+    (ended ≡ false) × (count ≡ most) × FindsLine limit behind unread left
 Meets limit most count ended behind unread left (Err Read) = (ended ≡ false) × FindsPart behind unread left
 Meets limit most count ended behind unread left (Err NoMemory) = (ended ≡ false) × FindsPart behind unread left
 Meets limit most count ended behind unread left (Err Write) = FindsPart behind unread left
@@ -45,7 +47,8 @@ Writes old new octets (Err Write) = AppendsPrefix old new octets
 
 -- of the lines that were taken, all but at most one had been answered, and what answers these was written, but for
 -- as much as a buffer holds
-pub record KeepsUp {S : Type 0} (answers : S → List ℕ → List ℕ → Bool → S → Type 0) (old : S) (lines : List (List ℕ)) (text : List ℕ) (written written_new : Option (List ℕ)) : Type 0 where
+pub record KeepsUp {S : Type 0} (answers : S → List ℕ → List ℕ → Bool → S → Type 0) (old : S) (lines : List (List ℕ))
+    (text : List ℕ) (written written_new : Option (List ℕ)) : Type 0 where
   pub front : List (List ℕ)
   pub late : List (List ℕ)
   pub replies : List ℕ
@@ -65,8 +68,10 @@ abbrev pub StopsAtWrite : Result (Unit {0}) SessionFault → Type 0 → Type 0
 StopsAtWrite (Err Write) kept_up = kept_up
 StopsAtWrite _ kept_up = Unit {0}
 
--- at most so many lines of the input were taken, each within the limit; they were answered in turn; and the replies were written, and the last words
-pub record Session {S : Type 0} (answers : S → List ℕ → List ℕ → Bool → S → Type 0) (limit most : ℕ) (old new : S) (input left written written_new : Option (List ℕ)) (result : Result (Unit {0}) SessionFault) : Type 0 where
+-- at most so many lines of the input were taken, each within the limit; they were answered in turn; and the replies
+-- were written, and the last words
+pub record Session {S : Type 0} (answers : S → List ℕ → List ℕ → Bool → S → Type 0) (limit most : ℕ) (old new : S)
+    (input left written written_new : Option (List ℕ)) (result : Result (Unit {0}) SessionFault) : Type 0 where
   pub lines : List (List ℕ)
   pub text : List ℕ
   pub ended : Bool

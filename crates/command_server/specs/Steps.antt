@@ -8,7 +8,8 @@ use Rattle.command_server.specs.declared.session_fault.SessionFault.{SessionFaul
 use Rattle.command_server.specs.declared.session_fault.SessionFault.TheVariants.{LongLine, Lines, Read, Write, NoMemory}
 
 -- no line was read, though a part of one may be gone, and the pending replies were written, up to a write fault
-abbrev pub FailsToReadLine : (behind : Option (List ℕ)) (unread : List ℕ) (left : Option (List ℕ)) (pending : List ℕ) (old new : Option (List ℕ)) → SessionFault → Type 0
+abbrev pub FailsToReadLine : (behind : Option (List ℕ)) (unread : List ℕ) (left : Option (List ℕ)) (pending : List ℕ)
+    (old new : Option (List ℕ)) → SessionFault → Type 0
 FailsToReadLine behind unread left pending old new LongLine = ⊥
 FailsToReadLine behind unread left pending old new Lines = ⊥
 FailsToReadLine behind unread left pending old new Read = FindsPart behind unread left × Appends old new pending

@@ -64,13 +64,13 @@ abbrev pub has_permits : Dialogue → Bool
 has_permits (Overseer moment) = false
 has_permits _ = true
 
--- whether robots files and pages are fetched in the dialogue
+-- whether robots.txt files and pages are fetched in the dialogue
 abbrev pub has_fetches : Dialogue → Bool
 has_fetches (Client moment fetches) = fetches
 has_fetches _ = false
 
--- whether the dialogue has the verb: a replay brings robots answers, and for a client they are fetched; a client is told
--- how a URL is written, since it may fetch the page itself. Who sees to a gate seals, and looks
+-- whether the dialogue has the verb: a replay brings robots answers, and for a client they are fetched; a client is
+-- told how a URL is written, since it may fetch the page itself. An overseer seals, and looks
 abbrev pub is_in : Dialogue → Verb → Bool
 is_in dialogue verbs.Begin = is_replay dialogue
 is_in dialogue verbs.Arrive = is_replay dialogue

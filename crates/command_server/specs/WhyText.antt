@@ -9,8 +9,8 @@ use Rattle.gate_core.specs.declared.refusal.NoMemory.{NoMemory}
 use Rattle.line_text.specs.Pieces.{line_of}
 use Rattle.command_server.specs.RefusalText.{refusal_text}
 
--- the answer as a base spells it behind the letter of its line: the authority, its turn, the moment of that turn's begin,
--- and what it says
+-- the answer as a base spells it behind the letter of its line: the authority, its turn, the moment of that turn's
+-- begin, and what it says
 abbrev pub explained_text : StandingAnswer → List ℕ
 explained_text answer = (codes "WHY " ++ answer_words answer) ++ line_feed ∷ []
 

@@ -1,7 +1,9 @@
 //! One word of a command line as a number, a token, a URL or an authority.
 //! Used by `calls`, in the order of the words.
-ghost use Rattle.std.specs.Prelude.{◌≡◌};
-ghost use Rattle.path_normal.specs.Capacity.{IsRead};
+ghost use Rattle.std.specs.Prelude.{◌≡◌, Err, IsTrue, None, Ok};
+ghost use Rattle.path_normal.specs.Capacity.{Enough, IsRead, Refused};
+ghost use Rattle.path_normal.specs.PageUrl.{page_url_among};
+ghost use Rattle.path_normal.specs.declared.fault.UrlFault.TheVariants.{NoMemory};
 ghost use Rattle.command_server.specs.Arguments.{authority_word, number_word, page_word};
 ghost use Rattle.command_server.specs.Arguments.{token_word};
 
@@ -40,4 +42,28 @@ pub fn read_page(alloc: Global, schemes: Schemes, word: &str) -> Result<PageUrl,
 {
     let url = PageUrl::parse_among(alloc, schemes, word)?;
     Ok(url)
+}
+
+/// Reads the URL of a page of these schemes. Where it has the octets of a page that is known, it is that page.
+pub fn read_known_page(
+    alloc: Global,
+    schemes: Schemes,
+    word: &str,
+    known: Option<&PageUrl>,
+) -> Result<PageUrl, LineFault>
+    ensures { IsRead result (page_word schemes word.now) }
+{
+    match known {
+        Some(page) if reads_as(schemes, word, page) => Ok(page.copy()?),
+        _ => read_page(alloc, schemes, word),
+    }
+}
+
+// Whether the word is a page as it is written, of a scheme that is read: such a text reads as that page.
+fn reads_as(schemes: Schemes, word: &str, page: &PageUrl) -> bool
+    ensures page { IsTrue result → page_url_among schemes None word.now Enough ≡ Ok page.now }
+    ensures refused { IsTrue result
+        → page_url_among schemes None word.now Refused ≡ Err NoMemory }
+{
+    word == page.text() && (schemes == Schemes::HttpAndHttps || !page.is_https())
 }

@@ -61,13 +61,23 @@ impl Answerer<Book> for BookLines {
                 answer_seal(book, output, sink)?;
                 Ok(Flow::Goes)
             }
-            Ok(
-                Command::Refresh { .. }
-                | Command::Fetch(_)
-                | Command::Url(_)
-                | Command::Info
-                | Command::Why { .. },
-            ) => {
+            Ok(Command::Refresh { .. }) => {
+                fault_pieces(LineFault::Verb).push(output, sink)?;
+                Ok(Flow::Goes)
+            }
+            Ok(Command::Fetch(_)) => {
+                fault_pieces(LineFault::Verb).push(output, sink)?;
+                Ok(Flow::Goes)
+            }
+            Ok(Command::Url(_)) => {
+                fault_pieces(LineFault::Verb).push(output, sink)?;
+                Ok(Flow::Goes)
+            }
+            Ok(Command::Info) => {
+                fault_pieces(LineFault::Verb).push(output, sink)?;
+                Ok(Flow::Goes)
+            }
+            Ok(Command::Why { .. }) => {
                 fault_pieces(LineFault::Verb).push(output, sink)?;
                 Ok(Flow::Goes)
             }

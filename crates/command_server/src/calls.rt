@@ -7,9 +7,10 @@ ghost use Rattle.command_server.specs.CallOf.{arrive_of, authority_alone, job_wo
 ghost use Rattle.command_server.specs.CallOf.{page_alone, start_of, takes};
 ghost use Rattle.line_text.specs.Words.{words_left};
 
-use crate::arguments::{read_authority, read_number, read_page, read_token};
+use crate::arguments::{read_authority, read_known_page, read_number, read_page, read_token};
 use crate::arrival::Arrival;
 use crate::fault::LineFault;
+use crate::known_pages::KnownPages;
 use crate::reply_words::ReplyWords;
 use crate::verbs::Verb;
 use authority_cache::TurnNo;
@@ -72,12 +73,13 @@ pub fn read_job_words(alloc: Global, schemes: Schemes, words: Words<'_>) -> Resu
     Ok(Job { token, url })
 }
 
-/// Reads `START <n> <token> <url>`.
-pub fn read_start(
+/// Reads `START <n> <token> <url>`, whose URL is most often that of the permit.
+pub fn read_start<P: KnownPages>(
     alloc: Global,
     schemes: Schemes,
     moment: u64,
     words: Words<'_>,
+    pages: &P,
 ) -> Result<Call, LineFault>
     requires { IsTrue (takes Verb.Start (words_left words)) }
     ensures read { IsRead result (start_of schemes moment (words_left words.entry)) }
@@ -86,7 +88,10 @@ pub fn read_start(
     let mut words = words;
     let number = words.first();
     let number = PermitNo::new(read_number(number)?);
-    let Job { token, url } = read_job_words(alloc, schemes, words)?;
+    let token = words.first();
+    let url = words.first();
+    let token = read_token(alloc, token)?;
+    let url = read_known_page(alloc, schemes, url, pages.page_of(number))?;
     Ok(Call::Start {
         number,
         token,

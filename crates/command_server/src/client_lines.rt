@@ -6,11 +6,12 @@ ghost use Rattle.command_server.specs.Clients.{DoesCall, DoesRequest, is_farewel
 ghost use Rattle.command_server.specs.FirstLines.{is_turned_away};
 
 use crate::answerer::{Answerer, Flow};
-use crate::command::{Command, read_command_among};
+use crate::client_reply::ClientReply;
+use crate::command::{Command, read_command_knowing};
 use crate::fault::LineFault;
 use crate::first_line::FirstLine;
+use crate::known_pages::KeptPages;
 use crate::numbered_clock::{FetchClock, NumberedClock, next_reading};
-use crate::told::Told;
 use crate::verbs::Speaker;
 use counted_io::{DeviceFault, Output, Sink};
 use crawl_job::Job;
@@ -69,7 +70,7 @@ impl<'k, K: Keeper, C: NumberedClock> Answerer<Client<'k, K>> for ClientLines<'_
 }
 
 // Whether the session goes on behind a line that has the reading of this number, by what it is told.
-fn flow_behind(first: FirstLine, number: u64, line: &[u8], told: &Told) -> Flow
+fn flow_behind(first: FirstLine, number: u64, line: &[u8], told: &ClientReply) -> Flow
     ensures { ends_session result ≡ (is_turned_away first number line.now || is_farewell told.now) }
 {
     if first.turns_away(number, line) {
@@ -88,58 +89,60 @@ fn told_of<K: Keeper, C: NumberedClock>(
     number: u64,
     keeper: &mut K,
     line: &[u8],
-) -> Told
-    ensures { DoesRequest K.deals speaker (C.reads clock.now) number keeper.old line.now result keeper.new }
+) -> ClientReply
+    ensures { DoesRequest K.deals speaker
+        (C.reads clock.now) number keeper.old line.now result keeper.new }
 {
     let dialogue = speaker.dialogue(clock.read(number), keeper.can_fetch());
     let clock = &FetchClock {
         clock,
         number: next_reading(number),
     };
-    match read_command_among(alloc, keeper.schemes(), dialogue, line) {
+    let pages = KeptPages { keeper: &*keeper };
+    match read_command_knowing(alloc, pages.keeper.schemes(), dialogue, line, &pages) {
         Ok(Command::Call(call)) => told_of_call(keeper, call),
         Ok(Command::State { authority, moment }) => {
             let state = keeper.state(&authority, moment);
-            Told::Known { authority, state }
+            ClientReply::Known { authority, state }
         }
-        Ok(Command::Seal) => Told::Sealed(keeper.seal()),
+        Ok(Command::Seal) => ClientReply::Sealed(keeper.seal()),
         Ok(Command::Refresh { authority }) => {
             match keeper.refresh(alloc, &authority, clock) {
-                Some(result) => Told::Refreshed { authority, result },
-                None => Told::Fault(LineFault::Verb),
+                Some(result) => ClientReply::Refreshed { authority, result },
+                None => ClientReply::Fault(LineFault::Verb),
             }
         }
         Ok(Command::Fetch(job)) => match keeper.fetch(alloc, job, clock) {
-            Some(Ok(outcome)) => Told::Fetched(outcome),
-            Some(Err(_)) => Told::NoMemory,
-            None => Told::Fault(LineFault::Verb),
+            Some(Ok(outcome)) => ClientReply::Fetched(outcome),
+            Some(Err(_)) => ClientReply::NoMemory,
+            None => ClientReply::Fault(LineFault::Verb),
         },
         // The keeper has no part in it.
-        Ok(Command::Url(url)) => Told::Written(url),
-        Ok(Command::Info) => Told::Counted {
+        Ok(Command::Url(url)) => ClientReply::Written(url),
+        Ok(Command::Info) => ClientReply::Counted {
             counts: keeper.counts(),
             visitors: keeper.visitors(),
         },
         Ok(Command::Why { authority }) => {
             let result = keeper.answer(alloc, &authority);
-            Told::Explained { authority, result }
+            ClientReply::Explained { authority, result }
         }
         Ok(Command::Quit) => {
             keeper.end();
-            Told::Bye
+            ClientReply::Bye
         }
         // No line of a client reads so.
-        Ok(Command::Arrive(_)) => Told::Fault(LineFault::Verb),
-        Err(fault) => Told::Fault(fault),
+        Ok(Command::Arrive(_)) => ClientReply::Fault(LineFault::Verb),
+        Err(fault) => ClientReply::Fault(fault),
     }
 }
 
 // Makes a call of the gate.
-fn told_of_call<K: Keeper>(keeper: &mut K, call: Call) -> Told
+fn told_of_call<K: Keeper>(keeper: &mut K, call: Call) -> ClientReply
     ensures { DoesCall K.deals keeper.old call result keeper.new }
 {
     match call {
-        Call::Ask { token, url, moment } => Told::Asked(keeper.ask(token, url, moment)),
+        Call::Ask { token, url, moment } => ClientReply::Asked(keeper.ask(token, url, moment)),
         Call::Start {
             number,
             token,
@@ -147,19 +150,19 @@ fn told_of_call<K: Keeper>(keeper: &mut K, call: Call) -> Told
             moment,
         } => {
             let result = keeper.start(number, &token, url, moment);
-            Told::Begun { number, result }
+            ClientReply::Started { number, result }
         }
         Call::Back { number } => {
             let result = keeper.back(number);
-            Told::Returned { number, result }
+            ClientReply::Returned { number, result }
         }
         Call::Finish { number } => {
             let result = keeper.finish(number);
-            Told::Finished { number, result }
+            ClientReply::Finished { number, result }
         }
         // No line of a client makes one.
         Call::Begin { .. } | Call::Arrive { .. } | Call::Sweep { .. } => {
-            Told::Fault(LineFault::Verb)
+            ClientReply::Fault(LineFault::Verb)
         }
     }
 }

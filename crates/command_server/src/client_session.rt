@@ -31,7 +31,8 @@ pub fn serve<R: Source, W: Sink, K: Keeper, C: NumberedClock>(
     keeper: &mut K,
     clock: &C,
 ) -> Result<(), SessionFault>
-    ensures session { Serves K.deals speakers.Client first_lines.Any (C.reads clock.now) keeper.old keeper.new
+    ensures session { Serves K.deals speakers.Client first_lines.Any
+        (C.reads clock.now) keeper.old keeper.new
         (R.left reader.old) (R.left reader.new)
         (W.written writer.old) (W.written writer.new) result }
     ensures reads { R.failures reader.new ≡ failures_after_reads (R.failures reader.old) result }
@@ -60,7 +61,7 @@ pub fn serve_from<R: Source, W: Sink, K: Keeper, C: NumberedClock>(
     serve_lines(alloc, reader, writer, keeper, Speaker::Client, clock, first)
 }
 
-/// Serves who sees to the gate as `serve_from` serves a client: its lines are those of an overseer. What asks for permits
+/// Serves an overseer as `serve_from` serves a client: its lines are those of an overseer. What asks for permits
 /// or fetches is no verb of its.
 pub fn serve_overseer<R: Source, W: Sink, K: Keeper, C: NumberedClock>(
     alloc: Global,
@@ -70,7 +71,8 @@ pub fn serve_overseer<R: Source, W: Sink, K: Keeper, C: NumberedClock>(
     clock: &C,
     first: FirstLine,
 ) -> Result<(), SessionFault>
-    ensures session { Serves K.deals speakers.Overseer first (C.reads clock.now) keeper.old keeper.new
+    ensures session { Serves K.deals speakers.Overseer first
+        (C.reads clock.now) keeper.old keeper.new
         (R.left reader.old) (R.left reader.new)
         (W.written writer.old) (W.written writer.new) result }
     ensures reads { R.failures reader.new ≡ failures_after_reads (R.failures reader.old) result }
@@ -125,7 +127,8 @@ fn run_lines<'k, R: Source, W: Sink, K: Keeper, C: NumberedClock>(
     client: &mut Client<'k, K>,
 ) -> Result<(), SessionFault>
     ensures keeper { client.new.keeper.ghost_name ≡ client.old.keeper.ghost_name }
-    ensures session { Session (AnswersClient K.deals lines.now.speaker lines.now.first (C.reads lines.now.clock.now))
+    ensures session { Session
+        (AnswersClient K.deals lines.now.speaker lines.now.first (C.reads lines.now.clock.now))
         max_client_line max_lines
         (record { keeper = client.old.keeper.now; number = client.old.number })
         (record { keeper = client.new.keeper.now; number = client.new.number })

@@ -13,6 +13,7 @@ use crate::calls::{
     read_start,
 };
 use crate::fault::LineFault;
+use crate::known_pages::{KnownPages, NoPages};
 use crate::line_words::LineWords;
 use crate::verbs::{Dialogue, Verb};
 use crawl_job::Job;
@@ -68,14 +69,28 @@ pub fn read_command_among(
     ensures read { IsRead result (command_of_among schemes dialogue line.now) }
     ensures spare { IfOk result CanBeMade }
 {
+    read_command_knowing(alloc, schemes, dialogue, line, &NoPages)
+}
+
+/// Reads a command line as `read_command_among` does, with the pages that are known.
+pub(crate) fn read_command_knowing<'a, P: KnownPages>(
+    alloc: Global,
+    schemes: Schemes,
+    dialogue: Dialogue,
+    line: &'a [u8],
+    pages: &P,
+) -> Result<Command<'a>, LineFault>
+    ensures read { IsRead result (command_of_among schemes dialogue line.now) }
+    ensures spare { IfOk result CanBeMade }
+{
     let words = match LineWords::of(line) {
         Ok(words) => words,
         Err(fault) => return Err(fault),
     };
     match dialogue {
-        Dialogue::Replay => read_timed(alloc, schemes, words),
+        Dialogue::Replay => read_timed(alloc, schemes, words, pages),
         Dialogue::Client { moment, .. } | Dialogue::Overseer { moment } => {
-            read_verb(alloc, schemes, dialogue, moment, words)
+            read_verb(alloc, schemes, dialogue, moment, words, pages)
         }
     }
 }
@@ -102,11 +117,12 @@ fn is_line_octet(octet: u8) -> bool
     (32..=126).contains(&octet)
 }
 
-fn read_timed(
+fn read_timed<'a, P: KnownPages>(
     alloc: Global,
     schemes: Schemes,
-    words: LineWords<'_>,
-) -> Result<Command<'_>, LineFault>
+    words: LineWords<'a>,
+    pages: &P,
+) -> Result<Command<'a>, LineFault>
     ensures read { IsRead result (timed_words_of schemes words.entry) }
     ensures spare { IfOk result CanBeMade }
 {
@@ -117,16 +133,17 @@ fn read_timed(
     let Some(moment) = number_of(first) else {
         return Err(LineFault::Moment);
     };
-    read_verb(alloc, schemes, Dialogue::Replay, moment, words)
+    read_verb(alloc, schemes, Dialogue::Replay, moment, words, pages)
 }
 
-fn read_verb(
+fn read_verb<'a, P: KnownPages>(
     alloc: Global,
     schemes: Schemes,
     dialogue: Dialogue,
     moment: u64,
-    words: LineWords<'_>,
-) -> Result<Command<'_>, LineFault>
+    words: LineWords<'a>,
+    pages: &P,
+) -> Result<Command<'a>, LineFault>
     ensures read { IsRead result (verb_words_of schemes dialogue moment words.entry) }
     ensures spare { IfOk result CanBeMade }
 {
@@ -141,16 +158,17 @@ fn read_verb(
     if !words.count_is_within(row.least, row.most) {
         return Err(LineFault::Words);
     }
-    read_arguments(alloc, schemes, verb, moment, words.left())
+    read_arguments(alloc, schemes, verb, moment, words.left(), pages)
 }
 
-fn read_arguments(
+fn read_arguments<'a, P: KnownPages>(
     alloc: Global,
     schemes: Schemes,
     verb: Verb,
     moment: u64,
-    words: Words<'_>,
-) -> Result<Command<'_>, LineFault>
+    words: Words<'a>,
+    pages: &P,
+) -> Result<Command<'a>, LineFault>
     requires { IsTrue (takes verb (words_left words)) }
     ensures read { IsRead result (arguments_of schemes verb moment (words_left words.entry)) }
     ensures spare { IfOk result CanBeMade }
@@ -165,7 +183,7 @@ fn read_arguments(
             let Job { token, url } = read_job_words(alloc, schemes, words)?;
             Call::Ask { token, url, moment }
         }
-        Verb::Start => read_start(alloc, schemes, moment, words)?,
+        Verb::Start => read_start(alloc, schemes, moment, words, pages)?,
         Verb::Back => {
             let number = read_permit_alone(words)?;
             Call::Back { number }

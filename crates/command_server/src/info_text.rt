@@ -1,5 +1,5 @@
 //! The reply to INFO: how much there is of what the gate keeps (docs/FORMATS.md, replies).
-//! Pushed by `Told`.
+//! Pushed by `ClientReply`.
 ghost use Rattle.std.specs.Prelude.{◌≡◌};
 ghost use Rattle.counted_io.specs.Output.{Pushes};
 ghost use Rattle.line_text.specs.Pieces.{pieces_text};

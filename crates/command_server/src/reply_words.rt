@@ -15,7 +15,7 @@ use std::marker::Model;
 
 /// What the first word of a reply says.
 #[derive(Clone, Copy)]
-pub(crate) enum Head {
+pub(crate) enum ReplyHead {
     /// A response of this status, with the seconds for which its rules may be kept.
     Status { code: u16, max_age: Option<u64> },
     /// `CODING`: a response in a content coding other than identity.
@@ -62,7 +62,7 @@ impl<'a> ReplyWords<'a> {
             return Ok(None);
         };
         let second = words.next().unwrap();
-        let reply = Head::of(first).unwrap().reply(alloc, second)?;
+        let reply = ReplyHead::of(first).unwrap().reply(alloc, second)?;
         self.words = words;
         Ok(Some(reply))
     }
@@ -81,7 +81,7 @@ fn replies_fault(words: Words<'_>) -> Option<LineFault>
 {
     let mut left = words;
     while let Some(first) = left.next() {
-        let Some(head) = Head::of(first) else {
+        let Some(head) = ReplyHead::of(first) else {
             return Some(LineFault::Status);
         };
         match left.next() {
@@ -92,13 +92,13 @@ fn replies_fault(words: Words<'_>) -> Option<LineFault>
     None
 }
 
-impl Head {
-    fn of(word: &str) -> Option<Head>
+impl ReplyHead {
+    fn of(word: &str) -> Option<ReplyHead>
         ensures { result ≡ head_written word.now }
     {
         match word {
-            "NET" => Some(Head::Network),
-            "CODING" => Some(Head::Coding),
+            "NET" => Some(ReplyHead::Network),
+            "CODING" => Some(ReplyHead::Coding),
             _ => response_written(word),
         }
     }
@@ -107,11 +107,11 @@ impl Head {
         ensures { result ≡ may_have self word.now }
     {
         match self {
-            Head::Status { code, .. } => match class_of(code) {
+            ReplyHead::Status { code, .. } => match class_of(code) {
                 StatusClass::Successful | StatusClass::Redirect => true,
                 _ => word == "-",
             },
-            Head::Coding | Head::Network => word == "-",
+            ReplyHead::Coding | ReplyHead::Network => word == "-",
         }
     }
 
@@ -120,9 +120,9 @@ impl Head {
         ensures { IfOk result (HasWords self word.now) }
     {
         let (code, max_age) = match self {
-            Head::Status { code, max_age } => (code, max_age),
-            Head::Coding => return Ok(RobotsReply::CodingFault),
-            Head::Network => return Ok(RobotsReply::NetworkFault),
+            ReplyHead::Status { code, max_age } => (code, max_age),
+            ReplyHead::Coding => return Ok(RobotsReply::CodingFault),
+            ReplyHead::Network => return Ok(RobotsReply::NetworkFault),
         };
         let mut location = None;
         let mut body = Vec::new(alloc);
@@ -143,7 +143,7 @@ impl Head {
 }
 
 // A response: its status, and behind a `/` its life.
-fn response_written(word: &str) -> Option<Head>
+fn response_written(word: &str) -> Option<ReplyHead>
     ensures { result ≡ response_written word.now }
 {
     match word.split_once('/') {
@@ -152,22 +152,22 @@ fn response_written(word: &str) -> Option<Head>
     }
 }
 
-fn plain_of(word: &str) -> Option<Head>
+fn plain_of(word: &str) -> Option<ReplyHead>
     ensures { result ≡ plain_of word.now }
 {
-    Some(Head::Status {
+    Some(ReplyHead::Status {
         code: status_written(word)?,
         max_age: None,
     })
 }
 
 // A response whose first word has a life too, as `200/60`.
-fn lasting_of(status: &str, life: &str) -> Option<Head>
+fn lasting_of(status: &str, life: &str) -> Option<ReplyHead>
     ensures { result ≡ lasting_of status.now life.now }
 {
     let code = status_written(status)?;
     match class_of(code) {
-        StatusClass::Successful => Some(Head::Status {
+        StatusClass::Successful => Some(ReplyHead::Status {
             code,
             max_age: Some(number_of(life)?),
         }),

@@ -46,10 +46,10 @@ const VERBS: [Verb; 15] = [
 pub enum Dialogue {
     /// A list of calls: each line begins with the moment of its call.
     Replay,
-    /// A client, whose line has the moment at which it was taken; and whether robots files and pages are
+    /// A client, whose line has the moment at which it was taken; and whether robots.txt files and pages are
     /// fetched for it.
     Client { moment: u64, fetches: bool },
-    /// Who sees to the gate, and fetches nothing: it seals the history, and looks. A line has its moment as a client's.
+    /// An overseer fetches nothing: it seals the history, and looks. A line has its moment as a client's.
     Overseer { moment: u64 },
 }
 
@@ -58,7 +58,7 @@ pub enum Dialogue {
 pub enum Speaker {
     /// A client.
     Client,
-    /// Who sees to the gate.
+    /// An overseer.
     Overseer,
 }
 

@@ -1,5 +1,5 @@
 //! The reply to WHY: the answer that stands for an authority, as the text of a history has it (docs/FORMATS.md, replies).
-//! Pushed by `Told`. RFC 9309, section 2.4.
+//! Pushed by `ClientReply`. RFC 9309, section 2.4.
 ghost use Rattle.std.specs.Prelude.{◌≡◌};
 ghost use Rattle.counted_io.specs.Output.{Pushes};
 ghost use Rattle.command_server.specs.WhyText.{explained_text, why_text};

@@ -48,7 +48,8 @@ pub record TakesLineTo (end : LineEnd) (limit : ℕ) (old new : Option (List ℕ
   pub consumed : Consumes old new (raw ++ line_feed ∷ [])
 
 -- all that was left is a line of at most limit octets, with no line end
-pub record TakesLast (limit : ℕ) (old : Option (List ℕ)) (pending : List ℕ) (left : Option (List ℕ)) (line : List ℕ) : Type 0 where
+pub record TakesLast (limit : ℕ) (old : Option (List ℕ)) (pending : List ℕ) (left : Option (List ℕ))
+    (line : List ℕ) : Type 0 where
   pub no_line_feed : HasNoLineFeed line
   pub some : 0 < length line
   pub fits : length line ≤ limit
@@ -61,8 +62,10 @@ pub record FindsEnd (old : Option (List ℕ)) (pending : List ℕ) (left : Optio
   pub kept : Consumes old (prepend_known pending left) []
   pub drained : IsDrained pending left
 
--- the prefix of a line was taken, too long whatever follows or with nothing after it, and at most a buffer past the limit
-pub record FindsTooLongTo (end : LineEnd) (limit : ℕ) (old : Option (List ℕ)) (pending : List ℕ) (left : Option (List ℕ)) : Type 0 where
+-- the prefix of a line was taken, too long whatever follows or with nothing after it, and at most a buffer past the
+-- limit
+pub record FindsTooLongTo (end : LineEnd) (limit : ℕ) (old : Option (List ℕ)) (pending : List ℕ)
+    (left : Option (List ℕ)) : Type 0 where
   pub raw : List ℕ
   pub no_line_feed : HasNoLineFeed raw
   pub too_long : (limit < length (without_end end raw)) ⊎ ((limit < length raw) × IsDrained pending left)

@@ -11,9 +11,9 @@ use Rattle.gate_history.specs.History.{History, ◌▸◌, from, is_start}
 use Rattle.gate_history.specs.Legal.{IsLegal}
 use Rattle.gate_core.specs.Limits.{greatest_number, most_entries}
 use Rattle.crawl_audit.specs.declared.auditor.Auditor.{Auditor}
-use Rattle.crawl_audit.specs.declared.auditor.Stage.TheVariants as stages
+use Rattle.crawl_audit.specs.declared.auditor.AuditState.TheVariants as stages
 use Rattle.crawl_audit.specs.declared.first_base.FirstBase.{FirstBase}
-use Rattle.crawl_audit.specs.declared.ledger.Ledger.{Ledger}
+use Rattle.crawl_audit.specs.declared.open_state.OpenState.{OpenState}
 use Rattle.crawl_audit.specs.declared.next_base.BaseLine.TheVariants.{Last, Other, Taken}
 use Rattle.crawl_audit.specs.declared.next_base.NextBase.{NextBase}
 use Rattle.crawl_audit.specs.declared.unread_line.UnreadLine.{UnreadLine}
@@ -52,37 +52,37 @@ lawful version (Swept _ _) is = tt
 -- ---- where the auditor stands
 
 -- it stands there still where the reader and the counts of all texts changed alone
-pub stands_still : (a a' : Auditor) (place : Place) → a'.stage ≡ a.stage → a'.ledger ≡ a.ledger → a'.version ≡ a.version → a'.count ≡ a.count → StandsAt a place → StandsAt a' place
-stands_still a a' start stage ledger version count s = (stage ∙ s.0, entries s.1)
+pub stands_still : (a a' : Auditor) (place : Place) → a'.stage ≡ a.stage → a'.open_state ≡ a.open_state → a'.version ≡ a.version → a'.count ≡ a.count → StandsAt a place → StandsAt a' place
+stands_still a a' start stage open_state version count s = (stage ∙ s.0, entries s.1)
   where
     entries : AreEntries a One false (from empty_base) 0 → AreEntries a' One false (from empty_base) 0
     entries e = record {
       version_is = version ∙ e.version_is;
-      rising_is = ap (λ l. l.numbers.rising) ledger ∙ e.rising_is;
+      rising_is = ap (λ l. l.numbers.rising) open_state ∙ e.rising_is;
       count_is = count ∙ e.count_is;
-      tells = subst (λ (l : Ledger). TellsAll l (from empty_base)) (sym ledger) e.tells;
+      tells = subst (λ (l : OpenState). TellsAll l (from empty_base)) (sym open_state) e.tells;
       legal = e.legal;
     }
-stands_still a a' (among v r h n) stage ledger version count s = (stage ∙ s.0, entries s.1)
+stands_still a a' (among v r h n) stage open_state version count s = (stage ∙ s.0, entries s.1)
   where
     entries : AreEntries a v r h n → AreEntries a' v r h n
     entries e = record {
       version_is = version ∙ e.version_is;
-      rising_is = ap (λ l. l.numbers.rising) ledger ∙ e.rising_is;
+      rising_is = ap (λ l. l.numbers.rising) open_state ∙ e.rising_is;
       count_is = count ∙ e.count_is;
-      tells = subst (λ (l : Ledger). TellsAll l h) (sym ledger) e.tells;
+      tells = subst (λ (l : OpenState). TellsAll l h) (sym open_state) e.tells;
       legal = e.legal;
     }
-stands_still a a' (inside None lines) stage ledger version count s =
-    record { first = s.first; stage = stage ∙ s.stage; reads = subst (λ (l : Ledger). Reads s.first l lines) (sym ledger) s.reads }
-stands_still a a' (inside (Some h) lines) stage ledger version count s =
-    record { next = s.next; stage = stage ∙ s.stage; expects = s.expects; tells = subst (λ (l : Ledger). TellsAll l h) (sym ledger) s.tells; legal = s.legal }
+stands_still a a' (inside None lines) stage open_state version count s =
+    record { first = s.first; stage = stage ∙ s.stage; reads = subst (λ (l : OpenState). Reads s.first l lines) (sym open_state) s.reads }
+stands_still a a' (inside (Some h) lines) stage open_state version count s =
+    record { next = s.next; stage = stage ∙ s.stage; expects = s.expects; tells = subst (λ (l : OpenState). TellsAll l h) (sym open_state) s.tells; legal = s.legal }
 
 -- ---- entries
 
 -- an entry that may come was entered
 pub enters_one : (a a' : Auditor) (v : Version) (rising : Bool) (h : History) (n : ℕ) (line : List ℕ) (e : Entry) → AreEntries a v rising h n → IsEntry a.version e → line ≡ entry_line a.version e →
-    MayCome a.ledger.numbers.rising h e → EntersAll a.ledger.numbers.rising (h ▸ e) a'.ledger → a.count < most_entries → a.ledger.entries < greatest_number → a'.stage ≡ stages.Entries → a'.version ≡ a.version → a'.count ≡ a.count + 1 →
+    MayCome a.open_state.numbers.rising h e → EntersAll a.open_state.numbers.rising (h ▸ e) a'.open_state → a.count < most_entries → a.open_state.entries < greatest_number → a'.stage ≡ stages.Entries → a'.version ≡ a.version → a'.count ≡ a.count + 1 →
     (a.events < most_lines → a'.events ≡ a.events + 1) → (a.starts < most_lines → a'.starts ≡ cond (is_start e) (a.starts + 1) a.starts) → EntersOne v rising h n line a a'
 enters_one a a' v rising h n line e are is spelled may enters room counted stage same more events starts =
     let all = enters.tells in
@@ -116,7 +116,7 @@ enters_one a a' v rising h n line e are is spelled may enters room counted stage
 
 -- the line of an entry that may not come is that of none that may
 pub other_entry : (a : Auditor) (v : Version) (rising : Bool) (h : History) (n : ℕ) (line : List ℕ) (d : Entry) → AreEntries a v rising h n → IsEntry a.version d → line ≡ entry_line a.version d →
-    (MayCome a.ledger.numbers.rising h d → ⊥) → (next : Place) → TakesEntry v rising h n line next → ⊥
+    (MayCome a.open_state.numbers.rising h d → ⊥) → (next : Place) → TakesEntry v rising h n line next → ⊥
 other_entry a v rising h n line d are is spelled unfit next takes =
     let is' = subst (λ (w : Version). IsEntry w d) are.version_is is in
     let same = one_entry v takes.entry d takes.spelled is' (sym takes.line_is ∙ spelled ∙ ap (λ w. entry_line w d) are.version_is) in
@@ -131,7 +131,7 @@ counts_none a a' line is events starts = record {
   starts = λ few. starts ∙ ap (λ b. cond b (a.starts + 1) a.starts) (sym is.start);
 }
 
-module _ (a a' : Auditor) (line : List ℕ) (ledger : a'.ledger ≡ a.ledger) (events : a'.events ≡ a.events) (starts : a'.starts ≡ a.starts) where
+module _ (a a' : Auditor) (line : List ℕ) (open_state : a'.open_state ≡ a.open_state) (events : a'.events ≡ a.events) (starts : a'.starts ≡ a.starts) where
   -- the head of version 2
   pub takes_two : AreEntries a One false (from empty_base) 0 → line ≡ codes "V 2" → a'.stage ≡ stages.Entries → a'.version ≡ Two → a'.count ≡ a.count → GoesTo start line a a'
   takes_two are is stage version count = record {
@@ -141,9 +141,9 @@ module _ (a a' : Auditor) (line : List ℕ) (ledger : a'.ledger ≡ a.ledger) (e
       stage,
       record {
         version_is = version;
-        rising_is = ap (λ l. l.numbers.rising) ledger ∙ are.rising_is;
+        rising_is = ap (λ l. l.numbers.rising) open_state ∙ are.rising_is;
         count_is = count ∙ are.count_is;
-        tells = subst (λ (l : Ledger). TellsAll l (from empty_base)) (sym ledger) are.tells;
+        tells = subst (λ (l : OpenState). TellsAll l (from empty_base)) (sym open_state) are.tells;
         legal = are.legal;
       },
     );
@@ -154,11 +154,11 @@ module _ (a a' : Auditor) (line : List ℕ) (ledger : a'.ledger ≡ a.ledger) (e
   third is = counts_none a a' line (subst IsUncounted (sym is) (record { entry = refl; start = refl })) events starts
 
   -- that of version 3, where it is the first line
-  pub takes_three : (first : FirstBase) → line ≡ codes "V 3" → a'.stage ≡ stages.First first → Reads first a.ledger (codes "V 3" ∷ []) → GoesTo start line a a'
+  pub takes_three : (first : FirstBase) → line ≡ codes "V 3" → a'.stage ≡ stages.First first → Reads first a.open_state (codes "V 3" ∷ []) → GoesTo start line a a'
   takes_three first is stage reads = record {
     next = inside None (codes "V 3" ∷ []);
     steps = inr (inl (record { line_is = is; next_is = refl }));
-    stands = record { first = first; stage = stage; reads = subst (λ (l : Ledger). Reads first l (codes "V 3" ∷ [])) (sym ledger) reads };
+    stands = record { first = first; stage = stage; reads = subst (λ (l : OpenState). Reads first l (codes "V 3" ∷ [])) (sym open_state) reads };
     counts = third is;
   }
 
@@ -168,7 +168,7 @@ module _ (a a' : Auditor) (line : List ℕ) (ledger : a'.ledger ≡ a.ledger) (e
   takes_further v rising h n next are is stage expects = record {
     next = inside (Some h) (codes "V 3" ∷ []);
     steps = inl (record { line_is = is; next_is = refl });
-    stands = record { next = next; stage = stage; expects = expects; tells = subst (λ (l : Ledger). TellsAll l h) (sym ledger) are.tells; legal = are.legal };
+    stands = record { next = next; stage = stage; expects = expects; tells = subst (λ (l : OpenState). TellsAll l h) (sym open_state) are.tells; legal = are.legal };
     counts = third is;
   }
 
@@ -196,7 +196,7 @@ moves_among v rising h n a a' line (Err unread.NoMemory) three enters = tt
 -- ---- bases
 
 -- entries may come behind a base that was read
-pub base_ends : (after : Option History) (lines : List (List ℕ)) (line : List ℕ) (b : Base) (a a' : Auditor) → IsBaseFor after b → base_lines b ≡ lines ++ line ∷ [] → TellsAll a'.ledger (from b) → IsBase b → a'.ledger.numbers.rising ≡ true →
+pub base_ends : (after : Option History) (lines : List (List ℕ)) (line : List ℕ) (b : Base) (a a' : Auditor) → IsBaseFor after b → base_lines b ≡ lines ++ line ∷ [] → TellsAll a'.open_state (from b) → IsBase b → a'.open_state.numbers.rising ≡ true →
     a'.version ≡ Two → a'.stage ≡ stages.Entries → a'.count ≡ 0 → a'.events ≡ a.events → a'.starts ≡ a.starts → GoesTo (inside after lines) line a a'
 base_ends after lines line b a a' is lines_are tells base rising version stage count events starts = record {
   next = among Two true (from b) 0;
@@ -231,7 +231,7 @@ step_entries a a' line r stage go (inside (Some h) lines) s = absurd (clash s.ne
 
 -- within the base of a first text
 module _ (a : Auditor) (first : FirstBase) (stage : a.stage ≡ stages.First first) where
-  in_first : (P : Place → Type 0) → ((lines : List (List ℕ)) → Reads first a.ledger lines → P (inside None lines)) → (place : Place) → StandsAt a place → P place
+  in_first : (P : Place → Type 0) → ((lines : List (List ℕ)) → Reads first a.open_state lines → P (inside None lines)) → (place : Place) → StandsAt a place → P place
   in_first P go start s = absurd (clash (sym stage ∙ s.0))
     where
       clash : stages.First first ≡ stages.Start → ⊥
@@ -240,7 +240,7 @@ module _ (a : Auditor) (first : FirstBase) (stage : a.stage ≡ stages.First fir
     where
       clash : stages.First first ≡ stages.Entries → ⊥
       clash e = cc
-  in_first P go (inside None lines) s = go lines (subst (λ (f : FirstBase). Reads f a.ledger lines) (same s.first (sym s.stage ∙ stage)) s.reads)
+  in_first P go (inside None lines) s = go lines (subst (λ (f : FirstBase). Reads f a.open_state lines) (same s.first (sym s.stage ∙ stage)) s.reads)
     where
       same : (f : FirstBase) → stages.First f ≡ stages.First first → f ≡ first
       same f e = cc
@@ -251,7 +251,7 @@ module _ (a : Auditor) (first : FirstBase) (stage : a.stage ≡ stages.First fir
 
   -- one line of it more
   pub first_goes_on : (a' : Auditor) (line : List ℕ) (first' : FirstBase) → a'.stage ≡ stages.First first' → a'.events ≡ a.events → a'.starts ≡ a.starts →
-      ((lines : List (List ℕ)) → Reads first a.ledger lines → TakesBaseLine lines line (Ok false) first' a'.ledger) → (place : Place) → StandsAt a place → GoesTo place line a a'
+      ((lines : List (List ℕ)) → Reads first a.open_state lines → TakesBaseLine lines line (Ok false) first' a'.open_state) → (place : Place) → StandsAt a place → GoesTo place line a a'
   first_goes_on a' line first' stage' events starts takes =
       in_first (λ place. GoesTo place line a a')
       (λ lines reads.
@@ -265,7 +265,7 @@ module _ (a : Auditor) (first : FirstBase) (stage : a.stage ≡ stages.First fir
 
   -- its last line
   pub first_ends : (a' : Auditor) (line : List ℕ) (first' : FirstBase) → a'.stage ≡ stages.Entries → a'.version ≡ Two → a'.count ≡ 0 → a'.events ≡ a.events → a'.starts ≡ a.starts →
-      ((lines : List (List ℕ)) → Reads first a.ledger lines → TakesBaseLine lines line (Ok true) first' a'.ledger) → (place : Place) → StandsAt a place → GoesTo place line a a'
+      ((lines : List (List ℕ)) → Reads first a.open_state lines → TakesBaseLine lines line (Ok true) first' a'.open_state) → (place : Place) → StandsAt a place → GoesTo place line a a'
   first_ends a' line first' stage' version count events starts takes =
       in_first (λ place. GoesTo place line a a')
       (λ lines reads.
@@ -274,14 +274,14 @@ module _ (a : Auditor) (first : FirstBase) (stage : a.stage ≡ stages.First fir
       base_ends None lines line read.base a a' read.is_base read.lines_are read.tells text.base read.rising version stage' count events starts)
 
   -- a line that does not go on
-  pub first_stops : (a' : Auditor) (line : List ℕ) (first' : FirstBase) (ledger' : Ledger) (u : UnreadLine) → ((lines : List (List ℕ)) → Reads first a.ledger lines → TakesBaseLine lines line (Err u) first' ledger') →
+  pub first_stops : (a' : Auditor) (line : List ℕ) (first' : FirstBase) (open_state' : OpenState) (u : UnreadLine) → ((lines : List (List ℕ)) → Reads first a.open_state lines → TakesBaseLine lines line (Err u) first' open_state') →
       (place : Place) → StandsAt a place → Moves place line a (Err u) a'
-  first_stops a' line first' ledger' unread.NotOne takes = in_first (λ place. (next : Place) → Steps place line next → ⊥) (λ lines reads. takes lines reads)
-  first_stops a' line first' ledger' unread.NoMemory takes = λ place s. tt
+  first_stops a' line first' open_state' unread.NotOne takes = in_first (λ place. (next : Place) → Steps place line next → ⊥) (λ lines reads. takes lines reads)
+  first_stops a' line first' open_state' unread.NoMemory takes = λ place s. tt
 
 -- within that of a further text
 module _ (a : Auditor) (next : NextBase) (stage : a.stage ≡ stages.Further next) where
-  in_further : (P : Place → Type 0) → ((h : History) (lines : List (List ℕ)) → Expects next h lines → TellsAll a.ledger h → IsLegal h → P (inside (Some h) lines)) → (place : Place) → StandsAt a place → P place
+  in_further : (P : Place → Type 0) → ((h : History) (lines : List (List ℕ)) → Expects next h lines → TellsAll a.open_state h → IsLegal h → P (inside (Some h) lines)) → (place : Place) → StandsAt a place → P place
   in_further P go start s = absurd (clash (sym stage ∙ s.0))
     where
       clash : stages.Further next ≡ stages.Start → ⊥
@@ -300,29 +300,29 @@ module _ (a : Auditor) (next : NextBase) (stage : a.stage ≡ stages.Further nex
       same n e = cc
 
   -- one line of it more
-  pub further_goes_on : (a' : Auditor) (line : List ℕ) (next' : NextBase) → a'.stage ≡ stages.Further next' → a'.ledger ≡ a.ledger → a'.events ≡ a.events → a'.starts ≡ a.starts →
+  pub further_goes_on : (a' : Auditor) (line : List ℕ) (next' : NextBase) → a'.stage ≡ stages.Further next' → a'.open_state ≡ a.open_state → a'.events ≡ a.events → a'.starts ≡ a.starts →
       ((h : History) (lines : List (List ℕ)) → Expects next h lines → TakesNextLine h lines line Taken next') → (place : Place) → StandsAt a place → GoesTo place line a a'
-  further_goes_on a' line next' stage' ledger events starts takes =
+  further_goes_on a' line next' stage' open_state events starts takes =
       in_further (λ place. GoesTo place line a a')
       (λ h lines expects tells legal.
       let on = takes h lines expects in
       record {
         next = inside (Some h) (lines ++ line ∷ []);
         steps = inl on.1;
-        stands = record { next = next'; stage = stage'; expects = on.0; tells = subst (λ (l : Ledger). TellsAll l h) (sym ledger) tells; legal = legal };
+        stands = record { next = next'; stage = stage'; expects = on.0; tells = subst (λ (l : OpenState). TellsAll l h) (sym open_state) tells; legal = legal };
         counts = counts_none a a' line (in_taken (Some h) lines line _ on.1) events starts;
       })
 
   -- its last line
-  pub further_ends : (a' : Auditor) (line : List ℕ) (next' : NextBase) → a'.stage ≡ stages.Entries → a'.ledger ≡ with_numbers a.ledger (risen a.ledger.numbers) → a'.version ≡ Two → a'.count ≡ 0 → a'.events ≡ a.events → a'.starts ≡ a.starts →
+  pub further_ends : (a' : Auditor) (line : List ℕ) (next' : NextBase) → a'.stage ≡ stages.Entries → a'.open_state ≡ with_numbers a.open_state (risen a.open_state.numbers) → a'.version ≡ Two → a'.count ≡ 0 → a'.events ≡ a.events → a'.starts ≡ a.starts →
       ((h : History) (lines : List (List ℕ)) → Expects next h lines → TakesNextLine h lines line Last next') → (place : Place) → StandsAt a place → GoesTo place line a a'
-  further_ends a' line next' stage' ledger version count events starts takes =
+  further_ends a' line next' stage' open_state version count events starts takes =
       in_further (λ place. GoesTo place line a a')
       (λ h lines expects tells legal.
       let whole = takes h lines expects in
       let text = whole.is_base in
       base_ends (Some h) lines line whole.base a a' (whole.is_base, whole.says) whole.lines_are
-      (subst (λ (l : Ledger). TellsAll l (from whole.base)) (sym ledger) (risen_alike a.ledger h whole.base whole.says tells)) text.base (ap (λ l. l.numbers.rising) ledger) version stage' count events starts)
+      (subst (λ (l : OpenState). TellsAll l (from whole.base)) (sym open_state) (risen_alike a.open_state h whole.base whole.says tells)) text.base (ap (λ l. l.numbers.rising) open_state) version stage' count events starts)
 
   -- another line
   pub further_stops : (line : List ℕ) (next' : NextBase) → ((h : History) (lines : List (List ℕ)) → Expects next h lines → TakesNextLine h lines line Other next') →

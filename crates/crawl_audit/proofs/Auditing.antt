@@ -14,7 +14,7 @@ use Rattle.gate_history.specs.Base.{empty_base}
 use Rattle.gate_history.specs.History.{from}
 use Rattle.gate_history.specs.Legal.{IsLegal}
 use Rattle.crawl_audit.specs.declared.auditor.Auditor.{Auditor}
-use Rattle.crawl_audit.specs.declared.auditor.Stage.TheVariants as stages
+use Rattle.crawl_audit.specs.declared.auditor.AuditState.TheVariants as stages
 use Rattle.crawl_audit.specs.declared.fault.AuditFault.{AuditFault}
 use Rattle.crawl_audit.specs.declared.fault.AuditFault.TheVariants.{BadLine, Read, NoMemory}
 use Rattle.crawl_audit.specs.declared.fault.Audited.{Audited}
@@ -53,15 +53,15 @@ few_counted test (l ∷ ls) = by (test l) (few_counted test ls)
 
 -- a line that leads somewhere was taken
 pub holds_more : (schemes : Schemes) (a a' a'' : Auditor) (lines : List (List ℕ)) (place : Place) (line : List ℕ) → Holds schemes a lines place → (goes : GoesTo place line a a') → length lines < most_lines → IsAmong schemes line →
-    a''.schemes ≡ a.schemes → a''.stage ≡ a'.stage → a''.ledger ≡ a'.ledger → a''.version ≡ a'.version → a''.count ≡ a'.count → a''.events ≡ a'.events → a''.starts ≡ a'.starts → a''.lines ≡ a.lines + 1 →
+    a''.schemes ≡ a.schemes → a''.stage ≡ a'.stage → a''.open_state ≡ a'.open_state → a''.version ≡ a'.version → a''.count ≡ a'.count → a''.events ≡ a'.events → a''.starts ≡ a'.starts → a''.lines ≡ a.lines + 1 →
     Holds schemes a'' (lines ++ line ∷ []) goes.next
-holds_more schemes a a' a'' lines place line holds goes room among same stage ledger version count events starts more =
+holds_more schemes a a' a'' lines place line holds goes room among same stage open_state version count events starts more =
     let many = length-append lines (line ∷ []) in
     let counts = goes.counts in
     record {
       schemes_are = same ∙ holds.schemes_are;
       runs = runs_then start place goes.next lines (line ∷ []) holds.runs (goes.next, (goes.steps, refl));
-      stands = stands_still a' a'' goes.next stage ledger version count goes.stands;
+      stands = stands_still a' a'' goes.next stage open_state version count goes.stands;
       lines_are = omega (arith, more, holds.lines_are, many);
       few = omega (arith, many, room);
       among = All-append (IsAmong schemes) lines (line ∷ []) holds.among (All-cons (IsAmong schemes) line [] among (All-nil (IsAmong schemes)));
@@ -72,12 +72,12 @@ holds_more schemes a a' a'' lines place line holds goes room among same stage le
     }
 
 -- what was read is the same where the reader and its line changed alone
-pub moved : (schemes : Schemes) (a a' : Auditor) (lines : List (List ℕ)) (place : Place) → a'.schemes ≡ a.schemes → a'.stage ≡ a.stage → a'.ledger ≡ a.ledger → a'.version ≡ a.version → a'.count ≡ a.count → a'.lines ≡ a.lines → a'.events ≡ a.events → a'.starts ≡ a.starts →
+pub moved : (schemes : Schemes) (a a' : Auditor) (lines : List (List ℕ)) (place : Place) → a'.schemes ≡ a.schemes → a'.stage ≡ a.stage → a'.open_state ≡ a.open_state → a'.version ≡ a.version → a'.count ≡ a.count → a'.lines ≡ a.lines → a'.events ≡ a.events → a'.starts ≡ a.starts →
     Holds schemes a lines place → Holds schemes a' lines place
-moved schemes a a' lines place same stage ledger version count taken events starts holds = record {
+moved schemes a a' lines place same stage open_state version count taken events starts holds = record {
   schemes_are = same ∙ holds.schemes_are;
   runs = holds.runs;
-  stands = stands_still a a' place stage ledger version count holds.stands;
+  stands = stands_still a a' place stage open_state version count holds.stands;
   lines_are = taken ∙ holds.lines_are;
   few = holds.few;
   among = holds.among;
@@ -283,7 +283,7 @@ all_audited schemes a input behind all audited events starts text is =
     }
 
 -- before the first line
-pub heard_start : (schemes : Schemes) (a : Auditor) (left : Option (List ℕ)) (pending : List ℕ) → a.schemes ≡ schemes → pending ≡ [] → a.stage ≡ stages.Start → a.version ≡ One → a.count ≡ 0 → TellsAll a.ledger (from empty_base) → a.ledger.numbers.rising ≡ false →
+pub heard_start : (schemes : Schemes) (a : Auditor) (left : Option (List ℕ)) (pending : List ℕ) → a.schemes ≡ schemes → pending ≡ [] → a.stage ≡ stages.Start → a.version ≡ One → a.count ≡ 0 → TellsAll a.open_state (from empty_base) → a.open_state.numbers.rising ≡ false →
     a.events ≡ 0 → a.starts ≡ 0 → a.lines ≡ 0 → IsLegal (from empty_base) → Heard schemes a left (prepend_known pending left)
 heard_start schemes a left pending same none stage version count tells any events starts lines legal = record {
   lines = [];

@@ -8,7 +8,7 @@ use Rattle.gate_history.specs.Base.{Base}
 use Rattle.gate_history.specs.Grants.{IsSlotGrant}
 use Rattle.crawl_audit.specs.declared.first_base.FirstBase.{FirstBase}
 use Rattle.crawl_audit.specs.declared.first_base.LastLine.TheVariants as lasts
-use Rattle.crawl_audit.specs.declared.ledger.Ledger.{Ledger}
+use Rattle.crawl_audit.specs.declared.open_state.OpenState.{OpenState}
 use Rattle.crawl_audit.specs.declared.unread_line.UnreadLine.{UnreadLine}
 use Rattle.crawl_audit.specs.declared.unread_line.UnreadLine.TheVariants.{NotOne, NoMemory}
 use Rattle.history_text.specs.BaseFields.{HasNumbers, IsAnswerRow, IsGrantRow, IsPermitRow, IsTurnRow}
@@ -35,7 +35,7 @@ same_line b (Greatest g) = refl
 same_line b (Unspent p) = refl
 same_line b (Running p) = refl
 
-module _ (first : FirstBase) (ledger : Ledger) (lines : List (List ℕ)) (line : List ℕ) (reads : ReadsRows first ledger lines) where
+module _ (first : FirstBase) (open_state : OpenState) (lines : List (List ℕ)) (line : List ℕ) (reads : ReadsRows first open_state lines) where
   abbrev base : Base
   base = reads.base
 
@@ -54,9 +54,9 @@ module _ (first : FirstBase) (ledger : Ledger) (lines : List (List ℕ)) (line :
   none_comes : line ≢ codes "E" → (IsRowBehind base line → ⊥) → (next : Place) → Steps (inside None lines) line next → ⊥
   none_comes no_end no_row next steps = elim (rows_step next steps) [ inl end ↦ no_end end | inr row ↦ no_row row ]
 
-  pub row_unread : (first' : FirstBase) (ledger' : Ledger) (unread : UnreadLine) → line ≢ codes "E" → (unread ≡ NotOne → (r : OpenRow) → IsOpenRow r → line ≢ row_line r) → TakesBaseLine lines line (Err unread) first' ledger'
-  row_unread first' ledger' NotOne no_end none = none_comes no_end (λ row. none refl row.row row.open_row row.line_is)
-  row_unread first' ledger' NoMemory no_end none = tt
+  pub row_unread : (first' : FirstBase) (open_state' : OpenState) (unread : UnreadLine) → line ≢ codes "E" → (unread ≡ NotOne → (r : OpenRow) → IsOpenRow r → line ≢ row_line r) → TakesBaseLine lines line (Err unread) first' open_state'
+  row_unread first' open_state' NotOne no_end none = none_comes no_end (λ row. none refl row.row row.open_row row.line_is)
+  row_unread first' open_state' NoMemory no_end none = tt
 
   -- the line of a row that may not stand
   pub row_refused : (row : OpenRow) → line ≢ codes "E" → IsOpenRow row → line ≡ row_line row → (MayStand base row → ⊥) → (next : Place) → Steps (inside None lines) line next → ⊥
@@ -64,8 +64,8 @@ module _ (first : FirstBase) (ledger : Ledger) (lines : List (List ℕ)) (line :
       none_comes no_end (λ behind. refused (subst (MayStand base) (one_row behind.row row behind.open_row fields (sym behind.line_is ∙ is)) behind.stands))
 
   -- a row that may stand was taken
-  pub row_taken : (first' : FirstBase) (ledger' : Ledger) (row : OpenRow) → line ≡ row_line row → MayStand base row → SaysBase first' ledger' (with_row base row) → TakesBaseLine lines line (Ok false) first' ledger'
-  row_taken first' ledger' row is may says =
+  pub row_taken : (first' : FirstBase) (open_state' : OpenState) (row : OpenRow) → line ≡ row_line row → MayStand base row → SaysBase first' open_state' (with_row base row) → TakesBaseLine lines line (Ok false) first' open_state'
+  row_taken first' open_state' row is may says =
       let numbers = sym (same_line base row) in
       let rows = sym (map_push row_line (rows_of base) row) ∙ ap (map row_line) (sym may.behind) in
       let more : lines ++ line ∷ [] ≡ codes "V 3" ∷ numbers_line (with_row base row) ∷ map row_line (rows_of (with_row base row)) =
@@ -82,7 +82,7 @@ module _ (first : FirstBase) (ledger : Ledger) (lines : List (List ℕ)) (line :
       )
 
   -- the end was taken
-  pub end_taken : line ≡ codes "E" → HasRead (lines ++ line ∷ []) ledger
+  pub end_taken : line ≡ codes "E" → HasRead (lines ++ line ∷ []) open_state
   end_taken is =
       let all = reads.says in
       record {
@@ -113,11 +113,11 @@ head_step lines line next are (inr ends) = record {
   line_is = sym (ap (λ l. head_word (tail_words l)) (ends.lines_are ∙ ap (λ l. l ++ line ∷ []) are));
 }
 
-module _ (first : FirstBase) (ledger : Ledger) (lines : List (List ℕ)) (line : List ℕ) (reads : ReadsHead first ledger lines) where
-  pub numbers_unread : (first' : FirstBase) (ledger' : Ledger) (unread : UnreadLine) → (unread ≡ NotOne → (b : Base) → HasNumbers b → line ≢ numbers_line b) → TakesBaseLine lines line (Err unread) first' ledger'
-  numbers_unread first' ledger' NotOne none = λ next steps.
+module _ (first : FirstBase) (open_state : OpenState) (lines : List (List ℕ)) (line : List ℕ) (reads : ReadsHead first open_state lines) where
+  pub numbers_unread : (first' : FirstBase) (open_state' : OpenState) (unread : UnreadLine) → (unread ≡ NotOne → (b : Base) → HasNumbers b → line ≢ numbers_line b) → TakesBaseLine lines line (Err unread) first' open_state'
+  numbers_unread first' open_state' NotOne none = λ next steps.
       (let is = head_step lines line next reads.lines_are steps in none refl is.base is.is_base.fields.numbers is.line_is)
-  numbers_unread first' ledger' NoMemory none = tt
+  numbers_unread first' open_state' NoMemory none = tt
 
   pub numbers_refused : (counts : Counts) → line ≡ numbers_line (numbered counts) → HasNumbers (numbered counts) → ((0 < counts.entries) × (counts.begins + counts.started ≤ counts.entries) → ⊥) →
       (next : Place) → Steps (inside None lines) line next → ⊥
@@ -166,7 +166,7 @@ module _ (first : FirstBase) (ledger : Ledger) (lines : List (List ℕ)) (line :
   }
 
   pub numbers_taken : (first' : FirstBase) (counts : Counts) → line ≡ numbers_line (numbered counts) → HasNumbers (numbered counts) → 0 < counts.entries → counts.begins + counts.started ≤ counts.entries →
-      first'.last ≡ Some lasts.Numbers → ((turn : ℕ) → is_used first' turn ≡ is_used first turn) → TakesBaseLine lines line (Ok false) first' (counted_from ledger counts)
+      first'.last ≡ Some lasts.Numbers → ((turn : ℕ) → is_used first' turn ≡ is_used first turn) → TakesBaseLine lines line (Ok false) first' (counted_from open_state counts)
   numbers_taken first' counts is fields some few last used =
       let b = numbered counts in
       let base = numbers_base counts fields some few in

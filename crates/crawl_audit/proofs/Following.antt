@@ -1,5 +1,5 @@
--- What each entry does to a ledger that says what the history does, and why an entry is not legal.
--- Used by the calls of the ledger.
+-- What each entry does to a open_state that says what the history does, and why an entry is not legal.
+-- Used by the calls of the open_state.
 use Rattle.std.proofs.Common.{◌≡◌, ℕ, ◌+◌, ◌<◌, ◌≤◌, Bool, true, false, max, List, refl, sym, ap, subst, ◌∙◌, arith, Ok, Err}
 use Rattle.std.specs.Prelude.{◌||◌, Option, Result, Some, None, is_err, is_some}
 use Rattle.std.specs.Borrow.{Bor}
@@ -30,7 +30,7 @@ use Rattle.gate_history.specs.Legal.{IsLegal, MayFollow, Rises, SpendsAs}
 use Rattle.gate_history.specs.Outstanding.{is_running, is_unspent, running, stands, unspent}
 use Rattle.gate_history.specs.Standing.{has_turn, in_flight, is_fetching, past_count, standing}
 use Rattle.gate_history.proofs.CallerLemmas.{decides_once, stands_once}
-use Rattle.crawl_audit.specs.declared.ledger.Ledger.{Ledger}
+use Rattle.crawl_audit.specs.declared.open_state.OpenState.{OpenState}
 use Rattle.crawl_audit.specs.declared.numbers.Numbers.{Numbers}
 use Rattle.crawl_audit.specs.declared.numbers.Phase.{Phase}
 use Rattle.crawl_audit.specs.declared.numbers.Phase.TheVariants.{Unspent, Running}
@@ -45,9 +45,9 @@ late clock moment now same early fit = omega arith
 on_time : (moment now clock : ℕ) → clock ≡ now → clock ≤ moment → moment ≡ max moment now
 on_time moment now clock same fit = omega arith
 
-module _ (l : Ledger) (h : History) (t : Tells l h) where
+module _ (l : OpenState) (h : History) (t : Tells l h) where
   -- an entry that may come was entered
-  comes : (e : Entry) (l' : Ledger) → MayFollow h e → (l.numbers.rising ≡ true → Rises h e) → Tells l' (h ▸ e) → l'.numbers.rising ≡ l.numbers.rising → MayCome l.numbers.rising h e × Enters l.numbers.rising (h ▸ e) l'
+  comes : (e : Entry) (l' : OpenState) → MayFollow h e → (l.numbers.rising ≡ true → Rises h e) → Tells l' (h ▸ e) → l'.numbers.rising ≡ l.numbers.rising → MayCome l.numbers.rising h e × Enters l.numbers.rising (h ▸ e) l'
   comes e l' fit rises tells same = (record { fit = fit; rises = rises }, record { tells = tells; still = same })
 
   abbrev reads : ReadsAlike l.cache (standing h) (in_flight h)
@@ -266,8 +266,8 @@ module _ (l : Ledger) (h : History) (t : Tells l h) where
       running_one (Some (Unspent fetch)) is = absurd (true≢false (sym is))
       running_one (Some (Running fetch)) is = (fetch, refl)
 
--- the ledger whose rules may have an index more tells the same
-pub told : (l : Ledger) (known : Known) (h : History) → known ≡ l.cache → Tells l h → Tells (record l { cache = known }) h
+-- the open_state whose rules may have an index more tells the same
+pub told : (l : OpenState) (known : Known) (h : History) → known ≡ l.cache → Tells l h → Tells (record l { cache = known }) h
 told l known h same t = subst (λ (k : Known). Tells (record l { cache = k }) h) (sym same) t
 
 -- ---- what calls answered

@@ -1,4 +1,4 @@
--- A row with a permit or with a slot's greatest generation was loaded into the ledger, which says then what the
+-- A row with a permit or with a slot's greatest generation was loaded into the open_state, which says then what the
 -- base with it does. Used by the calls of `first_base` that load such a row.
 use Rattle.std.proofs.Common.{◌≡◌, ◌≢◌, ℕ, true, false, cond, not, [], ◌∷◌, ◌++◌, inl, inr, length, filter, refl, sym, ap, subst, ◌∙◌, true≢false, append-nil, arith}
 use Rattle.std.specs.Prelude.{Option, Some, None, unwrap_or}
@@ -17,7 +17,7 @@ use Rattle.gate_history.specs.Grants.{IsSlotGrant, is_covered, is_in}
 use Rattle.gate_history.specs.History.{from}
 use Rattle.crawl_audit.specs.declared.first_base.FirstBase.{FirstBase}
 use Rattle.crawl_audit.specs.declared.first_base.LastLine.TheVariants as lasts
-use Rattle.crawl_audit.specs.declared.ledger.Ledger.{Ledger}
+use Rattle.crawl_audit.specs.declared.open_state.OpenState.{OpenState}
 use Rattle.crawl_audit.specs.declared.numbers.Numbers.{Numbers}
 use Rattle.crawl_audit.specs.declared.numbers.Phase.{Phase}
 use Rattle.crawl_audit.specs.declared.numbers.Phase.TheVariants as phases
@@ -30,13 +30,13 @@ use Rattle.crawl_audit.proofs.LoadedRows.{by_kind, loaded}
 use Rattle.crawl_audit.proofs.RowOrder.{others_none}
 use Rattle.crawl_audit.proofs.StandingRows.{no_running, no_unspent, nothing}
 
--- ---- the ledger with other numbers of permits
+-- ---- the open_state with other numbers of permits
 
-module _ (first first' : FirstBase) (ledger : Ledger) (numbers : Numbers) (b : Base) (says : SaysBase first ledger b) where
-  told : Tells ledger (from b)
+module _ (first first' : FirstBase) (open_state : OpenState) (numbers : Numbers) (b : Base) (says : SaysBase first open_state b) where
+  told : Tells open_state (from b)
   told = let all = says.tells in all.tells
 
-  numbers_told : TellsNumbers ledger.numbers (from b)
+  numbers_told : TellsNumbers open_state.numbers (from b)
   numbers_told = let t = told in t.numbers_tell
 
   -- ---- a slot's greatest generation
@@ -47,8 +47,8 @@ module _ (first first' : FirstBase) (ledger : Ledger) (numbers : Numbers) (b : B
   nothing_out (Some (phases.Unspent fetch)) number us ys = absurd (omega (arith, ap length us))
   nothing_out (Some (phases.Running fetch)) number us ys = absurd (omega (arith, ap length ys))
 
-  module _ (grant : SlotGrant) (sets : Sets ledger.numbers grant numbers) (fields : IsOpenRow (Greatest grant)) (may : MayStand b (Greatest grant)) where
-    phases_kept : (number : ℕ) → phases_of numbers number ≡ phases_of ledger.numbers number
+  module _ (grant : SlotGrant) (sets : Sets open_state.numbers grant numbers) (fields : IsOpenRow (Greatest grant)) (may : MayStand b (Greatest grant)) where
+    phases_kept : (number : ℕ) → phases_of numbers number ≡ phases_of open_state.numbers number
     phases_kept number = ap (λ table. phases_of (record numbers { out = table }) number) sets.out
 
     new_slot : filter (is_in grant.slot) b.grants ≡ []
@@ -62,11 +62,11 @@ module _ (first first' : FirstBase) (ledger : Ledger) (numbers : Numbers) (b : B
           ∙ (λ i. filter (is_in (sym e.1 i)) b.grants ++ cond (e.0 i) (grant ∷ []) [])
           ∙ ap (λ l. l ++ grant ∷ []) new_slot
           ∙ (λ i. (let g : SlotGrant = record { slot = e.1 i; generation = grant.generation } in g) ∷ [])
-          ∙ ap (grants_under slot) (sym (sets.lasts slot ∙ ap (λ t. cond t (Some grant.generation) (lasts_of ledger.numbers slot)) e.0))
+          ∙ ap (grants_under slot) (sym (sets.lasts slot ∙ ap (λ t. cond t (Some grant.generation) (lasts_of open_state.numbers slot)) e.0))
       | inr d ↦ filter-append (is_in slot) b.grants (grant ∷ [])
           ∙ ap (λ t. filter (is_in slot) b.grants ++ cond t (grant ∷ []) []) d.0
           ∙ append-nil (filter (is_in slot) b.grants) ∙ numbers_told.grants_are slot
-          ∙ ap (grants_under slot) (sym (sets.lasts slot ∙ ap (λ t. cond t (Some grant.generation) (lasts_of ledger.numbers slot)) d.0))
+          ∙ ap (grants_under slot) (sym (sets.lasts slot ∙ ap (λ t. cond t (Some grant.generation) (lasts_of open_state.numbers slot)) d.0))
     ]
 
     any : numbers.rising ≡ false → ⊥
@@ -84,19 +84,19 @@ module _ (first first' : FirstBase) (ledger : Ledger) (numbers : Numbers) (b : B
           granted_are = λ is. absurd (any is);
           out_noted = λ is. absurd (any is);
           out_covered = λ number above. phases_kept number
-              ∙ nothing_out (phases_of ledger.numbers number) number (ap (filter (is_numbered number)) (sym us) ∙ n.unspent_are number) (ap (filter (is_numbered number)) (sym ys) ∙ n.running_are number);
+              ∙ nothing_out (phases_of open_state.numbers number) number (ap (filter (is_numbered number)) (sym us) ∙ n.unspent_are number) (ap (filter (is_numbered number)) (sym ys) ∙ n.running_are number);
           slots_fit = λ slot generation is. elim (eqb_tells grant.slot slot) [
             | inl e ↦ subst (λ k. IsSlotGrant (record { slot = k; generation = generation })) e.1
-                (subst (λ k. IsSlotGrant (record { slot = grant.slot; generation = k })) (ap (λ o. unwrap_or o 0) (sym (sets.lasts slot ∙ ap (λ t. cond t (Some grant.generation) (lasts_of ledger.numbers slot)) e.0) ∙ is)) fields.1)
-            | inr d ↦ n.slots_fit slot generation (sym (sets.lasts slot ∙ ap (λ t. cond t (Some grant.generation) (lasts_of ledger.numbers slot)) d.0) ∙ is)
+                (subst (λ k. IsSlotGrant (record { slot = grant.slot; generation = k })) (ap (λ o. unwrap_or o 0) (sym (sets.lasts slot ∙ ap (λ t. cond t (Some grant.generation) (lasts_of open_state.numbers slot)) e.0) ∙ is)) fields.1)
+            | inr d ↦ n.slots_fit slot generation (sym (sets.lasts slot ∙ ap (λ t. cond t (Some grant.generation) (lasts_of open_state.numbers slot)) d.0) ∙ is)
           ];
         }
 
-    pub grant_loaded : first'.last ≡ Some (lasts.Greatest grant.slot) → ((turn : ℕ) → is_used first' turn ≡ is_used first turn) → SaysBase first' (with_numbers ledger numbers) (with_row b (Greatest grant))
+    pub grant_loaded : first'.last ≡ Some (lasts.Greatest grant.slot) → ((turn : ℕ) → is_used first' turn ≡ is_used first turn) → SaysBase first' (with_numbers open_state numbers) (with_row b (Greatest grant))
     grant_loaded last used =
         let all = says.tells in
         let t = told in
-        loaded first first' ledger (with_numbers ledger numbers) b (Greatest grant) says fields may
+        loaded first first' open_state (with_numbers open_state numbers) b (Greatest grant) says fields may
         (record {
           tells = record { clock_is = t.clock_is; begins_are = t.begins_are; cache_tells = t.cache_tells; numbers_tell = grant_numbers };
           entries_are = all.entries_are;
@@ -108,7 +108,7 @@ module _ (first first' : FirstBase) (ledger : Ledger) (numbers : Numbers) (b : B
   -- ---- a permit that is out
 
   -- one number is out that was not, and the lists say so
-  put_tells : (b' : Base) (number : ℕ) (phase : Option Phase) → Puts ledger.numbers number phase numbers → is_covered b.grants number ≡ true →
+  put_tells : (b' : Base) (number : ℕ) (phase : Option Phase) → Puts open_state.numbers number phase numbers → is_covered b.grants number ≡ true →
       filter (is_numbered number) b'.unspent ≡ unspent_under number phase → ((m : ℕ) → m ≢ number → filter (is_numbered m) b'.unspent ≡ filter (is_numbered m) b.unspent) →
       filter (is_numbered number) b'.running ≡ running_under number phase → ((m : ℕ) → m ≢ number → filter (is_numbered m) b'.running ≡ filter (is_numbered m) b.running) →
       b'.grants ≡ b.grants → TellsNumbers numbers (from b')
@@ -127,14 +127,14 @@ module _ (first first' : FirstBase) (ledger : Ledger) (numbers : Numbers) (b : B
         granted_are = λ is. absurd (none_any is);
         out_noted = λ is. absurd (none_any is);
         out_covered = λ m above. elim (eqb_tells number m) [
-          | inl e ↦ absurd (true≢false (sym covered ∙ ap (is_covered b.grants) e.1 ∙ covered_is b.grants m (lasts_of ledger.numbers (slot_of m)) (n.grants_are (slot_of m))
+          | inl e ↦ absurd (true≢false (sym covered ∙ ap (is_covered b.grants) e.1 ∙ covered_is b.grants m (lasts_of open_state.numbers (slot_of m)) (n.grants_are (slot_of m))
               ∙ ap (λ o. not (is_above (generation_of m) o)) (sym (slots_kept (slot_of m))) ∙ ap not above))
-          | inr d ↦ puts.phases m ∙ ap (λ t. cond t phase (phases_of ledger.numbers m)) d.0 ∙ n.out_covered m (ap (is_above (generation_of m)) (sym (slots_kept (slot_of m))) ∙ above)
+          | inr d ↦ puts.phases m ∙ ap (λ t. cond t phase (phases_of open_state.numbers m)) d.0 ∙ n.out_covered m (ap (is_above (generation_of m)) (sym (slots_kept (slot_of m))) ∙ above)
         ];
         slots_fit = λ slot generation is. n.slots_fit slot generation (sym (slots_kept slot) ∙ is);
       }
     where
-      slots_kept : (slot : ℕ) → lasts_of numbers slot ≡ lasts_of ledger.numbers slot
+      slots_kept : (slot : ℕ) → lasts_of numbers slot ≡ lasts_of open_state.numbers slot
       slots_kept slot = ap (λ table. lasts_of (record numbers { by_slot = table }) slot) puts.slots
 
       none_any : numbers.rising ≡ false → ⊥
@@ -144,8 +144,8 @@ module _ (first first' : FirstBase) (ledger : Ledger) (numbers : Numbers) (b : B
     abbrev permit : GrantedPermit
     permit = permit_for number fetch
 
-    unspent_loaded : Puts ledger.numbers number (Some (phases.Unspent fetch)) numbers → first'.last ≡ Some (lasts.Unspent number) → ((turn : ℕ) → is_used first' turn ≡ is_used first turn) →
-        IsOpenRow (Unspent permit) → MayStand b (Unspent permit) → SaysBase first' (with_numbers ledger numbers) (with_row b (Unspent permit))
+    unspent_loaded : Puts open_state.numbers number (Some (phases.Unspent fetch)) numbers → first'.last ≡ Some (lasts.Unspent number) → ((turn : ℕ) → is_used first' turn ≡ is_used first turn) →
+        IsOpenRow (Unspent permit) → MayStand b (Unspent permit) → SaysBase first' (with_numbers open_state numbers) (with_row b (Unspent permit))
     unspent_loaded puts last used fields may =
         let all = says.tells in
         let t = told in
@@ -155,7 +155,7 @@ module _ (first first' : FirstBase) (ledger : Ledger) (numbers : Numbers) (b : B
         let us = nothing (filter (is_numbered number) b.unspent) (omega (arith, count-push (is_numbered number) b.unspent permit)) in
         let ys = nothing (filter (is_numbered number) b.running) (omega (arith, count-push (is_numbered number) b.unspent permit)) in
         let covered = out.numbers_granted number (omega (arith, count-push (is_numbered number) b.unspent permit)) in
-        loaded first first' ledger (with_numbers ledger numbers) b (Unspent permit) says fields may
+        loaded first first' open_state (with_numbers open_state numbers) b (Unspent permit) says fields may
         (record {
           tells = record {
             clock_is = t.clock_is;
@@ -170,8 +170,8 @@ module _ (first first' : FirstBase) (ledger : Ledger) (numbers : Numbers) (b : B
         })
         (puts.rising ∙ says.rising) last (λ turn. used turn ∙ says.turns_are turn)
 
-    running_loaded : Puts ledger.numbers number (Some (phases.Running fetch)) numbers → first'.last ≡ Some (lasts.Running number) → ((turn : ℕ) → is_used first' turn ≡ is_used first turn) →
-        IsOpenRow (Running permit) → MayStand b (Running permit) → SaysBase first' (with_numbers ledger numbers) (with_row b (Running permit))
+    running_loaded : Puts open_state.numbers number (Some (phases.Running fetch)) numbers → first'.last ≡ Some (lasts.Running number) → ((turn : ℕ) → is_used first' turn ≡ is_used first turn) →
+        IsOpenRow (Running permit) → MayStand b (Running permit) → SaysBase first' (with_numbers open_state numbers) (with_row b (Running permit))
     running_loaded puts last used fields may =
         let all = says.tells in
         let t = told in
@@ -181,7 +181,7 @@ module _ (first first' : FirstBase) (ledger : Ledger) (numbers : Numbers) (b : B
         let us = nothing (filter (is_numbered number) b.unspent) (omega (arith, count-push (is_numbered number) b.running permit)) in
         let ys = nothing (filter (is_numbered number) b.running) (omega (arith, count-push (is_numbered number) b.running permit)) in
         let covered = out.numbers_granted number (omega (arith, count-push (is_numbered number) b.running permit)) in
-        loaded first first' ledger (with_numbers ledger numbers) b (Running permit) says fields may
+        loaded first first' open_state (with_numbers open_state numbers) b (Running permit) says fields may
         (record {
           tells = record {
             clock_is = t.clock_is;
@@ -197,7 +197,7 @@ module _ (first first' : FirstBase) (ledger : Ledger) (numbers : Numbers) (b : B
         (puts.rising ∙ says.rising) last (λ turn. used turn ∙ says.turns_are turn)
 
   -- however it is out
-  pub permit_loaded : (number : ℕ) (phase : Phase) → Puts ledger.numbers number (Some phase) numbers → first'.last ≡ Some (key_of (permit_row number phase)) → ((turn : ℕ) → is_used first' turn ≡ is_used first turn) →
-      IsOpenRow (permit_row number phase) → MayStand b (permit_row number phase) → SaysBase first' (with_numbers ledger numbers) (with_row b (permit_row number phase))
+  pub permit_loaded : (number : ℕ) (phase : Phase) → Puts open_state.numbers number (Some phase) numbers → first'.last ≡ Some (key_of (permit_row number phase)) → ((turn : ℕ) → is_used first' turn ≡ is_used first turn) →
+      IsOpenRow (permit_row number phase) → MayStand b (permit_row number phase) → SaysBase first' (with_numbers open_state numbers) (with_row b (permit_row number phase))
   permit_loaded number (phases.Unspent fetch) = unspent_loaded number fetch
   permit_loaded number (phases.Running fetch) = running_loaded number fetch

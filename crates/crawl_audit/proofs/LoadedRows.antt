@@ -1,4 +1,4 @@
--- A row that may stand was loaded into the ledger, which says then what the base with it does.
+-- A row that may stand was loaded into the open_state, which says then what the base with it does.
 -- Used by the calls of `first_base` that load a row.
 use Rattle.std.proofs.Common.{◌≡◌, ℕ, ◌+◌, ◌<◌, ◌==◌, All, Bool, true, false, cond, not, List, [], ◌∷◌, ◌++◌, length, filter, map, refl, sym, ap, subst, ◌∙◌, arith}
 use Rattle.std.specs.Prelude.{◌||◌, nat_lt, Some}
@@ -17,7 +17,7 @@ use Rattle.gate_history.specs.Base.{Base, is_of_turn, times_turned}
 use Rattle.gate_history.specs.History.{from}
 use Rattle.crawl_audit.specs.declared.first_base.FirstBase.{FirstBase}
 use Rattle.crawl_audit.specs.declared.first_base.LastLine.TheVariants as lasts
-use Rattle.crawl_audit.specs.declared.ledger.Ledger.{Ledger}
+use Rattle.crawl_audit.specs.declared.open_state.OpenState.{OpenState}
 use Rattle.crawl_audit.specs.FirstBase.{SaysBase, answered_row, is_used, key_of, last_of, turn_row}
 use Rattle.crawl_audit.specs.Loading.{LoadsAnswer, LoadsTurn, flight_of}
 use Rattle.crawl_audit.specs.OpenRows.{OpenRow, Answered, IsOpenRow, MayStand, rows_of, with_row}
@@ -30,9 +30,9 @@ use Rattle.crawl_audit.proofs.StandingRows.{no_turns}
 
 -- ---- what is known of the base with the row
 
-module _ (first first' : FirstBase) (ledger ledger' : Ledger) (b : Base) (row : OpenRow) (says : SaysBase first ledger b) (fields : IsOpenRow row) (may : MayStand b row) where
-  pub loaded : TellsAll ledger' (from (with_row b row)) → ledger'.numbers.rising ≡ true → first'.last ≡ Some (key_of row) →
-      ((turn : ℕ) → is_used first' turn ≡ nat_lt 0 (times_turned (with_row b row).standing (with_row b row).in_flight turn)) → SaysBase first' ledger' (with_row b row)
+module _ (first first' : FirstBase) (open_state open_state' : OpenState) (b : Base) (row : OpenRow) (says : SaysBase first open_state b) (fields : IsOpenRow row) (may : MayStand b row) where
+  pub loaded : TellsAll open_state' (from (with_row b row)) → open_state'.numbers.rising ≡ true → first'.last ≡ Some (key_of row) →
+      ((turn : ℕ) → is_used first' turn ≡ nat_lt 0 (times_turned (with_row b row).standing (with_row b row).in_flight turn)) → SaysBase first' open_state' (with_row b row)
   loaded tells rising last turns = record {
     is_base = may.base;
     rows = subst (All IsOpenRow) (sym may.behind) (All-push IsOpenRow (rows_of b) row says.rows fields);
@@ -52,23 +52,23 @@ used_more : (m n : ℕ) (here before : Bool) → m ≡ n + one_if here → befor
 used_more m n true before more was = (let some : 0 < m = omega arith in grind (arith, nat_tests))
 used_more m n false before more was = (let same : n ≡ m = omega arith in was ∙ ap (nat_lt 0) same)
 
-module _ (first first' : FirstBase) (ledger ledger' : Ledger) (b : Base) (authority : List ℕ) (turn begun : ℕ) (says : SaysBase first ledger b)
+module _ (first first' : FirstBase) (open_state open_state' : OpenState) (b : Base) (authority : List ℕ) (turn begun : ℕ) (says : SaysBase first open_state b)
     (last : first'.last ≡ Some (lasts.InFlight turn)) (used : (other : ℕ) → is_used first' other ≡ (turn == other || is_used first other)) where
   abbrev flight : Turn
   flight = record { authority = authority; turn = turn; begun = begun }
 
-  pub turn_loaded : LoadsTurn ledger authority turn begun ledger' → IsOpenRow (turn_row authority turn begun) → MayStand b (turn_row authority turn begun) → SaysBase first' ledger' (with_row b (turn_row authority turn begun))
+  pub turn_loaded : LoadsTurn open_state authority turn begun open_state' → IsOpenRow (turn_row authority turn begun) → MayStand b (turn_row authority turn begun) → SaysBase first' open_state' (with_row b (turn_row authority turn begun))
   turn_loaded loads fields may =
       let all = says.tells in
       let t = all.tells in
-      let numbers : ledger'.numbers ≡ ledger.numbers = ap (λ l. l.numbers) loads.rest in
-      loaded first first' ledger ledger' b (turn_row authority turn begun) says fields may
+      let numbers : open_state'.numbers ≡ open_state.numbers = ap (λ l. l.numbers) loads.rest in
+      loaded first first' open_state open_state' b (turn_row authority turn begun) says fields may
       (record {
         tells = record {
           clock_is = ap (λ l. l.clock) loads.rest ∙ t.clock_is;
           begins_are = ap (λ l. l.begins) loads.rest ∙ t.begins_are;
-          cache_tells = cache_laws.begun ledger.cache ledger'.cache b.standing b.in_flight authority (flight_of turn begun) t.cache_tells loads.idle loads.began;
-          numbers_tell = still ledger'.numbers (from b) (from (with_row b (turn_row authority turn begun))) refl refl refl (λ n. refl) (subst (λ n. TellsNumbers n (from b)) (sym numbers) t.numbers_tell);
+          cache_tells = cache_laws.begun open_state.cache open_state'.cache b.standing b.in_flight authority (flight_of turn begun) t.cache_tells loads.idle loads.began;
+          numbers_tell = still open_state'.numbers (from b) (from (with_row b (turn_row authority turn begun))) refl refl refl (λ n. refl) (subst (λ n. TellsNumbers n (from b)) (sym numbers) t.numbers_tell);
         };
         entries_are = ap (λ l. l.entries) loads.rest ∙ all.entries_are;
         started_are = ap (λ l. l.started) loads.rest ∙ all.started_are;
@@ -90,7 +90,7 @@ all_kept test (x ∷ xs) none = by (test x) none (all_kept test xs)
     by true none rest = absurd (omega arith)
     by false none rest = ap (λ l. x ∷ l) (rest none)
 
-module _ (first first' : FirstBase) (ledger ledger' : Ledger) (b : Base) (authority : List ℕ) (turn begun : ℕ) (answer : Timed) (says : SaysBase first ledger b)
+module _ (first first' : FirstBase) (open_state open_state' : OpenState) (b : Base) (authority : List ℕ) (turn begun : ℕ) (answer : Timed) (says : SaysBase first open_state b)
     (last : first'.last ≡ Some (lasts.Answered authority)) (used : (other : ℕ) → is_used first' other ≡ (turn == other || is_used first other)) where
   abbrev brought : StandingAnswer
   brought = record { authority = authority; turn = turn; begun = begun; life = answer.life; says = answer.says }
@@ -98,7 +98,7 @@ module _ (first first' : FirstBase) (ledger ledger' : Ledger) (b : Base) (author
   abbrev begun_turn : Turn
   begun_turn = record { authority = authority; turn = turn; begun = begun }
 
-  cache_loaded : LoadsAnswer ledger authority turn begun answer ledger' → MayStand b (Answered brought) → TellsCache ledger'.cache (b.standing ++ brought ∷ []) b.in_flight
+  cache_loaded : LoadsAnswer open_state authority turn begun answer open_state' → MayStand b (Answered brought) → TellsCache open_state'.cache (b.standing ++ brought ∷ []) b.in_flight
   cache_loaded loads may =
       let all = says.tells in
       let t = all.tells in
@@ -107,35 +107,35 @@ module _ (first first' : FirstBase) (ledger ledger' : Ledger) (b : Base) (author
       let none = no_turns b (Answered brought) (by_kind b (Answered brought) may) (omega arith) in
       let flying : TellsCache between.cache b.standing (begun_turn ∷ []) =
       subst (λ l. TellsCache between.cache b.standing (l ++ begun_turn ∷ [])) none
-      (cache_laws.begun ledger.cache between.cache b.standing b.in_flight authority (flight_of turn begun) t.cache_tells turned.idle turned.began) in
+      (cache_laws.begun open_state.cache between.cache b.standing b.in_flight authority (flight_of turn begun) t.cache_tells turned.idle turned.began) in
       let own : filter (has_number turn) (begun_turn ∷ []) ≡ begun_turn ∷ [] = ap (λ e. cond e (begun_turn ∷ []) []) (same_number turn) in
       let gone : filter (λ x. not (has_number turn x)) (begun_turn ∷ []) ≡ [] = ap (λ e. cond (not e) (begun_turn ∷ []) []) (same_number turn) in
       let of_it : filter (is_turn_of authority) (begun_turn ∷ []) ≡ begun_turn ∷ [] = ap (λ e. cond e (begun_turn ∷ []) []) (same_text authority) in
-      let site : site_of between.cache authority ≡ with_flight (flight_of turn begun) (site_of ledger.cache authority) =
-      turned.began.sites authority ∙ ap (λ e. cond e (with_flight (flight_of turn begun) (site_of ledger.cache authority)) (site_of ledger.cache authority)) (same_text authority) in
+      let site : site_of between.cache authority ≡ with_flight (flight_of turn begun) (site_of open_state.cache authority) =
+      turned.began.sites authority ∙ ap (λ e. cond e (with_flight (flight_of turn begun) (site_of open_state.cache authority)) (site_of open_state.cache authority)) (same_text authority) in
       let there : has_turn turn (site_of between.cache authority) ≡ true = ap (has_turn turn) site ∙ same_number turn in
-      let came = cache_laws.arrives between.cache ledger'.cache b.standing (begun_turn ∷ []) authority turn answer.life answer.says flying there (own ∙ sym of_it) loads.came in
+      let came = cache_laws.arrives between.cache open_state'.cache b.standing (begun_turn ∷ []) authority turn answer.life answer.says flying there (own ∙ sym of_it) loads.came in
       let once = may.base.base.turns.answers_once authority in
       let kept = all_kept (is_answer_for authority) b.standing (others_none (is_answer_for authority) b.standing brought once (same_text authority)) in
-      subst (λ l. TellsCache ledger'.cache (b.standing ++ brought ∷ []) l) (gone ∙ sym none)
-      (subst (λ l. TellsCache ledger'.cache l (filter (λ x. not (has_number turn x)) (begun_turn ∷ []))) (λ i. kept i ++ map (answered answer.says answer.life) (own i)) came)
+      subst (λ l. TellsCache open_state'.cache (b.standing ++ brought ∷ []) l) (gone ∙ sym none)
+      (subst (λ l. TellsCache open_state'.cache l (filter (λ x. not (has_number turn x)) (begun_turn ∷ []))) (λ i. kept i ++ map (answered answer.says answer.life) (own i)) came)
 
-  pub answer_loaded : LoadsAnswer ledger authority turn begun answer ledger' → IsOpenRow (answered_row authority turn begun answer) → MayStand b (answered_row authority turn begun answer) →
-      SaysBase first' ledger' (with_row b (answered_row authority turn begun answer))
+  pub answer_loaded : LoadsAnswer open_state authority turn begun answer open_state' → IsOpenRow (answered_row authority turn begun answer) → MayStand b (answered_row authority turn begun answer) →
+      SaysBase first' open_state' (with_row b (answered_row authority turn begun answer))
   answer_loaded loads fields may =
       let all = says.tells in
       let t = all.tells in
       let turned = loads.turned in
-      let numbers : ledger'.numbers ≡ ledger.numbers = ap (λ l. l.numbers) loads.rest ∙ ap (λ l. l.numbers) turned.rest in
-      let entries : ledger'.entries ≡ ledger.entries = ap (λ l. l.entries) loads.rest ∙ ap (λ l. l.entries) turned.rest in
-      let started : ledger'.started ≡ ledger.started = ap (λ l. l.started) loads.rest ∙ ap (λ l. l.started) turned.rest in
-      loaded first first' ledger ledger' b (answered_row authority turn begun answer) says fields may
+      let numbers : open_state'.numbers ≡ open_state.numbers = ap (λ l. l.numbers) loads.rest ∙ ap (λ l. l.numbers) turned.rest in
+      let entries : open_state'.entries ≡ open_state.entries = ap (λ l. l.entries) loads.rest ∙ ap (λ l. l.entries) turned.rest in
+      let started : open_state'.started ≡ open_state.started = ap (λ l. l.started) loads.rest ∙ ap (λ l. l.started) turned.rest in
+      loaded first first' open_state open_state' b (answered_row authority turn begun answer) says fields may
       (record {
         tells = record {
           clock_is = ap (λ l. l.clock) loads.rest ∙ ap (λ l. l.clock) turned.rest ∙ t.clock_is;
           begins_are = ap (λ l. l.begins) loads.rest ∙ ap (λ l. l.begins) turned.rest ∙ t.begins_are;
           cache_tells = cache_loaded loads may;
-          numbers_tell = still ledger'.numbers (from b) (from (with_row b (answered_row authority turn begun answer))) refl refl refl (λ n. refl) (subst (λ n. TellsNumbers n (from b)) (sym numbers) t.numbers_tell);
+          numbers_tell = still open_state'.numbers (from b) (from (with_row b (answered_row authority turn begun answer))) refl refl refl (λ n. refl) (subst (λ n. TellsNumbers n (from b)) (sym numbers) t.numbers_tell);
         };
         entries_are = entries ∙ all.entries_are;
         started_are = started ∙ all.started_are;

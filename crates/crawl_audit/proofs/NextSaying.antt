@@ -1,5 +1,5 @@
 -- The base that is made of what the tables have is that of a text, and says what the history does.
--- Cited by `Ledger::next_base`, and where a further text's base was read.
+-- Cited by `OpenState::next_base`, and where a further text's base was read.
 use Rattle.std.proofs.Common.{◌≡◌, ℕ, ◌<◌, All, true, true≢false, List, [], ◌∷◌, codes, filter, inl, inr, refl, sym, subst, ◌∙◌, arith}
 use Rattle.std.specs.Prelude.{Option, Some, None}
 use Rattle.std.proofs.lemmas.Bool.Decides.{eqb_tells}
@@ -18,7 +18,7 @@ use Rattle.gate_history.specs.Outstanding.{grants, running, unspent}
 use Rattle.gate_history.specs.Seal.{SaySame, SaysAs}
 use Rattle.gate_history.specs.Standing.{in_flight, standing}
 use Rattle.gate_history.proofs.CallerLemmas.{covered_alike, granted_covered, greatest_alike, greatest_is, keys_say, reordering_says, says_base, says_on}
-use Rattle.crawl_audit.specs.declared.ledger.Ledger.{Ledger}
+use Rattle.crawl_audit.specs.declared.open_state.OpenState.{OpenState}
 use Rattle.crawl_audit.specs.declared.next_base.NextBase.{NextBase}
 use Rattle.history_text.specs.Texts.{IsTextBase}
 use Rattle.crawl_audit.specs.Loading.{risen, with_numbers}
@@ -29,7 +29,7 @@ use Rattle.crawl_audit.proofs.OneOrder.{Among, among_filter}
 -- ---- tables that tell
 
 -- where grants rise, tables say what a base does that says what the history does of which they tell
-pub tells_alike : (l : Ledger) (h : History) (b : Base) → SaysAs (from b) h → Tells l h → l.numbers.rising ≡ true → Tells l (from b)
+pub tells_alike : (l : OpenState) (h : History) (b : Base) → SaysAs (from b) h → Tells l h → l.numbers.rising ≡ true → Tells l (from b)
 tells_alike l h b says tells rising =
     let cache = tells.cache_tells in
     let table = tells.numbers_tell in
@@ -52,7 +52,7 @@ tells_alike l h b says tells rising =
     }
 
 -- so do they of the counts
-pub all_alike : (l : Ledger) (h : History) (b : Base) → SaysAs (from b) h → TellsAll l h → l.numbers.rising ≡ true → TellsAll l (from b)
+pub all_alike : (l : OpenState) (h : History) (b : Base) → SaysAs (from b) h → TellsAll l h → l.numbers.rising ≡ true → TellsAll l (from b)
 all_alike l h b says all rising = record {
   tells = tells_alike l h b says all.tells rising;
   entries_are = all.entries_are ∙ sym says.entries;
@@ -61,7 +61,7 @@ all_alike l h b says all rising = record {
 }
 
 -- and so they do once grants must rise
-pub risen_alike : (l : Ledger) (h : History) (b : Base) → SaysAs (from b) h → TellsAll l h → TellsAll (with_numbers l (risen l.numbers)) (from b)
+pub risen_alike : (l : OpenState) (h : History) (b : Base) → SaysAs (from b) h → TellsAll l h → TellsAll (with_numbers l (risen l.numbers)) (from b)
 risen_alike l h b says all = all_alike (with_numbers l (risen l.numbers)) h b says risen_all refl
   where
     tells : Tells l h
@@ -111,7 +111,7 @@ grants_fit lasts gs are fit =
 
 -- ---- the base
 
-module _ (l : Ledger) (left : LeftOpen) (numbers : BaseNumbers) (lists : TellsLeft l left)
+module _ (l : OpenState) (left : LeftOpen) (numbers : BaseNumbers) (lists : TellsLeft l left)
     (begun : numbers.begins ≡ l.begins) (moment : numbers.moment ≡ l.clock) (entries : numbers.entries ≡ l.entries) (started : numbers.started ≡ l.started) where
   -- lists of what the tables have say what the history does
   pub left_says : (h : History) → TellsAll l h → SaysAs (from (base_with left numbers)) h

@@ -1,5 +1,5 @@
 -- How each entry changes what the tables of numbers have to say.
--- Used by the calls of the ledger.
+-- Used by the calls of the open_state.
 use Rattle.std.proofs.Common.{◌≡◌, ◌≢◌, ℕ, ◌==◌, Bool, true, false, cond, max, not, List, [], ◌∷◌, ◌++◌, filter, inl, inr, refl, sym, ap, subst, ◌∙◌, true≢false, append-nil, arith}
 use Rattle.std.specs.Prelude.{◌||◌, ◌&&◌, nat_le, nat_lt, Option, Some, None, unwrap_or}
 use Rattle.std.specs.List.{list_any}

@@ -16,7 +16,7 @@ use Rattle.gate_history.specs.Order.{IsInOrder, Reorders}
 use Rattle.gate_history.specs.Seal.{SaysAs}
 use Rattle.gate_history.proofs.CallerLemmas.{reordering_says, says_base, says_on}
 use Rattle.crawl_audit.specs.declared.auditor.Auditor.{Auditor}
-use Rattle.crawl_audit.specs.declared.ledger.Ledger.{Ledger}
+use Rattle.crawl_audit.specs.declared.open_state.OpenState.{OpenState}
 use Rattle.crawl_audit.specs.declared.recover_fault.RecoverFault.{RecoverFault}
 use Rattle.crawl_audit.specs.declared.recover_fault.RecoverFault.TheVariants as faults
 use Rattle.crawl_audit.specs.declared.recovering.Recovered.{Recovered}
@@ -35,7 +35,7 @@ use Rattle.crawl_audit.proofs.NextSaying.{grants_fit, left_says}
 
 -- ---- a base that is made of what the tables have
 
-module _ (l : Ledger) (left : LeftOpen) (numbers : BaseNumbers) (lists : TellsLeft l left)
+module _ (l : OpenState) (left : LeftOpen) (numbers : BaseNumbers) (lists : TellsLeft l left)
     (begun : numbers.begins ≡ l.begins) (moment : numbers.moment ≡ l.clock) (entries : numbers.entries ≡ l.entries) (started : numbers.started ≡ l.started) where
   pub fits_base : (h : History) → IsLegal h → TellsAll l h → IsBase (base_with left numbers)
   fits_base h legal all = says_base (base_with left numbers) h legal (left_says l left numbers lists begun moment entries started h all)
@@ -52,7 +52,7 @@ module _ (l : Ledger) (left : LeftOpen) (numbers : BaseNumbers) (lists : TellsLe
 
 -- ---- what it says where nothing is out
 
-idle_base : (base : Base) (h : History) (cache : Ledger) → IsBase base → SaysAs (from base) h → IsIdle h → TellsAll cache h → CanGoOn base cache.cache
+idle_base : (base : Base) (h : History) (cache : OpenState) → IsBase base → SaysAs (from base) h → IsIdle h → TellsAll cache h → CanGoOn base cache.cache
 idle_base base h l is says idle all =
     let permits = says.permits in
     let runs = says.runs in
@@ -78,13 +78,13 @@ at_entries P go start begun = absurd begun
 at_entries P go (among version rising h count) begun = go version rising h count
 at_entries P go (inside after lines) begun = absurd begun
 
--- a history that the ledger tells
-abbrev pub Known : Ledger → Type 0
+-- a history that the open_state tells
+abbrev pub Known : OpenState → Type 0
 Known l = (h : History) × (IsLegal h × TellsAll l h)
 
-pub known_before : (schemes : Schemes) (a : Auditor) (lines : List (List ℕ)) (place : Place) → HasBegun place → Holds schemes a lines place → Known a.ledger
+pub known_before : (schemes : Schemes) (a : Auditor) (lines : List (List ℕ)) (place : Place) → HasBegun place → Holds schemes a lines place → Known a.open_state
 known_before schemes a lines place begun =
-    at_entries (λ place. Holds schemes a lines place → Known a.ledger)
+    at_entries (λ place. Holds schemes a lines place → Known a.open_state)
     (λ version rising h count holds. let stands = holds.stands in let entries = stands.1 in (h, (entries.legal, entries.tells))) place begun
 
 -- the auditor took the lines that end what the base left open
@@ -93,9 +93,9 @@ Took a left text a' =
     (schemes : Schemes) (lines : List (List ℕ)) (version : Version) (rising : Bool) (h : History) (count : ℕ) → Holds schemes a lines (among version rising h count)
     → All IsEnding (ends_of left) → TakesEnds schemes lines version rising h count (ends_of left) text a'
 
-pub known_after : (schemes : Schemes) (a : Auditor) (lines : List (List ℕ)) (place : Place) → HasBegun place → (left : Base) (text : List ℕ) (a' : Auditor) → Took a left text a' → Holds schemes a lines place → Known a'.ledger
+pub known_after : (schemes : Schemes) (a : Auditor) (lines : List (List ℕ)) (place : Place) → HasBegun place → (left : Base) (text : List ℕ) (a' : Auditor) → Took a left text a' → Holds schemes a lines place → Known a'.open_state
 known_after schemes a lines place begun left text a' took =
-    at_entries (λ place. Holds schemes a lines place → Known a'.ledger)
+    at_entries (λ place. Holds schemes a lines place → Known a'.open_state)
     (λ version rising h count holds.
     let taken = took schemes lines version rising h count holds (all_end left) in
     let after = taken.holds in
@@ -103,8 +103,8 @@ known_after schemes a lines place begun left text a' took =
     let entries = stands.1 in
     (followed_by h (ends_of left), (entries.legal, entries.tells))) place begun
 
--- the base says what each history does that the ledger tells, in order
-pub record IsBaseOf (l : Ledger) (base : Base) : Type 0 where
+-- the base says what each history does that the open_state tells, in order
+pub record IsBaseOf (l : OpenState) (base : Base) : Type 0 where
   pub says : (h : History) → IsLegal h → TellsAll l h → SaysAs (from base) h
   pub is_base : IsBase base
   pub order : IsInOrder base
@@ -113,7 +113,7 @@ pub record IsBaseOf (l : Ledger) (base : Base) : Type 0 where
 abbrev pub Results : Schemes → Option (List ℕ) → Recovered → Type 0
 Results schemes input found = CanGoOn found.base found.cache × ((text : List ℕ) → input ≡ Some text → IsRecovered schemes text found)
 
-module _ (schemes : Schemes) (input : Option (List ℕ)) (w : WholeLines) (cut : HeardCut schemes w input) (begun : HasBegun cut.place) (left : Base) (left_of : IsBaseOf w.auditor.ledger left) where
+module _ (schemes : Schemes) (input : Option (List ℕ)) (w : WholeLines) (cut : HeardCut schemes w input) (begun : HasBegun cut.place) (left : Base) (left_of : IsBaseOf w.auditor.open_state left) where
   abbrev open_at : (version : Version) (rising : Bool) (h : History) (count : ℕ) → Holds schemes w.auditor cut.lines (among version rising h count) → LeaveOpen cut.lines
   open_at version rising h count holds =
       let stands = holds.stands in
@@ -131,7 +131,7 @@ module _ (schemes : Schemes) (input : Option (List ℕ)) (w : WholeLines) (cut :
       }
 
   -- the lines that end it were taken
-  pub results : (a' : Auditor) (found : Recovered) → Took w.auditor left found.ending.items a' → IsBaseOf a'.ledger found.base → found.cache ≡ a'.ledger.cache → found.whole ≡ w.octets →
+  pub results : (a' : Auditor) (found : Recovered) → Took w.auditor left found.ending.items a' → IsBaseOf a'.open_state found.base → found.cache ≡ a'.open_state.cache → found.whole ≡ w.octets →
       found.begun.items ≡ map (λ (t : Turn). t.authority) left.in_flight → Results schemes input found
   results a' found took base_of cached octets sites =
       at_entries (λ place. Holds schemes w.auditor cut.lines place → Results schemes input found)
@@ -145,7 +145,7 @@ module _ (schemes : Schemes) (input : Option (List ℕ)) (w : WholeLines) (cut :
       let stands' = after.stands in
       let entries' = stands'.1 in
       let says' = base_of.says (followed_by h es) entries'.legal entries'.tells in
-      let on = idle_base found.base (followed_by h es) a'.ledger base_of.is_base says' done.1 entries'.tells in
+      let on = idle_base found.base (followed_by h es) a'.open_state base_of.is_base says' done.1 entries'.tells in
       let here : CanGoOn found.base found.cache = subst (λ k. CanGoOn found.base k) (sym cached) on in (
         here,
         λ text is. record {

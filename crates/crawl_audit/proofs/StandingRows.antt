@@ -27,7 +27,7 @@ use Rattle.gate_history.specs.History.{from}
 use Rattle.crawl_audit.specs.declared.first_base.FirstBase.{FirstBase}
 use Rattle.crawl_audit.specs.declared.first_base.LastLine.{LastLine}
 use Rattle.crawl_audit.specs.declared.first_base.LastLine.TheVariants as lasts
-use Rattle.crawl_audit.specs.declared.ledger.Ledger.{Ledger}
+use Rattle.crawl_audit.specs.declared.open_state.OpenState.{OpenState}
 use Rattle.crawl_audit.specs.declared.numbers.Phase.{Phase}
 use Rattle.crawl_audit.specs.declared.numbers.Phase.TheVariants as phases
 use Rattle.history_text.specs.Texts.{IsTextBase}
@@ -196,11 +196,11 @@ out_none : (number : ℕ) (o : Option Phase) (us : List GrantedPermit) → us �
 out_none number None us are none = are
 out_none number (Some phase) us are none = absurd (true≢false none)
 
-module _ (first : FirstBase) (ledger : Ledger) (b : Base) (says : SaysBase first ledger b) where
-  tells : Tells ledger (from b)
+module _ (first : FirstBase) (open_state : OpenState) (b : Base) (says : SaysBase first open_state b) where
+  tells : Tells open_state (from b)
   tells = let all = says.tells in all.tells
 
-  numbers_tell : TellsNumbers ledger.numbers (from b)
+  numbers_tell : TellsNumbers open_state.numbers (from b)
   numbers_tell = let t = tells in t.numbers_tell
 
   unused_turn : (turn : ℕ) → not (is_used first turn) ≡ true → times_turned b.standing b.in_flight turn ≡ 0
@@ -215,27 +215,27 @@ module _ (first : FirstBase) (ledger : Ledger) (b : Base) (says : SaysBase first
     counted : turn ≤ b.begins
     at : nat_le begun b.moment ≡ true
 
-  began_so : (turn begun : ℕ) → may_have_begun first ledger turn begun ≡ true → BeganSo turn begun
+  began_so : (turn begun : ℕ) → may_have_begun first open_state turn begun ≡ true → BeganSo turn begun
   began_so turn begun is =
       let t = tells in
-      let parts = and_parts (not (is_used first turn)) (nat_le turn ledger.begins && nat_le begun ledger.clock) is in
-      let rest = and_parts (nat_le turn ledger.begins) (nat_le begun ledger.clock) parts.1 in
+      let parts = and_parts (not (is_used first turn)) (nat_le turn open_state.begins && nat_le begun open_state.clock) is in
+      let rest = and_parts (nat_le turn open_state.begins) (nat_le begun open_state.clock) parts.1 in
       record {
         unused = unused_turn turn parts.0;
         counted = at_most turn b.begins (ap (nat_le turn) (sym t.begins_are) ∙ rest.0);
         at = ap (nat_le begun) (sym t.clock_is) ∙ rest.1;
       }
 
-  so_began : (turn begun : ℕ) → BeganSo turn begun → may_have_begun first ledger turn begun ≡ true
+  so_began : (turn begun : ℕ) → BeganSo turn begun → may_have_begun first open_state turn begun ≡ true
   so_began turn begun is =
       let t = tells in
-      both (not (is_used first turn)) (nat_le turn ledger.begins && nat_le begun ledger.clock) (turn_unused turn is.unused)
-      (both (nat_le turn ledger.begins) (nat_le begun ledger.clock) (ap (nat_le turn) t.begins_are ∙ tests_at_most turn b.begins is.counted) (ap (nat_le begun) t.clock_is ∙ is.at))
+      both (not (is_used first turn)) (nat_le turn open_state.begins && nat_le begun open_state.clock) (turn_unused turn is.unused)
+      (both (nat_le turn open_state.begins) (nat_le begun open_state.clock) (ap (nat_le turn) t.begins_are ∙ tests_at_most turn b.begins is.counted) (ap (nat_le begun) t.clock_is ∙ is.at))
 
-  granted_is : (number : ℕ) → is_granted ledger.numbers number ≡ is_covered b.grants number
+  granted_is : (number : ℕ) → is_granted open_state.numbers number ≡ is_covered b.grants number
   granted_is number =
       let n = numbers_tell in
-      sym (covered_is b.grants number (lasts_of ledger.numbers (slot_of number)) (n.grants_are (slot_of number)))
+      sym (covered_is b.grants number (lasts_of open_state.numbers (slot_of number)) (n.grants_are (slot_of number)))
 
   abbrev last : LastLine
   last = last_of (rows_of b)
@@ -248,7 +248,7 @@ module _ (first : FirstBase) (ledger : Ledger) (b : Base) (says : SaysBase first
 
   -- ---- a row that passes them makes a base that a text can have
 
-  passes : (row : OpenRow) → IsOpenRow row → is_behind last row ≡ true → fits first ledger row ≡ true → IsTextBase (with_row b row)
+  passes : (row : OpenRow) → IsOpenRow row → is_behind last row ≡ true → fits first open_state row ≡ true → IsTextBase (with_row b row)
   passes (Answered s) row behind fit =
       let r = Answered s in
       let k = kinds r behind in
@@ -264,13 +264,13 @@ module _ (first : FirstBase) (ledger : Ledger) (b : Base) (says : SaysBase first
       let o = says.is_base.order in
       let t = tells in
       let cache = t.cache_tells in
-      let parts = and_parts (not (is_flying (site_of ledger.cache y.authority))) (may_have_begun first ledger y.turn y.begun) fit in
+      let parts = and_parts (not (is_flying (site_of open_state.cache y.authority))) (may_have_begun first open_state y.turn y.begun) fit in
       let began = began_so y.turn y.begun parts.1 in
       with_turn b says.is_base y row
       (less_behind turn_before turns_ordered InFlight (line_1 b) (λ z w. before_by z.turn w.turn) (before_turn b) b.in_flight y o.turns
       (moved r (line_2 b) (reached_2 b (no_grants b r k (omega arith)) (no_unspent b r k (omega arith)) (no_running b r k (omega arith))) behind))
       began.unused began.counted began.at
-      (flight_none y.authority (site_of ledger.cache y.authority).in_flight (filter (is_turn_of y.authority) b.in_flight) (cache.turns_are y.authority) (unnot (is_flying (site_of ledger.cache y.authority)) parts.0))
+      (flight_none y.authority (site_of open_state.cache y.authority).in_flight (filter (is_turn_of y.authority) b.in_flight) (cache.turns_are y.authority) (unnot (is_flying (site_of open_state.cache y.authority)) parts.0))
   passes (Greatest g) row behind fit =
       let r = Greatest g in
       let k = kinds r behind in
@@ -292,14 +292,14 @@ module _ (first : FirstBase) (ledger : Ledger) (b : Base) (says : SaysBase first
       let r = Running p in
       let o = says.is_base.order in
       let n = numbers_tell in
-      let parts = and_parts (is_granted ledger.numbers p.number) (not (is_some (phases_of ledger.numbers p.number))) fit in
+      let parts = and_parts (is_granted open_state.numbers p.number) (not (is_some (phases_of open_state.numbers p.number))) fit in
       with_running b says.is_base p row
       (less_behind permit_before permits_ordered Running (line_4 b) (λ z w. before_by z.number w.number) (before_running b) b.running p o.runs (moved r (last_from (line_4 b) (map Running b.running)) (reached_5 b) behind))
-      (out_none p.number (phases_of ledger.numbers p.number) (filter (is_numbered p.number) b.unspent) (n.unspent_are p.number) (unnot (is_some (phases_of ledger.numbers p.number)) parts.1))
+      (out_none p.number (phases_of open_state.numbers p.number) (filter (is_numbered p.number) b.unspent) (n.unspent_are p.number) (unnot (is_some (phases_of open_state.numbers p.number)) parts.1))
       (sym (granted_is p.number) ∙ parts.0)
 
   -- a row that passes them may stand
-  pub stands_from : (row : OpenRow) → IsOpenRow row → is_behind last row ≡ true → fits first ledger row ≡ true → MayStand b row
+  pub stands_from : (row : OpenRow) → IsOpenRow row → is_behind last row ≡ true → fits first open_state row ≡ true → MayStand b row
   stands_from row fields behind fit = record { behind = stands_behind b row (kinds row behind); base = passes row fields behind fit }
 
   -- ---- a row that may stand passes them
@@ -351,7 +351,7 @@ module _ (first : FirstBase) (ledger : Ledger) (b : Base) (says : SaysBase first
       (behind_last permit_before permits_ordered Running (line_4 b) (λ z w. before_by z.number w.number) (before_running b) (is_numbered p.number) b.running p o.runs (let once = out.numbers_once p.number in omega arith) (same_number p.number)
       (λ z v w. ap (λ n. n == p.number) (nat_tie z.number p.number v w) ∙ same_number p.number))
 
-  pub fits_too : (row : OpenRow) → MayStand b row → fits first ledger row ≡ true
+  pub fits_too : (row : OpenRow) → MayStand b row → fits first open_state row ≡ true
   fits_too (Answered s) may =
       let t = may.base.base.turns in
       let once = t.turns_once s.turn in
@@ -365,8 +365,8 @@ module _ (first : FirstBase) (ledger : Ledger) (b : Base) (says : SaysBase first
       let once = t.turns_once y.turn in
       let told = tells in
       let cache = told.cache_tells in
-      both (not (is_flying (site_of ledger.cache y.authority))) (may_have_begun first ledger y.turn y.begun)
-      (ap not (none_flight y.authority (site_of ledger.cache y.authority).in_flight (filter (is_turn_of y.authority) b.in_flight) (cache.turns_are y.authority)
+      both (not (is_flying (site_of open_state.cache y.authority))) (may_have_begun first open_state y.turn y.begun)
+      (ap not (none_flight y.authority (site_of open_state.cache y.authority).in_flight (filter (is_turn_of y.authority) b.in_flight) (cache.turns_are y.authority)
       (others_none (is_turn_of y.authority) b.in_flight y (t.flights_once y.authority) (same_text y.authority))))
       (so_began y.turn y.begun (record {
         unused = omega (arith, count-push (has_number y.turn) b.in_flight y, ap one_if (same_number y.turn));
@@ -381,8 +381,8 @@ module _ (first : FirstBase) (ledger : Ledger) (b : Base) (says : SaysBase first
       let out = may.base.base.permits in
       let once = out.numbers_once p.number in
       let n = numbers_tell in
-      both (is_granted ledger.numbers p.number) (not (is_some (phases_of ledger.numbers p.number)))
+      both (is_granted open_state.numbers p.number) (not (is_some (phases_of open_state.numbers p.number)))
       (granted_is p.number ∙ out.numbers_granted p.number (omega (arith, count-push (is_numbered p.number) b.running p, ap one_if (same_number p.number))))
-      (ap not (none_out p.number (phases_of ledger.numbers p.number) (filter (is_numbered p.number) b.unspent) (filter (is_numbered p.number) b.running) (n.unspent_are p.number) (n.running_are p.number)
+      (ap not (none_out p.number (phases_of open_state.numbers p.number) (filter (is_numbered p.number) b.unspent) (filter (is_numbered p.number) b.running) (n.unspent_are p.number) (n.running_are p.number)
       (omega (arith, count-push (is_numbered p.number) b.running p, ap one_if (same_number p.number)))
       (omega (arith, count-push (is_numbered p.number) b.running p, ap one_if (same_number p.number)))))

@@ -13,7 +13,7 @@ use Rattle.history_text.specs.declared.version.Version.TheVariants.{One, Two}
 use Rattle.crawl_audit.specs.declared.fault.AuditFault.{AuditFault}
 use Rattle.crawl_audit.specs.declared.fault.AuditFault.TheVariants.{BadLine, Read, NoMemory}
 use Rattle.crawl_audit.specs.declared.auditor.Auditor.{Auditor}
-use Rattle.crawl_audit.specs.declared.auditor.Stage.TheVariants as stages
+use Rattle.crawl_audit.specs.declared.auditor.AuditState.TheVariants as stages
 use Rattle.crawl_audit.specs.declared.first_base.FirstBase.{FirstBase}
 use Rattle.crawl_audit.specs.declared.next_base.NextBase.{NextBase}
 use Rattle.crawl_audit.specs.declared.unread_line.UnreadLine.{UnreadLine}
@@ -51,26 +51,26 @@ pub record CountsLine (old : Auditor) (line : List ℕ) (new : Auditor) : Type 0
 
 -- ---- where the auditor stands
 
--- the ledger says what the history does, behind so many entries of a text
+-- the open_state says what the history does, behind so many entries of a text
 pub record AreEntries (a : Auditor) (version : Version) (rising : Bool) (h : History) (count : ℕ) : Type 0 where
   pub version_is : a.version ≡ version
-  pub rising_is : a.ledger.numbers.rising ≡ rising
+  pub rising_is : a.open_state.numbers.rising ≡ rising
   pub count_is : a.count ≡ count
-  pub tells : TellsAll a.ledger h
+  pub tells : TellsAll a.open_state h
   pub legal : IsLegal h
 
 -- a base of a first text is being read, of which these are the first lines
 pub record IsInFirst (a : Auditor) (lines : List (List ℕ)) : Type 0 where
   pub first : FirstBase
   pub stage : a.stage ≡ stages.First first
-  pub reads : Reads first a.ledger lines
+  pub reads : Reads first a.open_state lines
 
 -- the base of a text that goes on from the history is
 pub record IsInFurther (a : Auditor) (h : History) (lines : List (List ℕ)) : Type 0 where
   pub next : NextBase
   pub stage : a.stage ≡ stages.Further next
   pub expects : Expects next h lines
-  pub tells : TellsAll a.ledger h
+  pub tells : TellsAll a.open_state h
   pub legal : IsLegal h
 
 -- the auditor stands there
@@ -87,7 +87,7 @@ pub record BeginsEntries (old new : Auditor) : Type 0 where
   pub version : new.version ≡ Two
   pub stage : new.stage ≡ stages.Entries
   pub count : new.count ≡ 0
-  pub ledger : new.ledger ≡ old.ledger
+  pub open_state : new.open_state ≡ old.open_state
   pub reader : new.reader ≡ old.reader
   pub schemes : new.schemes ≡ old.schemes
   pub lines : new.lines ≡ old.lines
@@ -108,16 +108,19 @@ Moves place line old (Err unread.NotOne) new = (next : Place) → Steps place li
 Moves place line old (Err unread.NoMemory) new = Unit {0}
 
 -- the line was that of an entry
-pub record EntersOne (version : Version) (rising : Bool) (h : History) (count : ℕ) (line : List ℕ) (old new : Auditor) : Type 0 where
+pub record EntersOne (version : Version) (rising : Bool) (h : History) (count : ℕ) (line : List ℕ)
+    (old new : Auditor) : Type 0 where
   pub next : Place
   pub takes : TakesEntry version rising h count line next
   pub stands : StandsAt new next
   pub counts : CountsLine old line new
 
 -- the line was that of an entry that may come, or it is not one, or memory was refused
-abbrev pub EntersLine : Version → Bool → History → ℕ → List ℕ → Auditor → Result (Unit {0}) UnreadLine → Auditor → Type 0
+abbrev pub EntersLine : Version → Bool → History → ℕ → List ℕ → Auditor → Result (Unit {0}) UnreadLine → Auditor
+    → Type 0
 EntersLine version rising h count line old (Ok _) new = EntersOne version rising h count line old new
-EntersLine version rising h count line old (Err unread.NotOne) new = (next : Place) → TakesEntry version rising h count line next → ⊥
+EntersLine version rising h count line old (Err unread.NotOne) new =
+    (next : Place) → TakesEntry version rising h count line next → ⊥
 EntersLine version rising h count line old (Err unread.NoMemory) new = Unit {0}
 
 -- these lines were read, and led to the place; they name the schemes alone that are read

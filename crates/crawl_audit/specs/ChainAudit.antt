@@ -42,4 +42,5 @@ pub record IsChainBadAt (schemes : Schemes) (text : List ℕ) (line : ℕ) : Typ
   pub text_is : text ≡ lines_text front ++ behind
   pub whole : behind ≡ [] → (first : Text) (later : List Text) → IsChain first later → chain_lines first later ≢ front
   pub line_is : line ≡ length front + 1
-  pub bad : (next after : List ℕ) → length next ≤ line_limit → behind ≡ ended next ++ after → IsAmong schemes next → IsFront (front ++ next ∷ []) → ⊥
+  pub bad : (next after : List ℕ) → length next ≤ line_limit → behind ≡ ended next ++ after → IsAmong schemes next
+      → IsFront (front ++ next ∷ []) → ⊥

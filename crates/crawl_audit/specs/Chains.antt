@@ -53,5 +53,6 @@ pub record IsFront (lines : List (List ℕ)) : Type 0 where
   pub first : Text
   pub later : List Text
   pub chain : IsChain first later
-  pub begins : ((rest : List (List ℕ)) × (chain_lines first later ≡ lines ++ rest)) ⊎ (lines ≡ chain_lines first later ++ codes "V 3" ∷ [])
+  pub begins : ((rest : List (List ℕ)) × (chain_lines first later ≡ lines ++ rest))
+      ⊎ (lines ≡ chain_lines first later ++ codes "V 3" ∷ [])
   pub few : length lines ≤ most_lines

@@ -77,7 +77,8 @@ pub record HaveRoom (schemes : Schemes) (lines count entries : ℕ) (more : List
 
 -- the auditor took the line of the entry behind those that it read; or there is no room for it, or it is not legal; or
 -- memory was refused
-abbrev pub EndsOne : Schemes → List (List ℕ) → Version → Bool → History → ℕ → Entry → Result (Unit {0}) RecoverFault → Auditor → Type 0
+abbrev pub EndsOne : Schemes → List (List ℕ) → Version → Bool → History → ℕ → Entry → Result (Unit {0}) RecoverFault
+    → Auditor → Type 0
 EndsOne schemes lines version rising h count e (Ok _) new =
     Holds schemes new (lines ++ entry_line version e ∷ []) (among version rising (h ▸ e) (count + 1))
 EndsOne schemes lines version rising h count e (Err (NoRoom number)) new =
@@ -89,20 +90,26 @@ EndsOne schemes lines version rising h count e (Err (NoEntries _)) new = ⊥
 EndsOne schemes lines version rising h count e (Err Read) new = ⊥
 
 -- the auditor took the lines of these entries behind those that it read, and this is their text
-pub record TakesEnds (schemes : Schemes) (lines : List (List ℕ)) (version : Version) (rising : Bool) (h : History) (count : ℕ) (es : List Entry) (text : List ℕ) (new : Auditor) : Type 0 where
-  pub holds : Holds schemes new (lines ++ lines_of version es) (among version rising (followed_by h es) (count + length es))
+pub record TakesEnds (schemes : Schemes) (lines : List (List ℕ)) (version : Version) (rising : Bool) (h : History)
+    (count : ℕ) (es : List Entry) (text : List ℕ) (new : Auditor) : Type 0 where
+  pub holds : Holds schemes new (lines ++ lines_of version es)
+      (among version rising (followed_by h es) (count + length es))
   pub text_is : text ≡ lines_text (lines_of version es)
 
 -- one of these lines has this number, and there is no room for them all, or they are not legal
-pub record RefusesEnds (schemes : Schemes) (lines : List (List ℕ)) (version : Version) (h : History) (count : ℕ) (es : List Entry) (number : ℕ) : Type 0 where
+pub record RefusesEnds (schemes : Schemes) (lines : List (List ℕ)) (version : Version) (h : History) (count : ℕ)
+    (es : List Entry) (number : ℕ) : Type 0 where
   pub above : length lines < number
   pub within : number ≤ length lines + length es
   pub lacks : AllFollow h es → HaveRoom schemes (length lines) count (entry_count h) (lines_of version es) → ⊥
 
 -- it took them; or there is no room; or memory was refused
-abbrev pub EndsAll : Schemes → List (List ℕ) → Version → Bool → History → ℕ → List Entry → Result (Vec ℕ Global) RecoverFault → Auditor → Type 0
-EndsAll schemes lines version rising h count es (Ok text) new = TakesEnds schemes lines version rising h count es text.items new
-EndsAll schemes lines version rising h count es (Err (NoRoom number)) new = RefusesEnds schemes lines version h count es number
+abbrev pub EndsAll : Schemes → List (List ℕ) → Version → Bool → History → ℕ → List Entry
+    → Result (Vec ℕ Global) RecoverFault → Auditor → Type 0
+EndsAll schemes lines version rising h count es (Ok text) new =
+    TakesEnds schemes lines version rising h count es text.items new
+EndsAll schemes lines version rising h count es (Err (NoRoom number)) new =
+    RefusesEnds schemes lines version h count es number
 EndsAll schemes lines version rising h count es (Err NoMemory) new = Unit {0}
 EndsAll schemes lines version rising h count es (Err (BadLine _)) new = ⊥
 EndsAll schemes lines version rising h count es (Err (NoEntries _)) new = ⊥

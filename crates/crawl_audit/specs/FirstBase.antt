@@ -1,4 +1,4 @@
--- The base of a first text while it is read line by line: how far it came, what its reader and the ledger say of
+-- The base of a first text while it is read line by line: how far it came, what its reader and the open_state say of
 -- what was read, and which line may come next. docs/FORMATS.md has the lines as a table.
 use Rattle.std.specs.Prelude.{◌≡◌, ℕ, ◌==◌, ◌⊎◌, Bool, true, false, ◌&&◌, nat_le, nat_lt, not, All, List, [], ◌∷◌, ◌++◌, Some, None, OnOk, Result, Ok, Err, codes, is_some, map}
 use Rattle.std.specs.declared.alloc.AllocError.{AllocError}
@@ -14,7 +14,7 @@ use Rattle.permit_book.specs.Outstanding.{permit_for}
 use Rattle.crawl_audit.specs.declared.first_base.FirstBase.{FirstBase}
 use Rattle.crawl_audit.specs.declared.first_base.LastLine.{LastLine}
 use Rattle.crawl_audit.specs.declared.first_base.LastLine.TheVariants as lasts
-use Rattle.crawl_audit.specs.declared.ledger.Ledger.{Ledger}
+use Rattle.crawl_audit.specs.declared.open_state.OpenState.{OpenState}
 use Rattle.crawl_audit.specs.declared.numbers.Numbers.{Numbers}
 use Rattle.crawl_audit.specs.declared.numbers.Phase.{Phase}
 use Rattle.crawl_audit.specs.declared.numbers.Phase.TheVariants as phases
@@ -74,23 +74,26 @@ abbrev pub is_granted : Numbers → ℕ → Bool
 is_granted numbers number = not (is_above (generation_of number) (lasts_of numbers (slot_of number)))
 
 -- the turn was not read yet, and there may be one of this number that began at this moment
-abbrev pub may_have_begun : FirstBase → Ledger → ℕ → ℕ → Bool
-may_have_begun first ledger turn begun = not (is_used first turn) && (nat_le turn ledger.begins && nat_le begun ledger.clock)
+abbrev pub may_have_begun : FirstBase → OpenState → ℕ → ℕ → Bool
+may_have_begun first open_state turn begun =
+    not (is_used first turn) && (nat_le turn open_state.begins && nat_le begun open_state.clock)
 
 -- the row fits to what was read, wherever it comes
-abbrev pub fits : FirstBase → Ledger → OpenRow → Bool
-fits first ledger (Answered s) = may_have_begun first ledger s.turn s.begun
-fits first ledger (InFlight t) = not (is_flying (site_of ledger.cache t.authority)) && may_have_begun first ledger t.turn t.begun
-fits first ledger (Greatest g) = true
-fits first ledger (Unspent p) = is_granted ledger.numbers p.number
-fits first ledger (Running p) = is_granted ledger.numbers p.number && not (is_some (phases_of ledger.numbers p.number))
+abbrev pub fits : FirstBase → OpenState → OpenRow → Bool
+fits first open_state (Answered s) = may_have_begun first open_state s.turn s.begun
+fits first open_state (InFlight t) =
+    not (is_flying (site_of open_state.cache t.authority)) && may_have_begun first open_state t.turn t.begun
+fits first open_state (Greatest g) = true
+fits first open_state (Unspent p) = is_granted open_state.numbers p.number
+fits first open_state (Running p) =
+    is_granted open_state.numbers p.number && not (is_some (phases_of open_state.numbers p.number))
 
--- the reader and the ledger say what the base does
-pub record SaysBase (first : FirstBase) (ledger : Ledger) (b : Base) : Type 0 where
+-- the reader and the open_state say what the base does
+pub record SaysBase (first : FirstBase) (open_state : OpenState) (b : Base) : Type 0 where
   pub is_base : IsTextBase b
   pub rows : All IsOpenRow (rows_of b)
-  pub tells : TellsAll ledger (from b)
-  pub rising : ledger.numbers.rising ≡ true
+  pub tells : TellsAll open_state (from b)
+  pub rising : open_state.numbers.rising ≡ true
   pub last_is : first.last ≡ Some (last_of (rows_of b))
   pub turns_are : (turn : ℕ) → is_used first turn ≡ nat_lt 0 (times_turned b.standing b.in_flight turn)
 
@@ -108,38 +111,39 @@ permit_row number (phases.Unspent fetch) = Unspent (permit_for number fetch)
 permit_row number (phases.Running fetch) = Running (permit_for number fetch)
 
 -- a row that may stand was loaded, so they say what the base with it does
-abbrev pub Loads : Base → OpenRow → Result (Unit {0}) AllocError → FirstBase → Ledger → Type 0
-Loads b row result first ledger = IsOpenRow row → MayStand b row → OnOk result (SaysBase first ledger (with_row b row))
+abbrev pub Loads : Base → OpenRow → Result (Unit {0}) AllocError → FirstBase → OpenState → Type 0
+Loads b row result first open_state =
+    IsOpenRow row → MayStand b row → OnOk result (SaysBase first open_state (with_row b row))
 
 -- the first line was read, and nothing was before
-pub record ReadsHead (first : FirstBase) (ledger : Ledger) (lines : List (List ℕ)) : Type 0 where
+pub record ReadsHead (first : FirstBase) (open_state : OpenState) (lines : List (List ℕ)) : Type 0 where
   pub lines_are : lines ≡ codes "V 3" ∷ []
-  pub tells : TellsAll ledger (from empty_base)
+  pub tells : TellsAll open_state (from empty_base)
   pub none : first.last ≡ None
   pub unused : (turn : ℕ) → is_used first turn ≡ false
 
 -- the numbers of a base were read, and what it left open as far as these lines have it
-pub record ReadsRows (first : FirstBase) (ledger : Ledger) (lines : List (List ℕ)) : Type 0 where
+pub record ReadsRows (first : FirstBase) (open_state : OpenState) (lines : List (List ℕ)) : Type 0 where
   pub base : Base
-  pub says : SaysBase first ledger base
+  pub says : SaysBase first open_state base
   pub lines_are : lines ≡ codes "V 3" ∷ numbers_line base ∷ map row_line (rows_of base)
 
 -- these lines of a base were read
-abbrev pub Reads : FirstBase → Ledger → List (List ℕ) → Type 0
-Reads first ledger lines = ReadsHead first ledger lines ⊎ ReadsRows first ledger lines
+abbrev pub Reads : FirstBase → OpenState → List (List ℕ) → Type 0
+Reads first open_state lines = ReadsHead first open_state lines ⊎ ReadsRows first open_state lines
 
--- the lines are all of a base, and the ledger goes on from it
-pub record HasRead (lines : List (List ℕ)) (ledger : Ledger) : Type 0 where
+-- the lines are all of a base, and the open_state goes on from it
+pub record HasRead (lines : List (List ℕ)) (open_state : OpenState) : Type 0 where
   pub base : Base
   pub is_base : IsTextBase base
   pub lines_are : base_lines base ≡ lines
-  pub tells : TellsAll ledger (from base)
-  pub rising : ledger.numbers.rising ≡ true
+  pub tells : TellsAll open_state (from base)
+  pub rising : open_state.numbers.rising ≡ true
 
 -- the line is the next one of a base; it is the last one; it is not one; or memory was refused
-abbrev pub TakesBaseLine : List (List ℕ) → List ℕ → Result Bool UnreadLine → FirstBase → Ledger → Type 0
-TakesBaseLine lines line (Ok false) first ledger =
-    Reads first ledger (lines ++ line ∷ []) × TakesLine None lines line (inside None (lines ++ line ∷ []))
-TakesBaseLine lines line (Ok true) first ledger = HasRead (lines ++ line ∷ []) ledger
-TakesBaseLine lines line (Err NotOne) first ledger = (next : Place) → Steps (inside None lines) line next → ⊥
-TakesBaseLine lines line (Err NoMemory) first ledger = Unit {0}
+abbrev pub TakesBaseLine : List (List ℕ) → List ℕ → Result Bool UnreadLine → FirstBase → OpenState → Type 0
+TakesBaseLine lines line (Ok false) first open_state =
+    Reads first open_state (lines ++ line ∷ []) × TakesLine None lines line (inside None (lines ++ line ∷ []))
+TakesBaseLine lines line (Ok true) first open_state = HasRead (lines ++ line ∷ []) open_state
+TakesBaseLine lines line (Err NotOne) first open_state = (next : Place) → Steps (inside None lines) line next → ⊥
+TakesBaseLine lines line (Err NoMemory) first open_state = Unit {0}

@@ -1,5 +1,5 @@
 -- The chains of texts that name pages and sites of `http` alone, by their entries and their bases.
--- RFC 9309, section 2.3: a robots file holds for a scheme and an authority.
+-- RFC 9309, section 2.3: a robots.txt holds for a scheme and an authority.
 use Rattle.std.specs.Prelude.{◌≡◌, Bool, false, All, List}
 use Rattle.path_normal.specs.PageText.{is_https}
 use Rattle.permit_book.specs.declared.granted_permit.GrantedPermit.{GrantedPermit}

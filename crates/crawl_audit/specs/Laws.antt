@@ -22,7 +22,8 @@ use Rattle.crawl_audit.specs.Steps.{MayEnd, Place, Runs, start, Steps}
 
 -- a line is the spelling of one entry at most
 abbrev pub OneEntry : Type 0
-OneEntry = (version : Version) (d e : Entry) → IsEntry version d → IsEntry version e → entry_line version d ≡ entry_line version e → d ≡ e
+OneEntry = (version : Version) (d e : Entry) → IsEntry version d → IsEntry version e
+    → entry_line version d ≡ entry_line version e → d ≡ e
 
 -- a text is the spelling of one history at most, whatever their lengths
 abbrev pub OneHistory : Type 0
@@ -42,7 +43,8 @@ SegmentIsChain = (s : Sealed) → chain_text (text_of s) [] ≡ spell_segment s
 
 -- a segment goes on from the history that its base says
 abbrev pub SegmentsGoOn : Type 0
-SegmentsGoOn = (h : History) (s : Sealed) → IsText (text_of s) → 0 < s.base.entries → SaysAs (from s.base) h → GoesOn h (text_of s)
+SegmentsGoOn = (h : History) (s : Sealed) → IsText (text_of s) → 0 < s.base.entries → SaysAs (from s.base) h
+    → GoesOn h (text_of s)
 
 -- what a history does is said by one base in order at most, so a further text has one base at most
 abbrev pub OneNextBase : Type 0
@@ -52,7 +54,8 @@ OneNextBase =
 -- lines that begin with those of a base begin with those of one base at most
 abbrev pub OneBase : Type 0
 OneBase =
-    (a b : Base) (after after' : List (List ℕ)) → IsTextBase a → IsTextBase b → base_lines a ++ after ≡ base_lines b ++ after' → a ≡ b
+    (a b : Base) (after after' : List (List ℕ)) → IsTextBase a → IsTextBase b
+    → base_lines a ++ after ≡ base_lines b ++ after' → a ≡ b
 
 -- the text of a chain of not too many lines, which name the schemes alone that are read, is bad at no line
 abbrev pub RightChainIsNeverBad : Type 0
@@ -76,7 +79,8 @@ HttpChainIsNeverBad =
 
 -- a line leads from a place to one place at most
 abbrev pub OneStep : Type 0
-OneStep = (place : Place) (line : List ℕ) (one other : Place) → Steps place line one → Steps place line other → one ≡ other
+OneStep =
+    (place : Place) (line : List ℕ) (one other : Place) → Steps place line one → Steps place line other → one ≡ other
 
 -- lines with which a right text may begin are read line by line
 abbrev pub FrontsAreRead : Type 0
@@ -84,7 +88,8 @@ FrontsAreRead = (lines : List (List ℕ)) → IsFront lines → (place : Place) 
 
 -- what is read line by line, and is not too long, are lines with which a right text may begin
 abbrev pub ReadsAreFronts : Type 0
-ReadsAreFronts = (lines : List (List ℕ)) (place : Place) → Runs start lines place → length lines ≤ most_lines → IsFront lines
+ReadsAreFronts =
+    (lines : List (List ℕ)) (place : Place) → Runs start lines place → length lines ≤ most_lines → IsFront lines
 
 -- where a text may end, they are the lines of a chain
 abbrev pub EndsAreChains : Type 0

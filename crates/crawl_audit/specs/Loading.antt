@@ -1,4 +1,4 @@
--- What it is to load into the ledger what a base left open, thing by thing.
+-- What it is to load into the open_state what a base left open, thing by thing.
 -- RFC 9309, sections 2.3.1 and 2.4.
 use Rattle.std.specs.Prelude.{◌≡◌, ℕ, true, false, List}
 use Rattle.authority_cache.specs.declared.site.Flight.{Flight}
@@ -7,7 +7,7 @@ use Rattle.authority_cache.specs.Lives.{Timed}
 use Rattle.authority_cache.specs.Sites.{Known, arrived, is_flying, site_of, with_flight}
 use Rattle.gate_history.specs.declared.base.Numbers.{Numbers as Counts}
 use Rattle.gate_history.specs.declared.base.SlotGrant.{SlotGrant}
-use Rattle.crawl_audit.specs.declared.ledger.Ledger.{Ledger}
+use Rattle.crawl_audit.specs.declared.open_state.OpenState.{OpenState}
 use Rattle.crawl_audit.specs.declared.numbers.Numbers.{Numbers}
 use Rattle.crawl_audit.specs.Tables.{KeepsLast, lasts_of}
 
@@ -15,40 +15,42 @@ use Rattle.crawl_audit.specs.Tables.{KeepsLast, lasts_of}
 abbrev pub risen : Numbers → Numbers
 risen numbers = record numbers { rising = true }
 
--- the same ledger with the numbers of a base
-abbrev pub counted_from : Ledger → Counts → Ledger
-counted_from ledger numbers = record ledger {
+-- the same open_state with the numbers of a base
+abbrev pub counted_from : OpenState → Counts → OpenState
+counted_from open_state numbers = record open_state {
   clock = numbers.moment;
   begins = numbers.begins;
   entries = numbers.entries;
   started = numbers.started;
-  numbers = risen ledger.numbers;
+  numbers = risen open_state.numbers;
 }
 
--- the same ledger with this cache
-abbrev pub with_cache : Ledger → Known → Ledger
-with_cache ledger cache = record ledger { cache = cache }
+-- the same open_state with this cache
+abbrev pub with_cache : OpenState → Known → OpenState
+with_cache open_state cache = record open_state { cache = cache }
 
--- the same ledger with these numbers of permits
-abbrev pub with_numbers : Ledger → Numbers → Ledger
-with_numbers ledger numbers = record ledger { numbers = numbers }
+-- the same open_state with these numbers of permits
+abbrev pub with_numbers : OpenState → Numbers → OpenState
+with_numbers open_state numbers = record open_state { numbers = numbers }
 
 -- the flight of a turn that began at this moment
 abbrev pub flight_of : ℕ → ℕ → Flight
 flight_of turn begun = record { turn = turn; begun = begun }
 
 -- the authority had no turn in flight, and has this one now
-pub record LoadsTurn (old : Ledger) (authority : List ℕ) (turn begun : ℕ) (new : Ledger) : Type 0 where
+pub record LoadsTurn (old : OpenState) (authority : List ℕ) (turn begun : ℕ) (new : OpenState) : Type 0 where
   pub rest : new ≡ with_cache old new.cache
   pub idle : is_flying (site_of old.cache authority) ≡ false
   pub began : Changes old.cache authority (with_flight (flight_of turn begun) (site_of old.cache authority)) new.cache
 
 -- the turn began, and its answer arrived
-pub record LoadsAnswer (old : Ledger) (authority : List ℕ) (turn begun : ℕ) (answer : Timed) (new : Ledger) : Type 0 where
-  pub between : Ledger
+pub record LoadsAnswer (old : OpenState) (authority : List ℕ) (turn begun : ℕ) (answer : Timed)
+    (new : OpenState) : Type 0 where
+  pub between : OpenState
   pub turned : LoadsTurn old authority turn begun between
   pub rest : new ≡ with_cache between new.cache
-  pub came : Changes between.cache authority (arrived turn answer.says answer.life (site_of between.cache authority)) new.cache
+  pub came : Changes between.cache authority
+      (arrived turn answer.says answer.life (site_of between.cache authority)) new.cache
 
 -- the greatest generation of a slot is this one now
 pub record Sets (old : Numbers) (grant : SlotGrant) (new : Numbers) : Type 0 where

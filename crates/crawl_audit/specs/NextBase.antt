@@ -9,7 +9,7 @@ use Rattle.gate_history.specs.History.{History, entry_count, from}
 use Rattle.gate_history.specs.Kept.{base_with}
 use Rattle.gate_history.specs.Order.{IsInOrder, Reorders}
 use Rattle.gate_history.specs.Seal.{SaysAs}
-use Rattle.crawl_audit.specs.declared.ledger.Ledger.{Ledger}
+use Rattle.crawl_audit.specs.declared.open_state.OpenState.{OpenState}
 use Rattle.crawl_audit.specs.declared.next_base.NextBase.{NextBase}
 use Rattle.crawl_audit.specs.declared.next_base.BaseLine.{BaseLine}
 use Rattle.crawl_audit.specs.declared.next_base.BaseLine.TheVariants.{Taken, Last, Other}
@@ -19,8 +19,8 @@ use Rattle.history_text.specs.SpellBase.{base_lines, numbers_line, open_lines}
 use Rattle.crawl_audit.specs.Steps.{EndsBase, Place, TakesLine, inside}
 use Rattle.crawl_audit.specs.Tables.{ListsGrants, ListsRunning, ListsUnspent}
 
--- the lists have what the tables of the ledger have
-pub record TellsLeft (l : Ledger) (left : LeftOpen) : Type 0 where
+-- the lists have what the tables of the open_state have
+pub record TellsLeft (l : OpenState) (left : LeftOpen) : Type 0 where
   pub answers : ListsAnswers l.cache left.standing.items
   pub turns : ListsTurns l.cache left.in_flight.items
   pub permits : ListsUnspent l.numbers left.unspent.items

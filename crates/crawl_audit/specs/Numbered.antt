@@ -1,4 +1,5 @@
--- The base of numbers alone, which left nothing open. RFC 9309 has no histories.
+-- The base of numbers alone, which left nothing open.
+-- Cited where the first line of a base was read.
 use Rattle.std.specs.Prelude.{[]}
 use Rattle.gate_history.specs.declared.base.Numbers.{Numbers}
 use Rattle.gate_history.specs.Base.{Base}

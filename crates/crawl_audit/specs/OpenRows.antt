@@ -46,7 +46,8 @@ rows_of b =
     ++ (map Unspent b.unspent ++ map Running b.running)))
 
 -- a base with the numbers of this one, and these lists
-abbrev pub left_as : List StandingAnswer → List Turn → List SlotGrant → List GrantedPermit → List GrantedPermit → Base → Base
+abbrev pub left_as : List StandingAnswer → List Turn → List SlotGrant → List GrantedPermit → List GrantedPermit → Base
+    → Base
 left_as standing in_flight grants unspent running b = record {
   standing = standing;
   in_flight = in_flight;

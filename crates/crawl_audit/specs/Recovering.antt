@@ -64,10 +64,13 @@ IsWholeFault schemes text faults.Read = Unit {0}
 IsWholeFault schemes text faults.NoMemory = Unit {0}
 
 -- a whole line was taken, or none was left, or there was a fault
-abbrev pub TakesWhole : Schemes → Option (List ℕ) → WholeLines → Result Bool AuditFault → WholeLines → Option (List ℕ) → Type 0
-TakesWhole schemes input old (Ok true) new behind = HeardWhole schemes new input behind × (new.auditor.lines ≡ old.auditor.lines + 1)
+abbrev pub TakesWhole : Schemes → Option (List ℕ) → WholeLines → Result Bool AuditFault → WholeLines → Option (List ℕ)
+    → Type 0
+TakesWhole schemes input old (Ok true) new behind =
+    HeardWhole schemes new input behind × (new.auditor.lines ≡ old.auditor.lines + 1)
 TakesWhole schemes input old (Ok false) new behind = HeardCut schemes new input
-TakesWhole schemes input old (Err fault) new behind = (text : List ℕ) → input ≡ Some text → IsWholeFault schemes text fault
+TakesWhole schemes input old (Err fault) new behind =
+    (text : List ℕ) → input ≡ Some text → IsWholeFault schemes text fault
 
 -- the fault that recovery tells of a fault of the auditor
 abbrev pub fault_read : AuditFault → RecoverFault
@@ -107,7 +110,9 @@ pub record IsRecovered (schemes : Schemes) (text : List ℕ) (found : Recovered)
   pub ends : List (List ℕ)
   pub ends_are : ends ≡ lines_of behind.version (ends_of behind.left)
   pub ending_is : found.ending.items ≡ lines_text ends
-  pub runs : Runs start (lines ++ ends) (among behind.version behind.rising (followed_by behind.history (ends_of behind.left)) (behind.count + length (ends_of behind.left)))
+  pub runs : Runs start (lines ++ ends)
+      (among behind.version behind.rising (followed_by behind.history (ends_of behind.left))
+      (behind.count + length (ends_of behind.left)))
   pub few : length (lines ++ ends) ≤ most_lines
   pub among : All (IsAmong schemes) (lines ++ ends)
   pub leads : LeadsTo (followed_by behind.history (ends_of behind.left)) found.base found.cache
@@ -128,7 +133,8 @@ pub record LacksRoom (schemes : Schemes) (text : List ℕ) (line : ℕ) : Type 0
   pub lines : List (List ℕ)
   pub cut : IsCut text lines
   pub behind : LeaveOpen lines
-  pub lacks : HaveRoom schemes (length lines) behind.count (entry_count behind.history) (lines_of behind.version (ends_of behind.left)) → ⊥
+  pub lacks : HaveRoom schemes (length lines) behind.count (entry_count behind.history)
+      (lines_of behind.version (ends_of behind.left)) → ⊥
   pub above : length lines < line
   pub within : line ≤ length lines + length (ends_of behind.left)
 
@@ -142,14 +148,15 @@ IsRecoverFault schemes text NoMemory = Unit {0}
 
 -- the base says what each history does of which the tables tell, in order
 pub record IsLeft (a : Auditor) (left : Base) : Type 0 where
-  pub says : (h : History) → IsLegal h → TellsAll a.ledger h → SaysAs (from left) h
+  pub says : (h : History) → IsLegal h → TellsAll a.open_state h → SaysAs (from left) h
   pub is_base : IsBase left
   pub order : IsInOrder left
 
 -- what comes of the lines of these entries
 abbrev pub EndsFor : Auditor → List Entry → Result (Vec ℕ Global) RecoverFault → Auditor → Type 0
 EndsFor old es result new =
-    (schemes : Schemes) (lines : List (List ℕ)) (version : Version) (rising : Bool) (h : History) (count : ℕ) → Holds schemes old lines (among version rising h count)
+    (schemes : Schemes) (lines : List (List ℕ)) (version : Version) (rising : Bool) (h : History) (count : ℕ)
+    → Holds schemes old lines (among version rising h count)
     → All IsEnding es → EndsAll schemes lines version rising h count es result new
 
 -- what comes of those that end what the base left open
@@ -159,8 +166,11 @@ EndsLeft old left = EndsFor old (ends_of left)
 -- a base in order says what the tables tell, the auditor took the lines that end what it left open, and these are their
 -- text and its sites; or they can't be taken, or memory was refused
 abbrev pub EndsOpen : Auditor → Result (Vec ℕ Global × Vec (List ℕ) Global) RecoverFault → Auditor → Type 0
-EndsOpen old (Ok found) new = (left : Base) × (IsLeft old left × (EndsLeft old left (Ok found.0) new × (found.1.items ≡ map (λ t. t.authority) left.in_flight)))
-EndsOpen old (Err fault) new = ((left : Base) × (IsLeft old left × EndsLeft old left (Err fault) new)) ⊎ (fault ≡ NoMemory)
+EndsOpen old (Ok found) new =
+    (left : Base) × (IsLeft old left
+    × (EndsLeft old left (Ok found.0) new × (found.1.items ≡ map (λ t. t.authority) left.in_flight)))
+EndsOpen old (Err fault) new =
+    ((left : Base) × (IsLeft old left × EndsLeft old left (Err fault) new)) ⊎ (fault ≡ NoMemory)
 
 -- what comes of the whole lines of an input: what was found is that to which they lead, or they are refused
 abbrev pub Recovers : Schemes → Option (List ℕ) → Result Recovered RecoverFault → Type 0

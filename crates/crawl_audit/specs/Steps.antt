@@ -28,7 +28,8 @@ IsBaseFor None b = IsTextBase b
 IsBaseFor (Some h) b = IsTextBase b × SaysAs (from b) h
 
 -- the line is that of an entry that may come next
-pub record TakesEntry (version : Version) (rising : Bool) (h : History) (count : ℕ) (line : List ℕ) (next : Place) : Type 0 where
+pub record TakesEntry (version : Version) (rising : Bool) (h : History) (count : ℕ) (line : List ℕ)
+    (next : Place) : Type 0 where
   pub entry : Entry
   pub spelled : IsEntry version entry
   pub may : MayCome rising h entry
@@ -62,7 +63,8 @@ pub record IsHead (head line : List ℕ) (there next : Place) : Type 0 where
 abbrev pub Steps : Place → List ℕ → Place → Type 0
 Steps start line next =
     IsHead (codes "V 2") line (among Two false (from empty_base) 0) next
-    ⊎ (IsHead (codes "V 3") line (inside None (codes "V 3" ∷ [])) next ⊎ TakesEntry One false (from empty_base) 0 line next)
+    ⊎ (IsHead (codes "V 3") line (inside None (codes "V 3" ∷ [])) next
+    ⊎ TakesEntry One false (from empty_base) 0 line next)
 Steps (among version rising h count) line next =
     IsHead (codes "V 3") line (inside (Some h) (codes "V 3" ∷ [])) next ⊎ TakesEntry version rising h count line next
 Steps (inside after lines) line next = TakesLine after lines line next ⊎ EndsBase after lines line next

@@ -18,9 +18,9 @@ use Rattle.gate_history.specs.Grants.{IsSlotGrant, ListsEach}
 use Rattle.crawl_audit.specs.declared.numbers.Numbers.{Numbers}
 use Rattle.crawl_audit.specs.declared.numbers.Phase.{Phase}
 use Rattle.crawl_audit.specs.declared.numbers.Phase.TheVariants.{Unspent, Running}
-use Rattle.crawl_audit.specs.declared.ledger.Ledger.{Ledger}
-use Rattle.crawl_audit.specs.declared.ledger.Unfit.{Unfit}
-use Rattle.crawl_audit.specs.declared.ledger.Unfit.TheVariants.{Illegal, NoMemory}
+use Rattle.crawl_audit.specs.declared.open_state.OpenState.{OpenState}
+use Rattle.crawl_audit.specs.declared.open_state.Unfit.{Unfit}
+use Rattle.crawl_audit.specs.declared.open_state.Unfit.TheVariants.{Illegal, NoMemory}
 
 -- how each number is out, none of one that is not
 abbrev pub Phases : Type 0
@@ -105,19 +105,22 @@ pub record Puts (old : Numbers) (number : ℕ) (phase : Option Phase) (new : Num
 
 -- an unspent permit runs now
 abbrev pub StartsRun : Numbers → ℕ → Numbers → Type 0
-StartsRun old number new = (fetch : Fetch) → phases_of old number ≡ Some (Unspent fetch) → Puts old number (Some (Running fetch)) new
+StartsRun old number new =
+    (fetch : Fetch) → phases_of old number ≡ Some (Unspent fetch) → Puts old number (Some (Running fetch)) new
 
 -- the number's slot has had the number's generation
 pub record Raises (old : Numbers) (number : ℕ) (new : Numbers) : Type 0 where
   pub fits : IsSlotGrant (record { slot = slot_of number; generation = generation_of number })
-  pub lasts : KeepsLast (lasts_of old) (slot_of number) (greatest_with (generation_of number) (lasts_of old (slot_of number))) (lasts_of new)
+  pub lasts : KeepsLast (lasts_of old) (slot_of number)
+      (greatest_with (generation_of number) (lasts_of old (slot_of number))) (lasts_of new)
   pub out : new.out ≡ old.out
   pub granted : new.granted ≡ old.granted
   pub rising : new.rising ≡ old.rising
 
 -- one number more was granted
 abbrev pub AddsNumber : Numbers → ℕ → Numbers → Type 0
-AddsNumber old number new = old.rising ≡ false → (other : ℕ) → is_noted new other ≡ (number == other || is_noted old other)
+AddsNumber old number new =
+    old.rising ≡ false → (other : ℕ) → is_noted new other ≡ (number == other || is_noted old other)
 
 -- that is noted
 pub record Notes (old : Numbers) (number : ℕ) (new : Numbers) : Type 0 where
@@ -129,7 +132,8 @@ pub record Notes (old : Numbers) (number : ℕ) (new : Numbers) : Type 0 where
 -- the number was granted for the fetch
 pub record Grants (old : Numbers) (number : ℕ) (fetch : Fetch) (new : Numbers) : Type 0 where
   pub phases : KeepsPhase (phases_of old) number (Some (Unspent fetch)) (phases_of new)
-  pub lasts : KeepsLast (lasts_of old) (slot_of number) (greatest_with (generation_of number) (lasts_of old (slot_of number))) (lasts_of new)
+  pub lasts : KeepsLast (lasts_of old) (slot_of number)
+      (greatest_with (generation_of number) (lasts_of old (slot_of number))) (lasts_of new)
   pub granted : AddsNumber old number new
   pub rising : new.rising ≡ old.rising
   pub fits : IsSlotGrant (record { slot = slot_of number; generation = generation_of number })
@@ -152,26 +156,29 @@ pub record TellsNumbers (numbers : Numbers) (h : History) : Type 0 where
   pub running_are : ListsRunning numbers (running h)
   pub grants_are : ListsGrants numbers (grants h)
   pub granted_are : numbers.rising ≡ false → (number : ℕ) → was_granted h number ≡ is_noted numbers number
-  pub out_noted : numbers.rising ≡ false → (number : ℕ) → is_noted numbers number ≡ false → phases_of numbers number ≡ None
-  pub out_covered : (number : ℕ) → is_above (generation_of number) (lasts_of numbers (slot_of number)) ≡ true → phases_of numbers number ≡ None
-  pub slots_fit : (slot generation : ℕ) → lasts_of numbers slot ≡ Some generation → IsSlotGrant (record { slot = slot; generation = generation })
+  pub out_noted : numbers.rising ≡ false → (number : ℕ) → is_noted numbers number ≡ false
+      → phases_of numbers number ≡ None
+  pub out_covered : (number : ℕ) → is_above (generation_of number) (lasts_of numbers (slot_of number)) ≡ true
+      → phases_of numbers number ≡ None
+  pub slots_fit : (slot generation : ℕ) → lasts_of numbers slot ≡ Some generation
+      → IsSlotGrant (record { slot = slot; generation = generation })
 
 -- the tables say what the history does
-pub record Tells (l : Ledger) (h : History) : Type 0 where
+pub record Tells (l : OpenState) (h : History) : Type 0 where
   pub clock_is : l.clock ≡ now h
   pub begins_are : l.begins ≡ begins h
   pub cache_tells : TellsCache l.cache (standing h) (in_flight h)
   pub numbers_tell : TellsNumbers l.numbers h
 
 -- so they do, and how many entries it has, and how many of them are started fetches
-pub record TellsAll (l : Ledger) (h : History) : Type 0 where
+pub record TellsAll (l : OpenState) (h : History) : Type 0 where
   pub tells : Tells l h
   pub entries_are : l.entries ≡ entry_count h
   pub started_are : l.started ≡ started_count h
   pub few : l.started ≤ l.entries
 
 -- the counts are as they were
-pub record KeepsCounts (old new : Ledger) : Type 0 where
+pub record KeepsCounts (old new : OpenState) : Type 0 where
   pub entries : new.entries ≡ old.entries
   pub started : new.started ≡ old.started
 
@@ -182,24 +189,24 @@ pub record MayCome (rising : Bool) (h : History) (e : Entry) : Type 0 where
   pub rises : rising ≡ true → Rises h e
 
 -- the tables say what the longer history does, and grants must rise where they had to
-pub record Enters (rising : Bool) (h : History) (new : Ledger) : Type 0 where
+pub record Enters (rising : Bool) (h : History) (new : OpenState) : Type 0 where
   pub tells : Tells new h
   pub still : new.numbers.rising ≡ rising
 
 -- the tables say all of the longer history, and grants must rise where they had to
-pub record EntersAll (rising : Bool) (h : History) (new : Ledger) : Type 0 where
+pub record EntersAll (rising : Bool) (h : History) (new : OpenState) : Type 0 where
   pub tells : TellsAll new h
   pub still : new.numbers.rising ≡ rising
 
 -- the entry may come next after the history, and the tables say what the longer history does; or it may
 -- not; or memory was refused
-abbrev pub FollowsLegally : Ledger → History → Entry → Result (Unit {0}) Unfit → Ledger → Type 0
+abbrev pub FollowsLegally : OpenState → History → Entry → Result (Unit {0}) Unfit → OpenState → Type 0
 FollowsLegally old h e (Ok _) new = MayCome old.numbers.rising h e × Enters old.numbers.rising (h ▸ e) new
 FollowsLegally old h e (Err Illegal) new = MayCome old.numbers.rising h e → ⊥
 FollowsLegally old h e (Err NoMemory) new = Unit {0}
 
 -- the same of all that the tables say
-abbrev pub EntersLegally : Ledger → History → Entry → Result (Unit {0}) Unfit → Ledger → Type 0
+abbrev pub EntersLegally : OpenState → History → Entry → Result (Unit {0}) Unfit → OpenState → Type 0
 EntersLegally old h e (Ok _) new = MayCome old.numbers.rising h e × EntersAll old.numbers.rising (h ▸ e) new
 EntersLegally old h e (Err Illegal) new = MayCome old.numbers.rising h e → ⊥
 EntersLegally old h e (Err NoMemory) new = Unit {0}

@@ -11,8 +11,8 @@ ghost use Rattle.crawl_audit.specs.Steps.{MayEnd, Place, among, start};
 
 use crate::fault::{AuditFault, Audited};
 use crate::first_base::FirstBase;
-use crate::ledger::{Ledger, Unfit, is_start};
 use crate::next_base::{BaseLine, NextBase};
+use crate::open_state::{OpenState, Unfit, is_start};
 use crate::read::read_line;
 use crate::unread_line::UnreadLine;
 use counted_io::{LineEnd, LineReader, NextLine, ReadLineFault, Source};
@@ -31,7 +31,7 @@ pub const MAX_LINES: u64 = 100_000_000;
 
 /// Where an auditor stands.
 #[derive(Drop)]
-pub(crate) enum Stage {
+pub(crate) enum AuditState {
     /// Before the first line.
     Start,
     /// Where the line of an entry may come.
@@ -47,9 +47,9 @@ pub(crate) enum Stage {
 pub(crate) struct Auditor {
     pub(crate) reader: LineReader,
     pub(crate) line: Vec<u8>,
-    pub(crate) ledger: Ledger,
+    pub(crate) open_state: OpenState,
     pub(crate) version: Version,
-    pub(crate) stage: Stage,
+    pub(crate) stage: AuditState,
     /// A line that names another scheme is bad.
     pub(crate) schemes: Schemes,
     /// The keys of the hashers of tables.
@@ -76,9 +76,9 @@ impl Auditor {
         Ok(Auditor {
             reader: LineReader::new(alloc)?,
             line: Vec::new(alloc),
-            ledger: Ledger::new(alloc, keys),
+            open_state: OpenState::new(alloc, keys),
             version: Version::One,
-            stage: Stage::Start,
+            stage: AuditState::Start,
             schemes,
             keys,
             lines: 0,
@@ -128,7 +128,7 @@ impl Auditor {
     fn may_end(&self) -> bool
         ensures { (place : Place) → StandsAt self.now place → IsTrue result ↔ MayEnd place }
     {
-        matches!(self.stage, Stage::Start | Stage::Entries)
+        matches!(self.stage, AuditState::Start | AuditState::Entries)
     }
 
     /// Takes the line, where it may come.
@@ -173,10 +173,10 @@ impl Auditor {
         ensures schemes { self.new.schemes ≡ self.old.schemes }
     {
         match &mut self.stage {
-            Stage::Start => self.step_from_start(alloc),
-            Stage::Entries => self.step_among_entries(alloc),
-            Stage::First(first) => {
-                match first.take(alloc, &mut self.ledger, self.line.as_slice()) {
+            AuditState::Start => self.step_from_start(alloc),
+            AuditState::Entries => self.step_among_entries(alloc),
+            AuditState::First(first) => {
+                match first.take(alloc, &mut self.open_state, self.line.as_slice()) {
                     Ok(false) => Ok(()),
                     Ok(true) => {
                         self.begin_entries();
@@ -185,10 +185,10 @@ impl Auditor {
                     Err(unread) => Err(unread),
                 }
             }
-            Stage::Further(next) => match next.take(self.line.as_slice()) {
+            AuditState::Further(next) => match next.take(self.line.as_slice()) {
                 BaseLine::Taken => Ok(()),
                 BaseLine::Last => {
-                    self.ledger.numbers.rise();
+                    self.open_state.numbers.rise();
                     self.begin_entries();
                     Ok(())
                 }
@@ -202,7 +202,7 @@ impl Auditor {
         ensures { BeginsEntries self.old self.new }
     {
         self.version = Version::Two;
-        self.stage = Stage::Entries;
+        self.stage = AuditState::Entries;
         self.count = 0;
     }
 
@@ -215,11 +215,11 @@ impl Auditor {
     {
         if self.line.as_slice() == "V 2".as_bytes() {
             self.version = Version::Two;
-            self.stage = Stage::Entries;
+            self.stage = AuditState::Entries;
             return Ok(());
         }
         if self.line.as_slice() == "V 3".as_bytes() {
-            self.stage = Stage::First(FirstBase::new(alloc, self.keys));
+            self.stage = AuditState::First(FirstBase::new(alloc, self.keys));
             return Ok(());
         }
         self.take_entry(alloc)
@@ -234,7 +234,7 @@ impl Auditor {
         ensures schemes { self.new.schemes ≡ self.old.schemes }
     {
         if self.line.as_slice() == "V 3".as_bytes() {
-            self.stage = Stage::Further(self.ledger.next_base(alloc)?);
+            self.stage = AuditState::Further(self.open_state.next_base(alloc)?);
             return Ok(());
         }
         self.take_entry(alloc)
@@ -248,17 +248,17 @@ impl Auditor {
         ensures reader { self.new.reader ≡ self.old.reader }
         ensures schemes { self.new.schemes ≡ self.old.schemes }
     {
-        if self.count >= MAX_LOG || self.ledger.entries == u64::MAX {
+        if self.count >= MAX_LOG || self.open_state.entries == u64::MAX {
             return Err(UnreadLine::NotOne);
         }
         let found = read_line(alloc, self.version, self.line.as_slice())?;
         let start = is_start(&found);
-        match self.ledger.enter(found) {
+        match self.open_state.enter(found) {
             Ok(()) => {}
             Err(Unfit::Illegal) => return Err(UnreadLine::NotOne),
             Err(Unfit::NoMemory) => return Err(UnreadLine::NoMemory),
         }
-        self.stage = Stage::Entries;
+        self.stage = AuditState::Entries;
         self.count += 1;
         self.events = self.events.saturating_add(1);
         if start {

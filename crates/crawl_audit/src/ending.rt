@@ -12,7 +12,7 @@ ghost use Rattle.history_text.specs.Spell.{entry_line};
 ghost use Rattle.history_text.specs.SpellBase.{ended};
 ghost use Rattle.crawl_audit.specs.Steps.{Place, among};
 
-use crate::auditor::{Auditor, Stage};
+use crate::auditor::{AuditState, Auditor};
 use crate::fault::AuditFault;
 use crate::record::Record;
 use crate::record_pieces::record_pieces;
@@ -85,7 +85,7 @@ impl Auditor {
     pub(crate) fn has_begun(&self) -> bool
         ensures { (place : Place) → StandsAt self.now place → IsTrue result ↔ HasBegun place }
     {
-        matches!(self.stage, Stage::Entries)
+        matches!(self.stage, AuditState::Entries)
     }
 
     /// Takes the lines of these entries, and gives their text.

@@ -1,4 +1,4 @@
-//! The base of a first text, which is taken as written: read line by line into the ledger, each line
+//! The base of a first text, which is taken as written: read line by line into the open_state, each line
 //! checked against those before it. docs/FORMATS.md has the lines; RFC 9309, sections 2.3.1 and 2.4.
 ghost use Rattle.std.specs.Prelude.{◌≡◌, ◌≢◌, ℕ, ◌+◌, ◌<◌, ◌≤◌, ◌==◌, ◌||◌, ◌↔◌};
 ghost use Rattle.std.specs.Prelude.{◌∷◌, [], IsTrue, List, OnOk, codes};
@@ -12,8 +12,8 @@ ghost use Rattle.crawl_audit.specs.OpenRows.{row_of};
 ghost use Rattle.crawl_audit.specs.Tables.{TellsAll};
 
 use crate::base_row::BaseRow;
-use crate::ledger::Ledger;
 use crate::numbers::Phase;
+use crate::open_state::OpenState;
 use crate::read_base::{read_numbers, read_row};
 use crate::unread_line::UnreadLine;
 use authority_cache::{TimedAnswer, TurnNo};
@@ -41,7 +41,7 @@ pub(crate) enum LastLine {
     Running(PermitNo),
 }
 
-/// The base of a first text, as far as it was read. The ledger holds what it left open.
+/// The base of a first text, as far as it was read. The open_state holds what it left open.
 #[derive(Drop)]
 pub(crate) struct FirstBase {
     // None where only the first line was read.
@@ -53,8 +53,8 @@ pub(crate) struct FirstBase {
 impl FirstBase {
     /// The base of which the first line was read, with the keys of its table's hasher.
     pub(crate) fn new(alloc: Global, keys: RandomState) -> FirstBase
-        ensures { (ledger : Ledger) → TellsAll ledger (from empty_base)
-            → Reads result ledger (codes "V 3" ∷ []) }
+        ensures { (open_state : OpenState) → TellsAll open_state (from empty_base)
+            → Reads result open_state (codes "V 3" ∷ []) }
     {
         FirstBase {
             last: None,
@@ -66,31 +66,31 @@ impl FirstBase {
     pub(crate) fn take(
         &mut self,
         alloc: Global,
-        ledger: &mut Ledger,
+        open_state: &mut OpenState,
         line: &[u8],
     ) -> Result<bool, UnreadLine>
-        ensures { (lines : List (List ℕ)) → Reads self.old ledger.old lines
-            → TakesBaseLine lines line.now result self.new ledger.new }
+        ensures { (lines : List (List ℕ)) → Reads self.old open_state.old lines
+            → TakesBaseLine lines line.now result self.new open_state.new }
     {
         if self.last.is_none() {
-            return self.take_numbers(ledger, line);
+            return self.take_numbers(open_state, line);
         }
         if line == b"E".as_slice() {
             return Ok(true);
         }
-        self.take_row(alloc, ledger, line)
+        self.take_row(alloc, open_state, line)
     }
 
     // Takes the line of numbers.
-    fn take_numbers(&mut self, ledger: &mut Ledger, line: &[u8]) -> Result<bool, UnreadLine>
-        ensures { (lines : List (List ℕ)) → ReadsHead self.old ledger.old lines
-            → TakesBaseLine lines line.now result self.new ledger.new }
+    fn take_numbers(&mut self, open_state: &mut OpenState, line: &[u8]) -> Result<bool, UnreadLine>
+        ensures { (lines : List (List ℕ)) → ReadsHead self.old open_state.old lines
+            → TakesBaseLine lines line.now result self.new open_state.new }
     {
         let numbers = read_numbers(line)?;
         if !may_be_of_base(numbers) {
             return Err(UnreadLine::NotOne);
         }
-        ledger.load_numbers(numbers);
+        open_state.load_numbers(numbers);
         self.last = Some(LastLine::Numbers);
         Ok(false)
     }
@@ -99,66 +99,66 @@ impl FirstBase {
     fn take_row(
         &mut self,
         alloc: Global,
-        ledger: &mut Ledger,
+        open_state: &mut OpenState,
         line: &[u8],
     ) -> Result<bool, UnreadLine>
-        ensures { (lines : List (List ℕ)) → ReadsRows self.old ledger.old lines
-            → line.now ≢ codes "E" → TakesBaseLine lines line.now result self.new ledger.new }
+        ensures { (lines : List (List ℕ)) → ReadsRows self.old open_state.old lines
+            → line.now ≢ codes "E" → TakesBaseLine lines line.now result self.new open_state.new }
     {
         let row = read_row(alloc, line)?;
-        if !self.may_stand(ledger, &row) {
+        if !self.may_stand(open_state, &row) {
             return Err(UnreadLine::NotOne);
         }
-        self.load(ledger, row)?;
+        self.load(open_state, row)?;
         Ok(false)
     }
 
     // Whether the row may stand behind those that were read.
-    fn may_stand(&self, ledger: &Ledger, row: &BaseRow) -> bool
-        ensures { (b : Base) → SaysBase self.now ledger.now b → IsOpenRow (row_of row.now)
+    fn may_stand(&self, open_state: &OpenState, row: &BaseRow) -> bool
+        ensures { (b : Base) → SaysBase self.now open_state.now b → IsOpenRow (row_of row.now)
             → IsTrue result ↔ MayStand b (row_of row.now) }
     {
         match &self.last {
-            Some(last) => last.is_before(row) && self.fits(ledger, row),
+            Some(last) => last.is_before(row) && self.fits(open_state, row),
             None => false,
         }
     }
 
     // Whether the row fits to those that were read, wherever it comes.
-    fn fits(&self, ledger: &Ledger, row: &BaseRow) -> bool
-        ensures { result ≡ fits self.now ledger.now (row_of row.now) }
+    fn fits(&self, open_state: &OpenState, row: &BaseRow) -> bool
+        ensures { result ≡ fits self.now open_state.now (row_of row.now) }
     {
         match row {
-            BaseRow::Answered { turn, begun, .. } => self.may_have_begun(ledger, *turn, *begun),
+            BaseRow::Answered { turn, begun, .. } => self.may_have_begun(open_state, *turn, *begun),
             BaseRow::InFlight {
                 authority,
                 turn,
                 begun,
             } => {
-                !ledger.cache.in_flight(authority.text())
-                    && self.may_have_begun(ledger, *turn, *begun)
+                !open_state.cache.in_flight(authority.text())
+                    && self.may_have_begun(open_state, *turn, *begun)
             }
             BaseRow::Greatest(_) => true,
-            BaseRow::Unspent { number, .. } => ledger.numbers.is_granted(*number),
+            BaseRow::Unspent { number, .. } => open_state.numbers.is_granted(*number),
             BaseRow::Running { number, .. } => {
-                ledger.numbers.is_granted(*number) && !ledger.numbers.is_out(*number)
+                open_state.numbers.is_granted(*number) && !open_state.numbers.is_out(*number)
             }
         }
     }
 
     // Whether the turn was not read yet, and there may be one that began at this moment.
-    fn may_have_begun(&self, ledger: &Ledger, turn: TurnNo, begun: u64) -> bool
-        ensures { result ≡ may_have_begun self.now ledger.now turn begun }
+    fn may_have_begun(&self, open_state: &OpenState, turn: TurnNo, begun: u64) -> bool
+        ensures { result ≡ may_have_begun self.now open_state.now turn begun }
     {
         self.turns.get(&turn.number()).is_none()
-            && turn.number() <= ledger.begins
-            && begun <= ledger.clock
+            && turn.number() <= open_state.begins
+            && begun <= open_state.clock
     }
 
-    // Loads a row that may stand into the ledger.
-    fn load(&mut self, ledger: &mut Ledger, row: BaseRow) -> Result<(), AllocError>
-        ensures { (b : Base) → SaysBase self.old ledger.old b
-            → Loads b (row_of row) result self.new ledger.new }
+    // Loads a row that may stand into the open_state.
+    fn load(&mut self, open_state: &mut OpenState, row: BaseRow) -> Result<(), AllocError>
+        ensures { (b : Base) → SaysBase self.old open_state.old b
+            → Loads b (row_of row) result self.new open_state.new }
     {
         match row {
             BaseRow::Answered {
@@ -168,7 +168,7 @@ impl FirstBase {
                 answer,
                 life,
             } => self.load_answer(
-                ledger,
+                open_state,
                 authority,
                 turn,
                 begun,
@@ -178,29 +178,29 @@ impl FirstBase {
                 authority,
                 turn,
                 begun,
-            } => self.load_turn(ledger, authority, turn, begun),
-            BaseRow::Greatest(grant) => self.load_grant(ledger, grant),
+            } => self.load_turn(open_state, authority, turn, begun),
+            BaseRow::Greatest(grant) => self.load_grant(open_state, grant),
             BaseRow::Unspent { number, fetch } => {
-                self.load_permit(ledger, number, Phase::Unspent(fetch))
+                self.load_permit(open_state, number, Phase::Unspent(fetch))
             }
             BaseRow::Running { number, fetch } => {
-                self.load_permit(ledger, number, Phase::Running(fetch))
+                self.load_permit(open_state, number, Phase::Running(fetch))
             }
         }
     }
 
     fn load_answer(
         &mut self,
-        ledger: &mut Ledger,
+        open_state: &mut OpenState,
         authority: Authority,
         turn: TurnNo,
         begun: u64,
         answer: TimedAnswer,
     ) -> Result<(), AllocError>
-        ensures { (b : Base) → SaysBase self.old ledger.old b
-            → Loads b (answered_row authority turn begun answer) result self.new ledger.new }
+        ensures { (b : Base) → SaysBase self.old open_state.old b
+            → Loads b (answered_row authority turn begun answer) result self.new open_state.new }
     {
-        ledger.load_answer(&authority, turn, begun, answer)?;
+        open_state.load_answer(&authority, turn, begun, answer)?;
         self.use_turn(turn)?;
         self.last = Some(LastLine::Answered(authority));
         Ok(())
@@ -208,40 +208,40 @@ impl FirstBase {
 
     fn load_turn(
         &mut self,
-        ledger: &mut Ledger,
+        open_state: &mut OpenState,
         authority: Authority,
         turn: TurnNo,
         begun: u64,
     ) -> Result<(), AllocError>
-        ensures { (b : Base) → SaysBase self.old ledger.old b
-            → Loads b (turn_row authority turn begun) result self.new ledger.new }
+        ensures { (b : Base) → SaysBase self.old open_state.old b
+            → Loads b (turn_row authority turn begun) result self.new open_state.new }
     {
-        ledger.load_turn(&authority, turn, begun)?;
+        open_state.load_turn(&authority, turn, begun)?;
         self.use_turn(turn)?;
         self.last = Some(LastLine::InFlight(turn));
         Ok(())
     }
 
-    fn load_grant(&mut self, ledger: &mut Ledger, grant: SlotGrant) -> Result<(), AllocError>
-        ensures { (b : Base) → SaysBase self.old ledger.old b
-            → Loads b (Greatest grant) result self.new ledger.new }
+    fn load_grant(&mut self, open_state: &mut OpenState, grant: SlotGrant) -> Result<(), AllocError>
+        ensures { (b : Base) → SaysBase self.old open_state.old b
+            → Loads b (Greatest grant) result self.new open_state.new }
     {
-        ledger.numbers.load_grant(grant)?;
+        open_state.numbers.load_grant(grant)?;
         self.last = Some(LastLine::Greatest(grant.slot));
         Ok(())
     }
 
     fn load_permit(
         &mut self,
-        ledger: &mut Ledger,
+        open_state: &mut OpenState,
         number: PermitNo,
         phase: Phase,
     ) -> Result<(), AllocError>
-        ensures { (b : Base) → SaysBase self.old ledger.old b
-            → Loads b (permit_row number phase) result self.new ledger.new }
+        ensures { (b : Base) → SaysBase self.old open_state.old b
+            → Loads b (permit_row number phase) result self.new open_state.new }
     {
         let last = LastLine::of_permit(number, &phase);
-        ledger.numbers.put(number, phase)?;
+        open_state.numbers.put(number, phase)?;
         self.last = Some(last);
         Ok(())
     }

@@ -1,4 +1,4 @@
-//! What stands in the ledger, in lists that outlive it.
+//! What stands in the open_state, in lists that outlive it.
 //! RFC 9309, sections 2.3.1 and 2.4.
 ghost use Rattle.std.specs.Prelude.{◌≡◌, ◌++◌, IfOk, OnOk, Some};
 ghost use Rattle.permit_book.specs.Outstanding.{permit_for};
@@ -6,13 +6,13 @@ ghost use Rattle.crawl_audit.specs.NextBase.{TellsLeft};
 ghost use Rattle.crawl_audit.specs.Tables.{ListsGrants, ListsRunning, ListsUnspent};
 ghost use Rattle.crawl_audit.specs.Tables.{running_under, unspent_under};
 
-use crate::ledger::Ledger;
 use crate::numbers::{Numbers, Phase};
+use crate::open_state::OpenState;
 use gate_history::{LeftOpen, SlotGrant};
 use permit_book::{Fetch, GrantedPermit, PermitNo};
 use std::alloc::{AllocError, Global};
 
-impl Ledger {
+impl OpenState {
     /// What the entries so far left open, in no order.
     pub(crate) fn left_open(&self, alloc: Global) -> Result<LeftOpen, AllocError>
         ensures { IfOk result (λ left. TellsLeft self.now left) }

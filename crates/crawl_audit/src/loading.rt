@@ -1,19 +1,19 @@
-//! What a base left open, loaded into the ledger thing by thing.
+//! What a base left open, loaded into the open_state thing by thing.
 //! Used by `first_base`; RFC 9309, sections 2.3.1 and 2.4.
 ghost use Rattle.std.specs.Prelude.{◌≡◌, OnOk, is_some};
 ghost use Rattle.crawl_audit.specs.FirstBase.{is_granted};
 ghost use Rattle.crawl_audit.specs.Loading.{LoadsAnswer, LoadsTurn, Sets, counted_from, risen};
 ghost use Rattle.crawl_audit.specs.Tables.{phases_of};
 
-use crate::ledger::Ledger;
 use crate::numbers::Numbers;
+use crate::open_state::OpenState;
 use authority_cache::{TimedAnswer, TurnNo};
 use gate_history::SlotGrant;
 use path_normal::Authority;
 use permit_book::PermitNo;
 use std::alloc::AllocError;
 
-impl Ledger {
+impl OpenState {
     /// Loads the numbers of a base. From then on grants must rise.
     pub(crate) fn load_numbers(&mut self, numbers: gate_history::Numbers)
         ensures { self.new ≡ counted_from self.old numbers }

@@ -10,9 +10,9 @@ ghost use Rattle.crawl_audit.specs.NextBase.{Expects, IsNextOf, TakesNextLine};
 ghost use Rattle.crawl_audit.specs.NextBase.{base_in, lines_behind, row_count};
 ghost use Rattle.crawl_audit.specs.Tables.{TellsAll};
 
-use crate::ledger::Ledger;
+use crate::open_state::OpenState;
 use gate_history::{LeftOpen, Numbers};
-use history_text::Row;
+use history_text::TextLine;
 use history_text::base_kinds::counts;
 use line_text::Pieces;
 use std::alloc::{AllocError, Global};
@@ -38,7 +38,7 @@ pub(crate) enum BaseLine {
     Other,
 }
 
-impl Ledger {
+impl OpenState {
     /// The base to which what was entered leads.
     pub(crate) fn next_base(&self, alloc: Global) -> Result<NextBase, AllocError>
         ensures { IfOk result (λ next. (h : History) → IsLegal h → TellsAll self.now h
@@ -135,7 +135,7 @@ impl NextBase {
 }
 
 // Whether this is the line of the row at the place.
-fn is_row_at<T: Row>(rows: &[T], letter: &'static str, place: usize, line: &[u8]) -> bool
+fn is_row_at<T: TextLine>(rows: &[T], letter: &'static str, place: usize, line: &[u8]) -> bool
     requires { place < length rows.now }
     ensures { IsTrue result
         ↔ (slice_get (map (T.line letter.now) rows.now) place ≡ Some line.now) }
@@ -167,7 +167,7 @@ fn know_fields(left: &LeftOpen, numbers: &Numbers)
     let _ = counts(*numbers);
 }
 
-fn know_rows<T: Row>(rows: &[T])
+fn know_rows<T: TextLine>(rows: &[T])
     ensures { All T.has_fields rows.now }
 {
     for row in rows {

@@ -1,5 +1,5 @@
 //! The permits of a history, by their numbers: what is out, and what was granted.
-//! RFC 9309 has no permits: they make each fetch look at the answer in force (2.4).
+//! Used by `OpenState`, which decides each entry of a text by them.
 ghost use Rattle.std.specs.Prelude.{◌≡◌, ◌≤◌, ℕ, None, OnOk, Some, false};
 ghost use Rattle.std.specs.Option.{option_copied};
 ghost use Rattle.permit_book.specs.Numbers.{generation_of, last_generation, slot_of};

@@ -15,7 +15,7 @@ ghost use Rattle.crawl_audit.specs.Tables.{TellsAll};
 
 use crate::auditor::{Auditor, MAX_LINES};
 use crate::ending::ends_of;
-use crate::ledger::Ledger;
+use crate::open_state::OpenState;
 use crate::recover_fault::RecoverFault;
 use crate::whole_lines::WholeLines;
 use authority_cache::{Cache, Turn};
@@ -33,7 +33,7 @@ pub struct Recovered {
     /// The lines that end what was out behind the whole lines, each with its LF: to be written in the place of what
     /// was torn.
     pub ending: Vec<u8>,
-    /// The sites whose turns these lines end, in the order of the turns: their robots files were being fetched.
+    /// The sites whose turns these lines end, in the order of the turns: their robots.txt files were being fetched.
     pub begun: Vec<Authority>,
     /// What the history goes on from. No permit, fetch or turn is out.
     pub base: Base,
@@ -117,7 +117,7 @@ fn go_on_from(alloc: Global, whole: WholeLines) -> Result<Recovered, RecoverFaul
         return Err(RecoverFault::NoEntries(auditor.lines.saturating_add(1)));
     }
     match end_open(alloc, &mut auditor) {
-        Ok((ending, begun)) => match auditor.ledger.base(alloc) {
+        Ok((ending, begun)) => match auditor.open_state.base(alloc) {
             Ok(base) => Ok(Recovered {
                 whole: octets,
                 ending,
@@ -133,10 +133,10 @@ fn go_on_from(alloc: Global, whole: WholeLines) -> Result<Recovered, RecoverFaul
 
 // Ends what is out behind the lines that were read. It gives their text, and the sites of turns.
 fn end_open(alloc: Global, auditor: &mut Auditor) -> Result<(Vec<u8>, Vec<Authority>), RecoverFault>
-    requires { (h : History) × (IsLegal h × TellsAll auditor.old.ledger h) }
+    requires { (h : History) × (IsLegal h × TellsAll auditor.old.open_state h) }
     ensures { EndsOpen auditor.old result auditor.new }
 {
-    let left = match auditor.ledger.base(alloc) {
+    let left = match auditor.open_state.base(alloc) {
         Ok(left) => left,
         Err(_) => return Err(RecoverFault::NoMemory),
     };
@@ -166,14 +166,14 @@ impl WholeLines {
 impl Auditor {
     // What is known of sites.
     fn into_cache(self) -> Cache
-        ensures { result ≡ self.ledger.cache }
+        ensures { result ≡ self.open_state.cache }
     {
-        let ledger = self.ledger;
-        ledger.cache
+        let open_state = self.open_state;
+        open_state.cache
     }
 }
 
-impl Ledger {
+impl OpenState {
     /// What the entries so far left open, in order, and their numbers.
     pub(crate) fn base(&self, alloc: Global) -> Result<Base, AllocError>
         requires { (h : History) × (IsLegal h × TellsAll self.now h) }

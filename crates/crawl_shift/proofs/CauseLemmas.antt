@@ -1,7 +1,7 @@
 -- What is told of a cause or of a refusal that has no words of the table's own: its word.
 use Rattle.std.proofs.Common.{◌≡◌, ◌≢◌, Option, Some, codes, refl}
-use Rattle.tcp_wire.specs.declared.failure.Failure.{Failure}
-use Rattle.tcp_wire.specs.declared.failure.Failure.TheVariants as failures
+use Rattle.http_client.specs.declared.failure.Failure.{Failure}
+use Rattle.http_client.specs.declared.failure.Failure.TheVariants as failures
 use Rattle.gate_history.specs.declared.outcome.Cause.{Cause}
 use Rattle.gate_history.specs.declared.outcome.Cause.TheVariants as causes
 use Rattle.gate_history.specs.Wording.{cause_words}

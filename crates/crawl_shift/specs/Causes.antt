@@ -12,15 +12,15 @@ use Rattle.http_wire.specs.declared.fault.WireFault.{WireFault}
 use Rattle.http_wire.specs.declared.fault.WireFault.TheVariants as wire
 use Rattle.robots_fetch.specs.declared.redirect.Stop.{Stop}
 use Rattle.robots_fetch.specs.declared.redirect.Stop.TheVariants as stops
-use Rattle.tcp_wire.specs.declared.failure.Failure.{Failure}
-use Rattle.tcp_wire.specs.declared.failure.Failure.TheVariants as failures
+use Rattle.http_client.specs.declared.failure.Failure.{Failure}
+use Rattle.http_client.specs.declared.failure.Failure.TheVariants as failures
 use Rattle.crawl_job.specs.declared.hop.Refusal.{Refusal}
 use Rattle.crawl_job.specs.declared.hop.Refusal.TheVariants as refusals
 use Rattle.crawl_workers.specs.declared.event.ClosedBy.{ClosedBy}
 use Rattle.crawl_workers.specs.declared.event.ClosedBy.TheVariants as closings
 use Rattle.line_text.specs.Pieces.{piece_text}
 use Rattle.command_server.specs.RefusalText.{refusal_word}
-use Rattle.crawl_shift.specs.declared.causes.Words.{Words}
+use Rattle.crawl_shift.specs.declared.causes.CauseWords.{CauseWords}
 
 -- a limit of time that was passed, in whole seconds
 abbrev pub past_text : List ℕ → Duration → List ℕ
@@ -89,5 +89,5 @@ stop_phrase stops.BadRedirect = codes "redirect to no page"
 stop_phrase stops.Scheme = codes "redirect to another scheme"
 
 -- the text of a cause that is kept in parts
-abbrev pub words_text : Words → List ℕ
+abbrev pub words_text : CauseWords → List ℕ
 words_text words = words.of.now ++ (words.text.now ++ (piece_text words.number ++ words.unit.now))

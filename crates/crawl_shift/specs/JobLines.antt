@@ -44,7 +44,8 @@ pub record GivesJob (schemes : Schemes) (line : List ℕ) (jobs : List Job) (res
   pub then : rest later
 
 -- the first of the bad lines tells of a line
-pub record IsTold (schemes : Schemes) (number : ℕ) (line : List ℕ) (bad : List BadJobLine) (rest : List BadJobLine → Type 0) : Type 0 where
+pub record IsTold (schemes : Schemes) (number : ℕ) (line : List ℕ) (bad : List BadJobLine)
+    (rest : List BadJobLine → Type 0) : Type 0 where
   pub told : BadJobLine
   pub later : List BadJobLine
   pub bad_are : bad ≡ told ∷ later
@@ -64,7 +65,8 @@ MayKeep End bad = bad ≡ []
 MayKeep Skip bad = Unit {0}
 
 -- these are the jobs and the bad lines of all lines of the input, which are not too many or too long
-pub record AreJobLines (schemes : Schemes) (bad_lines : BadLines) (input left : Option (List ℕ)) (read : JobLines) : Type 0 where
+pub record AreJobLines (schemes : Schemes) (bad_lines : BadLines) (input left : Option (List ℕ))
+    (read : JobLines) : Type 0 where
   pub lines : List (List ℕ)
   pub behind : Option (List ℕ)
   pub unread : List ℕ
@@ -83,7 +85,8 @@ EndsReading schemes bad_lines input left lines fault =
     ⊎ ((fault ≡ faults.Lines) × IsTooMany input left lines)
 
 -- behind lines that were read or kept, the line of this number ended the reading
-pub record IsLastLine (schemes : Schemes) (bad_lines : BadLines) (input left : Option (List ℕ)) (last : BadJobLine) : Type 0 where
+pub record IsLastLine (schemes : Schemes) (bad_lines : BadLines) (input left : Option (List ℕ))
+    (last : BadJobLine) : Type 0 where
   pub lines : List (List ℕ)
   pub jobs : List Job
   pub bad : List BadJobLine
@@ -110,8 +113,11 @@ next_number reading = length reading.list.jobs.items + length reading.bad.items 
 -- a line with this fault was kept, or there was no memory for it
 abbrev pub Skips : Reading → LineFault → Result (Unit {0}) AllocError → Reading → Type 0
 Skips old fault (Ok _) new =
-    (told : BadJobLine) × ((told.number ≡ next_number old) × (told.fault ≡ fault) × (new.bad.items ≡ old.bad.items ++ told ∷ []) × (new.list.jobs.items ≡ old.list.jobs.items) × (new.list.fault ≡ old.list.fault))
-Skips old fault (Err _) new = (new.bad.items ≡ old.bad.items) × (new.list.jobs.items ≡ old.list.jobs.items) × (new.list.fault ≡ old.list.fault)
+    (told : BadJobLine) ×
+    ((told.number ≡ next_number old) × (told.fault ≡ fault) × (new.bad.items ≡ old.bad.items ++ told ∷ [])
+    × (new.list.jobs.items ≡ old.list.jobs.items) × (new.list.fault ≡ old.list.fault))
+Skips old fault (Err _) new =
+    (new.bad.items ≡ old.bad.items) × (new.list.jobs.items ≡ old.list.jobs.items) × (new.list.fault ≡ old.list.fault)
 
 -- a line with this fault was kept, or it ends the reading: where no line is kept, or memory ran out
 abbrev pub MeetsFault : BadLines → Reading → LineFault → Bool → Reading → Type 0
@@ -134,7 +140,8 @@ TakesLine schemes bad_lines old line reply true new =
 -- a session ended where its input did, and nothing ended the reading
 abbrev pub LeavesWell : Reading → Result (Unit {0}) SessionFault → JobLines → Type 0
 LeavesWell reading end read =
-    (reading.list.fault ≡ None) × (end ≡ Ok tt) × (read.jobs.items ≡ reading.list.jobs.items) × (read.bad.items ≡ reading.bad.items)
+    (reading.list.fault ≡ None) × (end ≡ Ok tt) × (read.jobs.items ≡ reading.list.jobs.items)
+    × (read.bad.items ≡ reading.bad.items)
 
 -- or it did not, and why; the line is the one behind those that were read
 abbrev pub LeavesBadly : Reading → Result (Unit {0}) SessionFault → JobLinesFault → Type 0

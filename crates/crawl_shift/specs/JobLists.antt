@@ -28,8 +28,10 @@ MayFail schemes line fault = IsRead (Err fault) (job_of_among schemes line) ⊎ 
 -- the job of a line was added, or its fault told, and the list is as it was
 abbrev pub AddsJob : Schemes → JobList → List ℕ → Result (Unit {0}) LineFault → JobList → Type 0
 AddsJob schemes old line (Ok _) new =
-    (job : Job) × (IsRead (Ok job) (job_of_among schemes line) × (new.jobs.items ≡ old.jobs.items ++ job ∷ []) × (new.fault ≡ old.fault))
-AddsJob schemes old line (Err fault) new = MayFail schemes line fault × (new.jobs.items ≡ old.jobs.items) × (new.fault ≡ old.fault)
+    (job : Job) × (IsRead (Ok job) (job_of_among schemes line) × (new.jobs.items ≡ old.jobs.items ++ job ∷ [])
+    × (new.fault ≡ old.fault))
+AddsJob schemes old line (Err fault) new =
+    MayFail schemes line fault × (new.jobs.items ≡ old.jobs.items) × (new.fault ≡ old.fault)
 
 -- the list keeps the fault of a line
 abbrev pub KeepsFault : Schemes → JobList → List ℕ → JobList → Type 0

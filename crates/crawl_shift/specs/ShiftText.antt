@@ -6,4 +6,5 @@ use Rattle.line_text.specs.Pieces.{line_of}
 -- the last line
 abbrev pub sums_text : ℕ → ℕ → ℕ → List ℕ
 sums_text jobs hops starts =
-    line_of (codes "SHIFT" ∷ codes "jobs" ∷ decimal jobs ∷ codes "hops" ∷ decimal hops ∷ codes "starts" ∷ decimal starts ∷ [])
+    line_of (codes "SHIFT" ∷ codes "jobs" ∷ decimal jobs ∷ codes "hops" ∷ decimal hops ∷ codes "starts" ∷ decimal starts
+    ∷ [])

@@ -2,12 +2,12 @@
 -- Cited by the contracts of `row` and `table`.
 use Rattle.std.specs.Prelude.{ℕ, Bool, true, false, List, [], ◌++◌, Option, None, Some, codes, decimal}
 use Rattle.gate_history.specs.Wording.{reason_words}
-use Rattle.tcp_wire.specs.declared.failure.Failure.{Failure}
+use Rattle.http_client.specs.declared.failure.Failure.{Failure}
 use Rattle.crawl_job.specs.declared.hop.Hop.{Hop}
 use Rattle.crawl_job.specs.declared.hop.Hop.TheVariants as hops
 use Rattle.crawl_workers.specs.declared.event.ClosedBy.{ClosedBy}
 use Rattle.crawl_shift.specs.Causes.{denial_phrase, wire_fault_phrase, refusal_phrase, spaced_words, stop_phrase}
-use Rattle.crawl_shift.specs.declared.row.Row.{Row}
+use Rattle.crawl_shift.specs.declared.hop_row.HopRow.{HopRow}
 
 -- what stands between two columns
 abbrev tab : List ℕ
@@ -44,7 +44,8 @@ number_text None = []
 -- what came of a hop, its status, its octets and the milliseconds of its fetch
 abbrev pub outcome_text : Hop → Option ℕ → List ℕ
 outcome_text hop milliseconds = outcome_word hop ++ (tab ++
-    (number_text (hop_status hop) ++ (tab ++ (number_text (octets_of hop) ++ (tab ++ (number_text milliseconds ++ tab))))))
+    (number_text (hop_status hop)
+    ++ (tab ++ (number_text (octets_of hop) ++ (tab ++ (number_text milliseconds ++ tab))))))
 
 -- whether more of a body came than was taken
 abbrev pub end_text : Bool → List ℕ
@@ -60,7 +61,7 @@ cause_text (hops.Refused refusal) _ _ = refusal_phrase refusal
 cause_text (hops.Stop stop) _ _ = stop_phrase stop
 
 -- the line of a hop
-abbrev pub row_text : Row → List ℕ
+abbrev pub row_text : HopRow → List ℕ
 row_text row = place_text row.job row.hop row.token.now row.url.now
     ++ (outcome_text row.end.now row.milliseconds ++ (cause_text row.end.now row.failure row.closed_by ++ codes "\n"))
 

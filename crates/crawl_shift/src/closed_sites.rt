@@ -1,11 +1,11 @@
-//! The sites that their robots files closed in a shift, and why, told once each.
+//! The sites that their robots.txt files closed in a shift, and why, told once each.
 ghost use Rattle.std.specs.Prelude.{◌≡◌, ◌++◌, flat_map};
 ghost use Rattle.counted_io.specs.Output.{Pushes};
 ghost use Rattle.line_text.specs.Pieces.{pieces_text};
 ghost use Rattle.crawl_shift.specs.Causes.{words_text};
 ghost use Rattle.crawl_shift.specs.ClosedText.{closed_site_text};
 
-use crate::causes::{Words, closing_words};
+use crate::causes::{CauseWords, closing_words};
 use counted_io::{DeviceFault, Output, Sink};
 use crawl_job::{Job, Outcome};
 use crawl_workers::{ClosedBy, Event, Failure, Watcher};
@@ -113,7 +113,12 @@ impl ClosedSite {
 }
 
 // A line of a name, and words of it.
-fn line_of<'a>(name: &'a str, middle: &'static str, words: Words, end: &'static str) -> Pieces<'a>
+fn line_of<'a>(
+    name: &'a str,
+    middle: &'static str,
+    words: CauseWords,
+    end: &'static str,
+) -> Pieces<'a>
     ensures { pieces_text result ≡ name.now ++ (middle.now ++ (words_text words ++ end.now)) }
 {
     Pieces::of(&[

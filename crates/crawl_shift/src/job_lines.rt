@@ -171,9 +171,12 @@ pub fn read_job_lines<R: Source>(
     bad_lines: BadLines,
     reader: &mut R,
 ) -> Result<JobLines, JobLinesFault>
-    ensures lines { IfOk result (AreJobLines schemes bad_lines (R.left reader.old) (R.left reader.new)) }
-    ensures fault { IfErr result (IsLinesFault schemes bad_lines (R.left reader.old) (R.left reader.new)) }
-    ensures reads { IfErr result (FailsToReadLines (R.failures reader.old) (R.failures reader.new)) }
+    ensures lines { IfOk result
+        (AreJobLines schemes bad_lines (R.left reader.old) (R.left reader.new)) }
+    ensures fault { IfErr result
+        (IsLinesFault schemes bad_lines (R.left reader.old) (R.left reader.new)) }
+    ensures reads { IfErr result
+        (FailsToReadLines (R.failures reader.old) (R.failures reader.new)) }
 {
     let mut reading = Reading {
         list: JobList::new(alloc),

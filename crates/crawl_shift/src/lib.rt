@@ -5,13 +5,13 @@
 mod both;
 mod causes;
 mod closed_sites;
+mod hop_row;
 mod job_lines;
 mod job_list;
 mod later;
 mod not_shifted;
 mod progress;
 mod report_text;
-mod row;
 mod shifting;
 mod status_line;
 mod table;

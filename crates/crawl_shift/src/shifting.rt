@@ -202,7 +202,8 @@ fn write_receipts<G: Gate, W: Sink>(
     writer: &mut W,
 ) -> Result<(), NotShifted>
     requires { output.old ≡ [] }
-    ensures { OnOk result (WritesReceipts receipts.now (W.written writer.old) (W.written writer.new)) }
+    ensures { OnOk result
+        (WritesReceipts receipts.now (W.written writer.old) (W.written writer.new)) }
 {
     compare(alloc, held, receipts)?;
     export(held.book(), output, writer)?;

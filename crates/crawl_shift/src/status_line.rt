@@ -25,16 +25,16 @@ struct Status<'a, W: Sink> {
     sink: Option<&'a mut W>,
     output: Output,
     written: Option<Instant>,
-    counts: Counts,
+    counts: ShiftCounts,
 }
 
 #[derive(Clone, Copy)]
-struct Counts {
+struct ShiftCounts {
     jobs: u64,
     done: u64,
-    // Fetches of pages and of robots files that are under way.
+    // Fetches of pages and of robots.txt files that are under way.
     fetches: u64,
-    // Robots files that closed their sites.
+    // Robots.txt files that closed their sites.
     closed: u64,
 }
 
@@ -49,7 +49,7 @@ impl<'a, W: Sink, R: Wait + time::Clock> StatusLine<'a, W, R> {
             sink,
             output: Output::new(alloc)?,
             written: None,
-            counts: Counts {
+            counts: ShiftCounts {
                 jobs: 0,
                 done: 0,
                 fetches: 0,
@@ -87,7 +87,7 @@ impl<W: Sink, R: Wait + time::Clock> Watcher for StatusLine<'_, W, R> {
     }
 }
 
-impl Counts {
+impl ShiftCounts {
     fn take(&mut self, event: Event<'_>) {
         match event {
             Event::AsksRobots(_) | Event::Fetches => self.fetches = self.fetches.saturating_add(1),
@@ -138,7 +138,7 @@ impl<W: Sink> Status<'_, W> {
     }
 }
 
-impl Counts {
+impl ShiftCounts {
     fn of_jobs(self) -> Pieces<'static> {
         Pieces::of(&[
             Piece::Text("\r"),

@@ -1,5 +1,5 @@
 //! The table of a shift's hops, written while its workers work: a line for each hop as soon as it has ended.
-use crate::row::columns;
+use crate::hop_row::columns;
 use crate::under_way::UnderWay;
 use counted_io::{DeviceFault, Output, Sink};
 use crawl_job::{Hop, Job, Outcome};

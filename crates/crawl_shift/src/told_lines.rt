@@ -19,7 +19,9 @@ pub fn tell_bad_lines<E: Sink>(
     bad: &[BadJobLine],
     errors: &mut E,
 ) -> Result<(), DeviceFault>
-    ensures { IfOk result (λ _. Appends (E.written errors.old) (E.written errors.new) (flat_map bad_line_text bad.now)) }
+    ensures { IfOk result
+        (λ _. Appends (E.written errors.old) (E.written errors.new)
+        (flat_map bad_line_text bad.now)) }
 {
     let mut output = Output::new(alloc).map_err(|_| DeviceFault)?;
     write_bad_lines(bad, &mut output, errors)
@@ -31,7 +33,9 @@ fn write_bad_lines<E: Sink>(
     errors: &mut E,
 ) -> Result<(), DeviceFault>
     requires { output.old ≡ [] }
-    ensures { IfOk result (λ _. Appends (E.written errors.old) (E.written errors.new) (flat_map bad_line_text bad.now)) }
+    ensures { IfOk result
+        (λ _. Appends (E.written errors.old) (E.written errors.new)
+        (flat_map bad_line_text bad.now)) }
 {
     push_bad_lines(bad, output, errors)?;
     output.flush(errors)

@@ -1,5 +1,5 @@
 //! The hops that are under way, and what is told of each until it has ended.
-use crate::row::Row;
+use crate::hop_row::HopRow;
 use crawl_job::Hop;
 use crawl_workers::{ClosedBy, Failure};
 use job_line::MAX_WORKERS;
@@ -91,11 +91,11 @@ impl Place {
     }
 
     /// A hop has ended, of a site that this has closed.
-    pub(crate) fn row<'a>(&'a mut self, end: &'a Hop, closed_by: Option<ClosedBy>) -> Row<'a> {
+    pub(crate) fn row<'a>(&'a mut self, end: &'a Hop, closed_by: Option<ClosedBy>) -> HopRow<'a> {
         self.ended = self.ended.saturating_add(1);
         let (milliseconds, failure) = (self.milliseconds, self.failure);
         self.forget();
-        Row {
+        HopRow {
             job: self.job.map_or(0, |job| job.saturating_add(1)),
             hop: self.ended,
             token: self.token.as_str(),

@@ -9,7 +9,7 @@ use Rattle.robots_fetch.specs.declared.reply.RobotsReply.{RobotsReply}
 use Rattle.robots_fetch.specs.declared.reply.RobotsReply.TheVariants.{Status}
 use Rattle.http_wire.specs.declared.fault.WireFault.{WireFault}
 use Rattle.http_wire.specs.declared.response.HttpReply.{HttpReply}
-use Rattle.tcp_wire.specs.declared.failure.Failure.{Failure}
+use Rattle.http_client.specs.declared.failure.Failure.{Failure}
 use Rattle.crawl_workers.specs.declared.event.ClosedBy.{ClosedBy}
 use Rattle.crawl_workers.specs.declared.event.ClosedBy.TheVariants as closings
 
@@ -20,7 +20,8 @@ closing_of (Err fault) failure = closings.Fault fault failure
 
 -- the reply has a Location that begins with `https:`, in whatever case
 abbrev pub leads_to_https : RobotsReply → Bool
-leads_to_https (Status code (Some location) body max_age) = is_same_word (take 6 (string_bytes location)) (codes "https:")
+leads_to_https (Status code (Some location) body max_age) =
+    is_same_word (take 6 (string_bytes location)) (codes "https:")
 leads_to_https _ = false
 
 -- what closed the site where the reply of this closing decided the answer: of a redirect that is not followed, why

@@ -120,7 +120,8 @@ EachHasDone world jobs _ _ _ = ⊥
 
 -- the workers at these seats of the line did all that they drew, one of them at least has found the end of
 -- each site, and they hand it over
-pub record AreAllDone (world : World) (jobs : List Job) (order : List ℕ) (line : TableId) (counts : List ℕ) (workers : ℕ) (h : HandoverView) : Type 0 where
+pub record AreAllDone (world : World) (jobs : List Job) (order : List ℕ) (line : TableId) (counts : List ℕ)
+    (workers : ℕ) (h : HandoverView) : Type 0 where
   pub all_workers : length h.drawn ≡ workers
   pub have_done : EachHasDone world jobs h.drawn h.done h.receipts
   pub all_seats : length h.seats ≡ workers

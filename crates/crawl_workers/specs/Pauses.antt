@@ -1,11 +1,12 @@
 -- How long lies between the begins of fetches at a site, in nanoseconds of a clock that never goes back.
--- Cited by the contracts of `Begun` and `Site`, and by the law of pauses.
+-- Cited by the contracts of `LastBegin` and `ShiftSite`, and by the law of pauses.
 use Rattle.std.specs.Prelude.{◌≡◌, ◌<◌, ◌≤◌, ◌+◌, ◌-◌, ◌==◌, ◌∷◌, [], ℕ, Bool, true, if◌then◌else◌, List, Option, Some, None, max}
 use Rattle.std.specs.Time.{instant_nanos}
 use Rattle.std.specs.declared.time.Instant.{Instant}
-use Rattle.crawl_workers.specs.declared.pace.Begun.{Begun}
+use Rattle.crawl_workers.specs.declared.pace.LastBegin.{LastBegin}
 
--- how long a fetch must wait that would begin now: as long as the delay is, less what has passed since the last one began
+-- how long a fetch must wait that would begin now: as long as the delay is, less what has passed since the last one
+-- began
 abbrev pub wait_of : ℕ → Option ℕ → ℕ → ℕ
 wait_of delay None now = 0
 wait_of delay (Some last) now = delay - (now - last)
@@ -21,10 +22,10 @@ moment_of None = None
 moment_of (Some instant) = Some (instant_nanos instant)
 
 -- when the last fetch began, if one did
-abbrev pub begun_at : Begun → Option ℕ
+abbrev pub begun_at : LastBegin → Option ℕ
 begun_at begun = moment_of begun.last
 
--- what comes to a site: a page's fetch, which waits, or a robots file's, which waits for nobody
+-- what comes to a site: a page's fetch, which waits, or a robots.txt's, which waits for nobody
 pub record Coming : Type 0 where
   pub waits : Bool
   pub now : ℕ
@@ -49,8 +50,10 @@ IsApart delay (Some last) coming = coming.waits ≡ true → last + delay ≤ co
 -- each fetch that waits begins no sooner than the delay after the last begin before it, of whichever fetch
 abbrev pub ArePaced : ℕ → Option ℕ → List Coming → Type 0
 ArePaced delay last [] = Unit {0}
-ArePaced delay last (coming ∷ later) = IsApart delay last coming × ArePaced delay (Some (later_of last coming.now)) later
+ArePaced delay last (coming ∷ later) =
+    IsApart delay last coming × ArePaced delay (Some (later_of last coming.now)) later
 
 -- whatever comes to a site, in whatever order: what begins is paced
 abbrev pub PausesAreKept : Type 0
-PausesAreKept = (delay : ℕ) (last : Option ℕ) (coming : List Coming) → 0 < delay → ArePaced delay last (begins_of delay last coming)
+PausesAreKept = (delay : ℕ) (last : Option ℕ) (coming : List Coming) → 0 < delay
+    → ArePaced delay last (begins_of delay last coming)

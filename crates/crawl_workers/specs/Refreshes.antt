@@ -31,9 +31,10 @@ abbrev pub entries_of : List Mark → List Entry
 entries_of ms = map (λ m. m.entry) ms
 
 -- fetches decide the answer for the authority, and its life, where pages of these schemes are fetched: each was
--- made of the URL to which the one before it led, the first of the authority's robots file
+-- made of the URL to which the one before it led, the first of the authority's robots.txt
 pub record IsFetched
-    (schemes : Schemes) (gives : List ℕ → Result HttpReply WireFault → Type 0) (authority : List ℕ) (says : Said) (life : ℕ)
+    (schemes : Schemes) (gives : List ℕ → Result HttpReply WireFault → Type 0) (authority : List ℕ) (says : Said)
+    (life : ℕ)
     : Type 0 where
   pub way : List (Result HttpReply WireFault)
   pub url : List ℕ
@@ -42,7 +43,7 @@ pub record IsFetched
   pub is_given : gives url last
   pub decided : AnswerOfAmong schemes authority (map robots_reply_of (way ++ last ∷ [])) says life
 
--- where memory is refused, the answer is closed, for the greatest life
+-- if memory runs out, the answer is closed, for the greatest life
 abbrev pub IsUndecided : Said → ℕ → Type 0
 IsUndecided says life = (says ≡ Closed closures.Other) × (life ≡ greatest_life)
 

@@ -25,7 +25,8 @@ pub record IsDone (world : World) (jobs : List Job) (done : Done) (own : List En
   pub told : IsOutcome world job outcome own
 
 -- it did one job, and then others
-pub record IsDoneFirst (world : World) (jobs : List Job) (done : Done) (Later : List Entry → Type 0) (own : List Entry) : Type 0 where
+pub record IsDoneFirst (world : World) (jobs : List Job) (done : Done) (Later : List Entry → Type 0)
+    (own : List Entry) : Type 0 where
   pub first : List Entry
   pub later : List Entry
   pub first_is : IsDone world jobs done first
@@ -47,7 +48,8 @@ ArePlaced outcomes [] = Unit {0}
 ArePlaced outcomes (done ∷ later) = (slice_get outcomes done.number ≡ Some done.crawled) × ArePlaced outcomes later
 
 -- a worker drew the jobs of these numbers, and what its desk did is told by their outcomes
-pub record Worked (world : World) (jobs : List Job) (outcomes : List Crawled) (numbers : List ℕ) (r : Receipt) : Type 0 where
+pub record Worked (world : World) (jobs : List Job) (outcomes : List Crawled) (numbers : List ℕ)
+    (r : Receipt) : Type 0 where
   pub done : List Done
   pub numbers_are : numbers_of done ≡ numbers
   pub are_placed : ArePlaced outcomes done
@@ -59,8 +61,8 @@ abbrev pub all_fetches : List Crawled → ℕ
 all_fetches [] = 0
 all_fetches (crawled ∷ later) = fetches_in crawled.hops.items + all_fetches later
 
--- what came of all jobs before the gate is settled: the outcomes, the numbers that each worker drew, and the receipts of
--- its desk
+-- what came of all jobs before the gate is settled: the outcomes, the numbers that each worker drew, and the receipts
+-- of its desk
 pub record DoneView : Type 0 where
   pub outcomes : List Crawled
   pub drawn : List (List ℕ)
@@ -96,7 +98,8 @@ pub record IsShift (world : World) (jobs : List Job) (workers : ℕ) (report : R
 -- the report of a shift over a gate that goes on from a base: all jobs are done, as the workers' receipts tell; by them
 -- and those of what was before, which come last, the gate is settled, with as many started fetches more as the
 -- outcomes have
-pub record IsLaterShift (world : World) (jobs : List Job) (workers : ℕ) (past : List Receipt) (report : ReportView) : Type 0 where
+pub record IsLaterShift (world : World) (jobs : List Job) (workers : ℕ) (past : List Receipt)
+    (report : ReportView) : Type 0 where
   pub own : List Receipt
   pub receipts_are : report.receipts ≡ own ++ past
   pub done : AreAllJobs world jobs workers (record { outcomes = report.outcomes; drawn = report.drawn; receipts = own })

@@ -1,45 +1,52 @@
 -- A site of a shift: when a worker may enter it for a job, and what it is then and when the worker leaves.
--- Cited by the contracts of `Site`.
+-- Cited by the contracts of `ShiftSite`.
 use Rattle.std.specs.Prelude.{◌≡◌, ◌+◌, ◌-◌, ◌==◌, ◌&&◌, ℕ, Bool, Some, true, false, if◌then◌else◌, nat_lt, not}
 use Rattle.crawl_workers.specs.Pauses.{begun_at, later_of}
-use Rattle.crawl_workers.specs.declared.site.Site.{Site}
+use Rattle.crawl_workers.specs.declared.site.ShiftSite.{ShiftSite}
 use Rattle.crawl_workers.specs.declared.site.Robots.{Robots}
 use Rattle.crawl_workers.specs.declared.site.Robots.TheVariants as robots
 
--- a worker fetches the robots file, or is about to
+-- a worker fetches the robots.txt, or is about to
 abbrev pub is_fetched : Robots → Bool
 is_fetched robots.Fetched = true
 is_fetched _ = false
 
--- a worker may enter: a job is left, a place is free, no worker fetches the robots file, and none is to fetch next
-abbrev pub may_enter : Site → ℕ → Bool
+-- a worker may enter: a job is left, a place is free, no worker fetches the robots.txt, and none is to fetch next
+abbrev pub may_enter : ShiftSite → ℕ → Bool
 may_enter site places =
     nat_lt 0 site.left && (nat_lt site.workers places && (not (is_fetched site.robots) && not site.next_is_taken))
 
--- who enters where nothing is known of the robots file fetches it
+-- who enters where nothing is known of the robots.txt fetches it
 abbrev pub seen_to : Robots → Robots
 seen_to robots.Unknown = robots.Fetched
 seen_to known = known
 
--- a worker enters: one job less is left, and one worker more does jobs of the site; where fetches pause it is to fetch next
-abbrev pub entered_by : Bool → Site → Site
+-- a worker enters: one job less is left, and one worker more does jobs of the site; where fetches pause it is to fetch
+-- next
+abbrev pub entered_by : Bool → ShiftSite → ShiftSite
 entered_by pauses site =
-    record site { left = site.left - 1; workers = site.workers + 1; robots = seen_to site.robots; next_is_taken = pauses }
+    record site {
+      left = site.left - 1;
+      workers = site.workers + 1;
+      robots = seen_to site.robots;
+      next_is_taken =
+          pauses;
+    }
 
--- nobody fetches the robots file where no worker is left
+-- nobody fetches the robots.txt where no worker is left
 abbrev pub left_to : ℕ → Robots → Robots
 left_to workers known = if workers == 0 && is_fetched known then robots.Unknown else known
 
 -- one worker less does jobs of the site, and another may fetch next
-abbrev pub left_by : Site → Site
+abbrev pub left_by : ShiftSite → ShiftSite
 left_by site =
     record site { workers = site.workers - 1; robots = left_to (site.workers - 1) site.robots; next_is_taken = false }
 
 -- a fetch has begun, behind which another worker may fetch next; nothing else is other than it was
-pub record HasBegun (old new : Site) (now : ℕ) : Type 0 where
+pub record HasBegun (old new : ShiftSite) (now : ℕ) : Type 0 where
   pub begun : begun_at new.begun ≡ Some (later_of (begun_at old.begun) now)
   pub same : new ≡ record old { begun = new.begun; next_is_taken = false }
 
 -- a worker waits to fetch next
-abbrev pub awaited_by : Site → Site
+abbrev pub awaited_by : ShiftSite → ShiftSite
 awaited_by site = record site { next_is_taken = true }

@@ -17,7 +17,8 @@ IsNoAnswer standing = (standing ≡ standings.Unknown) ⊎ (standing ≡ standin
 
 -- the gate has no answer of the authority in force at the moment of a call
 abbrev pub LacksAnswer : Gate → List ℕ → ℕ → Type 0
-LacksAnswer g authority m = (state : State) × (IsState (history g) authority (moment_at g m) state × IsNoAnswer state.standing)
+LacksAnswer g authority m =
+    (state : State) × (IsState (history g) authority (moment_at g m) state × IsNoAnswer state.standing)
 
 -- a turn begins where no answer is in force; where one is, the desk only looks; and so it does where none is and the
 -- begin is refused

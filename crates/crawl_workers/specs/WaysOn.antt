@@ -47,10 +47,12 @@ GoesOn schemes number reason followed url given (ways.Ends hop body) =
     (hop ≡ hop_of number reason given) × (IsRedirect given → ⊥) × (body.items ≡ body_given given)
 GoesOn schemes number reason followed url given (ways.Leads hop next) =
     IsRedirect given
-    × LeadsOn followed (redirect_target_among schemes followed url (location_given given)) (hop_of number reason given) (ways.Leads hop next)
+    × LeadsOn followed (redirect_target_among schemes followed url (location_given given)) (hop_of number reason given)
+    (ways.Leads hop next)
 GoesOn schemes number reason followed url given (ways.Stops hop stop) =
     IsRedirect given
-    × LeadsOn followed (redirect_target_among schemes followed url (location_given given)) (hop_of number reason given) (ways.Stops hop stop)
+    × LeadsOn followed (redirect_target_among schemes followed url (location_given given)) (hop_of number reason given)
+    (ways.Stops hop stop)
 
 -- the entries of a hop, behind a refresh of its authority
 abbrev pub TellsWay :

@@ -13,8 +13,8 @@ use crate::clock::Clock;
 use crate::event::Event;
 use crate::pace::Pace;
 use crate::report::{Crawled, ShiftFault, Watcher};
-use crate::sites::Sites;
-use crate::worker::{Notes, Worker};
+use crate::sites::ShiftSites;
+use crate::worker::{EventObserver, Worker};
 use crate::working::work_by;
 use crawl_job::{Job, Outcome};
 use fetchers::Fetcher;
@@ -32,7 +32,7 @@ pub(crate) struct Crew<'a, F, C, W, P> {
     /// Which job an index of the line stands for, and how many jobs of the line each site has.
     pub(crate) order: &'a [u64],
     pub(crate) counts: &'a [u64],
-    pub(crate) sites: &'a Sites,
+    pub(crate) sites: &'a ShiftSites,
     pub(crate) fetcher: &'a F,
     pub(crate) clock: &'a C,
     pub(crate) watcher: &'a W,
@@ -40,17 +40,17 @@ pub(crate) struct Crew<'a, F, C, W, P> {
     ghost is_order: { IsOrder (length jobs.now) counts.now order.now },
 }
 
-// Who is told of the job of a number: the sites, of robots files and of fetches, and the watcher.
+// Who is told of the job of a number: the sites, of robots.txt files and of fetches, and the watcher.
 #[derive(Drop)]
-struct Told<'t, W: Watcher, P: Pace, R: Wait> {
+struct Notifier<'t, W: Watcher, P: Pace, R: Wait> {
     rt: &'t R,
-    sites: &'t Sites,
+    sites: &'t ShiftSites,
     watcher: &'t W,
     pace: &'t P,
     number: u64,
 }
 
-impl<W: Watcher, P: Pace, R: Wait> Notes for Told<'_, W, P, R> {
+impl<W: Watcher, P: Pace, R: Wait> EventObserver for Notifier<'_, W, P, R> {
     fn sees(&self, event: Event<'_>) {
         match event {
             Event::AsksRobots(authority) => self.sites.asks(self.rt, authority),
@@ -126,7 +126,8 @@ impl<F: Fetcher, C: Clock, W: Watcher, P: Pace> Crew<'_, F, C, W, P> {
         worker: &mut Member<G>,
     )
         requires new { IsNewWork self.now.line.now self.now.counts.now worker.old.work }
-        ensures { Ends (world_of (F.gives self.now.fetcher.now) (F.follows self.now.fetcher.now) (C.reads self.now.clock.now))
+        ensures { Ends (world_of (F.gives self.now.fetcher.now) (F.follows self.now.fetcher.now)
+            (C.reads self.now.clock.now))
             self.now.jobs.now self.now.order.now worker.old worker.new }
     {
         let end = self.man_desk(rt, alloc, gate, &mut worker.work);
@@ -316,7 +317,7 @@ impl<F: Fetcher, C: Clock, W: Watcher, P: Pace> Crew<'_, F, C, W, P> {
             alloc,
             fetcher: self.fetcher,
             clock: self.clock,
-            notes: &Told {
+            notes: &Notifier {
                 rt,
                 sites: self.sites,
                 watcher: self.watcher,

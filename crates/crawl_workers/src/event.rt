@@ -5,12 +5,12 @@ ghost use Rattle.robots_verdict.specs.Answer.{said};
 ghost use Rattle.crawl_workers.specs.Closings.{closing_of, decided_by, leads_to_https};
 
 use crawl_job::Hop;
+use http_client::Failure;
 use http_wire::{HttpReply, WireFault};
 use path_normal::PageUrl;
 use robots_fetch::RobotsReply;
 use robots_text::{Token, is_same_word};
 use robots_verdict::{Answer, Closure};
-use tcp_wire::Failure;
 
 /// What comes next in a job.
 #[derive(Clone, Copy)]
@@ -21,7 +21,7 @@ pub enum Event<'a> {
         token: &'a Token,
         url: &'a PageUrl,
     },
-    /// The robots file of the authority is fetched from now on.
+    /// The robots.txt of the authority is fetched from now on.
     AsksRobots(&'a str),
     /// That fetch has ended, with an answer for the authority, which it may close.
     Brought(&'a str, Option<ClosedBy>),
@@ -36,7 +36,7 @@ pub enum Event<'a> {
     Ends(&'a Hop),
 }
 
-/// What closed a site: the reply to a request for its robots file, or for what redirects led to from it.
+/// What closed a site: the reply to a request for its robots.txt, or for what redirects led to from it.
 #[derive(Clone, Copy, Debug, PartialEq, Eq)]
 pub enum ClosedBy {
     /// A response of this status.

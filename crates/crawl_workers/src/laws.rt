@@ -20,7 +20,8 @@ pub fn limits_are()
 /// Each page of an outcome was fetched by a permit whose fetch was started for it: the numbers of the
 /// started fetches are those of the pages and faults, in order, and there are as many.
 pub fn fetches_are_started<F: Fetcher, C: Clock>(_fetcher: &F, _clock: &C)
-    ensures started { FetchesAreStarted (world_of (F.gives _fetcher.now) (F.follows _fetcher.now) (C.reads _clock.now)) }
+    ensures started { FetchesAreStarted
+        (world_of (F.gives _fetcher.now) (F.follows _fetcher.now) (C.reads _clock.now)) }
     ensures counted { FetchesAreCounted }
 {}
 

@@ -83,21 +83,22 @@ impl<R: Wait + time::Clock> Pace for Pauses<'_, R> {
 
 /// When the last fetch at a site began, if one did.
 #[derive(Clone, Copy)]
-pub(crate) struct Begun {
+pub(crate) struct LastBegin {
     last: Option<Instant>,
 }
 
-impl Begun {
+impl LastBegin {
     /// No fetch has begun.
-    pub(crate) fn never() -> Begun
+    pub(crate) fn never() -> LastBegin
         ensures { begun_at result ≡ None }
     {
-        Begun { last: None }
+        LastBegin { last: None }
     }
 
     /// How long a fetch must wait that would begin now.
     pub(crate) fn wait(&self, delay: Duration, now: Instant) -> Duration
-        ensures { as_nanos result ≡ wait_of (as_nanos delay) (begun_at self.now) (instant_nanos now) }
+        ensures { as_nanos result
+            ≡ wait_of (as_nanos delay) (begun_at self.now) (instant_nanos now) }
     {
         match self.last {
             Some(last) => delay.saturating_sub(now.saturating_duration_since(last)),

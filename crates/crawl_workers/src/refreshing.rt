@@ -9,7 +9,7 @@ ghost use Rattle.crawl_workers.specs.World.{world_of};
 
 use crate::clock::Clock;
 use crate::event::{ClosedBy, Event};
-use crate::worker::Notes;
+use crate::worker::EventObserver;
 use authority_cache::{LIFE, TimedAnswer};
 use fetchers::Fetcher;
 use gate_core::{BeginRefusal, Standing};
@@ -21,7 +21,7 @@ use robots_verdict::{Answer, Closure};
 use std::alloc::Global;
 use std::sync::Wait;
 
-/// Fetches the robots file of an authority, and has the desk bring the answer, which stands from now
+/// Fetches the robots.txt of an authority, and has the desk bring the answer, which stands from now
 /// on. It tells that answer's word: rules, open or closed. No lock is held while it fetches.
 ///
 /// Where the allocator has no memory for the fetch, the authority is closed. Only what `Desk::begin`
@@ -34,7 +34,8 @@ pub fn refresh<G: Gate, F: Fetcher, C: Clock, R: Wait>(
     fetcher: &F,
     clock: &C,
 ) -> Result<Standing, BeginRefusal>
-    ensures refreshes { Refreshes (world_of (F.gives fetcher.now) (F.follows fetcher.now) (C.reads clock.now))
+    ensures refreshes { Refreshes
+        (world_of (F.gives fetcher.now) (F.follows fetcher.now) (C.reads clock.now))
         authority.now result desk.old desk.new }
     ensures no { desk.new.no ≡ desk.old.no }
     ensures out { KeepsOut desk.old desk.new }
@@ -43,8 +44,8 @@ pub fn refresh<G: Gate, F: Fetcher, C: Clock, R: Wait>(
     Ok(bring_answer(rt, alloc, turn, desk, fetcher, clock, &()))
 }
 
-/// Fetches the robots file of a turn's authority, has the desk bring the answer, and tells its word.
-pub(crate) fn bring_answer<G: Gate, F: Fetcher, C: Clock, N: Notes, R: Wait>(
+/// Fetches the robots.txt of a turn's authority, has the desk bring the answer, and tells its word.
+pub(crate) fn bring_answer<G: Gate, F: Fetcher, C: Clock, N: EventObserver, R: Wait>(
     rt: &R,
     alloc: Global,
     turn: RobotsTurn<G>,
@@ -54,7 +55,8 @@ pub(crate) fn bring_answer<G: Gate, F: Fetcher, C: Clock, N: Notes, R: Wait>(
     notes: &N,
 ) -> Standing
     requires own { turn.desk ≡ desk.old.no }
-    ensures brings { Brings (world_of (F.gives fetcher.now) (F.follows fetcher.now) (C.reads clock.now))
+    ensures brings { Brings
+        (world_of (F.gives fetcher.now) (F.follows fetcher.now) (C.reads clock.now))
         turn result desk.old desk.new }
     ensures no { desk.new.no ≡ desk.old.no }
     ensures out { HasOut desk.old desk.new 0 0 0 0 0 1 }
@@ -72,9 +74,9 @@ pub(crate) fn bring_answer<G: Gate, F: Fetcher, C: Clock, N: Notes, R: Wait>(
     word
 }
 
-// The answer that the authority's robots file gives, with its life. `why` is told what decided it, where
+// The answer that the authority's robots.txt gives, with its life. `why` is told what decided it, where
 // that was a reply.
-fn fetch_answer<G: Gate, F: Fetcher, N: Notes>(
+fn fetch_answer<G: Gate, F: Fetcher, N: EventObserver>(
     alloc: Global,
     turn: &RobotsTurn<G>,
     fetcher: &F,
@@ -108,7 +110,7 @@ fn fetch_answer<G: Gate, F: Fetcher, N: Notes>(
     }
 }
 
-// Lets the answer share the text of the one in force, where this has the same octets: a robots file that is fetched again
+// Lets the answer share the text of the one in force, where this has the same octets: a robots.txt that is fetched again
 // and again lies in memory once.
 fn share_text<G: Gate, R: Wait>(
     rt: &R,
@@ -124,7 +126,7 @@ fn share_text<G: Gate, R: Wait>(
     }
 }
 
-// The answer where memory is refused: a closed site is the safe side.
+// The answer if memory runs out: a closed site is the safe side.
 fn undecided() -> TimedAnswer
     ensures undecided { IsUndecided result.says result.life }
     ensures spares { result.spares ≡ 2 }

@@ -14,7 +14,7 @@ use crate::order::Order;
 use crate::pace::{Pace, Pauses};
 use crate::places::place_all;
 use crate::report::{Crawled, Report, ShiftFault, Watcher};
-use crate::sites::Sites;
+use crate::sites::ShiftSites;
 use crawl_job::Job;
 use fetchers::Fetcher;
 use gate_lock::{Gate, GateLock, Receipts, settle};
@@ -31,7 +31,7 @@ use std::{thread, time};
 /// works before or after another one, on that one's thread. `watcher` is told of each job as soon as it
 /// is done.
 ///
-/// Workers draw from the sites in turn. While the robots file of a site is fetched, no other worker draws a
+/// Workers draw from the sites in turn. While the robots.txt of a site is fetched, no other worker draws a
 /// job of that site; no more workers do jobs of one site at a time than it has places, and one worker less
 /// than all while other sites have jobs. The report keeps the order of the jobs.
 ///
@@ -55,14 +55,15 @@ pub fn run_shift<
 ) -> Result<Report<G>, ShiftFault>
     requires jobs { length jobs.now ≤ max_jobs }
     requires workers { (1 ≤ workers) × (workers ≤ max_workers) }
-    ensures { IfOk result (IsShift (world_of (F.gives fetcher.now) (F.follows fetcher.now) (C.reads clock.now))
+    ensures { IfOk result
+        (IsShift (world_of (F.gives fetcher.now) (F.follows fetcher.now) (C.reads clock.now))
         jobs.now workers) }
 {
     run_at_pace(rt, alloc, jobs, workers, &(), gate, fetcher, clock, watcher)
 }
 
 /// `run_shift` with pauses: each fetch of a page begins no sooner than the delay after the begin of the fetch before it at the
-/// same site, be that a page, a robots file or what a redirect led to. Robots files wait for nobody. While a site rests
+/// same site, be that a page, a robots.txt or what a redirect led to. Robots.txt files wait for nobody. While a site rests
 /// workers draw jobs of others. A delay of zero pauses nowhere.
 pub fn run_shift_paced<
     G: Gate + Send + Sync,
@@ -83,7 +84,8 @@ pub fn run_shift_paced<
 ) -> Result<Report<G>, ShiftFault>
     requires jobs { length jobs.now ≤ max_jobs }
     requires workers { (1 ≤ workers) × (workers ≤ max_workers) }
-    ensures { IfOk result (IsShift (world_of (F.gives fetcher.now) (F.follows fetcher.now) (C.reads clock.now))
+    ensures { IfOk result
+        (IsShift (world_of (F.gives fetcher.now) (F.follows fetcher.now) (C.reads clock.now))
         jobs.now workers) }
 {
     let pauses = Pauses { rt, delay };
@@ -114,7 +116,8 @@ pub fn run_later_shift<
 ) -> Result<Report<G>, ShiftFault>
     requires jobs { length jobs.now ≤ max_jobs }
     requires workers { (1 ≤ workers) × (workers ≤ max_workers) }
-    ensures { IfOk result (IsLaterShift (world_of (F.gives fetcher.now) (F.follows fetcher.now) (C.reads clock.now))
+    ensures { IfOk result
+        (IsLaterShift (world_of (F.gives fetcher.now) (F.follows fetcher.now) (C.reads clock.now))
         jobs.now workers past.items) }
 {
     let pauses = Pauses { rt, delay };
@@ -157,7 +160,8 @@ fn run_at_pace<
 ) -> Result<Report<G>, ShiftFault>
     requires jobs { length jobs.now ≤ max_jobs }
     requires workers { (1 ≤ workers) × (workers ≤ max_workers) }
-    ensures { IfOk result (IsShift (world_of (F.gives fetcher.now) (F.follows fetcher.now) (C.reads clock.now))
+    ensures { IfOk result
+        (IsShift (world_of (F.gives fetcher.now) (F.follows fetcher.now) (C.reads clock.now))
         jobs.now workers) }
 {
     let AllDone {
@@ -218,7 +222,8 @@ fn do_jobs<
 ) -> Result<AllDone<G>, ShiftFault>
     requires jobs { length jobs.now ≤ max_jobs }
     requires workers { (1 ≤ workers) × (workers ≤ max_workers) }
-    ensures { IfOk result (AreAllJobs (world_of (F.gives fetcher.now) (F.follows fetcher.now) (C.reads clock.now))
+    ensures { IfOk result
+        (AreAllJobs (world_of (F.gives fetcher.now) (F.follows fetcher.now) (C.reads clock.now))
         jobs.now workers) }
 {
     let mut outcomes = no_outcomes(alloc, jobs.len())?;
@@ -229,7 +234,7 @@ fn do_jobs<
         numbers,
     } = Order::of_jobs(alloc, jobs)?;
     let places = gate.lend(rt).book().limits().places;
-    let sites = Sites::new(alloc, names, &counts, workers, places, pace.delay())?;
+    let sites = ShiftSites::new(alloc, names, &counts, workers, places, pace.delay())?;
     let (line, seats) = JobLine::of_sites(alloc, &counts, workers)?;
     {
         let crew = Crew {
@@ -340,7 +345,8 @@ impl<F: Fetcher + Sync, C: Clock + Sync, W: Watcher + Sync, P: Pace + Sync> Crew
             &|_: usize, member: &mut Member<G>|
                 requires { IsNewWork crew.now.line.now crew.now.counts.now member.old.work }
                 ensures { Ends
-                    (world_of (F.gives crew.entry.now.fetcher.now) (F.follows crew.entry.now.fetcher.now) (C.reads crew.entry.now.clock.now))
+                    (world_of (F.gives crew.entry.now.fetcher.now) (F.follows crew.entry.now.fetcher.now)
+                    (C.reads crew.entry.now.clock.now))
                     crew.entry.now.jobs.now crew.entry.now.order.now member.old member.new }
             { crew.employ(rt, alloc, gate, member) },
         );

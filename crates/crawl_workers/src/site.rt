@@ -6,10 +6,10 @@ ghost use Rattle.std.specs.Time.{instant_nanos};
 ghost use Rattle.crawl_workers.specs.Pauses.{begun_at, wait_of};
 ghost use Rattle.crawl_workers.specs.Sites.{HasBegun, awaited_by, entered_by, left_by, may_enter};
 
-use crate::pace::Begun;
+use crate::pace::LastBegin;
 use std::time::{Duration, Instant};
 
-/// What is known of the robots file of a site.
+/// What is known of the robots.txt of a site.
 #[derive(Clone, Copy, PartialEq, Eq)]
 pub(crate) enum Robots {
     Unknown,
@@ -20,7 +20,7 @@ pub(crate) enum Robots {
 
 /// A site.
 #[derive(Drop)]
-pub(crate) struct Site {
+pub(crate) struct ShiftSite {
     /// For how many of its jobs no worker has entered.
     pub(crate) left: u64,
     /// How many workers do jobs of it.
@@ -28,12 +28,12 @@ pub(crate) struct Site {
     pub(crate) robots: Robots,
     /// When the last fetch there began, and whether a worker is to fetch there next: it has entered, and its fetch has not
     /// begun yet. Neither is known where fetches don't pause.
-    pub(crate) begun: Begun,
+    pub(crate) begun: LastBegin,
     pub(crate) next_is_taken: bool,
 }
 
-impl Site {
-    /// Whether a worker may enter: for a job that is left, while no worker fetches the robots file or is to fetch next, and
+impl ShiftSite {
+    /// Whether a worker may enter: for a job that is left, while no worker fetches the robots.txt or is to fetch next, and
     /// at a place that is free.
     pub(crate) fn may_enter(&self, places: u64) -> bool
         ensures { result ≡ may_enter self.now places }
@@ -44,7 +44,7 @@ impl Site {
             && !self.next_is_taken
     }
 
-    /// Lets a worker enter for a job, and tells whether it may. Who enters first fetches the robots file, and where fetches
+    /// Lets a worker enter for a job, and tells whether it may. Who enters first fetches the robots.txt, and where fetches
     /// pause each is to fetch next.
     pub(crate) fn enter(&mut self, places: u64, pauses: bool) -> bool
         ensures may { result ≡ may_enter self.old places }
@@ -63,7 +63,7 @@ impl Site {
         true
     }
 
-    /// A worker has left. Where nobody else is there, nobody fetches the robots file.
+    /// A worker has left. Where nobody else is there, nobody fetches the robots.txt.
     pub(crate) fn leave(&mut self)
         ensures { self.new ≡ left_by self.old }
     {

@@ -1,7 +1,7 @@
 //! The sites of a shift: at which of them a worker may do a job now. Sites take turns, and a site that
 //! would have a worker wait is passed by.
-use crate::pace::{Begun, Pace};
-use crate::site::{Robots, Site};
+use crate::pace::{LastBegin, Pace};
+use crate::site::{Robots, ShiftSite};
 use crate::strangers::Strangers;
 use crate::turns::Turns;
 use std::alloc::{AllocError, Global};
@@ -11,19 +11,19 @@ use std::time::{Duration, Instant};
 
 /// What is known of each site. It has a lock of its own, which is taken while a worker has no other.
 #[derive(Drop)]
-pub(crate) struct Sites {
+pub(crate) struct ShiftSites {
     // The sites by their authorities.
     names: BTreeMap<String, usize>,
     // How long lies between the begins of two fetches at a site; where it is zero none is taken down.
     delay: Duration,
-    waiting: Mutex<Waiting>,
+    waiting: Mutex<SiteTable>,
     // Told of each site that may be entered again, and when no job is left.
     freed: Condvar,
 }
 
 #[derive(Drop)]
-struct Waiting {
-    sites: Vec<Site>,
+struct SiteTable {
+    sites: Vec<ShiftSite>,
     turns: Turns,
     // How many jobs of all sites no worker has entered for.
     left: u64,
@@ -35,7 +35,7 @@ struct Waiting {
     strangers: Strangers,
 }
 
-impl Sites {
+impl ShiftSites {
     /// Sites that have these names and so many jobs, for so many workers, of which at most so many have a
     /// place at one site. At each so long lies between the begins of two fetches.
     pub(crate) fn new(
@@ -45,8 +45,8 @@ impl Sites {
         workers: u64,
         places: u64,
         delay: Duration,
-    ) -> Result<Sites, AllocError> {
-        let mut waiting = Waiting {
+    ) -> Result<ShiftSites, AllocError> {
+        let mut waiting = SiteTable {
             sites: Vec::with_capacity(alloc, counts.len())?,
             turns: Turns::with_room(alloc, counts.len())?,
             left: 0,
@@ -58,7 +58,7 @@ impl Sites {
         for count in counts {
             waiting.add(*count)?;
         }
-        Ok(Sites {
+        Ok(ShiftSites {
             names,
             delay,
             waiting: Mutex::new(waiting),
@@ -90,9 +90,9 @@ impl Sites {
         &self,
         rt: &R,
         pace: &P,
-        waiting: MutexGuard<'w, Waiting>,
+        waiting: MutexGuard<'w, SiteTable>,
         now: Option<Instant>,
-    ) -> MutexGuard<'w, Waiting> {
+    ) -> MutexGuard<'w, SiteTable> {
         if self.delay.is_zero() {
             return self
                 .freed
@@ -169,17 +169,17 @@ impl Sites {
         }
     }
 
-    /// The robots file of the authority is fetched from now on.
+    /// The robots.txt of the authority is fetched from now on.
     pub(crate) fn asks<R: Wait>(&self, rt: &R, authority: &str) {
         self.learn(rt, authority, Robots::Fetched);
     }
 
-    /// An answer of the authority's robots file is known, or none will come.
+    /// An answer of the authority's robots.txt is known, or none will come.
     pub(crate) fn answered<R: Wait>(&self, rt: &R, authority: &str) {
         self.learn(rt, authority, Robots::Answered);
     }
 
-    // Takes down what is known of the robots file of an authority.
+    // Takes down what is known of the robots.txt of an authority.
     fn learn<R: Wait>(&self, rt: &R, authority: &str, robots: Robots) {
         let Some(site) = self.names.get(authority) else {
             return;
@@ -190,15 +190,15 @@ impl Sites {
     }
 }
 
-impl Waiting {
+impl SiteTable {
     // Adds a site that has so many jobs.
     fn add(&mut self, count: u64) -> Result<(), AllocError> {
         let site = self.sites.len();
-        self.sites.push(Site {
+        self.sites.push(ShiftSite {
             left: count,
             workers: 0,
             robots: Robots::Unknown,
-            begun: Begun::never(),
+            begun: LastBegin::never(),
             next_is_taken: false,
         })?;
         self.left = self.left.saturating_add(count);
@@ -305,7 +305,7 @@ impl Waiting {
         self.line_up(site)
     }
 
-    // Takes down what is known of a site's robots file, and tells whether that gives the site a turn.
+    // Takes down what is known of a site's robots.txt, and tells whether that gives the site a turn.
     fn learn(&mut self, site: usize, robots: Robots) -> bool {
         if let Some(site) = self.sites.get_mut(site) {
             site.robots = robots;

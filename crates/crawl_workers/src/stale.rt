@@ -1,5 +1,5 @@
 //! A turn that begins where no answer is in force: the look and the begin are made under one hold of the lock, so no
-//! two desks fetch one robots file. RFC 9309, section 2.4.
+//! two desks fetch one robots.txt. RFC 9309, section 2.4.
 ghost use Rattle.std.specs.Prelude.{◌≤◌};
 ghost use Rattle.path_normal.specs.PageText.{authority_of};
 ghost use Rattle.gate_history.specs.History.{entry_count};
@@ -18,7 +18,8 @@ pub(crate) fn begin_if_stale<G: Gate>(
     moment: u64,
 ) -> Result<Option<RobotsTurn<G>>, BeginRefusal>
     requires { desk.old.seen ≤ entry_count (history held.old) }
-    ensures { BeginsIfStale desk.old held.old (authority_of url.now) moment result held.new desk.new }
+    ensures { BeginsIfStale desk.old held.old
+        (authority_of url.now) moment result held.new desk.new }
 {
     let state = desk.state_in(held, url.authority(), moment);
     match state.standing {

@@ -1,7 +1,7 @@
 //! The sites that no job of a shift names, to which redirects lead: when the last fetch began there.
 //! Called by the table of sites, for `shift --delay`.
 
-use crate::pace::Begun;
+use crate::pace::LastBegin;
 use std::alloc::Global;
 use std::collections::BTreeMap;
 use std::time::{Duration, Instant};
@@ -10,9 +10,9 @@ use std::time::{Duration, Instant};
 #[derive(Drop)]
 pub(crate) struct Strangers {
     alloc: Global,
-    sites: BTreeMap<String, Begun>,
+    sites: BTreeMap<String, LastBegin>,
     // Those for which there was no memory share one.
-    others: Begun,
+    others: LastBegin,
 }
 
 impl Strangers {
@@ -21,7 +21,7 @@ impl Strangers {
         Strangers {
             alloc,
             sites: BTreeMap::new(alloc),
-            others: Begun::never(),
+            others: LastBegin::never(),
         }
     }
 

@@ -28,25 +28,25 @@ use std::sync::Wait;
 pub(crate) const PAGE_LIMIT: usize = 1_048_576;
 
 /// What is told of a job while a worker does it.
-pub(crate) trait Notes {
+pub(crate) trait EventObserver {
     /// This comes next.
     fn sees(&self, event: Event<'_>);
 
     /// A page of this authority is fetched next. It returns once its fetch may begin.
     fn awaits_turn(&self, _authority: &str) {}
 
-    /// A robots file of this authority, or what a redirect of one leads to there, is fetched from now on.
+    /// A robots.txt of this authority, or what a redirect of one leads to there, is fetched from now on.
     fn begins_at(&self, _authority: &str) {}
 }
 
 /// Nobody is told.
-impl Notes for () {
+impl EventObserver for () {
     fn sees(&self, _event: Event<'_>) {}
 }
 
 /// What works on jobs.
 #[derive(Drop)]
-pub(crate) struct Worker<'a, F: Fetcher, C: Clock, N: Notes, R: Wait> {
+pub(crate) struct Worker<'a, F: Fetcher, C: Clock, N: EventObserver, R: Wait> {
     pub(crate) rt: &'a R,
     pub(crate) alloc: Global,
     pub(crate) fetcher: &'a F,
@@ -54,7 +54,7 @@ pub(crate) struct Worker<'a, F: Fetcher, C: Clock, N: Notes, R: Wait> {
     pub(crate) notes: &'a N,
 }
 
-impl<F: Fetcher, C: Clock, N: Notes, R: Wait> Worker<'_, F, C, N, R> {
+impl<F: Fetcher, C: Clock, N: EventObserver, R: Wait> Worker<'_, F, C, N, R> {
     /// Makes the hops of a job, for which there is room.
     pub(crate) fn hops_from<G: Gate>(
         &self,
@@ -107,7 +107,8 @@ impl<F: Fetcher, C: Clock, N: Notes, R: Wait> Worker<'_, F, C, N, R> {
     ) -> WayOn
         ensures tells { AddsEntries (AfterRefresh
             (world_of (F.gives self.now.fetcher.now) (F.follows self.now.fetcher.now) (C.reads self.now.clock.now)) url
-            (TellsWay (world_of (F.gives self.now.fetcher.now) (F.follows self.now.fetcher.now) (C.reads self.now.clock.now))
+            (TellsWay (world_of (F.gives self.now.fetcher.now) (F.follows self.now.fetcher.now)
+            (C.reads self.now.clock.now))
             token.now url followed result)) desk.old desk.new }
         ensures no { desk.new.no ≡ desk.old.no }
         ensures out { KeepsOut desk.old desk.new }
@@ -131,7 +132,8 @@ impl<F: Fetcher, C: Clock, N: Notes, R: Wait> Worker<'_, F, C, N, R> {
     // Refreshes the answer of a page's authority where none is in force. Where another desk does so,
     // its answer is waited for.
     fn see_to_answer<G: Gate>(&self, url: &PageUrl, desk: &mut Desk<'_, G>) -> Result<(), Refusal>
-        ensures refreshed { AddsEntries (MayRefresh (world_of (F.gives self.now.fetcher.now) (F.follows self.now.fetcher.now)
+        ensures refreshed { AddsEntries
+            (MayRefresh (world_of (F.gives self.now.fetcher.now) (F.follows self.now.fetcher.now)
             (C.reads self.now.clock.now)) (authority_of url.now)) desk.old desk.new }
         ensures no { desk.new.no ≡ desk.old.no }
         ensures out { KeepsOut desk.old desk.new }
@@ -211,9 +213,11 @@ impl<F: Fetcher, C: Clock, N: Notes, R: Wait> Worker<'_, F, C, N, R> {
     ) -> WayOn
         requires { permit.desk ≡ desk.old.no }
         ensures tells { AddsEntries (λ (own : List Entry). (granted : ℕ) →
-            IsSinceRead (world_of (F.gives self.now.fetcher.now) (F.follows self.now.fetcher.now) (C.reads self.now.clock.now))
+            IsSinceRead (world_of (F.gives self.now.fetcher.now) (F.follows self.now.fetcher.now)
+            (C.reads self.now.clock.now))
             granted →
-            TellsWay (world_of (F.gives self.now.fetcher.now) (F.follows self.now.fetcher.now) (C.reads self.now.clock.now))
+            TellsWay (world_of (F.gives self.now.fetcher.now) (F.follows self.now.fetcher.now)
+            (C.reads self.now.clock.now))
             permit.token permit.url followed result
             (Entry.Granted granted permit.number
             (record { token = permit.token; url = permit.url }) ∷ own)) desk.old desk.new }

@@ -7,7 +7,7 @@ ghost use Rattle.crawl_workers.specs.Outcomes.{Works, fetches_in};
 ghost use Rattle.crawl_workers.specs.World.{world_of};
 
 use crate::clock::Clock;
-use crate::worker::{Notes, Worker};
+use crate::worker::{EventObserver, Worker};
 use crawl_job::{Job, Outcome};
 use fetchers::Fetcher;
 use gate_lock::{Desk, Gate};
@@ -34,7 +34,9 @@ pub fn work<G: Gate, F: Fetcher, C: Clock, R: Wait>(
 ) -> Result<Outcome, AllocError>
     ensures no { desk.new.no ≡ desk.old.no }
     ensures out { KeepsOut desk.old desk.new }
-    ensures ok { IfOk result (λ outcome. Works (world_of (F.gives fetcher.now) (F.follows fetcher.now) (C.reads clock.now))
+    ensures ok { IfOk result
+        (λ outcome. Works (world_of (F.gives fetcher.now) (F.follows fetcher.now)
+        (C.reads clock.now))
         job outcome desk.old desk.new) }
     ensures starts { IfOk result (λ outcome. starts_in desk.new.marks
         ≡ starts_in desk.old.marks + fetches_in outcome.hops.items) }
@@ -51,7 +53,7 @@ pub fn work<G: Gate, F: Fetcher, C: Clock, R: Wait>(
 }
 
 /// `work` by a worker of a shift.
-pub(crate) fn work_by<G: Gate, F: Fetcher, C: Clock, N: Notes, R: Wait>(
+pub(crate) fn work_by<G: Gate, F: Fetcher, C: Clock, N: EventObserver, R: Wait>(
     worker: &Worker<'_, F, C, N, R>,
     job: Job,
     desk: &mut Desk<'_, G>,

@@ -1,14 +1,14 @@
-//! What fetches pages and robots files for a shift and for a server, as the options say.
+//! What fetches pages and robots.txt files for a shift and for a server, as the options say.
 //! RFC 9309, section 2.2.1; RFC 9110, section 10.1.5.
-ghost use Rattle.program_words.specs.Contacts.{IsAllowedContact};
+ghost use Rattle.program_arguments.specs.Contacts.{IsAllowedContact};
 
 use crawl_workers::TcpFetcher;
-use program_words::Contact;
+use http_client::{Reach, TimeLimits};
+use program_arguments::Contact;
 use std::alloc::AllocError;
 use std::net::SocketAddr;
-use tcp_wire::{Reach, TimeLimits};
 
-// Robots files are fetched under this name, pages under the token of their job.
+// Robots.txt files are fetched under this name, pages under the token of their job.
 const AGENT: &[u8] = b"crawlgate";
 
 /// A fetcher with these limits of time, of this reach, of https where a program opens TLS for it, which names a contact

@@ -11,11 +11,11 @@ use gate_lock::{Gate, Receipts};
 use journal_files::{Folder, JournalFault, LastFile, SyncPolicy};
 use journal_resume::{ResumeFault, Resumed, resume};
 use path_normal::{Authority, Schemes};
-use program_streams::{
+use program_arguments::JournalOptions;
+use program_commands::{
     Ending, Reasoned, new_book, tell_bad_folder, tell_bad_journal, tell_few_slots,
     tell_full_journal, tell_short_journal, tell_torn_line, tell_unread_journal,
 };
-use program_words::JournalOptions;
 use std::hash::RandomState;
 use std::io;
 use std::io::ErrorKind;
@@ -28,9 +28,9 @@ pub(crate) struct OpenJournal<'a> {
     pub(crate) sync: SyncPolicy,
 }
 
-/// What a gate begins with: its book, and the sites whose robots files are to be fetched anew.
+/// What a gate begins with: its book, and the sites whose robots.txt files are to be fetched anew.
 #[derive(Drop)]
-pub(crate) struct Begun {
+pub(crate) struct JournalStart {
     pub(crate) book: Book,
     pub(crate) sites: Vec<Authority>,
 }
@@ -67,7 +67,7 @@ pub(crate) fn begin_with(
     host: &HostRuntime,
     limits: Limits,
     journal: &Option<OpenJournal<'_>>,
-) -> Result<Begun, Ending>
+) -> Result<JournalStart, Ending>
     requires { AreLimits limits }
     ensures { IfOk result (λ begun. IsIdle begun.book) }
 {
@@ -82,12 +82,12 @@ pub(crate) fn begin_with(
 }
 
 // A gate without a past.
-fn begin_new(host: &HostRuntime, limits: Limits) -> Result<Begun, Ending>
+fn begin_new(host: &HostRuntime, limits: Limits) -> Result<JournalStart, Ending>
     requires { AreLimits limits }
     ensures { IfOk result (λ begun. IsIdle begun.book) }
 {
     match new_book(host, limits) {
-        Ok(book) => Ok(Begun {
+        Ok(book) => Ok(JournalStart {
             book,
             sites: Vec::new(host.alloc()),
         }),
@@ -96,7 +96,7 @@ fn begin_new(host: &HostRuntime, limits: Limits) -> Result<Begun, Ending>
 }
 
 // Reads a journal's last file, and ends its text.
-fn go_on(host: &HostRuntime, limits: Limits, file: LastFile) -> Result<Begun, Ending>
+fn go_on(host: &HostRuntime, limits: Limits, file: LastFile) -> Result<JournalStart, Ending>
     requires { AreLimits limits }
     ensures { IfOk result (λ begun. IsIdle begun.book) }
 {
@@ -120,7 +120,7 @@ fn go_on(host: &HostRuntime, limits: Limits, file: LastFile) -> Result<Begun, En
 }
 
 // Ends the text of a journal's last file, from which the gate goes on.
-fn end_file(host: &HostRuntime, file: LastFile, resumed: Resumed) -> Result<Begun, Ending>
+fn end_file(host: &HostRuntime, file: LastFile, resumed: Resumed) -> Result<JournalStart, Ending>
     requires { IsIdle resumed.book }
     ensures { IfOk result (λ begun. IsIdle begun.book) }
 {
@@ -137,7 +137,7 @@ fn end_file(host: &HostRuntime, file: LastFile, resumed: Resumed) -> Result<Begu
         }
     }
     match file.end(whole, ending.as_slice()) {
-        Ok(()) => Ok(Begun { book, sites: begun }),
+        Ok(()) => Ok(JournalStart { book, sites: begun }),
         Err(JournalFault::Device(cause)) => Err(tell_unread_journal(host, cause)),
         Err(_) => Err(Ending::NoMemory),
     }

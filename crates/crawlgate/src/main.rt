@@ -11,10 +11,10 @@ mod tls_program;
 ghost use Rattle.std.specs.Prelude.{◌≡◌, ◌≤◌, [], IfOk, length};
 ghost use Rattle.journal_resume.specs.Resuming.{IsIdle};
 ghost use Rattle.job_line.specs.Limits.{IsCrew, max_jobs};
-ghost use Rattle.program_words.specs.Options.{AreForShift};
+ghost use Rattle.program_arguments.specs.Options.{AreForShift};
 
 use crate::fetching::new_fetcher;
-use crate::journal::{Begun, OpenJournal, Past, begin_with, open_journal};
+use crate::journal::{JournalStart, OpenJournal, Past, begin_with, open_journal};
 use crate::recorded_shift::shift_recorded;
 use crate::serving::serve;
 use crate::tls_program::find_tls_program;
@@ -26,10 +26,10 @@ use crawl_shift::{
 };
 use crawl_workers::{Clock, Fetcher, SystemClock};
 use gate_lock::{Blanks, Gate, GateLock};
-use program_streams::{
+use program_arguments::{BadJobs, ShiftOptions, ShiftOutput};
+use program_commands::{
     Ending, Next, Reasoned, Stream, run, tell_bad_line, tell_ending, tell_failed,
 };
-use program_words::{BadJobs, ShiftOptions, Told};
 use std::io::IsTerminal;
 use std::marker::Brand;
 use std::process::ExitCode;
@@ -98,7 +98,7 @@ fn shift_shown<F: Fetcher + Sync, C: Clock + Sync, R: Threads + Wait + time::Clo
     rt: &R,
     host: &HostRuntime,
     options: &ShiftOptions,
-    begun: Begun,
+    begun: JournalStart,
     journal: Option<OpenJournal<'_>>,
     fetcher: &F,
     clock: &C,
@@ -139,7 +139,7 @@ fn shift_told<
     rt: &R,
     host: &HostRuntime,
     options: &ShiftOptions,
-    begun: Begun,
+    begun: JournalStart,
     journal: Option<OpenJournal<'_>>,
     blanks: Blanks,
     status: &StatusLine<'_, E, R>,
@@ -159,7 +159,7 @@ fn shift_told<
         clock,
         status,
     };
-    let Begun { book, sites } = begun;
+    let JournalStart { book, sites } = begun;
     let (gate, receipts) = GateLock::<G>::resume(shift.alloc, book, blanks);
     let past = Past { receipts, sites };
     match read_jobs(host, fetcher, options.bad_jobs) {
@@ -227,7 +227,7 @@ fn do_jobs<
     shift: &Shift<'_, '_, E, F, C, R>,
     jobs: &[Job],
     gate: &GateLock<G>,
-    told: Told,
+    told: ShiftOutput,
 ) -> Ending
     requires jobs { length jobs.now ≤ max_jobs }
     requires workers { IsCrew shift.now.workers }
@@ -235,9 +235,9 @@ fn do_jobs<
     let mut writer = Counted::new(Reasoned::new(host.stdout()));
     let closed = ClosedSites::new(shift.rt, host.alloc());
     let end = match told {
-        Told::Outcomes => shift.report_jobs(jobs, &mut writer, gate, &closed),
-        Told::Table => shift.table_jobs(jobs, &mut writer, gate),
-        Told::History => shift.history_jobs(jobs, &mut writer, gate, &closed),
+        ShiftOutput::Outcomes => shift.report_jobs(jobs, &mut writer, gate, &closed),
+        ShiftOutput::Table => shift.table_jobs(jobs, &mut writer, gate),
+        ShiftOutput::History => shift.history_jobs(jobs, &mut writer, gate, &closed),
     };
     // (a standard error that fails leaves the status alone)
     let _ = closed.tell(&mut Counted::new(host.stderr()));

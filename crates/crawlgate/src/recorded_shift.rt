@@ -12,13 +12,13 @@ use crawl_workers::{Clock, Fetcher};
 use gate_journal::Recording;
 use gate_lock::{Gate, GateLock, Receipts};
 use job_line::{MAX_JOBS, MAX_WORKERS};
-use journal_files::{Abreast, GroupJournal, Records};
+use journal_files::{Abreast, GroupJournal, Recorder};
 use journal_keepers::FetchesBehind;
 use journal_tape::Behind;
 use keepers::{DeskKeeper, Keeper, NoKeeper};
 use path_normal::Authority;
-use program_streams::{Ending, Reasoned, Stream, tell_failed, tell_failed_journal};
-use program_words::Told;
+use program_arguments::ShiftOutput;
+use program_commands::{Ending, Reasoned, Stream, tell_failed, tell_failed_journal};
 use std::sync::Wait;
 use std::sync::atomic::{AtomicU64, Ordering};
 use std::thread::Threads;
@@ -45,7 +45,7 @@ pub(crate) fn shift_recorded<
     gate: &GateLock<G>,
     past: Past<G>,
     journal: OpenJournal<'_>,
-    told: Told,
+    told: ShiftOutput,
 ) -> Ending {
     let OpenJournal { name, folder, sync } = journal;
     let chronicle = Recording {
@@ -71,7 +71,7 @@ pub(crate) fn shift_recorded<
 
 // A gate, and what records it.
 #[derive(Clone, Copy)]
-struct Recorded<'r, 'a, G: Gate, J: Records, R: Wait> {
+struct Recorded<'r, 'a, G: Gate, J: Recorder, R: Wait> {
     chronicle: &'r Recording<'a, G, R>,
     journal: &'r J,
 }
@@ -80,7 +80,7 @@ impl<
     'r,
     'a,
     G: Gate + Send + Sync,
-    J: Records + Sync,
+    J: Recorder + Sync,
     R: Threads + Wait + time::Clock + Sync,
 > Recorded<'r, 'a, G, J, R> {
     // Does the jobs, and has what nobody waits for recorded meanwhile. What is named first is done last where no thread
@@ -91,7 +91,7 @@ impl<
         shift: &Shift<'_, '_, E, F, C, R>,
         jobs: &[Job],
         past: Past<G>,
-        told: Told,
+        told: ShiftOutput,
     ) -> Ending {
         let ended = AtomicU64::new(0);
         let ((), ending) = thread::join(
@@ -134,7 +134,7 @@ impl<
         shift: &Shift<'_, '_, E, F, C, R>,
         jobs: &[Job],
         past: Past<G>,
-        told: Told,
+        told: ShiftOutput,
     ) -> Ending {
         let workers = shift.workers;
         if jobs.len() as u64 > MAX_JOBS || workers == 0 || workers > MAX_WORKERS {
@@ -150,7 +150,7 @@ impl<
         shift: &Shift<'_, '_, E, F, C, R>,
         jobs: &[Job],
         past: Past<G>,
-        told: Told,
+        told: ShiftOutput,
     ) -> Ending
         requires jobs { length jobs.now ≤ max_jobs }
         requires workers { IsCrew shift.now.workers }
@@ -182,7 +182,7 @@ impl<
         shift: &Shift<'_, '_, E, F, C, R>,
         jobs: &[Job],
         past: Vec<Receipts<G>>,
-        told: Told,
+        told: ShiftOutput,
     ) -> Ending
         requires jobs { length jobs.now ≤ max_jobs }
         requires workers { IsCrew shift.now.workers }
@@ -192,9 +192,9 @@ impl<
         let mut writer = Behind::new(self.abreast(), output);
         let closed = ClosedSites::new(shift.rt, shift.alloc);
         let end = match told {
-            Told::Table => shift.table_later(jobs, &mut writer, gate, past),
+            ShiftOutput::Table => shift.table_later(jobs, &mut writer, gate, past),
             // (no history is written beside the journal, which has it)
-            Told::Outcomes | Told::History => {
+            ShiftOutput::Outcomes | ShiftOutput::History => {
                 shift.report_later(jobs, &mut writer, gate, past, &closed)
             }
         };
@@ -203,7 +203,7 @@ impl<
         tell_failed(host, shift_ending(end), Stream::Output, writer.into_sink())
     }
 
-    // The receipts of what was entered before the jobs: by an earlier process, and for the robots files that it was
+    // The receipts of what was entered before the jobs: by an earlier process, and for the robots.txt files that it was
     // fetching, which are fetched anew.
     fn receipts_before<E: Sink + Send, F: Fetcher + Sync, C: Clock + Sync>(
         &self,
@@ -224,7 +224,7 @@ impl<
         Ok(all)
     }
 
-    // Has the robots files of these sites fetched, at a desk of its own.
+    // Has the robots.txt files of these sites fetched, at a desk of its own.
     fn fetch_anew<E: Sink + Send, F: Fetcher + Sync, C: Clock + Sync>(
         &self,
         shift: &Shift<'_, '_, E, F, C, R>,

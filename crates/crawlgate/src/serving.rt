@@ -2,23 +2,23 @@
 ghost use Rattle.std.specs.Prelude.{◌≡◌};
 ghost use Rattle.journal_resume.specs.Resuming.{IsIdle};
 ghost use Rattle.job_line.specs.Limits.{IsCrew};
-ghost use Rattle.program_words.specs.Options.{AreForServe};
+ghost use Rattle.program_arguments.specs.Options.{AreForServe};
 
 use crate::fetching::new_fetcher;
-use crate::journal::{Begun, OpenJournal, Past, begin_with, open_journal};
+use crate::journal::{JournalStart, OpenJournal, Past, begin_with, open_journal};
 use crate::tls_program::find_tls_program;
-use client_wire::Listener;
+use client_connections::Listener;
 use crawl_workers::SystemClock;
 use gate_journal::Recording;
 use gate_lock::{Blanks, Gate, GateLock, SettleFault};
-use journal_files::{GroupJournal, Records, Unrecorded};
+use journal_files::{GroupJournal, Recorder, Unrecorded};
 use keepers::Bounds;
 use line_server::{Alarm, ServeFault, Served, Server};
-use program_streams::{
+use program_arguments::{Ahead, ListenAddress, ServeOptions};
+use program_commands::{
     Ending, tell_failed_journal, tell_full_log, tell_listening, tell_listening_at, tell_no_place,
     tell_sealing, tell_served,
 };
-use program_words::{Ahead, Place, ServeOptions};
 use std::marker::Brand;
 use std::sync::Wait;
 use std::thread::Threads;
@@ -76,12 +76,12 @@ fn serve_over<R: Threads + Wait + time::Clock + Sync>(
     }
 }
 
-// Listens for who sees to the gate too, where the options say so, and serves.
+// Listens for overseers too, where the options say so, and serves.
 fn serve_at<R: Threads + Wait + time::Clock + Sync>(
     rt: &R,
     host: &HostRuntime,
     options: &ServeOptions,
-    begun: Begun,
+    begun: JournalStart,
     listener: &Listener,
     journal: Option<OpenJournal<'_>>,
 ) -> Ending
@@ -96,22 +96,22 @@ fn serve_at<R: Threads + Wait + time::Clock + Sync>(
             let overseers = Some(&overseers);
             serve_clients(rt, host, options, begun, listener, overseers, journal)
         }
-        Err(error) => tell_no_place(host, &Place::Port(port), &error),
+        Err(error) => tell_no_place(host, &ListenAddress::Port(port), &error),
     }
 }
 
 // Listens where the options say.
-fn listen(host: &HostRuntime, place: &Place) -> io::Result<Listener> {
+fn listen(host: &HostRuntime, place: &ListenAddress) -> io::Result<Listener> {
     match place {
-        Place::Port(port) => Listener::bind(host, *port),
-        Place::Socket(path) => Listener::bind_socket(host, host.alloc(), path.as_str()),
+        ListenAddress::Port(port) => Listener::bind(host, *port),
+        ListenAddress::Socket(path) => Listener::bind_socket(host, host.alloc(), path.as_str()),
     }
 }
 
 // Tells where it listens: a port that was free is known to the listener alone.
 fn tell_places(
     host: &HostRuntime,
-    place: &Place,
+    place: &ListenAddress,
     clients: &Listener,
     overseers: Option<&Listener>,
 ) -> Ending {
@@ -126,8 +126,8 @@ fn tell_places(
 }
 
 // Tells where clients connect.
-fn tell_place(host: &HostRuntime, place: &Place, listener: &Listener) -> Ending {
-    if let Place::Socket(path) = place {
+fn tell_place(host: &HostRuntime, place: &ListenAddress, listener: &Listener) -> Ending {
+    if let ListenAddress::Socket(path) = place {
         return tell_listening_at(host, path.as_str());
     }
     match listener.port() {
@@ -137,18 +137,18 @@ fn tell_place(host: &HostRuntime, place: &Place, listener: &Listener) -> Ending 
 }
 
 // Removes the socket that was made. While this server listens at it, no other has taken its path.
-fn leave(host: &HostRuntime, place: &Place) {
-    if let Place::Socket(path) = place {
+fn leave(host: &HostRuntime, place: &ListenAddress) {
+    if let ListenAddress::Socket(path) = place {
         let _ = fs::remove_file(host, path.as_str());
     }
 }
 
-// Serves clients of this listener, and who sees to the gate at another, if there is one.
+// Serves clients of this listener, and overseers at another, if there is one.
 fn serve_clients<R: Threads + Wait + time::Clock + Sync>(
     rt: &R,
     host: &HostRuntime,
     options: &ServeOptions,
-    begun: Begun,
+    begun: JournalStart,
     listener: &Listener,
     overseers: Option<&Listener>,
     journal: Option<OpenJournal<'_>>,
@@ -205,9 +205,9 @@ fn run_over<
     R: Threads + Wait + time::Clock + Sync,
 >(
     host: &HostRuntime,
-    place: &Place,
+    place: &ListenAddress,
     server: &Server<'_, F, C, A, R>,
-    begun: Begun,
+    begun: JournalStart,
     blanks: Blanks,
     journal: Option<OpenJournal<'_>>,
 ) -> Ending
@@ -215,7 +215,7 @@ fn run_over<
     requires book { IsIdle begun.book }
     requires blanks { blanks ≡ G.ledgers }
 {
-    let Begun { book, sites } = begun;
+    let JournalStart { book, sites } = begun;
     let (gate, receipts) = GateLock::<G>::resume(server.alloc, book, blanks);
     let past = Past { receipts, sites };
     match journal {
@@ -233,7 +233,7 @@ fn run_recorded<
     R: Threads + Wait + time::Clock + Sync,
 >(
     host: &HostRuntime,
-    place: &Place,
+    place: &ListenAddress,
     server: &Server<'_, F, C, A, R>,
     gate: &GateLock<G>,
     past: Past<G>,
@@ -266,10 +266,10 @@ fn run_behind<
     C: crawl_workers::Clock + Sync,
     A: Alarm + Sync,
     R: Threads + Wait + time::Clock + Sync,
-    J: Records + Sync,
+    J: Recorder + Sync,
 >(
     host: &HostRuntime,
-    place: &Place,
+    place: &ListenAddress,
     server: &Server<'_, F, C, A, R>,
     gate: &GateLock<G>,
     past: Past<G>,

@@ -1,9 +1,9 @@
 //! Whether the program that opens TLS is there.
 //! It is connected to once, before anything else is done: without it every site of https would be closed for a day.
 ghost use Rattle.std.specs.Prelude.{◌≡◌, IfErr, Some, option_map};
-ghost use Rattle.program_streams.specs.declared.ending.Ending.TheVariants as endings;
+ghost use Rattle.program_commands.specs.declared.ending.Ending.TheVariants as endings;
 
-use program_streams::Ending;
+use program_commands::Ending;
 use std::net::{SocketAddr, TcpStream};
 use std::time::Duration;
 

@@ -12,6 +12,6 @@ page_of leave = leave.url.now
 abbrev pub token_of_leave : PageLeave → List ℕ
 token_of_leave leave = leave.token.now
 
--- the robots file
+-- the robots.txt
 abbrev pub robots_page_of : RobotsLeave → List ℕ
 robots_page_of leave = leave.url.now

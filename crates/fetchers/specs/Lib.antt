@@ -2,5 +2,4 @@
 pub mod Leaves
 pub mod Limits
 pub mod Network
-pub mod ScriptedSites
 pub mod Walks

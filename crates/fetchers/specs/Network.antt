@@ -2,17 +2,17 @@
 -- `TcpFetcher` cites it.
 use Rattle.std.specs.Prelude.{ℕ, List, ◌++◌, Option, None, Some, IfSome, Result, Vec, codes}
 use Rattle.std.specs.declared.alloc.Global.{Global}
-use Rattle.tcp_wire.specs.Agent.{IsAgent}
+use Rattle.http_client.specs.Agent.{IsAgent}
 use Rattle.http_wire.specs.declared.fault.WireFault.{WireFault}
 use Rattle.http_wire.specs.declared.response.HttpReply.{HttpReply}
 use Rattle.http_wire.specs.Response.{Tells}
 use Rattle.path_normal.specs.declared.schemes.Schemes.{Schemes}
 use Rattle.path_normal.specs.declared.schemes.Schemes.TheVariants.{Http, HttpAndHttps}
 use Rattle.std.specs.declared.net.socket_addr.SocketAddr.{SocketAddr}
-use Rattle.tcp_wire.specs.declared.time_limits.TimeLimits.{TimeLimits}
+use Rattle.http_client.specs.declared.time_limits.TimeLimits.{TimeLimits}
 
--- a fetcher: the agent under which it fetches robots files, the comment behind the agents of pages, where it has one, its
--- limits of time, and the schemes of the pages that it fetches
+-- a fetcher: the agent under which it fetches robots.txt files, the comment behind the agents of pages, where it has
+-- one, its limits of time, and the schemes of the pages that it fetches
 pub record TcpView : Type 0 where
   pub agent : List ℕ
   pub contact : Option (List ℕ)

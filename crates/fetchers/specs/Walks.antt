@@ -1,4 +1,4 @@
--- Where the fetches of a robots file may lead: over redirects, each from where the one before it led.
+-- Where the fetches of a robots.txt may lead: over redirects, each from where the one before it led.
 -- RFC 9309, section 2.3.1.2.
 use Rattle.std.specs.Prelude.{◌≡◌, ◌∷◌, [], ℕ, List, Result, Ok, Err}
 use Rattle.path_normal.specs.declared.schemes.Schemes.{Schemes}
@@ -10,7 +10,7 @@ use Rattle.robots_fetch.specs.declared.reply.RobotsReply.{RobotsReply}
 use Rattle.robots_fetch.specs.declared.reply.RobotsReply.TheVariants.{Status, CodingFault, NetworkFault}
 use Rattle.robots_fetch.specs.Walk.{LeadsAmong}
 
--- what came of a fetch of a robots file, as a walk reads it
+-- what came of a fetch of a robots.txt, as a walk reads it
 abbrev pub robots_reply_of : Result HttpReply WireFault → RobotsReply
 robots_reply_of (Ok reply) = Status reply.status reply.location reply.body reply.max_age
 robots_reply_of (Err faults.Coding) = CodingFault
@@ -18,11 +18,14 @@ robots_reply_of (Err fault) = NetworkFault
 
 -- the results are redirects from the one URL to the other, each given for the URL to which the one before it led,
 -- where pages of these schemes are fetched
-abbrev pub AreLed : Schemes → (List ℕ → Result HttpReply WireFault → Type 0) → List ℕ → List (Result HttpReply WireFault) → List ℕ → Type 0
+abbrev pub AreLed : Schemes → (List ℕ → Result HttpReply WireFault → Type 0) → List ℕ
+    → List (Result HttpReply WireFault) → List ℕ → Type 0
 AreLed schemes gives url [] end = url ≡ end
 AreLed schemes gives url (given ∷ later) end =
-    gives url given × ((next : List ℕ) × (LeadsAmong schemes url (robots_reply_of given) next × AreLed schemes gives next later end))
+    gives url given × ((next : List ℕ)
+    × (LeadsAmong schemes url (robots_reply_of given) next × AreLed schemes gives next later end))
 
--- fetches led to this URL from that of the authority's robots file
+-- fetches led to this URL from that of the authority's robots.txt
 abbrev pub IsOnWalk : Schemes → (List ℕ → Result HttpReply WireFault → Type 0) → List ℕ → List ℕ → Type 0
-IsOnWalk schemes gives authority url = (way : List (Result HttpReply WireFault)) × AreLed schemes gives (robots_url_of authority) way url
+IsOnWalk schemes gives authority url =
+    (way : List (Result HttpReply WireFault)) × AreLed schemes gives (robots_url_of authority) way url

@@ -5,10 +5,10 @@ ghost use Rattle.fetchers.specs.Limits.{robots_limit};
 ghost use Rattle.fetchers.specs.Walks.{IsOnWalk};
 
 use gate_lock::{Fetched, Gate, RobotsTurn, Running};
+use http_client::{Deadline, Failure};
 use http_wire::{HttpReply, WireFault};
 use path_normal::{PageUrl, Schemes};
 use robots_text::Token;
-use tcp_wire::{Deadline, Failure};
 
 /// Leave to fetch a page once. `Fetcher::fetch_page` has it of a started permit, and nothing else
 /// makes one. It has no `Drop`: `spend` uses it up.
@@ -39,7 +39,7 @@ impl PageLeave<'_> {
     }
 }
 
-/// Leave to fetch a robots file, or what a redirect led to from one, once.
+/// Leave to fetch a robots.txt, or what a redirect led to from one, once.
 /// `Fetcher::fetch_robots` has it of a turn in flight, and nothing else makes one. It has no `Drop`: `spend`
 /// uses it up.
 #[must_use]
@@ -61,7 +61,7 @@ impl RobotsLeave<'_> {
     }
 }
 
-/// What fetches pages and robots files. A redirect is a reply like others, and is not followed. Where the
+/// What fetches pages and robots.txt files. A redirect is a reply like others, and is not followed. Where the
 /// device of a fetch fails, `failure` is told why, in as far as that is known.
 pub trait Fetcher {
     ghost use Rattle.std.specs.Prelude.{ℕ, List, Result};
@@ -81,7 +81,7 @@ pub trait Fetcher {
     fn schemes(&self) -> Schemes
         ensures { result ≡ follows self.now };
 
-    /// The time that the fetches of one walk over the redirects of a robots file may take together, which
+    /// The time that the fetches of one walk over the redirects of a robots.txt may take together, which
     /// begins now; none where they have no limit, or no clock can be read.
     fn begin_walk(&self) -> Option<Deadline> {
         None
@@ -100,7 +100,7 @@ pub trait Fetcher {
     ) -> Result<HttpReply, WireFault>
         ensures { gives self.now limit (page_of leave.entry) result };
 
-    /// Fetches a robots file, and gives at most 512,001 octets of its body: those that are kept, and
+    /// Fetches a robots.txt, and gives at most 512,001 octets of its body: those that are kept, and
     /// one that tells that there are more.
     fn load_robots(
         &self,
@@ -129,7 +129,7 @@ pub trait Fetcher {
         (running.spend(), reply)
     }
 
-    /// Fetches a robots file, or what redirects led to from one, while a turn of its authority is in
+    /// Fetches a robots.txt, or what redirects led to from one, while a turn of its authority is in
     /// flight.
     final fn fetch_robots<G: Gate>(
         &self,
@@ -138,7 +138,8 @@ pub trait Fetcher {
         time: Option<Deadline>,
         failure: &mut Option<Failure>,
     ) -> Result<HttpReply, WireFault>
-        requires { IsOnWalk (follows self.now) (gives self.now robots_limit) _turn.now.authority url.now }
+        requires { IsOnWalk (follows self.now)
+            (gives self.now robots_limit) _turn.now.authority url.now }
         ensures { gives self.now robots_limit url.now result }
     {
         self.load_robots(RobotsLeave { url }, time, failure)

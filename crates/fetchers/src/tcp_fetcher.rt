@@ -1,14 +1,15 @@
-//! Pages and robots files fetched over TCP, each under its agent.
+//! Pages and robots.txt files fetched over TCP, each under its agent.
 //! RFC 9309, section 2.2.1; RFC 9110, section 10.1.5.
 ghost use Rattle.std.specs.Prelude.{◌≡◌, IfOk, IfSome, None, Some};
 ghost use Rattle.path_normal.specs.declared.schemes.Schemes.TheVariants.{Http};
 ghost use Rattle.http_wire.specs.Response.{Tells};
-ghost use Rattle.tcp_wire.specs.Agent.{IsAgent};
-ghost use Rattle.tcp_wire.specs.TimeLimits.{AreStandard};
+ghost use Rattle.http_client.specs.Agent.{IsAgent};
+ghost use Rattle.http_client.specs.TimeLimits.{AreStandard};
 ghost use Rattle.fetchers.specs.Limits.{robots_limit};
 ghost use Rattle.fetchers.specs.Network.{agent_with, schemes_by};
 
 use crate::fetcher::{Fetcher, PageLeave, RobotsLeave};
+use http_client::{Deadline, Failure, Reach, TcpClient, TimeLimits};
 use http_wire::{HttpReply, WireFault};
 use path_normal::{PageUrl, Schemes};
 use robots_text::MAX_TEXT;
@@ -16,13 +17,12 @@ use std::alloc::{AllocError, Global};
 use std::marker::Model;
 use std::net::{Net, SocketAddr, TcpStream};
 use std::time;
-use tcp_wire::{Deadline, Failure, Reach, TcpClient, TimeLimits};
 
-/// The most octets that are taken of a robots file: those that are kept, and one that tells that
+/// The most octets that are taken of a robots.txt: those that are kept, and one that tells that
 /// there are more.
-pub(crate) const ROBOTS_LIMIT: usize = MAX_TEXT + 1;
+const ROBOTS_LIMIT: usize = MAX_TEXT + 1;
 
-/// What fetches pages under the tokens of crawlers, and robots files under an agent of its own.
+/// What fetches pages under the tokens of crawlers, and robots.txt files under an agent of its own.
 ///
 /// A clause sees it as that agent, the value of User-Agent, what stands behind the token of a crawler there, its limits of
 /// time, and the schemes of the pages that it fetches.
@@ -35,7 +35,7 @@ pub struct TcpFetcher<R: Net<Stream = TcpStream> + time::Clock> {
 }
 
 impl<R: Net<Stream = TcpStream> + time::Clock> Model for TcpFetcher<R> {
-    ghost use Rattle.tcp_wire.specs.Agent.{IsAgent};
+    ghost use Rattle.http_client.specs.Agent.{IsAgent};
     ghost use Rattle.fetchers.specs.Network.{TcpView, contact_of, IsContact};
 
     ghost Value = { TcpView };
@@ -112,7 +112,8 @@ impl<R: Net<Stream = TcpStream> + time::Clock> TcpFetcher<R> {
     where
         R: Drop,
         requires { IsAgent contact.now }
-        ensures agent { IfOk result (λ fetcher. fetcher.agent ≡ agent_with self.agent (Some contact.now)) }
+        ensures agent { IfOk result
+            (λ fetcher. fetcher.agent ≡ agent_with self.agent (Some contact.now)) }
         ensures contact { IfOk result (λ fetcher. fetcher.contact ≡ Some contact.now) }
         ensures limits { IfOk result (λ fetcher. fetcher.limits ≡ self.limits) }
         ensures schemes { IfOk result (λ fetcher. fetcher.schemes ≡ self.schemes) }

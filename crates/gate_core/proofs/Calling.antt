@@ -1,10 +1,14 @@
 -- From the steps of a call to what the call replies.
--- Used by `Book::begin`, `Book::start` and `Book::ask_judged`.
+-- Used by `Book::begin`, `Book::start`, `Book::url_of` and `Book::ask_judged`.
 use Rattle.std.proofs.Common.{◌≡◌, ◌<◌, ◌≤◌, ℕ, Bool, true, false, inl, inr, List, refl, sym, ap, ◌∙◌, subst}
-use Rattle.std.specs.Prelude.{MatchBool, Result, Ok, Err}
+use Rattle.std.specs.Prelude.{MatchBool, Option, Result, Ok, Err}
 use Rattle.std.proofs.lemmas.Bool.{cases_lt, true≢false}
+use Rattle.std.proofs.lemmas.Slice.Eq.{bytes_eq-Decides}
 use Rattle.authority_cache.specs.Sites.{is_flying, site_of}
-use Rattle.permit_book.specs.Table.{stands}
+use Rattle.permit_book.specs.declared.out.Fetch.{Fetch}
+use Rattle.permit_book.specs.declared.out.SlotContent.{SlotContent}
+use Rattle.permit_book.specs.declared.out.SlotContent.TheVariants.{Nothing, Running, Unspent}
+use Rattle.permit_book.specs.Table.{is_fetch_of, is_permit_for, is_unspent, is_unspent_out, out_under, stands, url_out}
 use Rattle.gate_history.specs.declared.entry.Entry.TheVariants.{Begun, Granted, StartDenied}
 use Rattle.gate_history.specs.declared.outcome.Cause.{Cause}
 use Rattle.gate_history.specs.declared.outcome.Cause.TheVariants.{Spent}
@@ -19,6 +23,7 @@ use Rattle.gate_core.specs.declared.refusal.BeginRefusal.TheVariants as begin
 use Rattle.gate_core.specs.Gate.{Adds, Gate, HasRoom, history, Stays}
 use Rattle.gate_core.specs.Kept.{gate_of, IsKept}
 use Rattle.gate_core.specs.Opened.{Grants, OpensTurn}
+use Rattle.gate_core.specs.PermitUrls.{IsPermitUrl}
 use Rattle.gate_core.specs.Replies.{Asks, Begins, IsAllowed, moment_at, Starts}
 use Rattle.gate_core.proofs.Keeping.{reads, told}
 use Rattle.gate_core.proofs.Looking.{fetching_is}
@@ -43,6 +48,21 @@ begins_by g authority m moment is idle room (Err begin.LogFull) new opens = absu
 pub stands_as : (b : Inside) → IsKept b → (g : Gate) → gate_of b ≡ g → (number : ℕ) (token url : List ℕ) → stands b.permits number token url ≡ outstanding.stands (history g) number token url
 stands_as b kept g is number token url =
     (reads b kept b.entries).permits number token url ∙ ap (λ (g : Gate). outstanding.stands (history g) number token url) is
+
+-- the URL of a permit that stands, as the table says
+pub permit_url_as : (b : Inside) → IsKept b → (g : Gate) → gate_of b ≡ g → (number : ℕ) → is_unspent b.permits number ≡ true → (url : Option (List ℕ)) →
+    url ≡ url_out (out_under b.permits number) → IsPermitUrl (history g) number url
+permit_url_as b kept g is number out_is url same =
+    subst (IsPermitUrl (history g) number) (sym same) (by (out_under b.permits number) refl out_is)
+  where
+    own : (fetch : Fetch) → is_fetch_of fetch.token fetch.url fetch ≡ true
+    own fetch = rw ((bytes_eq-Decides fetch.token fetch.token).1 refl, (bytes_eq-Decides fetch.url fetch.url).1 refl) refl
+
+    by : (out : SlotContent) → out_under b.permits number ≡ out → is_unspent_out out ≡ true → IsPermitUrl (history g) number (url_out out)
+    by (Unspent fetch) under out_is =
+        (fetch.token, sym (stands_as b kept g is number fetch.token fetch.url) ∙ ap (is_permit_for fetch.token fetch.url) under ∙ own fetch)
+    by (Running fetch) under out_is = absurd (true≢false (sym out_is))
+    by Nothing under out_is = absurd (true≢false (sym out_is))
 
 -- a start that finds no permit
 pub start_spent : (g : Gate) (number : ℕ) (token url : List ℕ) (m : ℕ) → outstanding.stands (history g) number token url ≡ false → Starts g number token url m (Err (record { url = url; cause = Spent })) g

@@ -1,5 +1,5 @@
 -- Counts by authority, after one of them was set.
--- Used by the methods of `Places`.
+-- Used by the methods of `PlaceCounts`.
 use Rattle.std.proofs.Common.{◌≡◌, ℕ, zero, suc, ◌+◌, ◌-◌, ◌<◌, Bool, true, false, cond, List, [], ◌∷◌, length, None, Some, is_some, refl, sym, ap, ◌∙◌, subst, true≢false, arith}
 use Rattle.std.specs.Prelude.{Option, slice_get, string_bytes, unwrap_or}
 use Rattle.std.specs.declared.string.String.{String}
@@ -12,10 +12,10 @@ use Rattle.std.proofs.lemmas.Slice.Eq.{bytes_eq-Decides}
 use Rattle.indexmap.specs.IndexMap.{with_value_at}
 use Rattle.indexmap.proofs.CallerLemmas.{updates-with_value_at}
 use Rattle.path_normal.specs.PageText.{authority_of}
-use Rattle.permit_book.specs.declared.out.Out.{Out}
-use Rattle.permit_book.specs.declared.out.Out.TheVariants.{Nothing, Running, Unspent}
+use Rattle.permit_book.specs.declared.out.SlotContent.{SlotContent}
+use Rattle.permit_book.specs.declared.out.SlotContent.TheVariants.{Nothing, Running, Unspent}
 use Rattle.permit_book.specs.Table.{url_out}
-use Rattle.gate_core.specs.Places.{AddsOne, HeldBy, LeavesPlace, TakesOne, one_at}
+use Rattle.gate_core.specs.PlaceCounts.{AddsOne, HeldBy, LeavesPlace, TakesOne, one_at}
 
 module _ (old new : HeldBy) (authority : List ℕ) (count : ℕ) (set : (other : List ℕ) → new other ≡ cond (bytes_eq authority other) count (old other)) where
   -- a count was set to one more
@@ -91,7 +91,7 @@ one_url : (a b : List ℕ) → Some a ≡ Some b → a ≡ b
 one_url a b same = cc
 
 -- one less is counted for the authority of the URL that is out
-pub leaves : (old new : HeldBy) (url : List ℕ) (out : Out) → Some url ≡ url_out out → TakesOne old (authority_of url) new → LeavesPlace old out new
+pub leaves : (old new : HeldBy) (url : List ℕ) (out : SlotContent) → Some url ≡ url_out out → TakesOne old (authority_of url) new → LeavesPlace old out new
 leaves old new url (Unspent fetch) is takes authority = takes authority ∙ ap (λ u. old authority - one_at (authority_of u) authority) (one_url url fetch.url is)
 leaves old new url (Running fetch) is takes authority = takes authority ∙ ap (λ u. old authority - one_at (authority_of u) authority) (one_url url fetch.url is)
 leaves old new url Nothing is takes authority = absurd (none is)

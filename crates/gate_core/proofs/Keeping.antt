@@ -18,8 +18,8 @@ use Rattle.authority_cache.specs.Sites.{IsApart, Known, arrived, flight_count, h
 use Rattle.authority_cache.specs.Calls.{Changes, Sweeps}
 use Rattle.authority_cache.proofs.CallerLemmas as cache_laws
 use Rattle.permit_book.specs.declared.out.Fetch.{Fetch}
-use Rattle.permit_book.specs.declared.out.Out.{Out}
-use Rattle.permit_book.specs.declared.out.Out.TheVariants.{Nothing, Running, Unspent}
+use Rattle.permit_book.specs.declared.out.SlotContent.{SlotContent}
+use Rattle.permit_book.specs.declared.out.SlotContent.TheVariants.{Nothing, Running, Unspent}
 use Rattle.permit_book.specs.declared.granted_permit.GrantedPermit.{GrantedPermit}
 use Rattle.permit_book.specs.Next.{IsNext, NoneFree, generation_after}
 use Rattle.permit_book.specs.Numbers.{generation_of, last_generation, slot_of}
@@ -44,12 +44,12 @@ use Rattle.gate_history.specs.Base.{Base, empty_base, IsBase}
 use Rattle.gate_core.specs.declared.book.Book.TheInside.{Inside}
 use Rattle.gate_core.specs.declared.config.Limits.{Limits}
 use Rattle.gate_core.specs.declared.turn_names.TurnNames.{TurnNames}
-use Rattle.gate_core.specs.declared.places.Places.{Places}
+use Rattle.gate_core.specs.declared.place_counts.PlaceCounts.{PlaceCounts}
 use Rattle.gate_core.specs.Gate.{Adds, Gate, held, history, most_room, promised}
 use Rattle.gate_core.specs.Kept.{gate_of, is_grant_of, IsKept}
 use Rattle.gate_core.specs.Limits.{AreLimits, greatest_number}
 use Rattle.gate_core.specs.TurnNames.{HasNames, KeepsName, names_by, NamesBy}
-use Rattle.gate_core.specs.Places.{AddsOne, held_by, HeldBy, LeavesPlace, one_at}
+use Rattle.gate_core.specs.PlaceCounts.{AddsOne, held_by, HeldBy, LeavesPlace, one_at}
 
 -- the history of a book
 abbrev pub told : Inside → History
@@ -97,7 +97,7 @@ kept_after b b' e kept fit rise same_limits same_base more clock count few start
 -- ---- what one entry more leaves
 
 -- the book after an entry of the permits
-abbrev pub after : Inside → Vec Entry Global → ℕ → ℕ → Table → Places → Inside
+abbrev pub after : Inside → Vec Entry Global → ℕ → ℕ → Table → PlaceCounts → Inside
 after b entries clock starts permits places = record {
   limits = b.limits;
   base = b.base;
@@ -118,13 +118,13 @@ early_is : (clock : ℕ) → clock ≡ max 0 clock
 early_is clock = omega arith
 
 -- where an unspent permit is out, something is
-unspent_some : (out : Out) → is_unspent_out out ≡ true → is_nothing out ≡ false
+unspent_some : (out : SlotContent) → is_unspent_out out ≡ true → is_nothing out ≡ false
 unspent_some (Unspent fetch) is = refl
 unspent_some (Running fetch) is = refl
 unspent_some Nothing is = absurd (true≢false (sym is))
 
 -- where a running fetch is out, something is
-running_some : (out : Out) → is_running_out out ≡ true → is_nothing out ≡ false
+running_some : (out : SlotContent) → is_running_out out ≡ true → is_nothing out ≡ false
 running_some (Running fetch) is = refl
 running_some (Unspent fetch) is = refl
 running_some Nothing is = absurd (true≢false (sym is))
@@ -166,7 +166,7 @@ module _ (b : Inside) (kept : IsKept b) (entries : Vec Entry Global) where
   reads = permit_laws.reads_alike b.permits (unspent (told b)) (running (told b)) (greatest_in (told b)) kept.permits
 
   -- what has ended is held no more
-  ends_held : (number : ℕ) (permits : Table) (places : Places) → is_nothing (out_under b.permits number) ≡ false → permits ≡ with_out b.permits number Nothing →
+  ends_held : (number : ℕ) (permits : Table) (places : PlaceCounts) → is_nothing (out_under b.permits number) ≡ false → permits ≡ with_out b.permits number Nothing →
       LeavesPlace (held_by b.places) (out_under b.permits number) (held_by places) → (authority : List ℕ) → held_by places authority ≡ held_count permits authority
   ends_held number permits places some is left authority =
       let ended = permit_laws.held_ended b.permits number authority some in
@@ -210,7 +210,7 @@ module _ (b : Inside) (kept : IsKept b) (entries : Vec Entry Global) where
       some (p ∷ permits) is = omega arith
 
   -- a denied start
-  pub denied_kept : (moment number : ℕ) (cause : Cause) (permits : Table) (places : Places) → MayFollow (told b) (StartDenied moment number cause) → is_unspent b.permits number ≡ true →
+  pub denied_kept : (moment number : ℕ) (cause : Cause) (permits : Table) (places : PlaceCounts) → MayFollow (told b) (StartDenied moment number cause) → is_unspent b.permits number ≡ true →
       entries.items ≡ b.entries.items ++ StartDenied moment number cause ∷ [] → vec_capacity entries ≡ vec_capacity b.entries →
       permits ≡ with_out b.permits number (decided false (out_under b.permits number)) →
       LeavesPlace (held_by b.places) (out_under b.permits number) (held_by places) → IsKept (after b entries moment b.starts permits places)
@@ -228,7 +228,7 @@ module _ (b : Inside) (kept : IsKept b) (entries : Vec Entry Global) where
       (omega (arith, logged, counts.unspent_are, counts.running_are, counts.flights_are)) (omega (arith, entry_room, room, counts.unspent_are, counts.running_are, counts.flights_are))
 
   -- a return, which brings no moment
-  pub returned_kept : (number : ℕ) (permits : Table) (places : Places) → is_unspent b.permits number ≡ true →
+  pub returned_kept : (number : ℕ) (permits : Table) (places : PlaceCounts) → is_unspent b.permits number ≡ true →
       entries.items ≡ b.entries.items ++ Returned number ∷ [] → vec_capacity entries ≡ vec_capacity b.entries →
       permits ≡ with_out b.permits number Nothing →
       LeavesPlace (held_by b.places) (out_under b.permits number) (held_by places) → IsKept (after b entries b.clock b.starts permits places)
@@ -247,7 +247,7 @@ module _ (b : Inside) (kept : IsKept b) (entries : Vec Entry Global) where
       (omega (arith, logged, counts.unspent_are, counts.running_are, counts.flights_are)) (omega (arith, entry_room, room, counts.unspent_are, counts.running_are, counts.flights_are))
 
   -- a finish, which brings none either
-  pub finished_kept : (number : ℕ) (permits : Table) (places : Places) → is_running b.permits number ≡ true →
+  pub finished_kept : (number : ℕ) (permits : Table) (places : PlaceCounts) → is_running b.permits number ≡ true →
       entries.items ≡ b.entries.items ++ Finished number ∷ [] → vec_capacity entries ≡ vec_capacity b.entries →
       permits ≡ with_out b.permits number Nothing →
       LeavesPlace (held_by b.places) (out_under b.permits number) (held_by places) → IsKept (after b entries b.clock b.starts permits places)
@@ -300,7 +300,7 @@ module _ (b : Inside) (kept : IsKept b) (entries : Vec Entry Global) where
   next_new number is = (next_free number is).1
 
   -- a grant of the next number
-  pub granted_kept : (moment number : ℕ) (fetch : Fetch) (permits : Table) (places : Places) → MayFollow (told b) (Granted moment number fetch) → IsNext b.permits number →
+  pub granted_kept : (moment number : ℕ) (fetch : Fetch) (permits : Table) (places : PlaceCounts) → MayFollow (told b) (Granted moment number fetch) → IsNext b.permits number →
       entries.items ≡ b.entries.items ++ Granted moment number fetch ∷ [] → length b.entries.items + 3 + promised (told b) ≤ vec_capacity entries →
       length b.entries.items + promised (told b) + 3 ≤ most_room b.limits b.base →
       permits ≡ with_out b.permits number (Unspent fetch) → AddsOne (held_by b.places) (authority_of fetch.url) (held_by places) → IsKept (after b entries moment b.starts permits places)
@@ -356,7 +356,7 @@ module _ (b : Inside) (kept : IsKept b) where
 
 -- ---- a book that is new
 
-pub kept_new : (limits : Limits) (base : Base) (entries : Vec Entry Global) (cache : Known) (permits : Table) (names : TurnNames) (places : Places) → AreLimits limits → base ≡ empty_base → IsBase base →
+pub kept_new : (limits : Limits) (base : Base) (entries : Vec Entry Global) (cache : Known) (permits : Table) (names : TurnNames) (places : PlaceCounts) → AreLimits limits → base ≡ empty_base → IsBase base →
     entries.items ≡ [] → cache.limit ≡ limits.authority_limit → cache.sites ≡ [] → permits.slots ≡ replicate limits.slots unused → permits.first_generation ≡ limits.first_generation →
     ((authority : List ℕ) → held_by places authority ≡ 0) →
     IsKept (record { limits = limits; base = base; entries = entries; clock = 0; begins = 0; starts = 0; cache = cache; permits = permits; names = names; places = places })
@@ -558,7 +558,7 @@ kept_unchanged b kept entries cache names same room still named =
     }
 
 -- nothing but room for entries and for a count: the book is kept as it was
-pub kept_refused : (b : Inside) → IsKept b → (entries : Vec Entry Global) (permits : Table) (places : Places) → entries.items ≡ b.entries.items → vec_capacity b.entries ≤ vec_capacity entries →
+pub kept_refused : (b : Inside) → IsKept b → (entries : Vec Entry Global) (permits : Table) (places : PlaceCounts) → entries.items ≡ b.entries.items → vec_capacity b.entries ≤ vec_capacity entries →
     permits ≡ b.permits → held_by places ≡ held_by b.places → IsKept (after b entries b.clock b.starts permits places)
 kept_refused b kept entries permits places same room still counted =
     let u = kept_unchanged b kept entries b.cache b.names same room refl kept.names in

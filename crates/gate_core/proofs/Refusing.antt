@@ -27,7 +27,7 @@ use Rattle.gate_core.specs.Gate.{Gate, history}
 use Rattle.gate_core.specs.Kept.{gate_of, IsKept}
 use Rattle.gate_core.specs.Opened.{Grants, OpensTurn, RefusesGrant}
 use Rattle.gate_core.specs.Refused.{begin_refusal}
-use Rattle.gate_core.specs.Places.{held_by}
+use Rattle.gate_core.specs.PlaceCounts.{held_by}
 use Rattle.gate_core.specs.Replies.{Arrives, cannot_know, HasPlace, IsBusy, NoneFree}
 use Rattle.gate_core.proofs.Keeping.{held_many, next_new, none_free_is, told}
 

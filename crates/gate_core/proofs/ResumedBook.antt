@@ -20,12 +20,12 @@ use Rattle.gate_history.specs.Legal.{AllRise, IsLegal}
 use Rattle.gate_history.specs.Outstanding.{grants, greatest_in, running, unspent}
 use Rattle.gate_history.specs.Standing.{in_flight, standing}
 use Rattle.gate_core.specs.declared.config.Limits.{Limits}
-use Rattle.gate_core.specs.declared.places.Places.{Places}
+use Rattle.gate_core.specs.declared.place_counts.PlaceCounts.{PlaceCounts}
 use Rattle.gate_core.specs.declared.turn_names.TurnNames.{TurnNames}
 use Rattle.gate_core.specs.Gate.{promised}
 use Rattle.gate_core.specs.Kept.{is_grant_of, IsKept}
 use Rattle.gate_core.specs.Limits.{AreLimits, greatest_number}
-use Rattle.gate_core.specs.Places.{held_by}
+use Rattle.gate_core.specs.PlaceCounts.{held_by}
 use Rattle.gate_core.specs.Resuming.{IsBehind}
 use Rattle.gate_core.specs.TurnNames.{HasNames, names_by}
 
@@ -84,7 +84,7 @@ none_held : (limits : Limits) (gs : List SlotGrant) (t : Table) → IsBehind lim
 none_held limits gs t behind authority = (permit_laws.reads_alike t [] [] (greatest_of gs) behind.tells).held authority
 
 -- the book
-pub resumed_kept : (limits : Limits) (base : Base) (entries : Vec Entry Global) (cache : Known) (permits : Table) (names : TurnNames) (places : Places) → AreLimits limits → IsBase base →
+pub resumed_kept : (limits : Limits) (base : Base) (entries : Vec Entry Global) (cache : Known) (permits : Table) (names : TurnNames) (places : PlaceCounts) → AreLimits limits → IsBase base →
     base.in_flight ≡ [] → base.unspent ≡ [] → base.running ≡ [] → base.entries ≤ greatest_number → entries.items ≡ [] →
     TellsCache cache base.standing base.in_flight → cache.limit ≡ limits.authority_limit → list_all (is_grant_of limits) base.grants ≡ true → IsBehind limits base.grants permits →
     ((authority : List ℕ) → held_by places authority ≡ 0) →

@@ -51,7 +51,8 @@ Denies standing token url moment causes.Unknown = standing ≡ None
 Denies standing token url moment causes.Expired =
     (s : StandingAnswer) × ((standing ≡ Some s) × (s.begun + s.life < moment))
 Denies standing token url moment causes.Closed =
-    (s : StandingAnswer) × ((standing ≡ Some s) × ((moment ≤ s.begun + s.life) × ((why : Closure) × (s.says ≡ says.Closed why))))
+    (s : StandingAnswer)
+    × ((standing ≡ Some s) × ((moment ≤ s.begun + s.life) × ((why : Closure) × (s.says ≡ says.Closed why))))
 Denies standing token url moment (causes.Line line) =
     (s : StandingAnswer) × ((standing ≡ Some s) × ((moment ≤ s.begun + s.life)
     × ((text : List ℕ) × ((s.says ≡ says.Rules text) × IsVerdictOn text token url (Deny line)))))
@@ -64,7 +65,8 @@ IsCauseOfStart h number token url moment cause =
 
 -- what a start is told: Started exactly when it may start, at its own moment, and each denial has its
 -- URL, and so its authority, and its cause
-pub record IsStartTold (h : History) (number : ℕ) (token url : List ℕ) (m : ℕ) (result : Result Started Denial) : Type 0 where
+pub record IsStartTold (h : History) (number : ℕ) (token url : List ℕ) (m : ℕ)
+    (result : Result Started Denial) : Type 0 where
   pub started : IsOk result ↔ MayStart h number token url (at_moment h m)
   pub permit : IfOk result (λ s. (s.number ≡ number) × (s.url ≡ url))
   pub denied : IfErr result (λ d. (d.url ≡ url) × IsCauseOfStart h number token url (at_moment h m) d.cause)

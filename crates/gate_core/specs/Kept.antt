@@ -16,7 +16,7 @@ use Rattle.gate_core.specs.declared.config.Limits.{Limits}
 use Rattle.gate_core.specs.Gate.{Gate, history, most_room, promised}
 use Rattle.gate_core.specs.Limits.{AreLimits, greatest_number}
 use Rattle.gate_core.specs.TurnNames.{HasNames, names_by}
-use Rattle.gate_core.specs.Places.{held_by}
+use Rattle.gate_core.specs.PlaceCounts.{held_by}
 
 -- the book as its callers see it
 abbrev pub gate_of : Inside → Gate
@@ -24,7 +24,8 @@ gate_of b = record { limits = b.limits; base = b.base; entries = b.entries.items
 
 -- the grant is in one of the slots, and of a generation that there may be
 abbrev pub is_grant_of : Limits → SlotGrant → Bool
-is_grant_of limits grant = nat_lt grant.slot limits.slots && (nat_lt 0 grant.generation && nat_le grant.generation last_generation)
+is_grant_of limits grant =
+    nat_lt grant.slot limits.slots && (nat_lt 0 grant.generation && nat_le grant.generation last_generation)
 
 -- what is true of every book
 pub record IsKept (b : Inside) : Type 0 where
@@ -38,7 +39,8 @@ pub record IsKept (b : Inside) : Type 0 where
   pub sealed : b.base.entries ≤ greatest_number
   pub cache : TellsCache b.cache (standing (history (gate_of b))) (in_flight (history (gate_of b)))
   pub authorities : b.cache.limit ≡ b.limits.authority_limit
-  pub permits : TellsPermits b.permits (unspent (history (gate_of b))) (running (history (gate_of b))) (greatest_in (history (gate_of b)))
+  pub permits : TellsPermits b.permits (unspent (history (gate_of b))) (running (history (gate_of b)))
+      (greatest_in (history (gate_of b)))
   pub grants : list_all (is_grant_of b.limits) (grants (history (gate_of b))) ≡ true
   pub slots : length b.permits.slots ≡ b.limits.slots
   pub first : b.permits.first_generation ≡ b.limits.first_generation

@@ -3,7 +3,8 @@
 pub mod Limits
 pub mod Gate
 pub mod TurnNames
-pub mod Places
+pub mod PlaceCounts
+pub mod PermitUrls
 pub mod Refused
 pub mod Kept
 pub mod Judged

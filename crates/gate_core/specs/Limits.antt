@@ -22,7 +22,8 @@ greatest_number = 18446744073709551615
 
 -- the limits that stand where nobody chose others
 abbrev pub usual_limits : Limits
-usual_limits = record { slots = 1024; first_generation = 1; log_limit = 1000000; authority_limit = 65536; places = 65536 }
+usual_limits =
+    record { slots = 1024; first_generation = 1; log_limit = 1000000; authority_limit = 65536; places = 65536 }
 
 -- each limit is within its bounds
 pub record AreLimits (limits : Limits) : Type 0 where

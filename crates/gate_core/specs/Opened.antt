@@ -2,7 +2,7 @@
 -- Cited by `grant`, and by the proof of `Book::begin`.
 use Rattle.std.specs.Prelude.{◌≡◌, ℕ, ◌+◌, ◌<◌, ◌≤◌, true, false, List, Result, Ok, Err}
 use Rattle.path_normal.specs.PageText.{authority_of}
-use Rattle.permit_book.specs.declared.out.Out.TheVariants.{Unspent}
+use Rattle.permit_book.specs.declared.out.SlotContent.TheVariants.{Unspent}
 use Rattle.permit_book.specs.Next.{IsNext as IsNextIn, NoneFree as NoneFreeIn}
 use Rattle.permit_book.specs.Table.{Table, with_out}
 use Rattle.gate_history.specs.declared.entry.Entry.TheVariants.{Begun, Granted}
@@ -12,7 +12,7 @@ use Rattle.gate_core.specs.declared.refusal.AskRefusal.TheVariants as ask
 use Rattle.gate_core.specs.declared.refusal.BeginRefusal.{BeginRefusal}
 use Rattle.gate_core.specs.declared.refusal.BeginRefusal.TheVariants as begin
 use Rattle.gate_core.specs.Gate.{Adds, Gate, history, Stays}
-use Rattle.gate_core.specs.Places.{AddsOne}
+use Rattle.gate_core.specs.PlaceCounts.{AddsOne}
 use Rattle.gate_core.specs.Replies.{cannot_know, HasPlace, IsBusy, IsNext, NoneFree}
 
 -- the turn begins at this moment of the gate, or the authority may not be known, or memory was refused

@@ -29,7 +29,8 @@ moment_at g handed_in = at_moment (history g) handed_in
 
 -- the authority is not known, and as many are as may be
 abbrev pub cannot_know : Gate → List ℕ → Bool
-cannot_know g authority = not (is_known (history g) authority) && nat_le g.limits.authority_limit (known_count (history g))
+cannot_know g authority =
+    not (is_known (history g) authority) && nat_le g.limits.authority_limit (known_count (history g))
 
 -- begin: InFlight; LogFull, where the begin and its arrival have no room; AuthoritiesFull
 abbrev pub Begins : Gate → List ℕ → ℕ → Result ℕ BeginRefusal → Gate → Type 0
@@ -65,7 +66,8 @@ IsBusy g url = g.limits.places ≤ held (history g) (authority_of url)
 
 -- the next number of the gate
 abbrev pub IsNext : Gate → ℕ → Type 0
-IsNext g number = IsNextBy g.limits.slots g.limits.first_generation (unspent (history g)) (running (history g)) (greatest_in (history g)) number
+IsNext g number = IsNextBy g.limits.slots g.limits.first_generation (unspent (history g)) (running (history g))
+    (greatest_in (history g)) number
 
 -- no slot of the gate is free
 abbrev pub NoneFree : Gate → Type 0

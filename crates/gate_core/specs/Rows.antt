@@ -18,7 +18,8 @@ use Rattle.gate_core.specs.Limits.{usual_limits}
 -- a book with this many slots, this first generation and these entries
 abbrev pub book : ℕ → ℕ → List Entry → Gate
 book slots first entries = record {
-  limits = record { slots = slots; first_generation = first; log_limit = 1000000; authority_limit = 65536; places = 65536 };
+  limits =
+      record { slots = slots; first_generation = first; log_limit = 1000000; authority_limit = 65536; places = 65536 };
   base = empty_base;
   entries = entries;
 }
@@ -51,7 +52,7 @@ no_file_brought = record { says = no_file; spares = 2; life = 86400 }
 abbrev pub begun : List Entry
 begun = Begun 100 site 1 ∷ []
 
--- the site has no robots file
+-- the site has no robots.txt
 abbrev pub open_site : List Entry
 open_site = Begun 100 site 1 ∷ Arrived 105 site 1 no_file 86400 ∷ []
 

@@ -23,7 +23,8 @@ standing_as (says.Closed _) = standings.Closed
 -- what stands at this moment: nothing, an answer older than its life, or what the answer in force is
 abbrev pub StandsAs : Option StandingAnswer → ℕ → Standing → Type 0
 StandsAs None moment state = state ≡ standings.Unknown
-StandsAs (Some s) moment state = MatchBool (is_past_answer moment s) (state ≡ standings.Expired) (state ≡ standing_as s.says)
+StandsAs (Some s) moment state =
+    MatchBool (is_past_answer moment s) (state ≡ standings.Expired) (state ≡ standing_as s.says)
 
 -- what is known of an authority at a moment: what stands, and whether a turn is in flight
 pub record IsState (h : History) (authority : List ℕ) (moment : ℕ) (state : State) : Type 0 where

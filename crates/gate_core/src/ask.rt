@@ -8,12 +8,12 @@ ghost use Rattle.gate_history.specs.History.{now};
 ghost use Rattle.gate_core.specs.Gate.{Adds, HasRoom, history, Stays};
 ghost use Rattle.gate_core.specs.Limits.{most_places};
 ghost use Rattle.gate_core.specs.Opened.{Grants, TakesNone, TakesPermit};
-ghost use Rattle.gate_core.specs.Places.{held_by};
+ghost use Rattle.gate_core.specs.PlaceCounts.{held_by};
 ghost use Rattle.gate_core.specs.Replies.{Asks};
 
 use crate::book::Book;
 use crate::judged::Judged;
-use crate::places::Places;
+use crate::place_counts::PlaceCounts;
 use crate::refusal::{AskRefusal, Denial};
 use gate_history::{Cause, Entry, FetchText, Ruling};
 use path_normal::PageUrl;
@@ -118,10 +118,10 @@ impl Book {
 }
 
 // Grants the next permit of the table and counts it, where fewer than the most are out for the authority
-// and a slot is free. The draft leaves the table as it is where memory is refused.
+// and a slot is free. The draft leaves the table as it is if memory runs out.
 fn take_permit(
     permits: &mut Permits,
-    places: &mut Places,
+    places: &mut PlaceCounts,
     most: u64,
     token: Token,
     url: PageUrl,

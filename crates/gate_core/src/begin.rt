@@ -1,4 +1,4 @@
-//! `Book::begin`: a turn to fetch an authority's robots file.
+//! `Book::begin`: a turn to fetch an authority's robots.txt.
 //! RFC 9309, section 2.3.
 ghost use Rattle.std.specs.Prelude.{◌≡◌, ◌+◌, ◌≤◌, IfOk, OnErr, OnOk, Some, length, vec_capacity};
 ghost use Rattle.gate_core.specs.TurnNames.{KeepsName, names_by};
@@ -13,7 +13,7 @@ use path_normal::Authority;
 use std::alloc::AllocError;
 
 impl Book {
-    /// Begins a fetch of the authority's robots file, and gives the number of its turn. Room is
+    /// Begins a fetch of the authority's robots.txt, and gives the number of its turn. Room is
     /// made for the arrival, which then takes no memory.
     pub fn begin(&mut self, authority: &Authority, moment: u64) -> Result<TurnNo, BeginRefusal>
         ensures { Begins self.old authority.now moment result self.new }

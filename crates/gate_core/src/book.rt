@@ -8,7 +8,7 @@ ghost use Rattle.gate_core.specs.Gate.{HasLegalHistory, HasRoom, history, promis
 ghost use Rattle.gate_core.specs.Limits.{AreLimits, most_entries};
 
 use crate::config::{Config, Limits};
-use crate::places::Places;
+use crate::place_counts::PlaceCounts;
 use crate::refusal::NoMemory;
 use crate::turn_names::TurnNames;
 use authority_cache::Cache;
@@ -32,7 +32,7 @@ pub struct Book {
     pub(crate) permits: Permits,
     // The names of the turns' authorities once more, and how many permits are out for each authority.
     pub(crate) names: TurnNames,
-    pub(crate) places: Places,
+    pub(crate) places: PlaceCounts,
 }
 
 impl Model for Book {
@@ -67,7 +67,7 @@ impl Book {
             cache: Cache::new(alloc, limits.authority_limit, keys),
             permits,
             names: TurnNames::new(alloc, keys),
-            places: Places::new(alloc, keys),
+            places: PlaceCounts::new(alloc, keys),
         })
     }
 

@@ -1,5 +1,5 @@
 //! `Book::back` and `Book::finish`: the two ends of a permit that a caller brings about.
-//! RFC 9309 has no permits: they make each fetch look at the answer in force (2.4).
+//! Called for `BACK` and `DONE`, and by a desk whose permit or fetch ends.
 ghost use Rattle.gate_core.specs.Replies.{Finishes, Returns};
 
 use crate::book::Book;

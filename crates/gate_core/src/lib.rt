@@ -12,7 +12,7 @@ mod config;
 mod decide;
 mod end;
 mod judged;
-mod places;
+mod place_counts;
 mod readers;
 mod refusal;
 mod resume;

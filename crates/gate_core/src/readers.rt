@@ -6,6 +6,7 @@ ghost use Rattle.gate_history.specs.History.{entry_count, started_count};
 ghost use Rattle.gate_history.specs.Outstanding.{is_running, is_unspent, running, stands, unspent};
 ghost use Rattle.gate_history.specs.Standing.{has_turn, in_flight, is_fetching, known_count};
 ghost use Rattle.gate_core.specs.Gate.{history};
+ghost use Rattle.gate_core.specs.PermitUrls.{IsPermitUrl};
 ghost use Rattle.gate_core.specs.States.{IsStanding};
 
 use crate::book::Book;
@@ -21,6 +22,16 @@ impl Book {
         ensures { result ≡ is_unspent (history self.now) number }
     {
         self.permits.is_unspent(number)
+    }
+
+    /// The URL of the unspent permit of this number, where one stands.
+    pub fn url_of(&self, number: PermitNo) -> Option<&PageUrl>
+        ensures { IsPermitUrl (history self.now) number (option_copied result) }
+    {
+        if !self.permits.is_unspent(number) {
+            return None;
+        }
+        self.permits.url_of(number)
     }
 
     /// Whether an unspent permit of this number for this token and URL stands.

@@ -9,7 +9,7 @@ ghost use Rattle.gate_core.specs.Resuming.{IsBehind, Resumes};
 
 use crate::book::Book;
 use crate::config::{Config, Limits};
-use crate::places::Places;
+use crate::place_counts::PlaceCounts;
 use crate::refusal::NotResumed;
 use crate::turn_names::TurnNames;
 use authority_cache::Cache;
@@ -58,7 +58,7 @@ impl Book {
             cache: cache.limited(limits.authority_limit),
             permits,
             names: TurnNames::new(alloc, keys),
-            places: Places::new(alloc, keys),
+            places: PlaceCounts::new(alloc, keys),
         })
     }
 }

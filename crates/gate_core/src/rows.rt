@@ -10,7 +10,7 @@ ghost use Rattle.gate_core.specs.Rows.{book, usual, one_place, other_page, barbo
 ghost use Rattle.gate_core.specs.Rows.{begun, open_site, granted, started_at, go, no, two_granted, one_expired};
 ghost use Rattle.gate_core.specs.Rows.{finished, not_out, last_number, last_returned};
 
-/// A site without a robots file: its turn, its answer, a permit, and the start of its fetch.
+/// A site without a robots.txt: its turn, its answer, a permit, and the start of its fetch.
 pub fn missing_robots()
     ensures begin { Begins (usual []) site 100 (Ok 1) (usual begun) }
     ensures arrive { Arrives (usual begun) site 1 no_file_brought 105 (Ok tt) (usual open_site) }

@@ -68,12 +68,12 @@ impl Book {
     }
 
     /// A handle of the policy whose rules are in force, where a verdict by it takes long, unless one was refused.
-    pub fn dear_hint(&self, authority: &str, moment: u64) -> Option<Arc<Policy>>
+    pub fn slow_hint(&self, authority: &str, moment: u64) -> Option<Arc<Policy>>
         ensures { IfSome result (λ policy. HasRulesInForce (history self.now) authority.now
             (moment_at self.now moment) (arc_value policy)) }
     {
         let policy = self.hint(authority, moment)?;
-        if policy.is_dear() { Some(policy) } else { None }
+        if policy.is_slow() { Some(policy) } else { None }
     }
 
     /// A handle of the policy whose rules are in force, unless one was refused.

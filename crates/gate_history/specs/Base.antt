@@ -41,7 +41,8 @@ empty_base = record {
 
 -- how often a permit of the number is out, unspent or running
 abbrev pub times_out : List GrantedPermit → List GrantedPermit → ℕ → ℕ
-times_out unspent running number = length (filter (is_numbered number) unspent) + length (filter (is_numbered number) running)
+times_out unspent running number =
+    length (filter (is_numbered number) unspent) + length (filter (is_numbered number) running)
 
 -- the answer was brought by the turn of this number
 abbrev pub is_of_turn : ℕ → StandingAnswer → Bool
@@ -49,7 +50,8 @@ is_of_turn turn s = s.turn == turn
 
 -- how often a turn of the number stands: in flight, or by its answer
 abbrev pub times_turned : List StandingAnswer → List Turn → ℕ → ℕ
-times_turned standing in_flight turn = length (filter (is_of_turn turn) standing) + length (filter (has_number turn) in_flight)
+times_turned standing in_flight turn =
+    length (filter (is_of_turn turn) standing) + length (filter (has_number turn) in_flight)
 
 -- the answer's life is one that such an answer may have
 abbrev pub has_its_life : StandingAnswer → Bool

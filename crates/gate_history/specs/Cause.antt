@@ -31,7 +31,8 @@ IsVerdictOn text token url verdict = IsVerdict (numbered_records text) token (no
 
 -- what an answer in force says of a fetch of this URL under this token: the reason or the cause
 abbrev pub Says : Said → List ℕ → List ℕ → Result Reason Cause → Type 0
-Says (says.Rules text) token url outcome = (verdict : Verdict) × (IsVerdictOn text token url verdict × (outcome ≡ outcome_of verdict))
+Says (says.Rules text) token url outcome =
+    (verdict : Verdict) × (IsVerdictOn text token url verdict × (outcome ≡ outcome_of verdict))
 Says (says.Open _) token url outcome = outcome ≡ Ok reasons.Open
 Says (says.Closed _) token url outcome = outcome ≡ Err causes.Closed
 

@@ -1,5 +1,5 @@
 -- The greatest generation that was granted in each slot, as a list of the slots in which something was.
--- RFC 9309 has no permits: they make each fetch look at the answer in force (2.4).
+-- Cited by the definition of a base, and by the contracts of seals and audits.
 use Rattle.std.specs.Prelude.{◌≡◌, ℕ, ◌<◌, ◌≤◌, ◌==◌, Bool, not, ◌&&◌, nat_le, max, List, [], ◌∷◌, ◌++◌, if◌then◌else◌, filter}
 use Rattle.std.specs.List.{list_any}
 use Rattle.permit_book.specs.Numbers.{generation_of, last_generation, most_slots, slot_of}
@@ -28,10 +28,12 @@ greatest_of (grant ∷ grants) slot = max (generation_in slot grant) (greatest_o
 
 -- the number's slot had a grant of its generation or of a later one
 abbrev pub is_covered : List SlotGrant → ℕ → Bool
-is_covered grants number = list_any (is_in (slot_of number)) grants && nat_le (generation_of number) (greatest_of grants (slot_of number))
+is_covered grants number =
+    list_any (is_in (slot_of number)) grants && nat_le (generation_of number) (greatest_of grants (slot_of number))
 
 -- the greatest generations after a grant of this number
 abbrev pub with_grant : ℕ → List SlotGrant → List SlotGrant
 with_grant number grants =
     filter (λ grant. not (is_in (slot_of number) grant)) grants
-    ++ record { slot = slot_of number; generation = max (generation_of number) (greatest_of grants (slot_of number)) } ∷ []
+    ++ record { slot = slot_of number; generation = max (generation_of number) (greatest_of grants (slot_of number)) }
+    ∷ []

@@ -56,11 +56,16 @@ SaysBase = (b : Base) (h : History) → IsLegal h → SaysAs (from b) h → IsBa
 
 -- lists of which each key has the same say the same
 pub record KeysSayAlike : Type 0 where
-  pub answers : (xs ys : List StandingAnswer) → ((authority : List ℕ) → filter (is_answer_for authority) xs ≡ filter (is_answer_for authority) ys)
+  pub answers : (xs ys : List StandingAnswer)
+      → ((authority : List ℕ) → filter (is_answer_for authority) xs ≡ filter (is_answer_for authority) ys)
       → SaySame is_answer_for xs ys
-  pub turns : (xs ys : List Turn) → ((authority : List ℕ) → filter (is_turn_of authority) xs ≡ filter (is_turn_of authority) ys) → SaySame is_turn_of xs ys
-  pub permits : (xs ys : List GrantedPermit) → ((number : ℕ) → filter (is_numbered number) xs ≡ filter (is_numbered number) ys) → SaySame is_numbered xs ys
-  pub grants : (xs ys : List SlotGrant) → ((slot : ℕ) → filter (is_in slot) xs ≡ filter (is_in slot) ys) → SaySame is_in xs ys
+  pub turns : (xs ys : List Turn)
+      → ((authority : List ℕ) → filter (is_turn_of authority) xs ≡ filter (is_turn_of authority) ys)
+      → SaySame is_turn_of xs ys
+  pub permits : (xs ys : List GrantedPermit)
+      → ((number : ℕ) → filter (is_numbered number) xs ≡ filter (is_numbered number) ys) → SaySame is_numbered xs ys
+  pub grants : (xs ys : List SlotGrant) → ((slot : ℕ) → filter (is_in slot) xs ≡ filter (is_in slot) ys)
+      → SaySame is_in xs ys
 
 -- a base says what it said before it was put in another order
 abbrev pub ReorderingSaysAlike : Type 0
@@ -82,7 +87,8 @@ DecideAlike =
 
 -- entries that are legal after the one are legal after the other, which granted no more numbers
 abbrev pub LegalBehind : Type 0
-LegalBehind = (g h : History) (later : List Entry) → SaysAs g h → IsLegal h → IsLegal (followed_by g later) → IsLegal (followed_by h later)
+LegalBehind = (g h : History) (later : List Entry) → SaysAs g h → IsLegal h → IsLegal (followed_by g later)
+    → IsLegal (followed_by h later)
 
 -- the other way round, where each grant is of a generation above all earlier ones of its slot
 abbrev pub LegalAhead : Type 0
@@ -103,7 +109,8 @@ AboveIsNew =
 -- the next number of a history, by its permits and its greatest generations, is new
 abbrev pub NextIsNew : Type 0
 NextIsNew =
-    (h : History) (slots first number : ℕ) → 0 < first → IsNextBy slots first (unspent h) (running h) (greatest_in h) number
+    (h : History) (slots first number : ℕ) → 0 < first
+    → IsNextBy slots first (unspent h) (running h) (greatest_in h) number
     → (is_covered (grants h) number ≡ false) × (was_granted h number ≡ false)
 
 -- in a legal history no permit stands twice, nor a turn; an authority has one turn in flight and one
@@ -136,7 +143,8 @@ AreKnown h names = (authority : List ℕ) → length (filter (bytes_eq authority
 
 -- the authorities of the answers that stand, and of the turns in flight where no answer stands
 abbrev pub known_names : History → List (List ℕ)
-known_names h = map (λ s. s.authority) (standing h) ++ map (λ t. t.authority) (filter (lacks_answer (standing h)) (in_flight h))
+known_names h =
+    map (λ s. s.authority) (standing h) ++ map (λ t. t.authority) (filter (lacks_answer (standing h)) (in_flight h))
 
 -- in a legal history they are the known authorities
 abbrev pub NamesAreKnown : Type 0
@@ -148,7 +156,8 @@ KnownAreCounted = (h : History) (names : List (List ℕ)) → IsLegal h → AreK
 
 -- what one more entry adds to the five counts, and takes from them: so many started; unspent permits
 -- more and less; running ones more and less; turns in flight more and less
-pub record Counts (h : History) (e : Entry) (started permits permits_less runs runs_less turns turns_less : ℕ) : Type 0 where
+pub record Counts (h : History) (e : Entry)
+    (started permits permits_less runs runs_less turns turns_less : ℕ) : Type 0 where
   pub entries_are : entry_count (h ▸ e) ≡ entry_count h + 1
   pub started_are : started_count (h ▸ e) ≡ started_count h + started
   pub unspent_are : length (unspent (h ▸ e)) + permits_less ≡ length (unspent h) + permits

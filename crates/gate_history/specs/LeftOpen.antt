@@ -25,7 +25,8 @@ opened opens closes h (e ∷ later) =
 
 -- what is left open: of what a history has, and of what the entries after it open, that which no later
 -- entry closes
-abbrev pub left_open : {X : Type 0} → (History → List X) → (History → Entry → List X) → (Entry → X → Bool) → History → List Entry → List X
+abbrev pub left_open : {X : Type 0} → (History → List X) → (History → Entry → List X) → (Entry → X → Bool) → History
+    → List Entry → List X
 left_open has opens closes h later =
     filter (λ x. not (is_closed_by closes later x)) (has h) ++ opened opens closes h later
 

@@ -27,7 +27,8 @@ MayFollow h (Arrived moment authority turn says life) =
     (now h ≤ moment) × (has_turn h authority turn ≡ true) × (life_of says life ≡ life)
 -- a grant has a number that was never granted, and is allowed
 MayFollow h (Granted moment number fetch) =
-    (now h ≤ moment) × (was_granted h number ≡ false) × ((reason : Reason) × Decides h fetch.token fetch.url moment (Ok reason))
+    (now h ≤ moment) × (was_granted h number ≡ false)
+    × ((reason : Reason) × Decides h fetch.token fetch.url moment (Ok reason))
 -- a denied ask has the cause that the history before it gives
 MayFollow h (AskDenied moment fetch cause) = (now h ≤ moment) × Decides h fetch.token fetch.url moment (Err cause)
 -- a start spends an unspent permit, with the reason or the cause of its own moment

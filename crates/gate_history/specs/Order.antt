@@ -1,5 +1,5 @@
 -- The order in which a base has what was left open: answers by the octets of their authorities, turns and
--- permits by their numbers, grants by their slots. RFC 9309 has no histories.
+-- permits by their numbers, grants by their slots. Used by seals.
 use Rattle.std.specs.Prelude.{◌≡◌, List, IsPermutation, IsSortedByKey}
 use Rattle.std.specs.Ordering.{nat_cmp}
 use Rattle.std.specs.Cmp.Lexicographic.{slice_cmp}

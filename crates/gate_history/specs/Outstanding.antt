@@ -1,5 +1,5 @@
 -- The permits that are out after a history, and the generations that were granted.
--- RFC 9309 has no permits: they make each fetch look at the answer in force (2.4).
+-- Cited by the contracts of the book, of a base and of an audit.
 use Rattle.std.specs.Prelude.{ℕ, ◌==◌, Bool, ◌||◌, max, List, [], ◌∷◌, ◌++◌, filter}
 use Rattle.permit_book.specs.declared.granted_permit.GrantedPermit.{GrantedPermit}
 use Rattle.permit_book.specs.Outstanding.{granted_in, is_listed, is_listed_for, is_numbered, permit_for, without}

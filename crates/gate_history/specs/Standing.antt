@@ -10,7 +10,8 @@ use Rattle.gate_history.specs.History.{History, from, ◌▸◌}
 -- the turns in flight: a begin adds its turn, an arrival takes it away
 abbrev pub in_flight : History → List Turn
 in_flight (from base) = base.in_flight
-in_flight (h ▸ Begun moment authority turn) = in_flight h ++ turn_for authority (record { turn = turn; begun = moment }) ∷ []
+in_flight (h ▸ Begun moment authority turn) =
+    in_flight h ++ turn_for authority (record { turn = turn; begun = moment }) ∷ []
 in_flight (h ▸ Arrived _ _ turn _ _) = filter (λ t. not (has_number turn t)) (in_flight h)
 in_flight (h ▸ _) = in_flight h
 
@@ -19,7 +20,8 @@ in_flight (h ▸ _) = in_flight h
 abbrev pub standing : History → List StandingAnswer
 standing (from base) = base.standing
 standing (h ▸ Arrived _ authority turn says life) =
-    filter (λ s. not (is_answer_for authority s)) (standing h) ++ map (answered says life) (filter (has_number turn) (in_flight h))
+    filter (λ s. not (is_answer_for authority s)) (standing h)
+    ++ map (answered says life) (filter (has_number turn) (in_flight h))
 standing (h ▸ Swept moment _) = filter (λ s. not (is_past_answer moment s)) (standing h)
 standing (h ▸ _) = standing h
 

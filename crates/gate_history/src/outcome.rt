@@ -10,7 +10,7 @@ pub enum Reason {
     Line(u64),
     /// No line for the token matches its path.
     NoRule,
-    /// Its path is that of the robots file itself.
+    /// Its path is that of the robots.txt itself.
     RobotsPath,
 }
 

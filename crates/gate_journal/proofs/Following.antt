@@ -8,7 +8,7 @@ use Rattle.gate_history.specs.Segment.{Sealed}
 use Rattle.history_text.specs.declared.version.Version.TheVariants.{Two}
 use Rattle.history_text.specs.Spell.{entry_lines, entry_text, version_line}
 use Rattle.history_text.specs.SpellBase.{base_text, spell_segment}
-use Rattle.journal_files.specs.declared.place.Place.{Place}
+use Rattle.journal_files.specs.declared.position.JournalPosition.{JournalPosition}
 use Rattle.gate_journal.specs.Follows.{Follows, AreBehind, spelled_count, spelled_of}
 
 -- text behind either of two beginnings
@@ -21,7 +21,7 @@ lines_joined : (count : ℕ) (entries : List Entry) → entry_lines Two (take co
 lines_joined count entries =
     sym (flat_map-append (entry_text Two) (take count entries) (drop count entries)) ∙ ap (entry_lines Two) (take-append-drop count entries)
 
-pub followed : (place : Place) (s : Sealed) (entries : List Entry) (text : List ℕ) → AreBehind place s entries → text ≡ entry_lines Two entries → Follows place s text
+pub followed : (place : JournalPosition) (s : Sealed) (entries : List Entry) (text : List ℕ) → AreBehind place s entries → text ≡ entry_lines Two entries → Follows place s text
 followed place s entries text behind is = record {
   place_is = behind.place_is;
   whole =

@@ -5,34 +5,34 @@ use Rattle.gate_history.specs.declared.entry.Entry.{Entry}
 use Rattle.gate_history.specs.Segment.{Sealed}
 use Rattle.gate_core.specs.declared.refusal.NoMemory.{NoMemory}
 use Rattle.history_text.specs.SpellBase.{spell_segment}
-use Rattle.journal_files.specs.declared.place.Place.{Place}
+use Rattle.journal_files.specs.declared.position.JournalPosition.{JournalPosition}
 
 -- how many entries of the last file were spelled, where the text ends at this place
-abbrev pub spelled_count : Place → ℕ
+abbrev pub spelled_count : JournalPosition → ℕ
 spelled_count place = place.spelled - place.begun
 
 -- the part of a segment that was spelled
-abbrev pub spelled_of : Place → Sealed → Sealed
+abbrev pub spelled_of : JournalPosition → Sealed → Sealed
 spelled_of place s = record { base = s.base; entries = take (spelled_count place) s.entries }
 
 -- the last file began with the segment's base, and the place is behind some of its entries
-pub record IsPlaceIn (place : Place) (s : Sealed) : Type 0 where
+pub record IsPlaceIn (place : JournalPosition) (s : Sealed) : Type 0 where
   pub begun : place.begun ≡ s.base.entries
   pub from : place.begun ≤ place.spelled
   pub within : spelled_count place ≤ length s.entries
 
 -- the entries are those of the segment behind the place
-pub record AreBehind (place : Place) (s : Sealed) (entries : List Entry) : Type 0 where
+pub record AreBehind (place : JournalPosition) (s : Sealed) (entries : List Entry) : Type 0 where
   pub place_is : IsPlaceIn place s
   pub entries_are : entries ≡ drop (spelled_count place) s.entries
 
 -- behind the text of the entries that were spelled, the text makes that of the whole segment
-pub record Follows (place : Place) (s : Sealed) (text : List ℕ) : Type 0 where
+pub record Follows (place : JournalPosition) (s : Sealed) (text : List ℕ) : Type 0 where
   pub place_is : IsPlaceIn place s
   pub whole : spell_segment (spelled_of place s) ++ text ≡ spell_segment s
 
 -- what a seal handed out is ended by the text; nothing ends where nothing was sealed
-abbrev pub EndsFile : Result Sealed NoMemory → Place → List ℕ → Type 0
+abbrev pub EndsFile : Result Sealed NoMemory → JournalPosition → List ℕ → Type 0
 EndsFile (Ok s) place text = Follows place s text
 EndsFile (Err refusal) place text = ⊥
 

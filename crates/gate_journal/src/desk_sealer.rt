@@ -8,7 +8,7 @@ use counted_io::Output;
 use gate_core::NoMemory;
 use gate_history::Segment;
 use gate_lock::{Desk, DesksFull, Gate, GateLock, Receipts};
-use journal_files::{JournalFault, Place, Sealer};
+use journal_files::{JournalFault, JournalPosition, Sealer};
 use std::alloc::Global;
 use std::sync::Wait;
 
@@ -61,7 +61,7 @@ impl<'a, 'g, G: Gate, R: Wait> Sealer for DeskSealer<'a, 'g, G, R> {
         alloc: Global,
         sealed: &Result<Segment, NoMemory>,
         output: &mut Output,
-        place: Place,
+        place: JournalPosition,
     ) -> Option<Result<Vec<u8>, JournalFault>> {
         rest_of(alloc, sealed, output, place)
     }

@@ -7,7 +7,7 @@ use crate::spelling::{follow, segment_text};
 use counted_io::Output;
 use gate_core::Book;
 use gate_lock::{Gate, GateLock};
-use journal_files::{Chronicle, JournalFault, Place, Spelled};
+use journal_files::{Chronicle, JournalFault, JournalPosition, Spelled};
 use std::alloc::Global;
 use std::sync::Wait;
 
@@ -29,7 +29,7 @@ impl<'a, G: Gate, R: Wait> Chronicle for Recording<'a, G, R> {
         held.book().entry_count()
     }
 
-    fn follow(&self, output: &mut Output, place: Place) -> Result<Spelled, JournalFault> {
+    fn follow(&self, output: &mut Output, place: JournalPosition) -> Result<Spelled, JournalFault> {
         let held = self.gate.lend(self.rt);
         let book = held.book();
         let text = follow(self.alloc, book.base(), book.history(), output, place)?;
@@ -54,10 +54,10 @@ impl<'a, G: Gate, R: Wait> Chronicle for Recording<'a, G, R> {
 }
 
 // Where the text of a book's whole history ends.
-fn place_of(book: &Book) -> Place
+fn place_of(book: &Book) -> JournalPosition
     ensures { result ≡ place_of book.now }
 {
-    Place {
+    JournalPosition {
         begun: book.base().entries(),
         spelled: book.entry_count(),
     }

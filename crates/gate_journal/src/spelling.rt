@@ -12,7 +12,7 @@ use counted_io::{Counted, DeviceFault, Output, Sink};
 use gate_core::{Book, NoMemory};
 use gate_history::{Base, Entry, Segment};
 use history_text::{export, push_entries};
-use journal_files::{JournalFault, Place};
+use journal_files::{JournalFault, JournalPosition};
 use std::alloc::Global;
 
 /// The text that ends a file behind a seal: the lines of the segment's entries behind those that the file has; none
@@ -21,7 +21,7 @@ pub fn rest_of(
     alloc: Global,
     sealed: &Result<Segment, NoMemory>,
     output: &mut Output,
-    place: Place,
+    place: JournalPosition,
 ) -> Option<Result<Vec<u8>, JournalFault>>
     requires { output.old ≡ [] }
     ensures ends { IfSome result (λ rest. IfOk rest (λ text.
@@ -55,7 +55,7 @@ pub(crate) fn follow(
     base: &Base,
     entries: &[Entry],
     output: &mut Output,
-    place: Place,
+    place: JournalPosition,
 ) -> Result<Vec<u8>, JournalFault>
     requires { output.old ≡ [] }
     ensures follows { IfOk result (λ text. Follows place
@@ -99,7 +99,11 @@ fn write_lines<W: Sink>(
 }
 
 // The entries of a segment behind those up to a place, where it is one of the segment.
-fn entries_behind<'a>(base: &Base, entries: &'a [Entry], place: Place) -> Option<&'a [Entry]>
+fn entries_behind<'a>(
+    base: &Base,
+    entries: &'a [Entry],
+    place: JournalPosition,
+) -> Option<&'a [Entry]>
     ensures { IfSome result (λ behind. AreBehind place
         (record { base = base.now; entries = entries.now }) behind.now) }
 {

@@ -1,15 +1,19 @@
 -- What is kept, with one more and with one less, and what is sought among it.
--- Used by the methods of `Store`.
+-- Used by the methods of `Store` and of `Bag`.
 use Rattle.std.proofs.Common.{◌≡◌, ℕ, ◌<◌, ◌==◌, ◌&&◌, ◌||◌, Bool, true, false, eqb, List, [], ◌∷◌, ◌++◌, length, slice_get, get_or, swap_remove, Option, option_map, Some, None, IfNone, is_some, IsSome, slice_index_or, cond, refl, sym, ap, subst, ◌∙◌, append_assoc, All, IsPermutation, true≢false}
 use Rattle.std.proofs.lemmas.Bool.{eqb-true, eqb-false, eq-eqb, ne_eqb}
 use Rattle.std.proofs.lemmas.List.{map-append}
 use Rattle.std.proofs.lemmas.List.Elements.{All-head, All-tail}
 use Rattle.std.proofs.lemmas.List.Folds.{list_any-append}
 use Rattle.std.proofs.lemmas.List.Sorted.{IsPermutation-append_left, IsPermutation-append_right, IsPermutation-map, IsPermutation-middle, IsPermutation-swap_remove, IsPermutation-sym, IsPermutation-to_front, IsPermutation-trans}
+use Rattle.std.proofs.lemmas.Map.Keys.{any_passes_from_place}
+use Rattle.std.proofs.Math.Bool.{or-true}
 use Rattle.std.proofs.lemmas.Option.{get_or_from_slice_get, slice_get-map, slice_get_within}
 use Rattle.std.specs.List.{AllByRecursion, IsDistinct, list_any}
 use Rattle.std.specs.Map.{keys_of, lookup, lookup_key, values_of}
-use Rattle.gate_lock.specs.Bags.{is_sought}
+use Rattle.gate_lock.specs.Bags.{StoreView, is_sought, kept_at, kept_in}
+use Rattle.gate_lock.specs.declared.store.Spot.{Spot}
+use Rattle.gate_lock.specs.declared.store.Spot.TheVariants.{First, Twin}
 
 -- a first one is taken out
 pub first_out : {X : Type 0} (es : List (ℕ × X)) (i : ℕ) (e : ℕ × X) (twins : List X) → slice_get es i ≡ Some e →
@@ -135,3 +139,10 @@ none_first (e ∷ es) twins is = cc
 pub none_twin : {X : Type 0} (first twins : List X) → first ++ twins ≡ [] → twins ≡ []
 none_twin [] twins is = is
 none_twin (x ∷ first) twins is = cc
+
+-- what is kept at a spot and passes the test is found
+pub kept_passes : {X : Type 0} (test : X → Bool) (s : StoreView X) (spot : Spot) (x : X) → kept_at s spot ≡ Some x → test x ≡ true → list_any test (kept_in s) ≡ true
+kept_passes test s (First place) x at is =
+    list_any-append test s.first s.twins ∙ ap (λ b. b || list_any test s.twins) (any_passes_from_place test s.first place x at is)
+kept_passes test s (Twin place) x at is =
+    list_any-append test s.first s.twins ∙ ap (λ b. list_any test s.first || b) (any_passes_from_place test s.twins place x at is) ∙ or-true (list_any test s.first)

@@ -1,6 +1,6 @@
 -- What contracts see of a bag, and what its calls do to it and to its desk.
 -- Cited by the contracts of `Bag` and of the keepers of sessions above it.
-use Rattle.std.specs.Prelude.{◌≡◌, ℕ, ◌+◌, ◌==◌, ◌&&◌, Bool, false, MatchBool, List, [], ◌∷◌, ◌++◌, length, slice_get, Option, Result, Ok, Err}
+use Rattle.std.specs.Prelude.{◌≡◌, ℕ, ◌+◌, ◌==◌, ◌&&◌, Bool, true, false, MatchBool, List, [], ◌∷◌, ◌++◌, length, slice_get, Option, Some, None, Result, Ok, Err}
 use Rattle.std.specs.List.{list_any}
 use Rattle.std.specs.List.Sorted.{IsPermutation}
 use Rattle.std.specs.Str.{bytes_eq}
@@ -52,6 +52,15 @@ has_permit b number = list_any (λ (p : Pass). p.number == number) b.permits
 abbrev pub has_permit_for : BagView → ℕ → List ℕ → List ℕ → Bool
 has_permit_for b number token url =
     list_any (λ (p : Pass). (p.number == number) && (bytes_eq p.token token && bytes_eq p.url url)) b.permits
+
+-- it holds one of this number for this URL
+abbrev pub has_permit_of : BagView → ℕ → List ℕ → Bool
+has_permit_of b number url = list_any (λ (p : Pass). (p.number == number) && bytes_eq p.url url) b.permits
+
+-- the URL of a permit of this number that it holds, or none where it holds no such permit
+abbrev pub IsUrlIn : BagView → ℕ → Option (List ℕ) → Type 0
+IsUrlIn b number (Some url) = has_permit_of b number url ≡ true
+IsUrlIn b number None = has_permit b number ≡ false
 
 -- it holds a fetch of this number
 abbrev pub has_run : BagView → ℕ → Bool
@@ -110,7 +119,8 @@ KeepsBalance b d b2 d2 = out_of d2 + held_in b ≡ out_of d + held_in b2
 -- the bag has none
 abbrev pub BagStarts : BagView → DeskView → ℕ → List ℕ → List ℕ → ℕ → Result Reason Denial → BagView → DeskView → Type 0
 BagStarts b d number token url m (Ok reason) b2 d2 =
-    Somewhere d (λ old new. DeskStarts d old (pass_of b number token url) m (Ok (record { pass = pass_of b number token url; reason = reason })) new d2)
+    Somewhere d (λ old new. DeskStarts d old (pass_of b number token url) m
+    (Ok (record { pass = pass_of b number token url; reason = reason })) new d2)
     × StartsPermit b (record { pass = pass_of b number token url; reason = reason }) b2
 BagStarts b d number token url m (Err denial) b2 d2 =
     MatchBool (has_permit_for b number token url)
@@ -136,13 +146,15 @@ BagFinishes b d number (Err _) b2 d2 = (has_run b number ≡ false) × (d2 ≡ d
 abbrev pub ReturnsEach : DeskView → List Pass → DeskView → Type 0
 ReturnsEach d [] d2 = d2 ≡ d
 ReturnsEach d (p ∷ ps) d2 =
-    (between : DeskView) × ReturnsEach d ps between × Somewhere between (λ old new. DeskReturns between old p.number new d2)
+    (between : DeskView) × ReturnsEach d ps between
+    × Somewhere between (λ old new. DeskReturns between old p.number new d2)
 
 -- each fetch is finished, the last one first, by a step of the desk of its own
 abbrev pub FinishesEach : DeskView → List Run → DeskView → Type 0
 FinishesEach d [] d2 = d2 ≡ d
 FinishesEach d (r ∷ rs) d2 =
-    (between : DeskView) × FinishesEach d rs between × Somewhere between (λ old new. DeskFinishes between old r.pass.number new d2)
+    (between : DeskView) × FinishesEach d rs between
+    × Somewhere between (λ old new. DeskFinishes between old r.pass.number new d2)
 
 -- clear: each permit of the bag is given back and each fetch finished
 abbrev pub Clears : BagView → DeskView → DeskView → Type 0

@@ -60,7 +60,8 @@ abbrev pub all_out_parts : ℕ
 all_out_parts = 1099511627776
 
 -- each ledger's parts are those that were handed out and those that are left
-pub record AreParts (desks entry_parts start_parts handed_parts unspent unspent_parts running running_parts turns turn_parts : ℕ) : Type 0 where
+pub record AreParts (desks entry_parts start_parts handed_parts unspent unspent_parts : ℕ)
+    (running running_parts turns turn_parts : ℕ) : Type 0 where
   pub few_desks : desks ≤ most_desks
   pub entries_are : entry_parts + desks + 1 ≡ all_desk_parts
   pub starts_are : start_parts + desks + 1 ≡ all_desk_parts

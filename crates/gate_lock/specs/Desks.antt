@@ -22,7 +22,7 @@ pub record Run : Type 0 where
   pub pass : Pass
   pub reason : Reason
 
--- a turn to fetch an authority's robots file, and the desk that must bring its answer
+-- a turn to fetch an authority's robots.txt, and the desk that must bring its answer
 pub record Errand : Type 0 where
   pub authority : List ℕ
   pub turn : ℕ
@@ -36,8 +36,8 @@ pub record Shares : Type 0 where
   pub starts : ℕ
   pub handed : ℕ
 
--- a desk: the limits of its gate; its number; how many entries the history had when it last looked; how many permits, running
--- fetches and turns it must still spend; what it keeps of sealed entries, and the marks behind those
+-- a desk: the limits of its gate; its number; how many entries the history had when it last looked; how many permits,
+-- running fetches and turns it must still spend; what it keeps of sealed entries, and the marks behind those
 pub record DeskView : Type 0 where
   pub limits : Limits
   pub no : ℕ
@@ -109,9 +109,10 @@ receipt_of d = record { sealed = d.sealed; marks = d.marks }
 abbrev pub out_of : DeskView → ℕ
 out_of d = d.permits + d.runs + d.turns
 
--- what is true of every desk: its shares count its marks, and what it handed out; it made no more entries than it has seen; and there
--- is room for the marks of what it must still spend, two for each permit and one for each run and turn
-pub record IsDesk (seen permits runs turns : ℕ) (sealed : SealedView) (marks : List Mark) (shares : Shares) (room : ℕ) : Type 0 where
+-- what is true of every desk: its shares count its marks, and what it handed out; it made no more entries than it has
+-- seen; and there is room for the marks of what it must still spend, two for each permit and one for each run and turn
+pub record IsDesk (seen permits runs turns : ℕ) (sealed : SealedView) (marks : List Mark) (shares : Shares)
+    (room : ℕ) : Type 0 where
   pub none_before : sealed.before ≡ 0
   pub entries_are : shares.entries ≡ length sealed.places + length marks
   pub starts_are : shares.starts ≡ sealed.starts + starts_in marks

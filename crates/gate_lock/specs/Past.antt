@@ -16,4 +16,5 @@ past_of base = record {
 -- beside the places that are kept one by one, the receipts have those below a number, each once
 abbrev pub AreFirst : ℕ → List Receipt → Type 0
 AreFirst first rs =
-    (place : ℕ) → times_in_all place (map places_of rs) ≡ times_in_all place (map kept_places rs) + one_if (nat_lt place first)
+    (place : ℕ) → times_in_all place (map places_of rs)
+    ≡ times_in_all place (map kept_places rs) + one_if (nat_lt place first)

@@ -33,4 +33,5 @@ entries_of_ok (Err _) = 0
 abbrev pub IsLastEntry : Gate → Last → Type 0
 IsLastEntry g last =
     (old : Gate) (e : Entry) → Adds old e g
-    → (last.place ≡ entry_count (history old)) × (entry_count (history g) ≡ last.place + 1) × (last.moment ≡ moment_of e)
+    → (last.place ≡ entry_count (history old)) × (entry_count (history g) ≡ last.place + 1)
+    × (last.moment ≡ moment_of e)

@@ -53,7 +53,8 @@ pub record AreHistory (g : Gate) (rs : List Receipt) : Type 0 where
 
 -- the mark is the entry at its place, where that is one of these, before which so many were sealed
 abbrev pub AgreesFrom : ℕ → List Entry → Mark → Type 0
-AgreesFrom sealed entries m = sealed ≤ m.place → m.place < sealed + length entries → slice_get entries (m.place - sealed) ≡ Some m.entry
+AgreesFrom sealed entries m =
+    sealed ≤ m.place → m.place < sealed + length entries → slice_get entries (m.place - sealed) ≡ Some m.entry
 
 -- each mark whose place lies in the segment is its entry there
 abbrev pub Agrees : Sealed → List Mark → Type 0

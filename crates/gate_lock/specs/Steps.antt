@@ -83,4 +83,5 @@ DeskSeals d old result new d2 = Seals old result new × Hands d old (handed_by r
 
 -- state: what is known of an authority; nothing changes
 abbrev pub DeskReads : DeskView → Gate → List ℕ → ℕ → State → Gate → DeskView → Type 0
-DeskReads d old authority m state new d2 = IsState (history old) authority (moment_at old m) state × (new ≡ old) × Looks d old d2
+DeskReads d old authority m state new d2 =
+    IsState (history old) authority (moment_at old m) state × (new ≡ old) × Looks d old d2

@@ -9,8 +9,8 @@ ghost use Rattle.gate_lock.specs.Steps.{DeskAsks, Somewhere};
 use crate::desk::{Desk, make_room};
 use crate::desk_ask::DeskAsk;
 use crate::ledgers::Gate;
+use crate::linear_values::{Pass, Permit};
 use crate::lock::Held;
-use crate::tokens::{Pass, Permit};
 use gate_core::AskRefusal;
 use path_normal::PageUrl;
 use robots_text::Token;
@@ -47,7 +47,7 @@ impl<'a, G: Gate> Desk<'a, G> {
         };
         let policy = {
             let mut held = self.lend(rt);
-            match held.book().dear_hint(ask.authority(), moment) {
+            match held.book().slow_hint(ask.authority(), moment) {
                 Some(policy) => policy,
                 None => return self.ask_in(&mut held, ask, moment),
             }

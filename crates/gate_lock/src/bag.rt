@@ -2,13 +2,14 @@
 //! For what serves clients: the keeper of a session has one, since its lines name permits by numbers.
 ghost use Rattle.std.specs.Prelude.{◌≡◌, ◌+◌, ◌<◌, [], false, IfErr, IfNone, IfOk, IfSome, length, OnErr, OnOk, IsOk};
 ghost use Rattle.std.specs.List.{All};
-ghost use Rattle.gate_lock.specs.Bags.{BagFinishes, BagReturns, BagStarts, Clears, FinishesEach, has_permit, held_in, HoldsSame, IsCleared, KeepsBalance, KeepsPermit, kept_in, LosesPermit, ReturnsEach};
+ghost use Rattle.std.specs.Option.{option_copied};
+ghost use Rattle.gate_lock.specs.Bags.{BagFinishes, BagReturns, BagStarts, Clears, FinishesEach, has_permit, held_in, HoldsSame, IsCleared, IsUrlIn, KeepsBalance, KeepsPermit, kept_in, LosesPermit, ReturnsEach};
 ghost use Rattle.gate_lock.specs.Desks.{out_of};
 
 use crate::desk::Desk;
 use crate::ledgers::Gate;
+use crate::linear_values::{Permit, Running};
 use crate::store::{Numbered, Sought, Store};
-use crate::tokens::{Permit, Running};
 use gate_core::Denial;
 use gate_history::{Cause, Reason};
 use path_normal::PageUrl;
@@ -19,7 +20,7 @@ use std::marker::Model;
 use std::sync::Wait;
 
 /// The permits and the started fetches of one desk, each found by its number. It has no `Drop`: `end`
-/// spends it. Dropping one would leave what it holds out for ever.
+/// spends it. Dropping one would leave what it holds out forever.
 #[must_use]
 pub struct Bag<G: Gate> {
     desk: u64,
@@ -134,7 +135,7 @@ impl<G: Gate> Bag<G> {
         self.runs.make_room(permits + 1)
     }
 
-    /// Keeps a permit of the bag's desk, or hands it back where memory is refused.
+    /// Keeps a permit of the bag's desk, or hands it back if memory runs out.
     pub fn keep(&mut self, permit: Permit<G>) -> Result<(), (Permit<G>, AllocError)>
         requires { permit.desk ≡ self.old.desk }
         ensures ok { OnOk result (KeepsPermit self.old permit self.new) }
@@ -163,6 +164,19 @@ impl<G: Gate> Bag<G> {
             return None;
         };
         Some(self.permits.remove(spot))
+    }
+
+    /// The URL of a permit of the number, where the bag has one.
+    pub fn url_of(&self, number: PermitNo) -> Option<&PageUrl>
+        ensures { IsUrlIn self.now number (option_copied result) }
+    {
+        let Some(spot) = self.permits.find(number.number(), &Any) else {
+            return None;
+        };
+        match self.permits.at(spot) {
+            Some(permit) => Some(permit.url()),
+            None => None,
+        }
     }
 
     /// Starts the fetch of the bag's permit of this number, token and URL at the desk, as `Desk::start`

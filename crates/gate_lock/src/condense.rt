@@ -17,7 +17,7 @@ impl<'a, G: Gate> Desk<'a, G> {
 
     /// Keeps of the first marks, where their entries were sealed meanwhile, eight octets each: their places, and how
     /// many of them are started fetches. The others stay whole, and all do where the sealed ones are less than half,
-    /// so that the work for each is bounded, or where memory is refused. No desk makes an entry.
+    /// so that the work for each is bounded, or if memory runs out. No desk makes an entry.
     pub fn condense<R: Wait>(&mut self, rt: &R)
         ensures step { Somewhere self.old
             (λ old new. (new ≡ old) × Condenses self.old old self.new) }

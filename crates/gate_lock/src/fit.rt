@@ -6,7 +6,7 @@ ghost use Rattle.gate_lock.specs.Settling.{AreEntries, EachFits, Fits, IsEntryAt
 
 use crate::ledgers::Gate;
 use crate::mark::Mark;
-use crate::places::{ascend, each_listed_once, each_once, marks_ascend};
+use crate::merged_marks::{ascend, each_listed_once, each_once, marks_ascend};
 use crate::receipts::{Receipts, agrees_at};
 use gate_history::Entry;
 use std::alloc::{AllocError, Global};

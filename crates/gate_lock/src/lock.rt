@@ -11,11 +11,11 @@ ghost use Rattle.gate_lock.specs.Past.{past_of};
 
 use crate::awaited::Awaited;
 use crate::ledgers::{Blanks, Gate};
+use crate::linear_values::Permit;
 use crate::mark::SealedMarks;
 use crate::receipts::Receipts;
 use crate::round::Round;
 use crate::tally::Tally;
-use crate::tokens::Permit;
 use gate_core::{Book, Limits};
 use std::alloc::Global;
 use std::marker::Model;

@@ -109,7 +109,7 @@ impl SealedMarks {
         self.handed += count;
     }
 
-    // Takes in the first of the marks, which end with it. Where memory is refused nothing changes.
+    // Takes in the first of the marks, which end with it. If memory runs out nothing changes.
     pub(crate) fn take_in(&mut self, marks: &mut Vec<Mark>, count: usize) -> Result<(), AllocError>
         requires none { self.old.before ≡ 0 }
         requires count { count ≤ length marks.old.items }

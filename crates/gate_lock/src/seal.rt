@@ -17,7 +17,7 @@ use std::sync::Wait;
 impl<'a, G: Gate> Desk<'a, G> {
     /// Hands out the entries of the gate since the last seal, of whatever desk, with what they follow. The gate
     /// goes on from what they left open; its places, and what is out, stay as they are. No desk makes an
-    /// entry, and no moment is brought. Where memory is refused nothing changes. This desk counts what it
+    /// entry, and no moment is brought. If memory runs out nothing changes. This desk counts what it
     /// handed out, so a gate that was sealed is settled only with the receipts of the desks that sealed it.
     pub fn seal<R: Wait>(&mut self, rt: &R) -> Result<Segment, NoMemory>
         ensures step { Somewhere self.old

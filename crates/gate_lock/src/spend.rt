@@ -12,8 +12,8 @@ ghost use Rattle.gate_lock.specs.Steps.{DeskFinishes, DeskReturns, DeskStarts, S
 use crate::awaited::Awaited;
 use crate::desk::Desk;
 use crate::ledgers::Gate;
+use crate::linear_values::{Fetched, Pass, Permit, Running};
 use crate::lock::Held;
-use crate::tokens::{Fetched, Pass, Permit, Running};
 use gate_core::Denial;
 use gate_history::{Entry, Ruling};
 use std::sync::Wait;
@@ -39,7 +39,7 @@ impl<'a, G: Gate> Desk<'a, G> {
     {
         let policy = {
             let mut held = self.lend_permit(rt, &permit);
-            match held.book().dear_hint(permit.url.authority(), moment) {
+            match held.book().slow_hint(permit.url.authority(), moment) {
                 Some(policy) => policy,
                 None => return self.start_in(&mut held, permit, None, moment),
             }

@@ -3,7 +3,7 @@
 ghost use Rattle.std.specs.Prelude.{◌≡◌, ◌+◌, ◌^◌, ◌<◌, ◌≤◌, ◌++◌, ◌∷◌, [], false, IfNone, IfOk, IfSome, IsOk, length, OnOk, slice_get, Some, true};
 ghost use Rattle.std.specs.List.{list_any};
 ghost use Rattle.std.specs.List.Sorted.{IsPermutation};
-ghost use Rattle.std.specs.Option.{IsSome, option_to_list};
+ghost use Rattle.std.specs.Option.{IsSome, option_copied, option_to_list};
 ghost use Rattle.gate_lock.specs.Bags.{is_sought, kept_at, kept_in};
 
 use indexmap::IndexMap;
@@ -132,6 +132,19 @@ impl<T: Numbered> Store<T> {
     {
         let place = find_among(self.twins.as_slice(), number, sought)?;
         Some(Spot::Twin(place))
+    }
+
+    // What is kept there.
+    pub fn at(&self, spot: Spot) -> Option<&T>
+        ensures { option_copied result ≡ kept_at self.now spot }
+    {
+        match spot {
+            Spot::First(place) => match self.first.get_index(place) {
+                Some((_, kept)) => Some(kept),
+                None => None,
+            },
+            Spot::Twin(place) => self.twins.get(place),
+        }
     }
 
     // Takes out what is kept there.

@@ -1,4 +1,4 @@
-//! `Desk::begin` and `arrive`: a turn to fetch a robots file, and the answer that it brings.
+//! `Desk::begin` and `arrive`: a turn to fetch a robots.txt, and the answer that it brings.
 //! RFC 9309, section 2.3.
 ghost use Rattle.std.specs.Prelude.{◌≡◌, ◌<◌, ◌≤◌, Err, IfOk, OnErr, true};
 ghost use Rattle.gate_history.specs.History.{entry_count};
@@ -10,8 +10,8 @@ ghost use Rattle.gate_lock.specs.Steps.{DeskArrives, DeskBegins, Somewhere};
 use crate::awaited::Awaited;
 use crate::desk::{Desk, make_room};
 use crate::ledgers::Gate;
+use crate::linear_values::RobotsTurn;
 use crate::lock::Held;
-use crate::tokens::RobotsTurn;
 use authority_cache::TimedAnswer;
 use gate_core::BeginRefusal;
 use gate_history::Entry;
@@ -21,7 +21,7 @@ use std::sync::Wait;
 
 #[tactic(auto, using(std::proofs::lemmas::Grind::common_steps, crate::proofs::Starts::starts_in_push))]
 impl<'a, G: Gate> Desk<'a, G> {
-    /// Begins a fetch of the authority's robots file.
+    /// Begins a fetch of the authority's robots.txt.
     pub fn begin<R: Wait>(
         &mut self,
         rt: &R,
@@ -46,7 +46,7 @@ impl<'a, G: Gate> Desk<'a, G> {
         self.begin_copied(&mut held, named, kept, moment)
     }
 
-    /// Begins a fetch of the authority's robots file while the lock is held. Room is made for the mark
+    /// Begins a fetch of the authority's robots.txt while the lock is held. Room is made for the mark
     /// of its arrival, which then takes no memory.
     pub fn begin_in(
         &mut self,

@@ -13,25 +13,25 @@ pub trait Visit {
     ghost use Rattle.std.specs.Prelude.{⊤};
 
     /// What comes of it.
-    type Out;
+    type Output;
 
     /// Holds of a visitor and what comes of it.
-    ghost shows: { Self → Self.Out → Type 0 } = { λ _ _. ⊤ };
+    ghost shows: { Self → Self.Output → Type 0 } = { λ _ _. ⊤ };
 
     /// Does it.
-    fn visit<G: Gate>(self, gate: &GateLock<G>) -> Self::Out
+    fn visit<G: Gate>(self, gate: &GateLock<G>) -> Self::Output
         ensures { shows self result };
 }
 
 /// Makes a gate of a book that has made no entry, and lends it.
-pub fn with_gate<V: Visit>(book: Book, visitor: V) -> V::Out
+pub fn with_gate<V: Visit>(book: Book, visitor: V) -> V::Output
     requires { (book.base ≡ empty_base) × (book.entries ≡ []) }
     ensures { V.shows visitor result }
 {
     visit_new::<Brand, V>(Blanks::new(), book, visitor)
 }
 
-fn visit_new<G: Gate, V: Visit>(blanks: Blanks, book: Book, visitor: V) -> V::Out
+fn visit_new<G: Gate, V: Visit>(blanks: Blanks, book: Book, visitor: V) -> V::Output
     requires blanks { blanks ≡ G.ledgers }
     requires book { (book.base ≡ empty_base) × (book.entries ≡ []) }
     ensures { V.shows visitor result }

@@ -23,7 +23,7 @@ use Rattle.gate_history.specs.Segment.{history_in, Sealed}
 use Rattle.gate_core.specs.Gate.{Gate, HasLegalHistory, room}
 use Rattle.gate_core.specs.Limits.{AreLimits}
 use Rattle.history_text.specs.declared.version.Version.TheVariants.{Two}
-use Rattle.history_text.specs.declared.parts.Part.{Part}
+use Rattle.history_text.specs.declared.base_parts.BasePart.{BasePart}
 use Rattle.history_text.specs.Entries.{HasFields, HasLife, IsEntry}
 use Rattle.history_text.specs.Exports.{history_of, IsExport, IsSegmentText}
 use Rattle.history_text.specs.BaseFields.{HasBaseFields}
@@ -174,7 +174,7 @@ ok_so (Ok _) p so = so p
 ok_so (Err _) p so = tt
 
 -- what holds of all eight parts holds of the second to the seventh
-pub middle_parts : (P : Part → Type 0) (a b c d e f g h : Part) → All P (a ∷ b ∷ c ∷ d ∷ e ∷ f ∷ g ∷ h ∷ []) → P b × P c × P d × P e × P f × P g
+pub middle_parts : (P : BasePart → Type 0) (a b c d e f g h : BasePart) → All P (a ∷ b ∷ c ∷ d ∷ e ∷ f ∷ g ∷ h ∷ []) → P b × P c × P d × P e × P f × P g
 middle_parts P a b c d e f g h all =
     let at1 = All-tail P a (b ∷ c ∷ d ∷ e ∷ f ∷ g ∷ h ∷ []) all in
     let at2 = All-tail P b (c ∷ d ∷ e ∷ f ∷ g ∷ h ∷ []) at1 in

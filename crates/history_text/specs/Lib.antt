@@ -7,4 +7,4 @@ pub mod Parts
 pub mod Spell
 pub mod SpellBase
 pub mod Texts
-pub mod Told
+pub mod AnswerContent

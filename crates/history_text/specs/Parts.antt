@@ -1,13 +1,13 @@
 -- The parts of a base's text: single lines, and the lines of a list.
 -- The contracts of `parts.rt`.
 use Rattle.std.specs.Prelude.{ℕ, All, List, flat_map}
-use Rattle.history_text.specs.declared.parts.Part.{Part}
-use Rattle.history_text.specs.declared.parts.Part.TheVariants.{Line, Numbers, Answers, Turns, Grants, Permits}
+use Rattle.history_text.specs.declared.base_parts.BasePart.{BasePart}
+use Rattle.history_text.specs.declared.base_parts.BasePart.TheVariants.{Line, Numbers, Answers, Turns, Grants, Permits}
 use Rattle.history_text.specs.BaseFields.{HasNumbers, IsAnswerRow, IsGrantRow, IsPermitRow, IsTurnRow}
 use Rattle.history_text.specs.SpellBase.{answer_line, ended, grant_line, numbers_line, permit_line, turn_line}
 
 -- the text of a part
-abbrev pub part_text : Part → List ℕ
+abbrev pub part_text : BasePart → List ℕ
 part_text (Line line) = ended line.now
 part_text (Numbers base) = ended (numbers_line base.now)
 part_text (Answers answers) = flat_map (λ s. ended (answer_line s)) answers.now
@@ -16,7 +16,7 @@ part_text (Grants grants) = flat_map (λ g. ended (grant_line g)) grants.now
 part_text (Permits letter permits) = flat_map (λ p. ended (permit_line letter.now p)) permits.now
 
 -- the fields of what a list has
-abbrev pub HasPartFields : Part → Type 0
+abbrev pub HasPartFields : BasePart → Type 0
 HasPartFields (Line line) = Unit {0}
 HasPartFields (Numbers base) = HasNumbers base.now
 HasPartFields (Answers answers) = All IsAnswerRow answers.now

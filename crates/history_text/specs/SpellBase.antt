@@ -20,7 +20,8 @@ lines_text lines = flat_map ended lines
 
 -- the numbers of a base: its entries, the starts and the begins among them, and the greatest moment
 abbrev pub numbers_line : Base → List ℕ
-numbers_line b = codes "T" ++ spaced_fields (decimal b.entries ∷ decimal b.started ∷ decimal b.begins ∷ decimal b.moment ∷ [])
+numbers_line b =
+    codes "T" ++ spaced_fields (decimal b.entries ∷ decimal b.started ∷ decimal b.begins ∷ decimal b.moment ∷ [])
 
 -- what the line of an answer that stands has behind its letter and the space
 abbrev pub answer_words : StandingAnswer → List ℕ
@@ -28,7 +29,8 @@ answer_words s = s.authority ++ spaced_fields (decimal s.turn ∷ decimal s.begu
 
 -- an answer that stands, as version 2 has it
 abbrev pub answer_line : StandingAnswer → List ℕ
-answer_line s = codes "H" ++ spaced_fields (s.authority ∷ decimal s.turn ∷ decimal s.begun ∷ answer_fields Two s.says s.life)
+answer_line s =
+    codes "H" ++ spaced_fields (s.authority ∷ decimal s.turn ∷ decimal s.begun ∷ answer_fields Two s.says s.life)
 
 -- a turn in flight
 abbrev pub turn_line : Turn → List ℕ

@@ -7,11 +7,11 @@ ghost use Rattle.path_normal.specs.PageUrl.{IsPage};
 ghost use Rattle.robots_text.specs.Token.{token_of};
 ghost use Rattle.history_text.specs.declared.version.Version.TheVariants.{Two};
 ghost use Rattle.history_text.specs.Entries.{IsNumber};
-ghost use Rattle.history_text.specs.Told.{told_said};
+ghost use Rattle.history_text.specs.AnswerContent.{said_content};
 ghost use Rattle.history_text.specs.Spell.{answer_fields, spaced_fields};
 
 use crate::entry_pieces::{token_octets, url_octets};
-use crate::kinds::{Told, answer_pieces};
+use crate::kinds::{AnswerContent, answer_pieces};
 use crate::version::Version;
 use authority_cache::TurnNo;
 use gate_history::Numbers;
@@ -28,11 +28,11 @@ pub fn standing<'a>(
     authority: &'a Authority,
     turn: TurnNo,
     begun: u64,
-    told: Told<'a>,
+    told: AnswerContent<'a>,
     life: u64,
 ) -> Pieces<'a>
     ensures text { pieces_text result ≡ word.now ++ (authority.now ++ spaced_fields (decimal turn
-        ∷ decimal begun ∷ answer_fields Two (told_said told.entry) life)) }
+        ∷ decimal begun ∷ answer_fields Two (said_content told.entry) life)) }
     ensures authority { IsAuthority authority.now }
     ensures turn { IsNumber turn }
     ensures begun { IsNumber begun }

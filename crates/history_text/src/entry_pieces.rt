@@ -6,11 +6,12 @@ ghost use Rattle.robots_text.specs.Token.{token_of};
 ghost use Rattle.robots_verdict.specs.Answer.{said};
 ghost use Rattle.history_text.specs.Entries.{HasFields, IsSaid};
 ghost use Rattle.line_text.specs.Pieces.{pieces_text};
-ghost use Rattle.history_text.specs.Told.{told_said};
+ghost use Rattle.history_text.specs.AnswerContent.{said_content};
 ghost use Rattle.history_text.specs.Spell.{entry_line};
 
 use crate::kinds::{
-    Told, arrived, ask_denied, begun, finished, granted, returned, start_denied, started, swept,
+    AnswerContent, arrived, ask_denied, begun, finished, granted, returned, start_denied, started,
+    swept,
 };
 use crate::version::Version;
 use gate_history::Entry;
@@ -80,26 +81,26 @@ pub fn url_octets(url: &PageUrl) -> &[u8]
 }
 
 /// What an answer says.
-pub fn told_by(answer: &Answer) -> Told<'_>
-    ensures said { told_said result ≡ said answer.now }
+pub fn told_by(answer: &Answer) -> AnswerContent<'_>
+    ensures said { said_content result ≡ said answer.now }
     ensures body { IsSaid (said answer.now) }
 {
     match answer {
-        Answer::Rules(rules) => Told::Rules(octets(rules.policy().text().bytes())),
-        Answer::Open(opening) => Told::Open(*opening),
-        Answer::Closed(closure) => Told::Closed(*closure),
+        Answer::Rules(rules) => AnswerContent::Rules(octets(rules.policy().text().bytes())),
+        Answer::Open(opening) => AnswerContent::Open(*opening),
+        Answer::Closed(closure) => AnswerContent::Closed(*closure),
     }
 }
 
 /// What the history says of an answer.
-pub(crate) fn told_in(says: &Said) -> Told<'_>
-    ensures said { told_said result ≡ says.now }
+pub(crate) fn told_in(says: &Said) -> AnswerContent<'_>
+    ensures said { said_content result ≡ says.now }
     ensures body { IsSaid says.now }
 {
     match says {
-        Said::Rules(handle) => Told::Rules(octets(handle.policy().text().bytes())),
-        Said::Open(opening) => Told::Open(*opening),
-        Said::Closed(closure) => Told::Closed(*closure),
+        Said::Rules(handle) => AnswerContent::Rules(octets(handle.policy().text().bytes())),
+        Said::Open(opening) => AnswerContent::Open(*opening),
+        Said::Closed(closure) => AnswerContent::Closed(*closure),
     }
 }
 

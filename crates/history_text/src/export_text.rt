@@ -14,7 +14,7 @@ ghost use Rattle.history_text.specs.Exports.{IsExport, IsSegmentText, present_se
 ghost use Rattle.history_text.specs.Spell.{entry_lines, spell};
 ghost use Rattle.history_text.specs.SpellBase.{spell_segment};
 
-use crate::parts::{push_base, push_rows};
+use crate::base_parts::{push_base, push_rows};
 use counted_io::{DeviceFault, Output, Sink};
 use gate_core::Book;
 use gate_history::{Base, Entry, Segment};

@@ -8,7 +8,7 @@ ghost use Rattle.gate_history.specs.declared.entry.Entry.TheVariants.{Finished, 
 ghost use Rattle.gate_history.specs.declared.entry.Entry.TheVariants.{StartDenied, Started, Swept};
 ghost use Rattle.line_text.specs.Pieces.{piece_text, pieces_text};
 ghost use Rattle.history_text.specs.Entries.{IsCause, IsNumber, IsReason};
-ghost use Rattle.history_text.specs.Told.{told_said};
+ghost use Rattle.history_text.specs.AnswerContent.{said_content};
 ghost use Rattle.history_text.specs.Spell.{answer_fields, body_word, closure_word};
 ghost use Rattle.history_text.specs.Spell.{entry_line, opening_word, spaced_fields};
 
@@ -26,7 +26,7 @@ const SPACE: Piece<'static> = Piece::Text(" ");
 
 /// What an answer says, with the octets of its rules.
 #[derive(Clone, Copy)]
-pub enum Told<'a> {
+pub enum AnswerContent<'a> {
     Rules(&'a [u8]),
     Open(Opening),
     Closed(Closure),
@@ -52,11 +52,11 @@ pub fn arrived<'a>(
     moment: u64,
     authority: &'a Authority,
     turn: TurnNo,
-    told: Told<'a>,
+    told: AnswerContent<'a>,
     life: u64,
 ) -> Pieces<'a>
     ensures text { pieces_text result
-        ≡ entry_line version (Arrived moment authority.now turn (told_said told.entry) life) }
+        ≡ entry_line version (Arrived moment authority.now turn (said_content told.entry) life) }
     ensures authority { IsAuthority authority.now }
     ensures turn { IsNumber turn }
 {
@@ -187,13 +187,13 @@ fn wording_pieces(wording: Wording) -> FourPieces<'static>
 }
 
 /// What an answer says, in the pieces behind its other fields.
-pub(crate) fn answer_pieces(version: Version, told: Told<'_>, life: u64) -> FourPieces<'_>
-    ensures { spaced_fields (answer_fields version (told_said told.entry) life)
+pub(crate) fn answer_pieces(version: Version, told: AnswerContent<'_>, life: u64) -> FourPieces<'_>
+    ensures { spaced_fields (answer_fields version (said_content told.entry) life)
         ≡ piece_text result.0 ++ (piece_text result.1 ++ (piece_text result.2
         ++ (piece_text result.3 ++ []))) }
 {
     match told {
-        Told::Rules(octets) => match version {
+        AnswerContent::Rules(octets) => match version {
             Version::One => (Piece::Text(" R "), body_piece(octets), NONE, NONE),
             Version::Two => (
                 Piece::Text(" R "),
@@ -202,8 +202,8 @@ pub(crate) fn answer_pieces(version: Version, told: Told<'_>, life: u64) -> Four
                 body_piece(octets),
             ),
         },
-        Told::Open(opening) => (opening_piece(opening), NONE, NONE, NONE),
-        Told::Closed(closure) => (closure_piece(closure), NONE, NONE, NONE),
+        AnswerContent::Open(opening) => (opening_piece(opening), NONE, NONE, NONE),
+        AnswerContent::Closed(closure) => (closure_piece(closure), NONE, NONE, NONE),
     }
 }
 

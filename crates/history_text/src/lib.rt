@@ -3,14 +3,14 @@
 #![tactic(auto)]
 
 pub mod base_kinds;
+mod base_parts;
 mod entry_pieces;
 mod export_text;
 pub mod kinds;
-mod parts;
-mod row;
+mod text_line;
 mod version;
 
 pub use entry_pieces::{token_octets, told_by, url_octets};
 pub use export_text::{export, export_segment, push_entries, push_segment_text};
-pub use row::{Row, standing_pieces};
+pub use text_line::{TextLine, standing_pieces};
 pub use version::Version;

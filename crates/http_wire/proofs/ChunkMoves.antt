@@ -6,26 +6,26 @@ use Rattle.httparse.specs.Grammar.{ChunkLine, print_chunk_line, IsChunkLine, Rea
 use Rattle.httparse.specs.Spans.{IsChunkLineAt}
 use Rattle.http_wire.specs.declared.part_seen.PartSeen.{PartSeen}
 use Rattle.http_wire.specs.declared.part_seen.PartSeen.TheVariants.{Whole, Cut, Bad, Full, More}
-use Rattle.http_wire.specs.declared.chunked.Place.{Place}
-use Rattle.http_wire.specs.declared.chunked.Place.TheVariants as places
+use Rattle.http_wire.specs.declared.chunked.ChunkState.{ChunkState}
+use Rattle.http_wire.specs.declared.chunked.ChunkState.TheVariants as places
 use Rattle.http_wire.specs.declared.chunked.ChunkDecoder.{ChunkDecoder}
 use Rattle.http_wire.specs.Decoding.{TrailersTell, Decoded, Stands, Decodes}
 use Rattle.http_wire.proofs.ChunkPlaces.{trailers_whole, trailers_bad, trailers_full, trailers_end}
 
 -- what a decoder stands for at a place that is known
-pub at_place : (decoder : ChunkDecoder) (bytes : List ℕ) (place : Place) → Stands decoder bytes → decoder.place ≡ place
+pub at_place : (decoder : ChunkDecoder) (bytes : List ℕ) (place : ChunkState) → Stands decoder bytes → decoder.place ≡ place
     → Decoded decoder.limit (drop decoder.start bytes) decoder.octets.items place (drop decoder.at bytes)
 at_place decoder bytes place s is =
     subst (λ p. Decoded decoder.limit (drop decoder.start bytes) decoder.octets.items p (drop decoder.at bytes)) is s.decoded
 
 -- a place that has moved on
-pub record Moves (old new : ChunkDecoder) (len : ℕ) (place : Place) : Type 0 where
+pub record Moves (old new : ChunkDecoder) (len : ℕ) (place : ChunkState) : Type 0 where
   pub limit : new.limit ≡ old.limit
   pub start : new.start ≡ old.start
   pub here : new.place ≡ place
   pub at : new.at ≡ old.at + len
 
-pub moved : (old new : ChunkDecoder) (bytes : List ℕ) (len : ℕ) (place : Place) (octets : List ℕ) → Stands old bytes → Moves old new len place
+pub moved : (old new : ChunkDecoder) (bytes : List ℕ) (len : ℕ) (place : ChunkState) (octets : List ℕ) → Stands old bytes → Moves old new len place
     → new.octets.items ≡ octets → 0 < len → len ≤ length (drop old.at bytes)
     → Decoded old.limit (drop old.start bytes) octets place (drop len (drop old.at bytes))
     → (old.at < new.at) × Stands new bytes

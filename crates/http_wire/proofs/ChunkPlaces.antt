@@ -12,8 +12,8 @@ use Rattle.httparse.specs.Spans.{SectionOverflows}
 use Rattle.http_wire.specs.Limits.{max_trailers}
 use Rattle.httparse.proofs.ChunkLemmas.{ReadsChunkLine-append}
 use Rattle.httparse.proofs.PieceLemmas.{front-append}
-use Rattle.http_wire.specs.declared.chunked.Place.{Place}
-use Rattle.http_wire.specs.declared.chunked.Place.TheVariants as places
+use Rattle.http_wire.specs.declared.chunked.ChunkState.{ChunkState}
+use Rattle.http_wire.specs.declared.chunked.ChunkState.TheVariants as places
 use Rattle.http_wire.specs.declared.chunked.ChunkDecoder.{ChunkDecoder}
 use Rattle.http_wire.specs.Chunks.{Chunk, print_chunk, IsChunk, print_chunks, joined, ReadsChunks, ReadsTrailers, GivesWhole, GivesCut, AfterLast, AfterOctets, IsOpenEnd, NeverHasEnd, EndsInTrailers, in_line, in_octets, in_end, in_trailers, EndsInChunked, IsTooLong, HasTooManyLines, bad_end, bad_trailers, too_long, IsBadChunked, EndsTooLong}
 use Rattle.http_wire.specs.Decoding.{StandsAt, Decoded, Stands}
@@ -187,12 +187,12 @@ trailers_full limit text octets rest d full =
 
 -- ---- more bytes
 
-stands_at_append : (place : Place) (middle rest more : List ℕ) → StandsAt place middle rest → StandsAt place (middle ++ more) (rest ++ more)
+stands_at_append : (place : ChunkState) (middle rest more : List ℕ) → StandsAt place middle rest → StandsAt place (middle ++ more) (rest ++ more)
 stands_at_append places.Line middle rest more is = ap (λ t. t ++ more) is
 stands_at_append (places.Octets size) middle rest more (line, reads, is, some) = (line, ReadsChunkLine-append middle line rest more reads, is, some)
 stands_at_append places.Trailers middle rest more (line, reads, zero) = (line, ReadsChunkLine-append middle line rest more reads, zero)
 
-pub decoded_append : (limit : ℕ) (text octets : List ℕ) (place : Place) (rest more : List ℕ) → Decoded limit text octets place rest
+pub decoded_append : (limit : ℕ) (text octets : List ℕ) (place : ChunkState) (rest more : List ℕ) → Decoded limit text octets place rest
     → Decoded limit (text ++ more) octets place (rest ++ more)
 decoded_append limit text octets place rest more d = record {
   chunks = d.chunks;

@@ -7,8 +7,8 @@ use Rattle.httparse.specs.Spans.{SectionOverflows, SectionExceeds}
 use Rattle.http_wire.specs.Limits.{max_trailers}
 use Rattle.http_wire.specs.declared.part_seen.PartSeen.{PartSeen}
 use Rattle.http_wire.specs.declared.part_seen.PartSeen.TheVariants.{Whole, Cut, Bad, Full, More}
-use Rattle.http_wire.specs.declared.chunked.Place.{Place}
-use Rattle.http_wire.specs.declared.chunked.Place.TheVariants as places
+use Rattle.http_wire.specs.declared.chunked.ChunkState.{ChunkState}
+use Rattle.http_wire.specs.declared.chunked.ChunkState.TheVariants as places
 use Rattle.http_wire.specs.declared.chunked.ChunkEnd.{ChunkEnd}
 use Rattle.http_wire.specs.declared.chunked.ChunkEnd.TheVariants as ends
 use Rattle.http_wire.specs.declared.chunked.ChunkDecoder.{ChunkDecoder}
@@ -47,7 +47,7 @@ TrailersTell text last More = IsTrue last → EndsInTrailers text
 -- ---- the body
 
 -- middle is what was read at the place, and then rest
-abbrev pub StandsAt : Place → List ℕ → List ℕ → Type 0
+abbrev pub StandsAt : ChunkState → List ℕ → List ℕ → Type 0
 StandsAt places.Line middle rest = middle ≡ rest
 StandsAt (places.Octets size) middle rest =
     (line : ChunkLine) × ReadsChunkLine middle line rest × (size ≡ chunk_size line) × (0 < size)
@@ -55,7 +55,7 @@ StandsAt places.Trailers middle rest =
     (line : ChunkLine) × ReadsChunkLine middle line rest × (chunk_size line ≡ 0)
 
 -- text is chunks, whose octets were collected, then what was read at the place, and then rest
-pub record Decoded (limit : ℕ) (text octets : List ℕ) (place : Place) (rest : List ℕ) : Type 0 where
+pub record Decoded (limit : ℕ) (text octets : List ℕ) (place : ChunkState) (rest : List ℕ) : Type 0 where
   pub chunks : List Chunk
   pub middle : List ℕ
   pub reads : ReadsChunks limit text chunks middle
@@ -66,7 +66,8 @@ pub record Decoded (limit : ℕ) (text octets : List ℕ) (place : Place) (rest 
 pub record Stands (decoder : ChunkDecoder) (bytes : List ℕ) : Type 0 where
   pub started : decoder.start ≤ decoder.at
   pub within : decoder.at ≤ length bytes
-  pub decoded : Decoded decoder.limit (drop decoder.start bytes) decoder.octets.items decoder.place (drop decoder.at bytes)
+  pub decoded : Decoded decoder.limit (drop decoder.start bytes) decoder.octets.items decoder.place
+      (drop decoder.at bytes)
 
 -- the body still begins at the same place, and gives at most as many octets
 pub record KeepsBounds (old new : ChunkDecoder) : Type 0 where

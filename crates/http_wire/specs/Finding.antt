@@ -25,7 +25,8 @@ use Rattle.http_wire.specs.declared.head.Seen.TheVariants as seen
 use Rattle.http_wire.specs.Limits.{max_head, max_header_lines, max_interim_heads}
 
 -- a head within the limits stands at the front, and the spans cover its parts
-pub record IsHeadAt (text : List ℕ) (headers : List HeaderSpan) (spans : ResponseSpans) (head : ResponseHead) : Type 0 where
+pub record IsHeadAt (text : List ℕ) (headers : List HeaderSpan) (spans : ResponseSpans)
+    (head : ResponseHead) : Type 0 where
   pub is : IsHead head
   pub at : IsResponseAt text headers spans head
   pub within : IsResponseWithin text headers spans

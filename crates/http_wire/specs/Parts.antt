@@ -7,7 +7,7 @@ use Rattle.http_wire.specs.Reading.{Grows}
 use Rattle.http_wire.specs.declared.fault.WireFault.{WireFault}
 use Rattle.http_wire.specs.declared.fault.WireFault.TheVariants.{Device, NoMemory}
 use Rattle.http_wire.specs.declared.part.Reached.{Reached}
-use Rattle.http_wire.specs.declared.part.Reached.TheVariants.{Found, Ended, Past}
+use Rattle.http_wire.specs.declared.part.Reached.TheVariants.{Parsed, Ended, Past}
 
 -- the octets that came give this, with the others left in the buffer
 pub record IsFoundIn {T : Type 0}
@@ -37,12 +37,13 @@ pub record GoesOnWaiting (waits : List ℕ → Type 0) (left : Option (List ℕ)
 -- what stands where the reading of a part stops
 abbrev pub Stops : {T : Type 0} → (List ℕ → Type 0) → (List ℕ → List ℕ → T → Type 0) → Option (List ℕ) → Option (List ℕ)
     → List ℕ → List ℕ → Reached T → Type 0
-Stops waits gives left left' old new (Found found) = IsFoundIn gives left left' old new found
+Stops waits gives left left' old new (Parsed found) = IsFoundIn gives left left' old new found
 Stops waits gives left left' old new Ended = EndsWaiting waits left left' old new
 Stops waits gives left left' old new Past = GoesOnWaiting waits left old new
 
 -- why it breaks off: the part refuses the octets that came, a read failed, or there was no memory
-pub record Breaks (refuses : List ℕ → WireFault → Type 0) (left : Option (List ℕ)) (old : List ℕ) (fault : WireFault) : Type 0 where
+pub record Breaks (refuses : List ℕ → WireFault → Type 0) (left : Option (List ℕ)) (old : List ℕ)
+    (fault : WireFault) : Type 0 where
   pub before : Option (List ℕ)
   pub seen : List ℕ
   pub came : Grows left before old seen

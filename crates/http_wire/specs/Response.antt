@@ -85,7 +85,14 @@ Cause TooMuch input limit = IsTooMuch input limit
 
 -- the reply that the code's value writes
 abbrev pub reply_of : HttpReply → Reply
-reply_of reply = record { status = reply.status; location = option_map string_bytes reply.location; max_age = reply.max_age; body = reply.body.items; cut = reply.cut }
+reply_of reply = record {
+  status = reply.status;
+  location = option_map string_bytes reply.location;
+  max_age =
+      reply.max_age;
+  body = reply.body.items;
+  cut = reply.cut;
+}
 
 -- what a call answers of this input: its reply, or a fault whose cause stands
 abbrev pub AnswersRead : List ℕ → ℕ → Result HttpReply WireFault → Type 0

@@ -38,7 +38,7 @@ pub(crate) fn read_body<S: Source>(
 {
     let mut decoder = BodyDecoder::new(alloc, framing, start, limit);
     match fill_until(alloc, source, buffer, &mut decoder)? {
-        Reached::Found(body) => Ok(body),
+        Reached::Parsed(body) => Ok(body),
         Reached::Ended => decoder.end(alloc, buffer),
         Reached::Past => decoder.past(alloc, buffer),
     }

@@ -141,7 +141,7 @@ impl Part for BodyDecoder {
     ghost use Rattle.http_wire.specs.Seeing.{BodyStands, GivesBody, IsShort, Refuses, framing_in};
     ghost use Rattle.http_wire.specs.declared.framing.Framing.{Framing};
 
-    type Found = Body;
+    type Parsed = Body;
 
     // The framing, where the body begins, and the limit.
     ghost Kept = { Framing × ℕ × ℕ };

@@ -13,7 +13,7 @@ use std::mem;
 
 /// Where the decoding of a body stands.
 #[derive(Clone, Copy, PartialEq, Eq)]
-enum Place {
+enum ChunkState {
     /// Before a chunk line.
     Line,
     /// After a chunk line, before as many octets as it says.
@@ -39,7 +39,7 @@ pub(crate) struct ChunkDecoder {
     limit: usize,
     start: usize,
     octets: Vec<u8>,
-    place: Place,
+    place: ChunkState,
     at: usize,
     // Up to where a line end was looked for: it saves time, and no answer rests on it.
     scanned: usize,
@@ -56,7 +56,7 @@ impl ChunkDecoder {
             limit,
             start,
             octets: Vec::new(alloc),
-            place: Place::Line,
+            place: ChunkState::Line,
             at: start,
             scanned: start,
         }
@@ -90,16 +90,16 @@ impl ChunkDecoder {
         ensures steps { IfOk result (DecodesOrMoves bytes.now last self.old.at self.new) }
     {
         match self.place {
-            Place::Line => Ok(self.look_line(bytes, last)),
-            Place::Octets(size) => self.look_octets(size, bytes, last),
-            Place::Trailers => Ok(Some(self.look_end(bytes, last))),
+            ChunkState::Line => Ok(self.look_line(bytes, last)),
+            ChunkState::Octets(size) => self.look_octets(size, bytes, last),
+            ChunkState::Trailers => Ok(Some(self.look_end(bytes, last))),
         }
     }
 
     // chunk-size [ chunk-ext ] CRLF, of a chunk or of the last one.
     fn look_line(&mut self, bytes: &[u8], last: bool) -> Option<PartSeen>
         requires stands { Stands self.old bytes.now }
-        requires place { self.old.place ≡ Place.Line }
+        requires place { self.old.place ≡ ChunkState.Line }
         ensures bounds { KeepsBounds self.old self.new }
         ensures steps { DecodesOrMoves bytes.now last self.old.at self.new result }
     {
@@ -110,11 +110,11 @@ impl ChunkDecoder {
         }
         match parse_chunk_size(&bytes[self.at..]) {
             Ok(Status::Complete((len, 0))) => {
-                self.pass(len, Place::Trailers);
+                self.pass(len, ChunkState::Trailers);
                 None
             }
             Ok(Status::Complete((len, size))) => {
-                self.pass(len, Place::Octets(size));
+                self.pass(len, ChunkState::Octets(size));
                 None
             }
             Ok(Status::Partial) => Some(PartSeen::More),
@@ -129,7 +129,7 @@ impl ChunkDecoder {
         last: bool,
     ) -> Result<Option<PartSeen>, AllocError>
         requires stands { Stands self.old bytes.now }
-        requires place { self.old.place ≡ Place.Octets size }
+        requires place { self.old.place ≡ ChunkState.Octets size }
         ensures bounds { KeepsBounds self.old self.new }
         ensures steps { IfOk result (DecodesOrMoves bytes.now last self.old.at self.new) }
     {
@@ -148,7 +148,7 @@ impl ChunkDecoder {
         last: bool,
     ) -> Result<Option<PartSeen>, AllocError>
         requires stands { Stands self.old bytes.now }
-        requires past { (size : ℕ) × (self.old.place ≡ Place.Octets size) × (room < size) }
+        requires past { (size : ℕ) × (self.old.place ≡ ChunkState.Octets size) × (room < size) }
         requires room { room + vec_len self.old.octets ≡ self.old.limit }
         ensures bounds { KeepsBounds self.old self.new }
         ensures steps { IfOk result (DecodesOrMoves bytes.now last self.old.at self.new) }
@@ -169,7 +169,7 @@ impl ChunkDecoder {
         last: bool,
     ) -> Result<Option<PartSeen>, AllocError>
         requires stands { Stands self.old bytes.now }
-        requires place { self.old.place ≡ Place.Octets size }
+        requires place { self.old.place ≡ ChunkState.Octets size }
         requires fits { size + vec_len self.old.octets ≤ self.old.limit }
         ensures bounds { KeepsBounds self.old self.new }
         ensures steps { IfOk result (DecodesOrMoves bytes.now last self.old.at self.new) }
@@ -191,7 +191,7 @@ impl ChunkDecoder {
     // Collects the octets of a chunk, and moves behind its end.
     fn take_chunk(&mut self, size: usize, bytes: &[u8]) -> Result<(), AllocError>
         requires stands { Stands self.old bytes.now }
-        requires place { self.old.place ≡ Place.Octets size }
+        requires place { self.old.place ≡ ChunkState.Octets size }
         requires fits { size + vec_len self.old.octets ≤ self.old.limit }
         requires whole { StandsWhole size (drop self.old.at bytes.now) }
         ensures bounds { KeepsBounds self.old self.new }
@@ -199,14 +199,14 @@ impl ChunkDecoder {
     {
         let text = &bytes[self.at..];
         self.octets.extend_from_slice(&text[..size])?;
-        self.pass(size + 2, Place::Line);
+        self.pass(size + 2, ChunkState::Line);
         Ok(())
     }
 
     // trailer-section CRLF.
     fn look_end(&mut self, bytes: &[u8], last: bool) -> PartSeen
         requires stands { Stands self.old bytes.now }
-        requires place { self.old.place ≡ Place.Trailers }
+        requires place { self.old.place ≡ ChunkState.Trailers }
         ensures bounds { KeepsBounds self.old self.new }
         ensures decodes { Decodes bytes.now last self.new result }
     {
@@ -224,7 +224,7 @@ impl ChunkDecoder {
     }
 
     // Moves the place on by `len` octets.
-    fn pass(&mut self, len: usize, place: Place)
+    fn pass(&mut self, len: usize, place: ChunkState)
         requires { self.old.at + len ≤ usize.MAX }
         ensures bounds { KeepsBounds self.old self.new }
         ensures octets { self.new.octets ≡ self.old.octets }

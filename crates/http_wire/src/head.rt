@@ -225,7 +225,7 @@ impl Part for HeadFinder {
     ghost use Rattle.http_wire.specs.Finding.{Faults, IsFound, Passes};
     ghost use Rattle.http_wire.specs.Limits.{max_head};
 
-    type Found = FinalHead;
+    type Parsed = FinalHead;
 
     ghost Kept = { Unit {0} };
 

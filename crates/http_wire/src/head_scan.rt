@@ -7,7 +7,7 @@ use std::mem;
 
 /// Up to what part of a head a scan has come.
 #[derive(Clone, Copy, PartialEq, Eq)]
-enum Stage {
+enum ScanState {
     /// Nothing but empty lines has come.
     Before,
     /// The first line that isn't empty has begun.
@@ -21,7 +21,7 @@ enum Stage {
 /// A scan for the ends of lines that a head may have. No answer rests on it.
 #[derive(Clone, Copy, PartialEq, Eq)]
 pub(crate) struct HeadScan {
-    stage: Stage,
+    stage: ScanState,
     seen: usize,
 }
 
@@ -29,7 +29,7 @@ impl HeadScan {
     /// A scan from the first octet on.
     pub(crate) fn new() -> HeadScan {
         HeadScan {
-            stage: Stage::Before,
+            stage: ScanState::Before,
             seen: 0,
         }
     }
@@ -38,16 +38,16 @@ impl HeadScan {
     pub(crate) fn may_tell(&mut self, text: &[u8]) -> bool {
         let seen = mem::replace(&mut self.seen, text.len());
         match self.stage {
-            Stage::Before => self.begins(text, seen),
-            Stage::StartLine => self.ends_start_line(text, seen),
-            Stage::Fields => has_empty_line(text, seen),
-            Stage::Over => false,
+            ScanState::Before => self.begins(text, seen),
+            ScanState::StartLine => self.ends_start_line(text, seen),
+            ScanState::Fields => has_empty_line(text, seen),
+            ScanState::Over => false,
         }
     }
 
     /// No head within the limits will come any more.
     pub(crate) fn stop(&mut self) {
-        self.stage = Stage::Over;
+        self.stage = ScanState::Over;
     }
 
     // Nothing but empty lines had come.
@@ -62,9 +62,9 @@ impl HeadScan {
     fn ends_start_line(&mut self, text: &[u8], from: usize) -> bool {
         let ends = has_line_end(text, from);
         self.stage = if ends {
-            Stage::Fields
+            ScanState::Fields
         } else {
-            Stage::StartLine
+            ScanState::StartLine
         };
         ends
     }

@@ -15,7 +15,7 @@ pub(crate) trait Part {
     ghost use Rattle.http_wire.specs.declared.fault.WireFault.{WireFault};
 
     /// What it gives.
-    type Found;
+    type Parsed;
 
     // What no look changes: its type, and that of a part.
     ghost Kept: { Type 0 };
@@ -29,13 +29,17 @@ pub(crate) trait Part {
     ghost waits: { Self → List ℕ → Type 0 };
 
     // What was found in the octets that are named first, where the second are left in the buffer.
-    ghost gives: { Self.Kept → List ℕ → List ℕ → Self.Found → Type 0 };
+    ghost gives: { Self.Kept → List ℕ → List ℕ → Self.Parsed → Type 0 };
 
     // Why the octets give nothing, whatever follows them.
     ghost refuses: { Self.Kept → List ℕ → WireFault → Type 0 };
 
     /// Looks at what has come, and gives what stands there whatever follows.
-    fn look(&mut self, alloc: Global, buffer: &mut Buffer) -> Result<Option<Self::Found>, WireFault>
+    fn look(
+        &mut self,
+        alloc: Global,
+        buffer: &mut Buffer,
+    ) -> Result<Option<Self::Parsed>, WireFault>
         requires stands { Self.stands self.old buffer.old }
         requires few { length buffer.old ≤ MAX_RAW }
         ensures kept { Self.kept self.new ≡ Self.kept self.old }
@@ -51,7 +55,7 @@ pub(crate) trait Part {
 #[derive(Drop)]
 pub(crate) enum Reached<T> {
     /// The part was found.
-    Found(T),
+    Parsed(T),
     /// The input ends, and nothing was found.
     Ended,
     /// As many octets stand there as a response may have, and more follow; nothing was found.
@@ -64,7 +68,7 @@ pub(crate) fn fill_until<S: Source, P: Part>(
     source: &mut S,
     buffer: &mut Buffer,
     part: &mut P,
-) -> Result<Reached<P::Found>, WireFault>
+) -> Result<Reached<P::Parsed>, WireFault>
     requires stands { P.stands part.old buffer.old }
     requires few { length buffer.old ≤ MAX_RAW }
     ensures kept { P.kept part.new ≡ P.kept part.old }
@@ -76,7 +80,7 @@ pub(crate) fn fill_until<S: Source, P: Part>(
 {
     loop {
         match part.look(alloc, buffer)? {
-            Some(found) => return Ok(Reached::Found(found)),
+            Some(found) => return Ok(Reached::Parsed(found)),
             None => {}
         }
         match buffer.fill(source)? {

@@ -86,7 +86,7 @@ fn read_final<S: Source>(
 {
     let mut finder = HeadFinder::new();
     match fill_until(alloc, source, buffer, &mut finder)? {
-        Reached::Found(head) => Ok(head),
+        Reached::Parsed(head) => Ok(head),
         Reached::Ended => finder.end(alloc, buffer.octets()),
         // More octets than eight interim heads and a final one may have are in the buffer.
         Reached::Past => Err(WireFault::TooMuch),

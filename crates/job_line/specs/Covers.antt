@@ -77,4 +77,5 @@ dealt_seat seat = record { line = seat.line; counts = seat.counts; parts = 1; en
 
 -- the first seat of a line, which has all parts
 abbrev pub first_seat : TableId → List ℕ → SeatView
-first_seat line counts = record { line = line; counts = counts; parts = 16; ended = replicate (length counts) false; drawn = [] }
+first_seat line counts =
+    record { line = line; counts = counts; parts = 16; ended = replicate (length counts) false; drawn = [] }

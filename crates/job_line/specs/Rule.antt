@@ -43,7 +43,8 @@ pub record Holds (counts : List ℕ) (s : State (Unit {0}) Hand) : Type 0 where
   pub limit : jobs_in counts ≤ max_jobs
   pub words : length counts ≤ length s.words
   pub parts : total (λ hand. hand.parts) s.views ≡ max_workers
-  pub drawn : (weight : ℕ → ℕ) → total (λ hand. weigh weight hand.drawn) s.views ≡ weigh_firsts weight counts (at_most counts s.words)
+  pub drawn : (weight : ℕ → ℕ)
+      → total (λ hand. weigh weight hand.drawn) s.views ≡ weigh_firsts weight counts (at_most counts s.words)
   pub over : (site : ℕ) → slice_index s.words site ≤ slice_index counts site + total (ends_at site) s.views
   pub each : All (Fits counts s.words) s.views
 
@@ -62,12 +63,16 @@ hand_dealt hand = record { counts = hand.counts; parts = 1; ends = []; drawn = [
 -- the hand after a draw that found this word of a site
 abbrev pub hand_after : Hand → ℕ → ℕ → Hand
 hand_after hand site found =
-    if nat_lt found (slice_index hand.counts site) then record hand { drawn = hand.drawn ++ (begin_of hand.counts site + found) ∷ [] }
+    if nat_lt found (slice_index hand.counts site) then record hand {
+      drawn =
+          hand.drawn ++ (begin_of hand.counts site + found) ∷ [];
+    }
     else record hand { ends = site ∷ hand.ends }
 
 -- a draw: the list gains the index that the word stands for, where the site has it; else its end was found
 abbrev pub Draws : Step (Unit {0}) → Me (Unit {0}) Hand → ℕ → Me (Unit {0}) Hand → Type 0
-Draws s old found new = (new.0 ≡ hand_after old.0 s.word found) × (new.1 ≡ old.1) × (length new.0.drawn ≤ jobs_in old.0.counts)
+Draws s old found new =
+    (new.0 ≡ hand_after old.0 s.word found) × (new.1 ≡ old.1) × (length new.0.drawn ≤ jobs_in old.0.counts)
 
 -- a join: the joining seat takes over the lists, and the parts
 abbrev pub hand_of_both : Hand → Hand → Hand

@@ -14,7 +14,14 @@ use Rattle.job_line.specs.Covers.{SeatView, end_found, has_ended, lists_of, part
 
 -- what callers see of a seat
 abbrev pub seat_view : Inside → SeatView
-seat_view s = record { line = s.seat.table_id; counts = s.counts.items; parts = s.seat.me.0.parts; ended = s.ended.items; drawn = s.drawn.items }
+seat_view s = record {
+  line = s.seat.table_id;
+  counts = s.counts.items;
+  parts = s.seat.me.0.parts;
+  ended =
+      s.ended.items;
+  drawn = s.drawn.items;
+}
 
 -- what the seat knows is what its holder has, and there is room for every job
 pub record IsSeated (s : Inside) : Type 0 where

@@ -132,7 +132,8 @@ impl JobLine {
         requires { seat.old.line ≡ self.now }
         ensures some { IfSome result (λ n. (n < jobs_of seat.old)
             × (seat.new ≡ record seat.old { drawn = seat.old.drawn ++ n ∷ [] })) }
-        ensures none { IfNone result (seat.new ≡ record seat.old { ended = set seat.old.ended 0 true }) }
+        ensures none { IfNone result
+            (seat.new ≡ record seat.old { ended = set seat.old.ended 0 true }) }
         ensures same { (seat.new.line ≡ seat.old.line) × (seat.new.parts ≡ seat.old.parts) }
     {
         self.draw_at(seat, 0)

@@ -3,13 +3,13 @@
 use Rattle.std.specs.Prelude.{◌≡◌, ◌⊎◌, ℕ, List, Bool, true, false}
 use Rattle.journal_tape.specs.Crash.{HasKept}
 use Rattle.journal_tape.specs.Journal.{Noted, Writes}
-use Rattle.journal_files.specs.declared.place.Place.{Place}
+use Rattle.journal_files.specs.declared.position.JournalPosition.{JournalPosition}
 use Rattle.journal_files.specs.Shelves.{HasHead}
 
 -- what is on the tape of the last file, and where its text ends
 pub record Written : Type 0 where
   pub noted : Noted
-  pub place : Place
+  pub place : JournalPosition
 
 -- a text of this kind was written behind what was written; where it is asked for, each crash keeps it all
 pub record WritesText (Kind : List ℕ → Type 0) (old new : Written) (always : Bool) : Type 0 where
@@ -19,22 +19,23 @@ pub record WritesText (Kind : List ℕ → Type 0) (old new : Written) (always :
   pub kept : always ≡ true → HasKept new.noted.written new.noted.kept
 
 -- what follows the place was written, and the new place is where it ends
-abbrev pub ComesUpTo : (Place → List ℕ → Place → Type 0) → Written → Written → Bool → Type 0
+abbrev pub ComesUpTo : (JournalPosition → List ℕ → JournalPosition → Type 0) → Written → Written → Bool → Type 0
 ComesUpTo follows old new always = WritesText (λ text. follows old.place text new.place) old new always
 
 -- a file was begun with such a text, which each crash keeps
-pub record Begins (begins : List ℕ → Place → Type 0) (new : Written) : Type 0 where
+pub record Begins (begins : List ℕ → JournalPosition → Type 0) (new : Written) : Type 0 where
   pub head : List ℕ
   pub is_head : begins head new.place
   pub has : HasHead new.noted.written new.noted.kept head
   pub works : new.noted.failed ≡ false
 
 -- the last file was ended by such a text, and the next one begun
-pub record TurnsOver (Ends : List ℕ → Type 0) (begins : List ℕ → Place → Type 0) (old new : Written) : Type 0 where
+pub record TurnsOver (Ends : List ℕ → Type 0) (begins : List ℕ → JournalPosition → Type 0)
+    (old new : Written) : Type 0 where
   pub ended : Written
   pub ends : WritesText Ends old ended true
   pub next : Begins begins new
 
 -- the same, or nothing changed
-abbrev pub TurnsOverOrStays : (List ℕ → Type 0) → (List ℕ → Place → Type 0) → Written → Written → Type 0
+abbrev pub TurnsOverOrStays : (List ℕ → Type 0) → (List ℕ → JournalPosition → Type 0) → Written → Written → Type 0
 TurnsOverOrStays Ends begins old new = TurnsOver Ends begins old new ⊎ (new ≡ old)

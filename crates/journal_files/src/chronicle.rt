@@ -3,30 +3,30 @@
 ghost use Rattle.std.specs.Prelude.{◌≡◌, [], IfOk, IfSome};
 
 use crate::fault::JournalFault;
-use crate::place::Place;
+use crate::position::JournalPosition;
 use counted_io::Output;
 use std::alloc::Global;
 
 /// A text, and where it ends.
-pub type Spelled = (Vec<u8>, Place);
+pub type Spelled = (Vec<u8>, JournalPosition);
 
 /// What is recorded. Others may enter more at any time.
 pub trait Chronicle {
     ghost use Rattle.std.specs.Prelude.{ℕ, List};
-    ghost use Rattle.journal_files.specs.declared.place.Place.{Place};
+    ghost use Rattle.journal_files.specs.declared.position.JournalPosition.{JournalPosition};
 
     /// Holds of a place, a text that may be spelled behind the texts up to it, and where that one ends.
-    ghost follows: { Self → Place → List ℕ → Place → Type 0 };
+    ghost follows: { Self → JournalPosition → List ℕ → JournalPosition → Type 0 };
 
     /// Holds of each text that a file may begin with, and where it ends.
-    ghost begins: { Self → List ℕ → Place → Type 0 };
+    ghost begins: { Self → List ℕ → JournalPosition → Type 0 };
 
     /// How many entries there are, from the first one ever.
     fn entry_count(&self) -> u64;
 
     /// The text of the entries behind a place. It fails if memory runs out, and where what is recorded does not go on
     /// from there.
-    fn follow(&self, output: &mut Output, place: Place) -> Result<Spelled, JournalFault>
+    fn follow(&self, output: &mut Output, place: JournalPosition) -> Result<Spelled, JournalFault>
         requires { output.old ≡ [] }
         ensures follows { IfOk result (λ text. follows self.now place text.0.items text.1) }
         ensures idle { output.new ≡ [] };
@@ -44,7 +44,7 @@ pub trait Chronicle {
 /// Who ends what is recorded in one file, so that the next one goes on from it: a desk of a gate seals so.
 pub trait Sealer {
     ghost use Rattle.std.specs.Prelude.{ℕ, List};
-    ghost use Rattle.journal_files.specs.declared.place.Place.{Place};
+    ghost use Rattle.journal_files.specs.declared.position.JournalPosition.{JournalPosition};
 
     /// What comes of a seal.
     type Sealed;
@@ -53,7 +53,7 @@ pub trait Sealer {
     ghost seals: { Self → Self.Sealed → Self → Type 0 };
 
     /// Holds of what came of a seal, a place, and the text behind the texts up to it that ends the file.
-    ghost ends: { Self.Sealed → Place → List ℕ → Type 0 };
+    ghost ends: { Self.Sealed → JournalPosition → List ℕ → Type 0 };
 
     /// Seals.
     fn seal(&mut self) -> Self::Sealed
@@ -64,9 +64,10 @@ pub trait Sealer {
         alloc: Global,
         sealed: &Self::Sealed,
         output: &mut Output,
-        place: Place,
+        place: JournalPosition,
     ) -> Option<Result<Vec<u8>, JournalFault>>
         requires { output.old ≡ [] }
-        ensures ends { IfSome result (λ rest. IfOk rest (λ text. ends sealed.now place text.items)) }
+        ensures ends { IfSome result
+            (λ rest. IfOk rest (λ text. ends sealed.now place text.items)) }
         ensures idle { output.new ≡ [] };
 }

@@ -8,7 +8,7 @@ ghost use Rattle.journal_files.specs.Writing.{Begins, ComesUpTo, WritesText};
 use crate::chronicle::{Chronicle, Sealer, Spelled};
 use crate::fault::JournalFault;
 use crate::group::FILE_OCTETS;
-use crate::place::Place;
+use crate::position::JournalPosition;
 use crate::shelf::Shelf;
 use counted_io::Output;
 use journal_tape::{Journal, Tape};
@@ -22,7 +22,7 @@ pub(crate) struct Writer<S: Shelf> {
     output: Output,
     shelf: S,
     journal: Journal<S::Tape>,
-    place: Place,
+    place: JournalPosition,
     octets: u64,
     head: u64,
 }
@@ -66,7 +66,7 @@ impl<S: Shelf> Writer<S> {
     }
 
     // Where the text ends.
-    pub fn place(&self) -> Place
+    pub fn place(&self) -> JournalPosition
         ensures { result ≡ self.now.place }
     {
         self.place

@@ -5,10 +5,10 @@ ghost use Rattle.http_wire.specs.declared.fault.WireFault.{WireFault};
 
 use counted_io::DeviceFault;
 use fetchers::{Fetcher, PageLeave, RobotsLeave};
+use http_client::{Deadline, Failure};
 use http_wire::{HttpReply, WireFault};
 use journal_tape::ComesUp;
 use path_normal::Schemes;
-use tcp_wire::{Deadline, Failure};
 
 /// What fetches, and what comes up before each of its fetches.
 #[derive(Drop)]
@@ -52,7 +52,7 @@ impl<'a, A: ComesUp, F: Fetcher> Fetcher for FetchesBehind<'a, A, F> {
         }
     }
 
-    /// So it is of robots files.
+    /// So it is of robots.txt files.
     fn load_robots(
         &self,
         leave: RobotsLeave<'_>,
@@ -74,7 +74,7 @@ fn leave_page(leave: PageLeave<'_>, fault: DeviceFault) -> Result<HttpReply, Wir
     Err(WireFault::from(fault))
 }
 
-// What is told of a robots file that is not fetched.
+// What is told of a robots.txt that is not fetched.
 fn leave_file(leave: RobotsLeave<'_>, fault: DeviceFault) -> Result<HttpReply, WireFault>
     ensures { result ≡ Err WireFault.Device }
 {

@@ -6,7 +6,7 @@ use counted_io::Output;
 use gate_core::NoMemory;
 use gate_history::Segment;
 use gate_journal::rest_of;
-use journal_files::{JournalFault, Place, Sealer};
+use journal_files::{JournalFault, JournalPosition, Sealer};
 use keepers::Keeper;
 use std::alloc::Global;
 
@@ -32,7 +32,7 @@ impl<K: Keeper> Sealer for KeeperSealer<K> {
         alloc: Global,
         sealed: &Result<Segment, NoMemory>,
         output: &mut Output,
-        place: Place,
+        place: JournalPosition,
     ) -> Option<Result<Vec<u8>, JournalFault>> {
         rest_of(alloc, sealed, output, place)
     }

@@ -9,7 +9,7 @@ use crawl_job::{Job, Outcome};
 use crawl_workers::Clock;
 use gate_core::{AskRefusal, BeginRefusal, Denial, NoMemory, Standing, State};
 use gate_history::{Reason, Segment};
-use journal_files::{Chronicle, Records};
+use journal_files::{Chronicle, Recorder};
 use keepers::{Counts, Keeper, Visitors, Visits};
 use path_normal::{Authority, PageUrl, Schemes};
 use permit_book::{NotOut, PermitNo};
@@ -28,7 +28,7 @@ pub struct RecordedKeeper<'a, K, H, J, R> {
     sealer: KeeperSealer<K>,
 }
 
-impl<'a, K: Keeper, H: Chronicle, J: Records, R: Wait> RecordedKeeper<'a, K, H, J, R> {
+impl<'a, K: Keeper, H: Chronicle, J: Recorder, R: Wait> RecordedKeeper<'a, K, H, J, R> {
     /// The keeper of a gate that is recorded, in a server with these visits.
     pub fn new(
         rt: &'a R,
@@ -63,12 +63,13 @@ impl<'a, K: Keeper, H: Chronicle, J: Records, R: Wait> RecordedKeeper<'a, K, H, 
     }
 }
 
-impl<'a, K: Keeper, H: Chronicle, J: Records, R: Wait> Keeper for RecordedKeeper<'a, K, H, J, R> {
+impl<'a, K: Keeper, H: Chronicle, J: Recorder, R: Wait> Keeper for RecordedKeeper<'a, K, H, J, R> {
     ghost deals = { record {
       can_fetch = λ k. K.deals.can_fetch k.sealer.keeper;
       schemes = λ k. K.deals.schemes k.sealer.keeper;
       asks = λ k token url m result k2. K.deals.asks k.sealer.keeper token url m result k2.sealer.keeper;
       starts = λ k number token url m result k2. K.deals.starts k.sealer.keeper number token url m result k2.sealer.keeper;
+      urls = λ k number url. K.deals.urls k.sealer.keeper number url;
       returns = λ k number result k2. K.deals.returns k.sealer.keeper number result k2.sealer.keeper;
       finishes = λ k number result k2. K.deals.finishes k.sealer.keeper number result k2.sealer.keeper;
       counts = λ k counts. K.deals.counts k.sealer.keeper counts;
@@ -100,6 +101,10 @@ impl<'a, K: Keeper, H: Chronicle, J: Records, R: Wait> Keeper for RecordedKeeper
         moment: u64,
     ) -> Result<Reason, Denial> {
         self.sealer.keeper.start(number, token, url, moment)
+    }
+
+    fn url_of(&self, number: PermitNo) -> Option<&PageUrl> {
+        self.sealer.keeper.url_of(number)
     }
 
     fn back(&mut self, number: PermitNo) -> Result<(), NotOut> {

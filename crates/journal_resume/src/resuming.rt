@@ -32,7 +32,7 @@ pub struct Resumed {
     pub whole: u64,
     /// The lines that end what was out: to be written behind the whole ones.
     pub ending: Vec<u8>,
-    /// The sites whose robots files were being fetched; and behind them those which faults of the network closed last,
+    /// The sites whose robots.txt files were being fetched; and behind them those which faults of the network closed last,
     /// as many as `MOST_CLOSED`, since an earlier process may have ended before it fetched its own anew.
     pub begun: Vec<Authority>,
 }

@@ -5,7 +5,8 @@ use Rattle.std.specs.Io.KnownBytes.{Appends}
 use Rattle.counted_io.specs.Device.{failures_after, AppendsPrefix}
 use Rattle.journal_tape.specs.Crash.{HasKept}
 
--- what is on the tape, how much of it each crash keeps, how many of the tape's calls failed, and whether one did for good
+-- what is on the tape, how much of it each crash keeps, how many of the tape's calls failed, and whether one did for
+-- good
 pub record Noted : Type 0 where
   pub written : Option (List ℕ)
   pub kept : ℕ

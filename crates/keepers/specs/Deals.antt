@@ -22,6 +22,7 @@ pub record Deals (S : Type 0) : Type 1 where
   pub schemes : S → Schemes
   pub asks : S → (token url : List ℕ) (moment : ℕ) → Result ℕ AskRefusal → S → Type 0
   pub starts : S → (number : ℕ) (token url : List ℕ) (moment : ℕ) → Result Reason Denial → S → Type 0
+  pub urls : S → (number : ℕ) → Option (List ℕ) → Type 0
   pub returns : S → (number : ℕ) → Result Unit NotOut → S → Type 0
   pub finishes : S → (number : ℕ) → Result Unit NotOut → S → Type 0
   pub counts : S → Counts → Type 0

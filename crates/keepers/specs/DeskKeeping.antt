@@ -30,7 +30,8 @@ Behind d Step = (d1 : DeskView) × (MayCondense d d1 × Step d1)
 -- bag, nothing was asked
 abbrev pub KeeperAsks : DeskView → BagView → List ℕ → List ℕ → ℕ → Result ℕ AskRefusal → DeskView → BagView → Type 0
 KeeperAsks d b token url m (Ok number) d2 b2 =
-    (p : Pass) × ((p.number ≡ number) × Somewhere d (λ old new. DeskAsks d old token url m (Ok p) new d2) × GainsPermit b p b2)
+    (p : Pass) × ((p.number ≡ number) × Somewhere d (λ old new. DeskAsks d old token url m (Ok p) new d2)
+    × GainsPermit b p b2)
 KeeperAsks d b token url m (Err ask.NoMemory) d2 b2 =
     ((d2 ≡ d) ⊎ Somewhere d (λ old new. DeskAsks d old token url m (Err ask.NoMemory) new d2)) × HoldsSame b b2
 KeeperAsks d b token url m (Err refusal) d2 b2 =
@@ -46,13 +47,15 @@ abbrev pub KeeperSeals : DeskView → BagView → Result Sealed NoMemory → Des
 KeeperSeals d b result d2 b2 = Somewhere d (λ old new. DeskSeals d old result new d2) × (b2 ≡ b)
 
 -- refresh: a turn of the desk, whose answer is what fetches give
-abbrev pub KeeperRefreshes : World → DeskView → BagView → List ℕ → Option (Result Standing BeginRefusal) → DeskView → BagView → Type 0
+abbrev pub KeeperRefreshes : World → DeskView → BagView → List ℕ → Option (Result Standing BeginRefusal) → DeskView
+    → BagView → Type 0
 KeeperRefreshes world d b authority (Some told) d2 b2 = Refreshes world authority told d d2 × (b2 ≡ b)
 KeeperRefreshes world d b authority None d2 b2 = ⊥
 
 -- fetch: the work of the desk on a job, by which nothing is handed out and nothing left to be spent; or nothing where
 -- there is no memory for its hops
-abbrev pub KeeperFetches : World → DeskView → BagView → Job → Option (Result Outcome NoMemory) → DeskView → BagView → Type 0
+abbrev pub KeeperFetches : World → DeskView → BagView → Job → Option (Result Outcome NoMemory) → DeskView → BagView
+    → Type 0
 KeeperFetches world d b job (Some (Ok outcome)) d2 b2 = Works world job outcome d d2 × KeepsOut d d2 × (b2 ≡ b)
 KeeperFetches world d b job (Some (Err _)) d2 b2 = (d2 ≡ d) × (b2 ≡ b)
 KeeperFetches world d b job None d2 b2 = ⊥

@@ -33,6 +33,8 @@ impl<'a> BookKeeper<'a> {
 
 impl<'a> Keeper for BookKeeper<'a> {
     ghost use Rattle.std.specs.Prelude.{◌≡◌, false};
+    ghost use Rattle.gate_core.specs.Gate.{history};
+    ghost use Rattle.gate_core.specs.PermitUrls.{IsPermitUrl};
     ghost use Rattle.gate_core.specs.Replies.{Asks, Finishes, Returns};
     ghost use Rattle.gate_core.specs.Sealing.{Seals};
     ghost use Rattle.path_normal.specs.declared.schemes.Schemes.TheVariants.{Http};
@@ -42,14 +44,21 @@ impl<'a> Keeper for BookKeeper<'a> {
     ghost deals = { record {
       can_fetch = λ _. false;
       schemes = λ _. Http;
-      asks = λ k token url m result k2. (k2.book.ghost_name ≡ k.book.ghost_name) × Asks k.book.now token url m result k2.book.now;
-      starts = λ k number token url m result k2. (k2.book.ghost_name ≡ k.book.ghost_name) × BookStarts k.book.now number token url m result k2.book.now;
-      returns = λ k number result k2. (k2.book.ghost_name ≡ k.book.ghost_name) × Returns k.book.now number result k2.book.now;
-      finishes = λ k number result k2. (k2.book.ghost_name ≡ k.book.ghost_name) × Finishes k.book.now number result k2.book.now;
+      asks = λ k token url m result k2. (k2.book.ghost_name ≡ k.book.ghost_name)
+          × Asks k.book.now token url m result k2.book.now;
+      starts = λ k number token url m result k2. (k2.book.ghost_name ≡ k.book.ghost_name)
+          × BookStarts k.book.now number token url m result k2.book.now;
+      urls = λ k number url. IsPermitUrl (history k.book.now) number url;
+      returns = λ k number result k2. (k2.book.ghost_name ≡ k.book.ghost_name)
+          × Returns k.book.now number result k2.book.now;
+      finishes = λ k number result k2. (k2.book.ghost_name ≡ k.book.ghost_name)
+          × Finishes k.book.now number result k2.book.now;
       counts = λ k counts. counts ≡ counts_of k.book.now;
       answers = λ k authority result. TellsAnswer k.book.now authority result;
-      reads = λ k authority m state k2. (k2.book.ghost_name ≡ k.book.ghost_name) × BookReads k.book.now authority m state k2.book.now;
-      refreshes = λ _ k _ result k2. (k2.book.ghost_name ≡ k.book.ghost_name) × OffersNone k.book.now result k2.book.now;
+      reads = λ k authority m state k2. (k2.book.ghost_name ≡ k.book.ghost_name)
+          × BookReads k.book.now authority m state k2.book.now;
+      refreshes =
+          λ _ k _ result k2. (k2.book.ghost_name ≡ k.book.ghost_name) × OffersNone k.book.now result k2.book.now;
       fetches = λ _ k _ result k2. (k2.book.ghost_name ≡ k.book.ghost_name) × OffersNone k.book.now result k2.book.now;
       seals = λ k result k2. (k2.book.ghost_name ≡ k.book.ghost_name) × Seals k.book.now result k2.book.now;
       ends = λ k k2. k2 ≡ k;
@@ -76,6 +85,10 @@ impl<'a> Keeper for BookKeeper<'a> {
     ) -> Result<Reason, Denial> {
         let Started { reason, .. } = self.book.start(number, token, url, moment)?;
         Ok(reason)
+    }
+
+    fn url_of(&self, number: PermitNo) -> Option<&PageUrl> {
+        self.book.url_of(number)
     }
 
     fn back(&mut self, number: PermitNo) -> Result<(), NotOut> {

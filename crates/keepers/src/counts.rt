@@ -18,7 +18,7 @@ pub struct Counts {
     pub permits: u64,
     /// The fetches of pages under way.
     pub running: u64,
-    /// The fetches of robots files under way.
+    /// The fetches of robots.txt files under way.
     pub turns: u64,
     /// The authorities that have an answer or a turn.
     pub authorities: u64,

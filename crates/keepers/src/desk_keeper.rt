@@ -145,7 +145,7 @@ impl<'a, 'g, G: Gate, F: Fetcher, R: Wait> DeskKeeper<'a, 'g, G, F, R> {
         }
     }
 
-    // Fetches a robots file at the desk.
+    // Fetches a robots.txt at the desk.
     fn refresh_desk<C: Clock>(
         &mut self,
         alloc: Global,
@@ -208,7 +208,7 @@ impl<'a, 'g, G: Gate, F: Fetcher, R: Wait> DeskKeeper<'a, 'g, G, F, R> {
 
 impl<'a, 'g, G: Gate, F: Fetcher, R: Wait> Keeper for DeskKeeper<'a, 'g, G, F, R> {
     ghost use Rattle.std.specs.Prelude.{◌≡◌, true};
-    ghost use Rattle.gate_lock.specs.Bags.{BagFinishes, BagReturns, BagStarts};
+    ghost use Rattle.gate_lock.specs.Bags.{BagFinishes, BagReturns, BagStarts, IsUrlIn};
     ghost use Rattle.crawl_workers.specs.World.{world_of};
     ghost use Rattle.gate_lock.specs.Desks.{out_of};
     ghost use Rattle.keepers.specs.Bounding.{Bounded, RefusesAsk, RefusesFetch, RefusesRefresh, has_enough};
@@ -218,17 +218,36 @@ impl<'a, 'g, G: Gate, F: Fetcher, R: Wait> Keeper for DeskKeeper<'a, 'g, G, F, R
     ghost deals = { record {
       can_fetch = λ _. true;
       schemes = λ k. F.follows k.fetcher.now;
-      asks = λ k token url m result k2. ((k2.fetcher ≡ k.fetcher) × (k2.bounds ≡ k.bounds) × (k2.newcomers ≡ k.newcomers)) × Bounded (has_enough k.bounds.permits (out_of k.desk)) (RefusesAsk k.desk k.bag result k2.desk k2.bag) (Behind k.desk (λ d. KeeperAsks d k.bag token url m result k2.desk k2.bag));
-      starts = λ k number token url m result k2. ((k2.fetcher ≡ k.fetcher) × (k2.bounds ≡ k.bounds) × (k2.newcomers ≡ k.newcomers)) × BagStarts k.bag k.desk number token url m result k2.bag k2.desk;
-      returns = λ k number result k2. ((k2.fetcher ≡ k.fetcher) × (k2.bounds ≡ k.bounds) × (k2.newcomers ≡ k.newcomers)) × BagReturns k.bag k.desk number result k2.bag k2.desk;
-      finishes = λ k number result k2. ((k2.fetcher ≡ k.fetcher) × (k2.bounds ≡ k.bounds) × (k2.newcomers ≡ k.newcomers)) × BagFinishes k.bag k.desk number result k2.bag k2.desk;
+      asks = λ k token url m result k2.
+          ((k2.fetcher ≡ k.fetcher) × (k2.bounds ≡ k.bounds) × (k2.newcomers ≡ k.newcomers))
+          × Bounded (has_enough k.bounds.permits (out_of k.desk)) (RefusesAsk k.desk k.bag result k2.desk k2.bag)
+          (Behind k.desk (λ d. KeeperAsks d k.bag token url m result k2.desk k2.bag));
+      starts = λ k number token url m result k2.
+          ((k2.fetcher ≡ k.fetcher) × (k2.bounds ≡ k.bounds) × (k2.newcomers ≡ k.newcomers))
+          × BagStarts k.bag k.desk number token url m result k2.bag k2.desk;
+      urls = λ k number url. IsUrlIn k.bag number url;
+      returns = λ k number result k2. ((k2.fetcher ≡ k.fetcher) × (k2.bounds ≡ k.bounds) × (k2.newcomers ≡ k.newcomers))
+          × BagReturns k.bag k.desk number result k2.bag k2.desk;
+      finishes = λ k number result k2.
+          ((k2.fetcher ≡ k.fetcher) × (k2.bounds ≡ k.bounds) × (k2.newcomers ≡ k.newcomers))
+          × BagFinishes k.bag k.desk number result k2.bag k2.desk;
       counts = λ k counts. CountsSome k.desk counts;
       answers = λ k authority result. AnswersSome k.desk authority result;
-      reads = λ k authority m state k2. ((k2.fetcher ≡ k.fetcher) × (k2.bounds ≡ k.bounds) × (k2.newcomers ≡ k.newcomers)) × KeeperReads k.desk k.bag authority m state k2.desk k2.bag;
-      refreshes = λ reads k authority told k2. ((k2.fetcher ≡ k.fetcher) × (k2.bounds ≡ k.bounds)) × Bounded (has_enough k.bounds.authorities k.newcomers) (RefusesRefresh k.desk k.bag told k2.desk k2.bag) (Behind k.desk (λ d. KeeperRefreshes (world_of (F.gives k.fetcher.now) (F.follows k.fetcher.now) reads) d k.bag authority told k2.desk k2.bag));
-      fetches = λ reads k job told k2. ((k2.fetcher ≡ k.fetcher) × (k2.bounds ≡ k.bounds)) × Bounded (has_enough k.bounds.authorities k.newcomers) (RefusesFetch k.desk k.bag told k2.desk k2.bag) (Behind k.desk (λ d. KeeperFetches (world_of (F.gives k.fetcher.now) (F.follows k.fetcher.now) reads) d k.bag job told k2.desk k2.bag));
-      seals = λ k result k2. ((k2.fetcher ≡ k.fetcher) × (k2.bounds ≡ k.bounds) × (k2.newcomers ≡ k.newcomers)) × KeeperSeals k.desk k.bag result k2.desk k2.bag;
-      ends = λ k k2. ((k2.fetcher ≡ k.fetcher) × (k2.bounds ≡ k.bounds) × (k2.newcomers ≡ 0)) × KeeperEnds k.desk k.bag k2.desk k2.bag;
+      reads = λ k authority m state k2.
+          ((k2.fetcher ≡ k.fetcher) × (k2.bounds ≡ k.bounds) × (k2.newcomers ≡ k.newcomers))
+          × KeeperReads k.desk k.bag authority m state k2.desk k2.bag;
+      refreshes = λ reads k authority told k2. ((k2.fetcher ≡ k.fetcher) × (k2.bounds ≡ k.bounds))
+          × Bounded (has_enough k.bounds.authorities k.newcomers) (RefusesRefresh k.desk k.bag told k2.desk k2.bag)
+          (Behind k.desk (λ d. KeeperRefreshes
+          (world_of (F.gives k.fetcher.now) (F.follows k.fetcher.now) reads) d k.bag authority told k2.desk k2.bag));
+      fetches = λ reads k job told k2. ((k2.fetcher ≡ k.fetcher) × (k2.bounds ≡ k.bounds))
+          × Bounded (has_enough k.bounds.authorities k.newcomers) (RefusesFetch k.desk k.bag told k2.desk k2.bag)
+          (Behind k.desk (λ d. KeeperFetches
+          (world_of (F.gives k.fetcher.now) (F.follows k.fetcher.now) reads) d k.bag job told k2.desk k2.bag));
+      seals = λ k result k2. ((k2.fetcher ≡ k.fetcher) × (k2.bounds ≡ k.bounds) × (k2.newcomers ≡ k.newcomers))
+          × KeeperSeals k.desk k.bag result k2.desk k2.bag;
+      ends = λ k k2. ((k2.fetcher ≡ k.fetcher) × (k2.bounds ≡ k.bounds) × (k2.newcomers ≡ 0))
+          × KeeperEnds k.desk k.bag k2.desk k2.bag;
     } };
 
     fn can_fetch(&self) -> bool {
@@ -255,6 +274,10 @@ impl<'a, 'g, G: Gate, F: Fetcher, R: Wait> Keeper for DeskKeeper<'a, 'g, G, F, R
     ) -> Result<Reason, Denial> {
         self.bag
             .start(self.rt, number, token, url, &mut self.desk, moment)
+    }
+
+    fn url_of(&self, number: PermitNo) -> Option<&PageUrl> {
+        self.bag.url_of(number)
     }
 
     fn back(&mut self, number: PermitNo) -> Result<(), NotOut> {

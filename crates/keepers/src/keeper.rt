@@ -1,5 +1,6 @@
 //! `Keeper`: what makes the calls of a session, and knows which permits the session has out.
 ghost use Rattle.std.specs.Prelude.{◌≡◌};
+ghost use Rattle.std.specs.Option.{option_copied};
 
 use crate::counts::Counts;
 use crate::visits::Visitors;
@@ -42,6 +43,10 @@ pub trait Keeper {
     ) -> Result<Reason, Denial>
         ensures { deals.starts self.old number token.now url moment result self.new };
 
+    /// The URL of the permit of this number that the session may start, where it may start one.
+    fn url_of(&self, number: PermitNo) -> Option<&PageUrl>
+        ensures { deals.urls self.now number (option_copied result) };
+
     /// Gives the session's permit of this number back.
     fn back(&mut self, number: PermitNo) -> Result<(), NotOut>
         ensures { deals.returns self.old number result self.new };
@@ -69,7 +74,7 @@ pub trait Keeper {
     fn state(&mut self, authority: &Authority, moment: u64) -> State
         ensures { deals.reads self.old authority.now moment result self.new };
 
-    /// Fetches the robots file of an authority, whose answer stands from now on. None where it fetches
+    /// Fetches the robots.txt of an authority, whose answer stands from now on. None where it fetches
     /// nothing.
     fn refresh<C: Clock>(
         &mut self,

@@ -6,13 +6,13 @@ use crawl_workers::Fetcher;
 use fetchers::{PageLeave, RobotsLeave};
 use gate_core::Standing;
 use gate_lock::{Gate, GateLock};
+use http_client::{Deadline, Failure};
 use http_wire::{HttpReply, WireFault};
 use path_normal::Schemes;
 use std::cell::Cell;
 use std::sync::Wait;
-use tcp_wire::{Deadline, Failure};
 
-/// A fetcher that counts the authorities of which no answer stands while their robots files are fetched: they become known
+/// A fetcher that counts the authorities of which no answer stands while their robots.txt files are fetched: they become known
 /// by that.
 #[derive(Drop)]
 pub(crate) struct Newcomers<'a, 'g, G: Gate, F: Fetcher, R: Wait> {
@@ -21,7 +21,7 @@ pub(crate) struct Newcomers<'a, 'g, G: Gate, F: Fetcher, R: Wait> {
     pub(crate) fetcher: &'a F,
     /// How many there are.
     pub(crate) count: Cell<u64>,
-    /// Whether a walk has begun, and nothing is fetched yet: then a robots file comes, and else where it redirects to.
+    /// Whether a walk has begun, and nothing is fetched yet: then a robots.txt comes, and else where it redirects to.
     pub(crate) is_at_file: Cell<bool>,
 }
 
@@ -44,7 +44,7 @@ impl<'a, 'g, G: Gate, F: Fetcher, R: Wait> Newcomers<'a, 'g, G, F, R> {
         }
     }
 
-    // Counts the authority whose robots file is fetched, where no answer of it stands.
+    // Counts the authority whose robots.txt is fetched, where no answer of it stands.
     fn count_in(&self, authority: &str) {
         let standing = self
             .gate

@@ -1,9 +1,9 @@
 -- How many numbers a server has for its connections, and how it ends.
 -- The contracts of `count_of` and of `Server::run`.
 use Rattle.std.specs.Prelude.{◌≡◌, ◌≤◌, ◌++◌, ◌∷◌, [], ℕ, List, Ok}
-use Rattle.client_wire.specs.Accepts.{max_connections}
-use Rattle.client_wire.specs.declared.connections.Connections.{Connections}
-use Rattle.client_wire.specs.declared.connections.Connections.TheVariants.{AtMost, Endless}
+use Rattle.client_connections.specs.Accepts.{max_connections}
+use Rattle.client_connections.specs.declared.connections.Connections.{Connections}
+use Rattle.client_connections.specs.declared.connections.Connections.TheVariants.{AtMost, Endless}
 use Rattle.gate_lock.specs.Marks.{Receipt}
 use Rattle.gate_lock.specs.Settling.{IsWholeUnlessSealed, SettlesSome}
 use Rattle.gate_lock.specs.declared.settlement.Settled.{Settled}
@@ -17,7 +17,8 @@ AreNumbered Endless numbers = numbers ≡ max_workers
 -- by these receipts a gate was settled, with so many entries; where nothing was handed out they are a whole history
 abbrev pub IsServed : List Receipt → ℕ → Type 0
 IsServed receipts events =
-    (settled : Settled) × ((settled.events ≡ events) × SettlesSome receipts (Ok settled) × IsWholeUnlessSealed receipts settled)
+    (settled : Settled) ×
+    ((settled.events ≡ events) × SettlesSome receipts (Ok settled) × IsWholeUnlessSealed receipts settled)
 
 -- these are the last of the receipts
 abbrev pub HasLast : Receipt → List Receipt → Type 0

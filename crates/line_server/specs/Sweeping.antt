@@ -24,13 +24,15 @@ is_due swept now is_full = nat_lt now swept || nat_le (if is_full then full_seco
 abbrev pub MaySweep : (ℕ → Type 0) → DeskView → DeskView → Type 0
 MaySweep reads d d2 =
     (d2 ≡ d)
-    ⊎ ((m : ℕ) × (reads m × ((result : Result ℕ SweepRefusal) × Somewhere d (λ old new. DeskSweeps d old m result new d2))))
+    ⊎ ((m : ℕ) × (reads m
+    × ((result : Result ℕ SweepRefusal) × Somewhere d (λ old new. DeskSweeps d old m result new d2))))
 
 -- so many rounds, each at the clock's reading behind that of the round before
 abbrev pub GoesRoundsTo : (ℕ → ℕ → Type 0) → ℕ → DeskView → DeskView → Type 0
 GoesRoundsTo reads zero d d2 = d2 ≡ d
 GoesRoundsTo reads (suc rounds) d d2 =
-    (between : DeskView) × (GoesRoundsTo reads rounds d between × MaySweep (reads (reading_after (suc rounds))) between d2)
+    (between : DeskView)
+    × (GoesRoundsTo reads rounds d between × MaySweep (reads (reading_after (suc rounds))) between d2)
 
 -- some rounds
 abbrev pub GoesRounds : (ℕ → ℕ → Type 0) → DeskView → DeskView → Type 0

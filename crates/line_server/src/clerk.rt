@@ -1,11 +1,11 @@
-//! Who sees to the records of a gate while workers serve: what nobody waits for is recorded too, and new files are begun.
+//! The clerk of a gate: it records entries that no reply waits for, and begins new files, while workers serve.
 //! The warden has one, at a desk of its own.
 
 use crate::recorded::Recorded;
 use counted_io::DeviceFault;
 use gate_journal::DeskSealer;
 use gate_lock::{DesksFull, Gate, Receipts};
-use journal_files::Records;
+use journal_files::Recorder;
 use std::alloc::Global;
 use std::sync::Wait;
 
@@ -15,13 +15,13 @@ const SYNC_LOOKS: u64 = 10;
 /// What is recorded, the desk by which it is sealed, and how often it was looked after. It has no `Drop`: `close` makes
 /// receipts of it.
 #[must_use]
-pub(crate) struct Clerk<'a, 'g, G: Gate, J: Records, R: Wait> {
+pub(crate) struct Clerk<'a, 'g, G: Gate, J: Recorder, R: Wait> {
     recorded: &'g Recorded<'a, G, J, R>,
     sealer: DeskSealer<'a, 'a, G, R>,
     looks: u64,
 }
 
-impl<'a, 'g, G: Gate, J: Records, R: Wait> Clerk<'a, 'g, G, J, R> {
+impl<'a, 'g, G: Gate, J: Recorder, R: Wait> Clerk<'a, 'g, G, J, R> {
     /// One at a desk of its own.
     pub(crate) fn open(
         alloc: Global,

@@ -4,7 +4,7 @@ ghost use Rattle.std.specs.Prelude.{◌≡◌, ◌≤◌, All};
 ghost use Rattle.job_line.specs.Limits.{max_jobs};
 ghost use Rattle.line_server.specs.Servers.{AreNumbered};
 
-use client_wire::Connections;
+use client_connections::Connections;
 use job_line::{JobLine, JobSeat, MAX_JOBS, MAX_WORKERS};
 
 // For how many connections one number of a server without end stands: the sixteen numbers together for as many as 64
@@ -32,13 +32,13 @@ pub(crate) fn share_of(connections: Connections) -> u64 {
 
 /// A worker's numbers: the line, and a seat of its own.
 #[derive(Drop)]
-pub(crate) struct Numbers<'l> {
+pub(crate) struct ConnectionNumbers<'l> {
     pub(crate) line: &'l JobLine,
     pub(crate) seat: JobSeat,
     ghost is_of: { seat.line ≡ line.now },
 }
 
-impl Numbers<'_> {
+impl ConnectionNumbers<'_> {
     /// Draws a number, and tells whether one was left.
     pub(crate) fn draw(&mut self) -> bool {
         self.line.draw(&mut self.seat).is_some()

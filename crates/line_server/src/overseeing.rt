@@ -1,16 +1,16 @@
-//! Who sees to the gate of a server connects at a listener of its own: clients that take all workers don't keep it out.
+//! Overseers of a server connect at a listener of their own: clients that take all workers don't keep it out.
 //! One after the other is served.
 
 use crate::fault::ServeFault;
 use crate::recorded::Recorded;
 use crate::server::Server;
 use crate::warden::Alarm;
-use client_wire::{AcceptFault, ClientStream, Listener, Waiting, close};
+use client_connections::{AcceptFault, ClientStream, Listener, Waiting, close};
 use command_server::{FirstLine, NumberedClock, serve_overseer};
 use counted_io::{Counted, DeviceFault};
 use crawl_workers::Fetcher;
 use gate_lock::{Gate, Receipts};
-use journal_files::Records;
+use journal_files::Recorder;
 use journal_keepers::{FetchesBehind, RecordedKeeper};
 use journal_tape::Behind;
 use keepers::{DeskKeeper, Keeper};
@@ -25,8 +25,8 @@ use std::{thread, time};
 const NAP_MILLISECONDS: u64 = 100;
 
 impl<F: Fetcher, C: NumberedClock, A: Alarm, R: Wait + time::Clock> Server<'_, F, C, A, R> {
-    /// Serves who sees to the gate, at a desk of its own, until no worker is left and the listener is shut.
-    pub(crate) fn oversee<G: Gate, J: Records>(
+    /// Serves overseers, at a desk of its own, until no worker is left and the listener is shut.
+    pub(crate) fn oversee<G: Gate, J: Recorder>(
         &self,
         recorded: &Recorded<'_, G, J, R>,
         listener: &Listener,
@@ -51,7 +51,7 @@ impl<F: Fetcher, C: NumberedClock, A: Alarm, R: Wait + time::Clock> Server<'_, F
     }
 
     // Takes one after the other until no worker is left.
-    fn take_overseers<G: Gate, J: Records, K: Keeper>(
+    fn take_overseers<G: Gate, J: Recorder, K: Keeper>(
         &self,
         recorded: &Recorded<'_, G, J, R>,
         listener: &Listener,
@@ -80,7 +80,7 @@ impl<F: Fetcher, C: NumberedClock, A: Alarm, R: Wait + time::Clock> Server<'_, F
     }
 
     // Serves one to its end. A fault of its session ends its connection alone.
-    fn serve_one<G: Gate, J: Records, K: Keeper>(
+    fn serve_one<G: Gate, J: Recorder, K: Keeper>(
         &self,
         recorded: &Recorded<'_, G, J, R>,
         stream: TcpStream,

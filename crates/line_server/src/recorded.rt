@@ -5,21 +5,21 @@ ghost use Rattle.std.specs.Prelude.{◌≡◌};
 use counted_io::DeviceFault;
 use gate_journal::{DeskSealer, Recording};
 use gate_lock::{Gate, GateLock};
-use journal_files::{Abreast, Records};
+use journal_files::{Abreast, Recorder};
 use keepers::Visits;
 use std::alloc::Global;
 use std::sync::Wait;
 
 /// A gate, what records it, and the clients of its server.
 #[derive(Drop)]
-pub(crate) struct Recorded<'a, G: Gate, J: Records, R: Wait> {
+pub(crate) struct Recorded<'a, G: Gate, J: Recorder, R: Wait> {
     rt: &'a R,
     pub(crate) chronicle: Recording<'a, G, R>,
     pub(crate) journal: &'a J,
     pub(crate) visits: Visits,
 }
 
-impl<'a, G: Gate, J: Records, R: Wait> Recorded<'a, G, J, R> {
+impl<'a, G: Gate, J: Recorder, R: Wait> Recorded<'a, G, J, R> {
     /// A gate that this journal records, or nothing does.
     pub(crate) fn new(
         rt: &'a R,
@@ -62,7 +62,7 @@ impl<'a, G: Gate, J: Records, R: Wait> Recorded<'a, G, J, R> {
     /// Begins a new file where one is due. What the seal hands out is in the last one.
     pub(crate) fn turn_over(&self, sealer: &mut DeskSealer<'_, '_, G, R>) {
         if self.journal.is_due(self.rt, &self.chronicle) {
-            // Want of memory is met again at the next try, and a fault of the journal by each session.
+            // If memory ran out, the next try meets it again; a fault of the journal ends each session.
             let _ = self.journal.seal(self.rt, &self.chronicle, sealer);
         }
     }

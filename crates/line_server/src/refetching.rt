@@ -1,4 +1,4 @@
-//! Robots files that are fetched anew for a gate that goes on: those which an earlier process was fetching when it ended.
+//! Robots.txt files that are fetched anew for a gate that goes on: those which an earlier process was fetching when it ended.
 //! Their turns were ended as faults of the network, which would close their sites for a day (RFC 9309, section 2.3.1.4).
 
 use crate::fault::ServeFault;
@@ -8,7 +8,7 @@ use crate::warden::Alarm;
 use command_server::{FetchClock, NumberedClock};
 use crawl_workers::Fetcher;
 use gate_lock::{Gate, Receipts};
-use journal_files::Records;
+use journal_files::Recorder;
 use journal_keepers::FetchesBehind;
 use keepers::{DeskKeeper, Keeper};
 use path_normal::Authority;
@@ -17,9 +17,9 @@ use std::sync::atomic::{AtomicU64, Ordering};
 use std::time;
 
 impl<F: Fetcher, C: NumberedClock, A: Alarm, R: Wait + time::Clock> Server<'_, F, C, A, R> {
-    /// Has the robots files of these sites fetched, one after the other, at a desk of its own, until no worker is left.
+    /// Has the robots.txt files of these sites fetched, one after the other, at a desk of its own, until no worker is left.
     /// What comes of each stands in the gate.
-    pub(crate) fn fetch_anew<G: Gate, J: Records>(
+    pub(crate) fn fetch_anew<G: Gate, J: Recorder>(
         &self,
         recorded: &Recorded<'_, G, J, R>,
         left: &AtomicU64,

@@ -2,16 +2,18 @@
 ghost use Rattle.std.specs.Prelude.{◌≡◌};
 
 use crate::fault::ServeFault;
-use crate::numbers::{Numbers, share_of};
+use crate::numbers::{ConnectionNumbers, share_of};
 use crate::recorded::Recorded;
 use crate::server::Server;
 use crate::warden::Alarm;
-use client_wire::{AcceptFault, ClientStream, LinesInTurn, RepliesInTurn, Turn, Waiting, close};
+use client_connections::{
+    AcceptFault, ClientStream, FetchedAhead, LinesInTurn, RepliesInTurn, Waiting, close,
+};
 use command_server::{FirstLine, NumberedClock, serve_from};
 use counted_io::{Counted, DeviceFault};
 use crawl_workers::Fetcher;
 use gate_lock::{Gate, Receipts};
-use journal_files::Records;
+use journal_files::Recorder;
 use journal_keepers::{FetchesBehind, RecordedKeeper};
 use journal_tape::Behind;
 use keepers::{DeskKeeper, Keeper};
@@ -26,14 +28,14 @@ use std::time;
 /// why it has none.
 #[derive(Drop)]
 pub(crate) struct Servant<'l, G: Gate> {
-    pub(crate) numbers: Numbers<'l>,
+    pub(crate) numbers: ConnectionNumbers<'l>,
     pub(crate) taken: u64,
     pub(crate) end: Option<Result<Receipts<G>, ServeFault>>,
 }
 
 impl<F: Fetcher, C: NumberedClock, A: Alarm, R: Wait + time::Clock> Server<'_, F, C, A, R> {
     /// Lets a worker serve until no number is left to be drawn.
-    pub(crate) fn employ<G: Gate, J: Records>(
+    pub(crate) fn employ<G: Gate, J: Recorder>(
         &self,
         recorded: &Recorded<'_, G, J, R>,
         left: &AtomicU64,
@@ -45,10 +47,10 @@ impl<F: Fetcher, C: NumberedClock, A: Alarm, R: Wait + time::Clock> Server<'_, F
     }
 
     // Opens a desk, takes clients at it, and closes it, whatever came of them.
-    fn man_desk<G: Gate, J: Records>(
+    fn man_desk<G: Gate, J: Recorder>(
         &self,
         recorded: &Recorded<'_, G, J, R>,
-        numbers: &mut Numbers<'_>,
+        numbers: &mut ConnectionNumbers<'_>,
         taken: &mut u64,
     ) -> Result<Receipts<G>, ServeFault> {
         let fetcher = FetchesBehind {
@@ -71,10 +73,10 @@ impl<F: Fetcher, C: NumberedClock, A: Alarm, R: Wait + time::Clock> Server<'_, F
     }
 
     // Takes clients until no number is left, or none can be accepted.
-    fn take_all<G: Gate, J: Records, K: Keeper>(
+    fn take_all<G: Gate, J: Recorder, K: Keeper>(
         &self,
         recorded: &Recorded<'_, G, J, R>,
-        numbers: &mut Numbers<'_>,
+        numbers: &mut ConnectionNumbers<'_>,
         keeper: &mut K,
         taken: &mut u64,
     ) -> Result<(), DeviceFault> {
@@ -88,7 +90,7 @@ impl<F: Fetcher, C: NumberedClock, A: Alarm, R: Wait + time::Clock> Server<'_, F
     }
 
     // Takes the clients of one number, one after the other.
-    fn take_share<G: Gate, J: Records, K: Keeper>(
+    fn take_share<G: Gate, J: Recorder, K: Keeper>(
         &self,
         recorded: &Recorded<'_, G, J, R>,
         keeper: &mut K,
@@ -119,7 +121,7 @@ impl<F: Fetcher, C: NumberedClock, A: Alarm, R: Wait + time::Clock> Server<'_, F
     }
 
     // Serves a client to its end, where it is no browser. A fault of its session ends its connection alone.
-    fn serve_client<G: Gate, J: Records, K: Keeper>(
+    fn serve_client<G: Gate, J: Recorder, K: Keeper>(
         &self,
         recorded: &Recorded<'_, G, J, R>,
         stream: TcpStream,
@@ -130,7 +132,7 @@ impl<F: Fetcher, C: NumberedClock, A: Alarm, R: Wait + time::Clock> Server<'_, F
         let writer = ClientStream::new(self.rt, &stream, &waiting);
         match self.ahead {
             Some(most) => {
-                let turn = Cell::new(Turn::new(most));
+                let turn = Cell::new(FetchedAhead::new(most));
                 // (without memory for its lines the connection is closed)
                 if let Ok(lines) = LinesInTurn::new(self.alloc, reader, &turn) {
                     self.serve_lines(recorded, lines, RepliesInTurn::new(writer, &turn), keeper);
@@ -142,7 +144,7 @@ impl<F: Fetcher, C: NumberedClock, A: Alarm, R: Wait + time::Clock> Server<'_, F
     }
 
     // Serves what a client says to its end, and writes to it behind the journal.
-    fn serve_lines<G: Gate, J: Records, K: Keeper, I: Read + Drop, O: Write + Drop>(
+    fn serve_lines<G: Gate, J: Recorder, K: Keeper, I: Read + Drop, O: Write + Drop>(
         &self,
         recorded: &Recorded<'_, G, J, R>,
         reader: I,

@@ -4,16 +4,16 @@ ghost use Rattle.job_line.specs.Limits.{IsCrew};
 ghost use Rattle.line_server.specs.Servers.{HasLast, IsServed};
 
 use crate::fault::ServeFault;
-use crate::numbers::{Numbers, count_of};
+use crate::numbers::{ConnectionNumbers, count_of};
 use crate::recorded::Recorded;
 use crate::servant::Servant;
 use crate::warden::Alarm;
-use client_wire::{Connections, Listener};
+use client_connections::{Connections, Listener};
 use command_server::NumberedClock;
 use crawl_workers::Fetcher;
 use gate_lock::{Gate, GateLock, Receipts, settle};
 use job_line::{JobLine, JobSeat, MAX_WORKERS};
-use journal_files::{Records, Unrecorded};
+use journal_files::{Recorder, Unrecorded};
 use keepers::Bounds;
 use path_normal::Authority;
 use std::alloc::{AllocError, Global};
@@ -29,7 +29,7 @@ pub struct Server<'a, F, C, A, R> {
     pub rt: &'a R,
     pub alloc: Global,
     pub listener: &'a Listener,
-    /// Where who sees to the gate connects, if that may be done beside the clients.
+    /// Where overseers connect, if that may be done beside the clients.
     pub overseers: Option<&'a Listener>,
     pub fetcher: &'a F,
     pub clock: &'a C,
@@ -82,9 +82,9 @@ impl<
     }
 
     /// `run` over a gate that is recorded from its first entry on: nothing is told to a client, and no page or
-    /// robots file is fetched, before all that was entered until then is. Where that fails each session ends at
+    /// robots.txt is fetched, before all that was entered until then is. Where that fails each session ends at
     /// its next write, no client is taken any more, and it has no end to tell of.
-    pub fn run_recorded<G: Gate + Send + Sync, J: Records + Sync>(
+    pub fn run_recorded<G: Gate + Send + Sync, J: Recorder + Sync>(
         &self,
         gate: &GateLock<G>,
         journal: &J,
@@ -97,9 +97,9 @@ impl<
     }
 
     /// `run_recorded` over a gate that goes on from a base: it is settled with the receipts of what was before, which come
-    /// last among those of its desks. The robots files of these sites, which were being fetched before, are fetched anew,
+    /// last among those of its desks. The robots.txt files of these sites, which were being fetched before, are fetched anew,
     /// on a thread of their own.
-    pub fn run_resumed<G: Gate + Send + Sync, J: Records + Sync>(
+    pub fn run_resumed<G: Gate + Send + Sync, J: Recorder + Sync>(
         &self,
         gate: &GateLock<G>,
         past: Receipts<G>,
@@ -117,7 +117,7 @@ impl<
 
     // How many connections were accepted, and the receipts of the desks by which their clients were served and the
     // gate was seen to.
-    fn serve_gate<G: Gate + Send + Sync, J: Records + Sync>(
+    fn serve_gate<G: Gate + Send + Sync, J: Recorder + Sync>(
         &self,
         gate: &GateLock<G>,
         journal: &J,
@@ -156,7 +156,7 @@ impl<
     // Has the workers serve on threads of their own, and the gate seen to on another; the receipts are those of the desks
     // at which that is done beside the workers. What is named first is done last where no thread can be made: then
     // nothing is left to see to.
-    fn serve_all<G: Gate + Send + Sync, J: Records + Sync>(
+    fn serve_all<G: Gate + Send + Sync, J: Recorder + Sync>(
         &self,
         recorded: &Recorded<'_, G, J, R>,
         servants: &mut [Servant<'_, G>],
@@ -180,8 +180,8 @@ impl<
         Ok(receipts)
     }
 
-    // Lets the workers work, and has who sees to the gate served beside them until none is left, if that may be done.
-    fn employ_overseen<G: Gate + Send + Sync, J: Records + Sync>(
+    // Lets the workers work, and has overseers served beside them until none is left, if that may be done.
+    fn employ_overseen<G: Gate + Send + Sync, J: Recorder + Sync>(
         &self,
         recorded: &Recorded<'_, G, J, R>,
         left: &AtomicU64,
@@ -211,7 +211,7 @@ impl<
     }
 
     // Lets the workers work, and has these sites fetched anew beside them, if there are any.
-    fn employ_fetching<G: Gate + Send + Sync, J: Records + Sync>(
+    fn employ_fetching<G: Gate + Send + Sync, J: Recorder + Sync>(
         &self,
         recorded: &Recorded<'_, G, J, R>,
         left: &AtomicU64,
@@ -231,7 +231,7 @@ impl<
     }
 
     // Lets each worker work on a thread of its own.
-    fn employ_all<G: Gate + Send + Sync, J: Records + Sync>(
+    fn employ_all<G: Gate + Send + Sync, J: Recorder + Sync>(
         &self,
         recorded: &Recorded<'_, G, J, R>,
         left: &AtomicU64,
@@ -257,7 +257,7 @@ fn hire<'l, G: Gate>(
     let mut servants = Vec::new(alloc);
     for seat in seats {
         let servant = Servant {
-            numbers: Numbers { line, seat },
+            numbers: ConnectionNumbers { line, seat },
             taken: 0,
             end: None,
         };

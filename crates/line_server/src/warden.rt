@@ -12,7 +12,7 @@ use crate::server::Server;
 use command_server::{NumberedClock, next_reading};
 use crawl_workers::Fetcher;
 use gate_lock::{Desk, Gate, GateLock, Receipts};
-use journal_files::Records;
+use journal_files::Recorder;
 use std::sync::Wait;
 use std::sync::atomic::{AtomicU64, Ordering};
 use std::time::Duration;
@@ -44,7 +44,7 @@ struct Rounds {
 
 impl<F: Fetcher, C: NumberedClock, A: Alarm, R: Wait + time::Clock> Server<'_, F, C, A, R> {
     /// Sees to the gate at a desk of its own, and to its records at another, until no worker is left.
-    pub(crate) fn watch<G: Gate, J: Records>(
+    pub(crate) fn watch<G: Gate, J: Recorder>(
         &self,
         recorded: &Recorded<'_, G, J, R>,
         left: &AtomicU64,
@@ -56,7 +56,7 @@ impl<F: Fetcher, C: NumberedClock, A: Alarm, R: Wait + time::Clock> Server<'_, F
     }
 
     // Sees to both until no worker is left; the receipts are those of the desk at which it swept.
-    fn sweep_all<G: Gate, J: Records>(
+    fn sweep_all<G: Gate, J: Recorder>(
         &self,
         gate: &GateLock<G>,
         clerk: &mut Clerk<'_, '_, G, J, R>,
@@ -68,7 +68,7 @@ impl<F: Fetcher, C: NumberedClock, A: Alarm, R: Wait + time::Clock> Server<'_, F
     }
 
     // Looks after the gate until no worker is left, each time at a reading of its own.
-    fn go_round<G: Gate, J: Records>(
+    fn go_round<G: Gate, J: Recorder>(
         &self,
         clerk: &mut Clerk<'_, '_, G, J, R>,
         left: &AtomicU64,
@@ -94,7 +94,7 @@ impl<F: Fetcher, C: NumberedClock, A: Alarm, R: Wait + time::Clock> Server<'_, F
     }
 
     // Sees to the records. Where they have failed no client is taken any more, and each worker ends.
-    fn record<G: Gate, J: Records>(&self, clerk: &mut Clerk<'_, '_, G, J, R>) {
+    fn record<G: Gate, J: Recorder>(&self, clerk: &mut Clerk<'_, '_, G, J, R>) {
         if clerk.look().is_err() {
             // Want of a descriptor is met again at the next look.
             let _ = self.listener.shut();
@@ -122,7 +122,7 @@ impl<F: Fetcher, C: NumberedClock, A: Alarm, R: Wait + time::Clock> Server<'_, F
         }
         if has_room && is_due(rounds.swept, now, is_full) {
             rounds.swept = now;
-            // Want of memory is met again at the next sweep.
+            // If memory ran out, the next sweep tries again.
             let _ = desk.sweep(self.rt, now);
         }
     }

@@ -1,9 +1,9 @@
 //! The words of a line, borrowed from it one by one.
 //! Used by `command` and the modules that read a call's words.
-ghost use Rattle.std.specs.Prelude.{◌≡◌, ◌<◌, ◌∷◌, length};
-ghost use Rattle.std.specs.List.{list_any};
-ghost use Rattle.line_text.specs.Words.{GivesWord, is_count_within, is_empty_word};
-ghost use Rattle.line_text.specs.Words.{words_left, words_of};
+ghost use Rattle.std.specs.Prelude.{◌≡◌, ◌<◌, ◌∷◌, IfSome, length};
+ghost use Rattle.std.specs.List.{list_any, position};
+ghost use Rattle.line_text.specs.Words.{GivesWord, is_count_within, is_empty_word, is_space};
+ghost use Rattle.line_text.specs.Words.{words_left, words_of, words_of_rest};
 
 /// The words of a line that are still to be read.
 #[derive(Clone, Copy)]
@@ -24,16 +24,9 @@ impl<'a> Words<'a> {
         ensures { GivesWord (words_left self.old) result (words_left self.new) }
     {
         let text = self.rest?;
-        match text.split_once(' ') {
-            Some((word, rest)) => {
-                self.rest = Some(rest);
-                Some(word)
-            }
-            None => {
-                self.rest = None;
-                Some(text)
-            }
-        }
+        let (word, rest) = cut(text);
+        self.rest = rest;
+        Some(word)
     }
 
     /// The next word, where there is one.
@@ -69,4 +62,22 @@ impl<'a> Words<'a> {
         }
         false
     }
+}
+
+// The first word of a text, and the text of the others, if there are any.
+fn cut(text: &str) -> (&str, Option<&str>)
+    ensures { words_of text.now ≡ result.0.now ∷ words_of_rest result.1 }
+{
+    match space_place(text) {
+        Some(place) => (&text[..place], Some(&text[place + 1..])),
+        None => (text, None),
+    }
+}
+
+// Where the first space stands. Words are short, so their octets are looked at one by one.
+fn space_place(text: &str) -> Option<usize>
+    ensures place { result ≡ position is_space text.now }
+    ensures within { IfSome result (λ place. place < length text.now) }
+{
+    text.as_bytes().iter().position(|octet| *octet == b' ')
 }

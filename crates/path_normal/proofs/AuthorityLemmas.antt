@@ -1,4 +1,4 @@
--- The authority of a page reads as itself, by the page at its root; its robots file has a page's URL.
+-- The authority of a page reads as itself, by the page at its root; its robots.txt has a page's URL.
 -- Used by `Authority::of` and `PageUrl::of_robots`.
 use Rattle.std.proofs.Common.{◌≡◌, ℕ, ◌≤◌, true, false, List, [], ◌∷◌, ◌++◌, length, get_or, None, Ok, All, sym, refl, ap, ◌∙◌, subst, inl, arith, append-nil, length-append}
 use Rattle.std.specs.Prelude.{◌+◌, ◌-◌, Bool, IsAscii, ◌||◌, ◌==◌, ◌<◌, bytes_eq, codes, drop, if◌then◌else◌}
@@ -203,7 +203,7 @@ authority_is page is_page =
       visible = authority_is_visible url parts;
     })
 
--- ---- the URL of the robots file
+-- ---- the URL of the robots.txt
 
 -- a letter or a dot
 abbrev is_name_octet : ℕ → Bool
@@ -239,7 +239,7 @@ robots_path kind = record {
   rooted = refl;
 }
 
--- the text is the URL of a page: that of the robots file of its authority
+-- the text is the URL of a page: that of the robots.txt of its authority
 pub record IsRobotsPage (authority page : List ℕ) : Type 0 where
   pub is_page : IsPage page
   pub has_authority : authority_of page ≡ authority

@@ -2,6 +2,7 @@
 -- Used by the answers beside them.
 pub mod NormalLemmas
 pub mod PageLemmas
+pub mod PlainLemmas
 pub mod AuthorityLemmas
 pub mod SchemeLemmas
 pub mod CallerLemmas

@@ -53,8 +53,8 @@ authority_from = authority_among Http
 unfoldable pub IsWrittenAuthority : List ℕ → Type 0
 IsWrittenAuthority authority = (url : Parts) × IsPageParts url × (authority_of_parts url ≡ authority)
 
--- the authority reads as itself where both schemes are read, and is that of a valid URL within the limit, in ASCII with no octet
--- that is a space or a control before it
+-- the authority reads as itself where both schemes are read, and is that of a valid URL within the limit, in ASCII with
+-- no octet that is a space or a control before it
 pub record IsAuthority (authority : List ℕ) : Type 0 where
   pub own : authority_among HttpAndHttps authority Enough ≡ Ok authority
   pub written : IsWrittenAuthority authority

@@ -1,4 +1,4 @@
--- What a text is read with: whether memory is refused, or the crate `url` overflows.
+-- What a text is read with: whether memory runs out, or the crate `url` overflows.
 -- Cited by the contracts of `page_url`, of `authority`, of redirects and of command lines.
 use Rattle.std.specs.Prelude.{◌≡◌, ◌⊎◌, Result, Ok, Err}
 use Rattle.path_normal.specs.declared.fault.Unread.{Unread}

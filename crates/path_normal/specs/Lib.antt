@@ -8,5 +8,6 @@ pub mod Capacity
 pub mod PageText
 pub mod Schemes
 pub mod PageUrl
+pub mod PlainUrl
 pub mod Authority
 pub mod Laws

@@ -6,6 +6,6 @@ use Rattle.std.specs.Prelude.{ℕ}
 abbrev pub max_url : ℕ
 max_url = 4096
 
--- the most bytes of its authority, so that the URL of every authority's robots file fits
+-- the most bytes of its authority, so that the URL of every authority's robots.txt fits
 abbrev pub max_authority : ℕ
 max_authority = 4000

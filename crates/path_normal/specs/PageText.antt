@@ -24,7 +24,7 @@ host_of page = before_first (λ octet. octet == slash) (drop (host_start page) p
 abbrev pub named : Bool → List ℕ → List ℕ
 named https host = if https then codes "https://" ++ host else host
 
--- the authority of a page, for which a robots file holds: the host, behind `https://` where that is the scheme
+-- the authority of a page, for which a robots.txt holds: the host, behind `https://` where that is the scheme
 unfoldable pub authority_of : List ℕ → List ℕ
 authority_of page = named (is_https page) (host_of page)
 
@@ -36,6 +36,6 @@ target_of page = drop (length (host_of page)) (drop (host_start page) page)
 abbrev pub scheme_of : List ℕ → List ℕ
 scheme_of authority = if is_https authority then [] else codes "http://"
 
--- the URL of the robots file of an authority (RFC 9309, 2.3)
+-- the URL of the robots.txt of an authority (RFC 9309, 2.3)
 abbrev pub robots_url_of : List ℕ → List ℕ
 robots_url_of authority = scheme_of authority ++ (authority ++ codes "/robots.txt")

@@ -7,6 +7,7 @@ mod fault;
 pub mod laws;
 mod normal;
 mod page_url;
+mod plain_url;
 mod schemes;
 
 pub use authority::{Authority, root_text};

@@ -32,7 +32,7 @@ pub fn normal_path(alloc: Global, path: &[u8]) -> Result<Vec<u8>, AllocError>
     Ok(form)
 }
 
-/// The normal form of a pattern, in which `*` and a last `$` are signs.
+/// The normal form of a pattern, in which `*` is the wildcard and a last `$` the end anchor.
 pub fn normal_pattern(alloc: Global, pattern: &[u8]) -> Result<Vec<u8>, AllocError>
     ensures value { IfOk result (λ form. form.items ≡ normal_pattern pattern.now) }
     ensures again { IfOk result (λ form. normal_pattern form.items ≡ form.items) }

@@ -1,6 +1,6 @@
 //! The URL of a page: an `http` or `https` URL with no user and no fragment.
 //! URL Standard, sections 4.4 and 4.5.
-ghost use Rattle.std.specs.Prelude.{◌≡◌, ◌<◌, None, Some, Ok, Err, IfOk, IsAscii, MatchOption, bytes_eq, length, nat_lt, string_bytes};
+ghost use Rattle.std.specs.Prelude.{◌≡◌, ◌<◌, ◌≤◌, None, Some, Ok, Err, IfOk, IsAscii, MatchOption, bytes_eq, length, nat_lt, string_bytes};
 ghost use Rattle.std.specs.Cmp.{partial_equiv_from_equiv};
 ghost use Rattle.std.specs.Cmp.Lexicographic.{nat_list_eq_equiv};
 ghost use Rattle.url.specs.Parser.{parse_url};
@@ -9,12 +9,14 @@ ghost use Rattle.path_normal.specs.Limits.{max_url};
 ghost use Rattle.path_normal.specs.Normal.{normal_path};
 ghost use Rattle.path_normal.specs.PageText.{authority_of, host_of, host_start, is_https, robots_url_of, scheme_of, target_of};
 ghost use Rattle.path_normal.specs.PageUrl.{HasPartsOf, IsAnswer, IsFaultless, IsNamedOn, IsPage, authority_of_parts, host_of_parts, page_of_parts, page_url_among, page_url_from, page_url_of_parts, page_url_on, page_url_on_among, target_of_parts};
+ghost use Rattle.path_normal.specs.PlainUrl.{IsPlain};
 ghost use Rattle.path_normal.specs.Authority.{IsAuthority};
 ghost use Rattle.path_normal.specs.Capacity.{IsRead, IsReadWith};
 
 use crate::authority::Authority;
 use crate::fault::{Unread, UrlFault};
 use crate::normal::normal_path;
+use crate::plain_url::plain_host_end;
 use crate::schemes::{Schemes, is_https};
 use std::alloc::{AllocError, Global};
 use std::fmt;
@@ -27,7 +29,7 @@ pub const MAX_URL: usize = 4_096;
 /// The most bytes that its authority has, with the port where one is written.
 pub const MAX_AUTHORITY: usize = 4_000;
 
-// Where a site keeps its robots file, in normal form.
+// Where a site keeps its robots.txt, in normal form.
 const ROBOTS_PATH: &str = "/robots.txt";
 
 /// The URL of a page, as the URL Standard writes it: `http` or `https`, no user, no fragment.
@@ -39,11 +41,12 @@ pub struct PageUrl {
     // Where the host begins, and where it ends with its port.
     start: usize,
     end: usize,
-    path: Vec<u8>,
+    // The target in normal form, where that is another text.
+    path: Option<Vec<u8>>,
 }
 
 impl Model for PageUrl {
-    ghost use Rattle.std.specs.Prelude.{List, ℕ, ◌≡◌, ◌+◌, length, string_bytes};
+    ghost use Rattle.std.specs.Prelude.{List, ℕ, ◌≡◌, ◌+◌, length, option_map, string_bytes, unwrap_or};
     ghost use Rattle.std.specs.Coded.{coded_list, coded_ℕ};
 
     ghost Value = { List ℕ };
@@ -59,7 +62,8 @@ impl Model for PageUrl {
     ghost invariant = { λ url. IsPage (string_bytes url.text)
         × (url.start ≡ host_start (string_bytes url.text))
         × (url.end ≡ host_start (string_bytes url.text) + length (host_of (string_bytes url.text)))
-        × (url.path.items ≡ normal_path (target_of (string_bytes url.text))) };
+        × (unwrap_or (option_map (λ path. path.items) url.path) (target_of (string_bytes url.text))
+        ≡ normal_path (target_of (string_bytes url.text))) };
 }
 
 impl PageUrl {
@@ -101,6 +105,10 @@ impl PageUrl {
         if is_long(text) {
             return Err(Unread::Fault(UrlFault::TooLong));
         }
+        // Most URLs are plain, and the parser would write them as they stand.
+        if let Some(end) = plain_host_end(text) {
+            return Ok(PageUrl::of_plain(alloc, text, end)?);
+        }
         let url = Url::parse(alloc, text)?;
         PageUrl::of_parsed(alloc, schemes, &url)
     }
@@ -137,7 +145,7 @@ impl PageUrl {
         PageUrl::of_parsed(self.allocator(), schemes, &url)
     }
 
-    /// The URL of an authority's robots file (RFC 9309, 2.3). It fails only if memory runs out.
+    /// The URL of an authority's robots.txt (RFC 9309, 2.3). It fails only if memory runs out.
     pub fn of_robots(authority: &Authority) -> Result<PageUrl, AllocError>
         ensures url { IfOk result (λ url. url ≡ robots_url_of authority.now) }
         ensures authority { IfOk result (λ url. authority_of url ≡ authority.now) }
@@ -151,7 +159,21 @@ impl PageUrl {
             text,
             start,
             end,
-            path: Vec::from_slice(alloc, ROBOTS_PATH.as_bytes())?,
+            path: Some(Vec::from_slice(alloc, ROBOTS_PATH.as_bytes())?),
+        })
+    }
+
+    // The page of a plain URL, whose host ends there.
+    fn of_plain(alloc: Global, text: &str, end: usize) -> Result<PageUrl, AllocError>
+        requires plain { IsPlain text.now end }
+        requires short { length text.now ≤ max_url }
+        ensures { IfOk result (λ page. page ≡ text.now) }
+    {
+        Ok(PageUrl {
+            text: String::from_str(alloc, text)?,
+            start: "http://".len(),
+            end,
+            path: None,
         })
     }
 
@@ -169,7 +191,7 @@ impl PageUrl {
             text: String::from_str(alloc, page_in(url))?,
             start,
             end,
-            path,
+            path: Some(path),
         })
     }
 
@@ -177,11 +199,15 @@ impl PageUrl {
     pub fn copy(&self) -> Result<PageUrl, AllocError>
         ensures { IfOk result (λ copy. copy ≡ self.now) }
     {
+        let path = match &self.path {
+            Some(path) => Some(path.clone()?),
+            None => None,
+        };
         Ok(PageUrl {
             text: self.text.clone()?,
             start: self.start,
             end: self.end,
-            path: self.path.clone()?,
+            path,
         })
     }
 
@@ -210,7 +236,7 @@ impl PageUrl {
     }
 
     /// The host and port as `host` tells them, behind `https://` where that is the scheme: that for
-    /// which a robots file holds (RFC 9309, 2.3).
+    /// which a robots.txt holds (RFC 9309, 2.3).
     pub fn authority(&self) -> &str
         ensures value { result.now ≡ authority_of self.now }
         ensures page { IsPage self.now }
@@ -235,7 +261,10 @@ impl PageUrl {
         ensures value { result.now ≡ normal_path (target_of self.now) }
         ensures page { IsPage self.now }
     {
-        self.path.as_slice()
+        match &self.path {
+            Some(path) => path.as_slice(),
+            None => self.target().as_bytes(),
+        }
     }
 
     /// The allocator of the text.
@@ -244,7 +273,7 @@ impl PageUrl {
     }
 }
 
-// The text of the URL of an authority's robots file.
+// The text of the URL of an authority's robots.txt.
 fn robots_text(alloc: Global, authority: &Authority) -> Result<String, AllocError>
     ensures value { IfOk result (λ text. string_bytes text ≡ robots_url_of authority.now) }
     ensures authority { IsAuthority authority.now }

@@ -1,4 +1,4 @@
--- What is left of the lanes of a block, octet by octet of the run, and where its first place is.
+-- What is left of the lanes of a block, octet by octet of the literal, and where its first place is.
 -- Used by the search by blocks.
 use Rattle.std.proofs.Common.{◌^◌, w64, ◌≡◌, ◌≢◌, ◌↔◌, ◌+◌, ◌-◌, ◌<◌, ◌≤◌, ◌==◌, ℕ, Bool, true, false, List, length, get_or, replicate, cond, refl, sym, ap, subst, ◌∙◌, arith, ⊎_elim, ◌⊎◌}
 use Rattle.std.specs.Prelude.{if◌then◌else◌, slice_index, Option, None, Some}
@@ -11,10 +11,10 @@ use Rattle.memchr.specs.Find.{FindsNeedle, NoneBefore, Nowhere, OccursAt}
 use Rattle.memchr.proofs.lemmas.FindLemmas.{Nowhere-then}
 use Rattle.path_pattern.specs.Blocks.{HasLanes, HasOctet, IsLeftOf, IsNoneLeft}
 
--- of the 64 places from start on, those at which the run stands have a lane left, and where one is, the first octets of the run stand, as many as were seen
-pub record IsLeft (path run : List ℕ) (start seen : ℕ) (lanes : List ℕ) : Type 0 where
-  pub all : (k : ℕ) → k < 64 → OccursAt path run (start + k) → 128 ≤ slice_index lanes k
-  pub begun : (k : ℕ) → k < 64 → 128 ≤ slice_index lanes k → (j : ℕ) → j < seen → j < length run → HasOctet path run start k j
+-- of the 64 places from start on, those at which the literal stands have a lane left, and where one is, the first octets of the literal stand, as many as were seen
+pub record IsLeft (path literal : List ℕ) (start seen : ℕ) (lanes : List ℕ) : Type 0 where
+  pub all : (k : ℕ) → k < 64 → OccursAt path literal (start + k) → 128 ≤ slice_index lanes k
+  pub begun : (k : ℕ) → k < 64 → 128 ≤ slice_index lanes k → (j : ℕ) → j < seen → j < length literal → HasOctet path literal start k j
 
 -- a choice between lanes and a splat by the comparison with a splat
 pub HasLanes-select : (t : ℕ → ℕ → Bool) (a b : List ℕ) (x z : ℕ) → length a ≡ 64 → length b ≡ 64
@@ -39,76 +39,76 @@ was_kept : (b : Bool) (lane : ℕ) → 128 ≤ cond b lane 0 → (b ≡ true) ×
 was_kept true lane low = (refl, low)
 was_kept false lane low = absurd (omega arith)
 
-module _ (path run : List ℕ) (start j place : ℕ) (lanes more : List ℕ) (at : place ≡ start + j)
-    (test : HasLanes more (λ k. if slice_index path (place + k) == slice_index run j then slice_index lanes k else 0)) where
+module _ (path literal : List ℕ) (start j place : ℕ) (lanes more : List ℕ) (at : place ≡ start + j)
+    (test : HasLanes more (λ k. if slice_index path (place + k) == slice_index literal j then slice_index lanes k else 0)) where
   there : (k : ℕ) → slice_index path (place + k) ≡ slice_index path (start + k + j)
   there k = ap (λ p. get_or path p 0) (omega arith)
 
-  lane_kept : (k : ℕ) → k < 64 → slice_index path (start + k + j) ≡ slice_index run j → 128 ≤ slice_index lanes k → 128 ≤ slice_index more k
+  lane_kept : (k : ℕ) → k < 64 → slice_index path (start + k + j) ≡ slice_index literal j → 128 ≤ slice_index lanes k → 128 ≤ slice_index more k
   lane_kept k below stands low =
       subst (λ lane. 128 ≤ lane) (sym (test.each k below)) (kept _ (slice_index lanes k) (eq-eqb _ _ (there k ∙ stands)) low)
 
-  lane_was_kept : (k : ℕ) → k < 64 → 128 ≤ slice_index more k → (slice_index path (start + k + j) ≡ slice_index run j) × (128 ≤ slice_index lanes k)
+  lane_was_kept : (k : ℕ) → k < 64 → 128 ≤ slice_index more k → (slice_index path (start + k + j) ≡ slice_index literal j) × (128 ≤ slice_index lanes k)
   lane_was_kept k below low =
       let was = was_kept _ (slice_index lanes k) (subst (λ lane. 128 ≤ lane) (test.each k below) low) in
       (sym (there k) ∙ eqb-true _ _ was.0, was.1)
 
 -- two octets, one after the other
-pub left_of_two : (path run : List ℕ) (start i j place next : ℕ) (before one two : List ℕ) → place ≡ start + i → next ≡ start + j
-    → HasLanes one (λ k. if slice_index path (place + k) == slice_index run i then slice_index before k else 0)
-    → HasLanes two (λ k. if slice_index path (next + k) == slice_index run j then slice_index one k else 0)
-    → IsLeftOf path run start i j before two
-left_of_two path run start i j place next before one two at at_next test test_next =
-    let was_one = λ (k : ℕ) (below : k < 64) (low : 128 ≤ slice_index two k). lane_was_kept path run start j next one two at_next test_next k below low in
-    let was = λ (k : ℕ) (below : k < 64) (low : 128 ≤ slice_index two k). lane_was_kept path run start i place before one at test k below (was_one k below low).1 in
+pub left_of_two : (path literal : List ℕ) (start i j place next : ℕ) (before one two : List ℕ) → place ≡ start + i → next ≡ start + j
+    → HasLanes one (λ k. if slice_index path (place + k) == slice_index literal i then slice_index before k else 0)
+    → HasLanes two (λ k. if slice_index path (next + k) == slice_index literal j then slice_index one k else 0)
+    → IsLeftOf path literal start i j before two
+left_of_two path literal start i j place next before one two at at_next test test_next =
+    let was_one = λ (k : ℕ) (below : k < 64) (low : 128 ≤ slice_index two k). lane_was_kept path literal start j next one two at_next test_next k below low in
+    let was = λ (k : ℕ) (below : k < 64) (low : 128 ≤ slice_index two k). lane_was_kept path literal start i place before one at test k below (was_one k below low).1 in
     record {
-      kept = λ k below low stands stands_next. lane_kept path run start j next one two at_next test_next k below stands_next (lane_kept path run start i place before one at test k below stands low);
+      kept = λ k below low stands stands_next. lane_kept path literal start j next one two at_next test_next k below stands_next (lane_kept path literal start i place before one at test k below stands low);
       was = λ k below low. (was k below low).1;
       first = λ k below low. (was k below low).0;
       second = λ k below low. (was_one k below low).0;
     }
 
--- ---- the octets of the run, two by two
+-- ---- the octets of the literal, two by two
 
-left_all : (path run : List ℕ) (start i j : ℕ) (before left : List ℕ) → i < length run → j < length run → IsLeftOf path run start i j before left → (k : ℕ) → k < 64 → OccursAt path run (start + k) → 128 ≤ slice_index before k → 128 ≤ slice_index left k
-left_all path run start i j before left within within_next of k below occurs low =
+left_all : (path literal : List ℕ) (start i j : ℕ) (before left : List ℕ) → i < length literal → j < length literal → IsLeftOf path literal start i j before left → (k : ℕ) → k < 64 → OccursAt path literal (start + k) → 128 ≤ slice_index before k → 128 ≤ slice_index left k
+left_all path literal start i j before left within within_next of k below occurs low =
     of.kept k below low (occurs.reads i within) (occurs.reads j within_next)
 
-pub left_at_first : (path run : List ℕ) (start i j : ℕ) (left : List ℕ) → i < length run → j < length run → IsLeftOf path run start i j (replicate 64 255) left → IsLeft path run start 0 left
-left_at_first path run start i j left within within_next of = record {
+pub left_at_first : (path literal : List ℕ) (start i j : ℕ) (left : List ℕ) → i < length literal → j < length literal → IsLeftOf path literal start i j (replicate 64 255) left → IsLeft path literal start 0 left
+left_at_first path literal start i j left within within_next of = record {
   all = λ k below occurs.
       let full : slice_index (replicate 64 255) k ≡ 255 = get_or-replicate 64 k 255 0 below in
-      left_all path run start i j (replicate 64 255) left within within_next of k below occurs (omega arith);
+      left_all path literal start i j (replicate 64 255) left within within_next of k below occurs (omega arith);
   begun = λ k below low j none. absurd (omega arith);
 }
 
-pub left_by_next : (path run : List ℕ) (start seen pair : ℕ) (before left : List ℕ) → pair + 1 < length run → pair ≤ seen → (pair ≡ seen) ⊎ (pair + 2 ≡ length run) → IsLeftOf path run start pair (pair + 1) before left → IsLeft path run start seen before → IsLeft path run start (seen + 2) left
-left_by_next path run start seen pair before left within low_pair which of was = record {
-  all = λ k below occurs. left_all path run start pair (pair + 1) before left (omega arith) within of k below occurs (was.all k below occurs);
+pub left_by_next : (path literal : List ℕ) (start seen pair : ℕ) (before left : List ℕ) → pair + 1 < length literal → pair ≤ seen → (pair ≡ seen) ⊎ (pair + 2 ≡ length literal) → IsLeftOf path literal start pair (pair + 1) before left → IsLeft path literal start seen before → IsLeft path literal start (seen + 2) left
+left_by_next path literal start seen pair before left within low_pair which of was = record {
+  all = λ k below occurs. left_all path literal start pair (pair + 1) before left (omega arith) within of k below occurs (was.all k below occurs);
   begun = λ k below low j under inside.
       ⊎_elim (λ old. was.begun k below (of.was k below low) j old inside) (λ new.
-      ⊎_elim (λ same. subst (HasOctet path run start k) (sym same) (of.first k below low)) (λ other.
+      ⊎_elim (λ same. subst (HasOctet path literal start k) (sym same) (of.first k below low)) (λ other.
       let same : j ≡ pair + 1 = ⊎_elim (λ p. omega arith) (λ p. omega arith) which in
-      subst (HasOctet path run start k) (sym same) (of.second k below low)) (cases_eq j pair)) (cases_lt j seen);
+      subst (HasOctet path literal start k) (sym same) (of.second k below low)) (cases_eq j pair)) (cases_lt j seen);
 }
 
 -- ---- the first place of a block
 
--- where a lane is left when all octets were seen, the run stands
-stands_where_left : (path run lanes : List ℕ) (start seen : ℕ) → start + 63 + length run ≤ length path → length run ≤ seen → IsLeft path run start seen lanes → (k : ℕ) → k < 64 → 128 ≤ slice_index lanes k → OccursAt path run (start + k)
-stands_where_left path run lanes start seen room all left k below low = record {
+-- where a lane is left when all octets were seen, the literal stands
+stands_where_left : (path literal lanes : List ℕ) (start seen : ℕ) → start + 63 + length literal ≤ length path → length literal ≤ seen → IsLeft path literal start seen lanes → (k : ℕ) → k < 64 → 128 ≤ slice_index lanes k → OccursAt path literal (start + k)
+stands_where_left path literal lanes start seen room all left k below low = record {
   fits = omega arith;
   reads = λ j under. left.begun k below low j (omega arith) under;
 }
 
-lane_at : (path run lanes : List ℕ) (start seen : ℕ) → IsLeft path run start seen lanes → (k : ℕ) → start ≤ k → k < start + 64 → OccursAt path run k → 128 ≤ slice_index lanes (k - start)
-lane_at path run lanes start seen left k low high occurs =
+lane_at : (path literal lanes : List ℕ) (start seen : ℕ) → IsLeft path literal start seen lanes → (k : ℕ) → start ≤ k → k < start + 64 → OccursAt path literal k → 128 ≤ slice_index lanes (k - start)
+lane_at path literal lanes start seen left k low high occurs =
     let same : k ≡ start + (k - start) = omega arith in
-    left.all (k - start) (omega arith) (subst (OccursAt path run) same occurs)
+    left.all (k - start) (omega arith) (subst (OccursAt path literal) same occurs)
 
-pub nowhere_in_block : (path run lanes : List ℕ) (start seen : ℕ) → IsLeft path run start seen lanes → IsNoneLeft lanes → Nowhere (OccursAt path run) start (start + 64)
-nowhere_in_block path run lanes start seen left none k low high occurs =
-    omega (arith, none (k - start), lane_at path run lanes start seen left k low high occurs)
+pub nowhere_in_block : (path literal lanes : List ℕ) (start seen : ℕ) → IsLeft path literal start seen lanes → IsNoneLeft lanes → Nowhere (OccursAt path literal) start (start + 64)
+nowhere_in_block path literal lanes start seen left none k low high occurs =
+    omega (arith, none (k - start), lane_at path literal lanes start seen left k low high occurs)
 
 -- a number of no bits is 0
 pub no_bit : (m : ℕ) → m < 2 ^ 64 → ((k : ℕ) → ¬ (bit_at m k ≡ 1)) → m ≡ 0
@@ -119,35 +119,29 @@ pub some_marked : (lanes : List ℕ) (marks : ℕ) → ¬ (IsNoneLeft lanes) →
 some_marked lanes marks some bits none =
     some (λ k. ⊎_elim (λ low. low) (λ high. absurd (omega (arith, bit_at-zero k, subst (λ m. bit_at m k ≡ 1) none ((bits k).1 high)))) (cases_lt (slice_index lanes k) 128))
 
-pub first_in_block : (path run lanes : List ℕ) (start seen marks bit : ℕ) → start + 63 + length run ≤ length path → length run ≤ seen → IsLeft path run start seen lanes → ((k : ℕ) → (bit_at marks k ≡ 1) ↔ (128 ≤ slice_index lanes k))
-    → bit < 64 → bit_at marks bit ≡ 1 → ((k : ℕ) → k < bit → bit_at marks k ≡ 0) → NoneBefore (OccursAt path run) start (start + 64) (start + bit) × OccursAt path run (start + bit)
-first_in_block path run lanes start seen marks bit room all left bits bound set below = (
+pub first_in_block : (path literal lanes : List ℕ) (start seen marks bit : ℕ) → start + 63 + length literal ≤ length path → length literal ≤ seen → IsLeft path literal start seen lanes → ((k : ℕ) → (bit_at marks k ≡ 1) ↔ (128 ≤ slice_index lanes k))
+    → bit < 64 → bit_at marks bit ≡ 1 → ((k : ℕ) → k < bit → bit_at marks k ≡ 0) → NoneBefore (OccursAt path literal) start (start + 64) (start + bit) × OccursAt path literal (start + bit)
+first_in_block path literal lanes start seen marks bit room all left bits bound set below = (
   record {
     low = omega arith;
     high = omega arith;
-    before = λ k low high occurs. omega (arith, below (k - start) (omega arith), (bits (k - start)).1 (lane_at path run lanes start seen left k low (omega arith) occurs));
+    before = λ k low high occurs. omega (arith, below (k - start) (omega arith), (bits (k - start)).1 (lane_at path literal lanes start seen left k low (omega arith) occurs));
   },
-  stands_where_left path run lanes start seen room all left bit bound ((bits bit).0 set),
+  stands_where_left path literal lanes start seen room all left bit bound ((bits bit).0 set),
 )
 
 -- ---- the blocks of a path
 
-module _ (path run : List ℕ) (from start : ℕ) (none : Nowhere (OccursAt path run) from start) where
-  pub first_of_blocks : (end place : ℕ) → from ≤ start → NoneBefore (OccursAt path run) start end place → OccursAt path run place → FindsNeedle path run from (Some place)
+module _ (path literal : List ℕ) (from start : ℕ) (none : Nowhere (OccursAt path literal) from start) where
+  pub first_of_blocks : (end place : ℕ) → from ≤ start → NoneBefore (OccursAt path literal) start end place → OccursAt path literal place → FindsNeedle path literal from (Some place)
   first_of_blocks end place not_before found occurs =
       let fits = occurs.fits in
       (record { low = omega (arith, found.low); high = omega arith; before = Nowhere-then none found.before }, occurs)
 
-  pub nowhere_before : (last : ℕ) → last ≤ start → Nowhere (OccursAt path run) from last
+  pub nowhere_before : (last : ℕ) → last ≤ start → Nowhere (OccursAt path literal) from last
   nowhere_before last past k low high = none k low (omega arith)
 
-  pub nowhere_in_blocks : (last : ℕ) → last + 63 + length run ≡ length path → last ≤ start → Nowhere (OccursAt path run) last (last + 64) → FindsNeedle path run from None
+  pub nowhere_in_blocks : (last : ℕ) → last + 63 + length literal ≡ length path → last ≤ start → Nowhere (OccursAt path literal) last (last + 64) → FindsNeedle path literal from None
   nowhere_in_blocks last ends past later k low high occurs =
       let fits = occurs.fits in
       ⊎_elim (λ before. none k low (omega arith) occurs) (λ from. later k from (omega arith) occurs) (cases_lt k last)
-
-  -- a search from the place on at which one was left goes on with it
-  pub search_goes_on : (result : Option ℕ) → from ≤ start → FindsNeedle path run start result → FindsNeedle path run from result
-  search_goes_on None not_before later = Nowhere-then none later
-  search_goes_on (Some place) not_before found =
-      (record { low = omega (arith, found.0.low); high = found.0.high; before = Nowhere-then none found.0.before }, found.1)

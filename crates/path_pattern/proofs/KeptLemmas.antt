@@ -1,16 +1,17 @@
--- The bits of places, and the first of those at which a run stands by them.
--- Used by the answers of the runs that are kept.
-use Rattle.std.proofs.Common.{w64, ◌≡◌, ◌≢◌, ◌↔◌, ◌∙◌, ◌+◌, ◌-◌, ◌*◌, ◌/◌, ◌%◌, ◌^◌, ◌<◌, ◌≤◌, ℕ, List, Contains, ap, arith, length, length-take-le, replicate, set, slice_index, subst, sym, take, take_all, ⊎_elim}
+-- The bits of places, and the first of those at which a literal stands by them.
+-- Used by the answers of the literals that are kept.
+use Rattle.std.proofs.Common.{w64, ◌≡◌, ◌≢◌, ◌↔◌, ◌∙◌, ◌+◌, ◌-◌, ◌*◌, ◌/◌, ◌%◌, ◌^◌, ◌<◌, ◌≤◌, ℕ, List, Contains, ap, arith, drop, get_or, length, length-drop, length-take-le, replicate, set, slice_index, subst, sym, take, take_all, ⊎_elim}
 use Rattle.std.specs.Prelude.{Option, None, Some, bit_or}
 use Rattle.std.specs.Int.{bit_at}
 use Rattle.std.proofs.lemmas.Bool.{cases_eq, cases_lt}
 use Rattle.std.proofs.lemmas.Grind.{get_or_default_zero}
-use Rattle.std.proofs.lemmas.List.{get_or_past, get_or-set_other, get_or-set_same, get_or-take, length-replicate}
+use Rattle.std.proofs.lemmas.List.{get_or-drop, get_or_past, get_or-set_other, get_or-set_same, get_or-take, length-replicate}
 use Rattle.std.proofs.lemmas.Nat.{shr-shr}
 use Rattle.std.proofs.lemmas.Simd.{get_or-replicate}
 use Rattle.std.proofs.lemmas.Nat.Bits.{bit_at_above, bit_at_set_other, bit_at_set_same, bit_at-zero}
 use Rattle.memchr.specs.Find.{OccursAt}
-use Rattle.path_pattern.specs.Kept.{HasMarks, IsFirstMark, mark}
+use Rattle.memchr.proofs.lemmas.MatchLemmas.{OccursAt-part}
+use Rattle.path_pattern.specs.Kept.{HasMarks, IsFirstMark, IsRange, mark, part}
 use Rattle.path_pattern.specs.Sorted.{IsLeastOf}
 use Rattle.path_pattern.proofs.SortedLemmas.{in_more}
 
@@ -152,6 +153,16 @@ least_by_marks places marks from None few marked none =
 least_by_marks places marks from (Some first) few marked found =
     ((marked first found.1).0 found.2, found.0, λ k at low. ⊎_elim (λ before. absurd (omega (arith, found.3 k low before, (marked k (few k at)).1 at))) (λ past. past) (cases_lt k first))
 
--- the places at which a run stands are of the path
-pub within_path : (path places run : List ℕ) → ((place : ℕ) → OccursAt path run place ↔ Contains places place) → length path ≤ 12288 → 0 < length run → (k : ℕ) → Contains places k → k < 12288
-within_path path places run all few some k at = let room = ((all k).1 at).fits in omega (arith, room, few, some)
+-- the octets at the first place of a literal are those of the literal
+pub first_octets : (path places literal : List ℕ) (start end : ℕ) → IsRange path places literal start end → start < end → take (length literal) (drop (slice_index places start) path) ≡ literal
+first_octets path places literal start end range some =
+    let place = slice_index places start in
+    let bound = range.within in
+    let long : length (part places start end) ≡ end - start = length-take-le (end - start) (drop start places) (omega (arith, length-drop start places, bound)) in
+    let here : start + 0 ≡ start = omega arith in
+    let is = get_or-take (end - start) (drop start places) 0 place (omega (arith, some)) ∙ get_or-drop start places 0 place ∙ ap (λ k. get_or places k place) here ∙ get_or_default_zero places start place (omega (arith, some, bound)) in
+    OccursAt-part path literal place ((range.all place).1 (0, omega (arith, long, some), is))
+
+-- the places at which a literal stands are of the path
+pub within_path : (path places literal : List ℕ) → ((place : ℕ) → OccursAt path literal place ↔ Contains places place) → length path ≤ 12288 → 0 < length literal → (k : ℕ) → Contains places k → k < 12288
+within_path path places literal all few some k at = let room = ((all k).1 at).fits in omega (arith, room, few, some)

@@ -1,4 +1,4 @@
--- Lemmas on how patterns spell paths, and on where runs stand in them.
+-- Lemmas on how patterns spell paths, and on where literals stand in them.
 -- Used by the answers beside them.
 pub mod PlaceLemmas
 pub mod SpellsLemmas
@@ -8,3 +8,4 @@ pub mod CallerLemmas
 pub mod SortedLemmas
 pub mod OrderLemmas
 pub mod KeptLemmas
+pub mod Spelling

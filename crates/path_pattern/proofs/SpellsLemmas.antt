@@ -1,4 +1,4 @@
--- How a pattern spells a path, by its first octet, its first star or its first run.
+-- How a pattern spells a path, by its first octet, its first wildcard or its first literal.
 -- Used by the answers of the matchers.
 use Rattle.std.proofs.Common.{◌≡◌, ◌≤◌, ℕ, suc, ◌==◌, Bool, true, false, List, [], ◌∷◌, ◌++◌, length, sym, refl, ap, ◌∙◌, subst, append_assoc, append-nil, drop, arith, eqb-true}
 use Rattle.std.specs.Prelude.{IsTrue, ◌↔◌, Option, None, Some, MatchOption, is_some}
@@ -6,7 +6,7 @@ use Rattle.std.proofs.lemmas.Bool.{cond-false, true≢false}
 use Rattle.std.proofs.lemmas.List.Elements.{All-head, All-tail}
 use Rattle.std.proofs.Math.Seq.{drop-append_seam}
 use Rattle.path_pattern.specs.Matches.{filled, stars, Spells}
-use Rattle.path_pattern.specs.Runs.{BeginsNot, HasNoStar, IsAfterFirst, IsSplitAtStar, StandsNowhere}
+use Rattle.path_pattern.specs.Literals.{BeginsNot, HasNoStar, IsAfterFirst, IsSplitAtStar, StandsNowhere}
 use Rattle.path_normal.specs.Octets.{star}
 
 -- ---- the empty pattern
@@ -17,7 +17,7 @@ on_nothing anchored path ended = record { texts = []; rest = path; as_many = ref
 pub off_nothing : (anchored : Bool) (path : List ℕ) → Spells [] anchored path → IsTrue anchored → path ≡ []
 off_nothing anchored path spells is = spells.spelled ∙ spells.ended is
 
--- ---- an octet that is no star
+-- ---- an octet that is no wildcard
 
 filled_plain : (octet : ℕ) (pattern : List ℕ) (texts : List (List ℕ)) → (octet == star) ≡ false → filled (octet ∷ pattern) texts ≡ octet ∷ filled pattern texts
 filled_plain octet pattern [] plain = refl
@@ -48,7 +48,7 @@ off_octet octet pattern anchored path plain spells = (
   },
 )
 
--- ---- a star
+-- ---- a wildcard
 
 pub on_star : (front pattern : List ℕ) (anchored : Bool) (path : List ℕ) → Spells pattern anchored path → Spells (star ∷ pattern) anchored (front ++ path)
 on_star front pattern anchored path spells = record {
@@ -72,121 +72,121 @@ pub off_star : (pattern : List ℕ) (anchored : Bool) (path : List ℕ) → Spel
 off_star pattern anchored path spells =
     off_texts pattern anchored path spells.rest spells.texts spells.as_many spells.spelled spells.ended
 
--- what fits after a star still fits with more octets before it
+-- what fits after a wildcard still fits with more octets before it
 pub star_longer : (more pattern : List ℕ) (anchored : Bool) (path : List ℕ) → Spells (star ∷ pattern) anchored path → Spells (star ∷ pattern) anchored (more ++ path)
 star_longer more pattern anchored path spells =
     let off = off_star pattern anchored path spells in
     subst (Spells (star ∷ pattern) anchored) (append_assoc more off.0 off.1 ∙ ap (λ t. more ++ t) (sym off.2)) (on_star (more ++ off.0) pattern anchored off.1 off.3)
 
--- ---- a run
+-- ---- a literal
 
-pub on_run : (run pattern : List ℕ) (anchored : Bool) (path : List ℕ) → HasNoStar run → Spells pattern anchored path → Spells (run ++ pattern) anchored (run ++ path)
+pub on_run : (literal pattern : List ℕ) (anchored : Bool) (path : List ℕ) → HasNoStar literal → Spells pattern anchored path → Spells (literal ++ pattern) anchored (literal ++ path)
 on_run [] pattern anchored path plain spells = spells
-on_run (octet ∷ run) pattern anchored path plain spells =
-    on_octet octet (run ++ pattern) anchored (run ++ path) (All-head (λ o. (o == star) ≡ false) octet run plain) (on_run run pattern anchored path (All-tail (λ o. (o == star) ≡ false) octet run plain) spells)
+on_run (octet ∷ literal) pattern anchored path plain spells =
+    on_octet octet (literal ++ pattern) anchored (literal ++ path) (All-head (λ o. (o == star) ≡ false) octet literal plain) (on_run literal pattern anchored path (All-tail (λ o. (o == star) ≡ false) octet literal plain) spells)
 
-pub off_run : (run pattern : List ℕ) (anchored : Bool) (path : List ℕ) → HasNoStar run → Spells (run ++ pattern) anchored path → (after : List ℕ) × (path ≡ run ++ after) × Spells pattern anchored after
+pub off_run : (literal pattern : List ℕ) (anchored : Bool) (path : List ℕ) → HasNoStar literal → Spells (literal ++ pattern) anchored path → (after : List ℕ) × (path ≡ literal ++ after) × Spells pattern anchored after
 off_run [] pattern anchored path plain spells = (path, refl, spells)
-off_run (octet ∷ run) pattern anchored path plain spells =
-    let off = off_octet octet (run ++ pattern) anchored path (All-head (λ o. (o == star) ≡ false) octet run plain) spells in
-    let more = off_run run pattern anchored off.0 (All-tail (λ o. (o == star) ≡ false) octet run plain) off.2 in
+off_run (octet ∷ literal) pattern anchored path plain spells =
+    let off = off_octet octet (literal ++ pattern) anchored path (All-head (λ o. (o == star) ≡ false) octet literal plain) spells in
+    let more = off_run literal pattern anchored off.0 (All-tail (λ o. (o == star) ≡ false) octet literal plain) off.2 in
     (more.0, off.1 ∙ ap (λ t. octet ∷ t) more.1, more.2)
 
-pub on_last : (run : List ℕ) (anchored : Bool) (path rest : List ℕ) → HasNoStar run → path ≡ run ++ rest → (IsTrue anchored → rest ≡ []) → Spells run anchored path
-on_last run anchored path rest plain is ended =
-    let spells = on_run run [] anchored rest plain (on_nothing anchored rest ended) in
-    subst (λ pattern. Spells pattern anchored path) (append-nil run) (subst (Spells (run ++ []) anchored) (sym is) spells)
+pub on_last : (literal : List ℕ) (anchored : Bool) (path rest : List ℕ) → HasNoStar literal → path ≡ literal ++ rest → (IsTrue anchored → rest ≡ []) → Spells literal anchored path
+on_last literal anchored path rest plain is ended =
+    let spells = on_run literal [] anchored rest plain (on_nothing anchored rest ended) in
+    subst (λ pattern. Spells pattern anchored path) (append-nil literal) (subst (Spells (literal ++ []) anchored) (sym is) spells)
 
-pub off_last : (run : List ℕ) (anchored : Bool) (path : List ℕ) → HasNoStar run → Spells run anchored path → (rest : List ℕ) × (path ≡ run ++ rest) × (IsTrue anchored → rest ≡ [])
-off_last run anchored path plain spells =
-    let off = off_run run [] anchored path plain (subst (λ pattern. Spells pattern anchored path) (sym (append-nil run)) spells) in
+pub off_last : (literal : List ℕ) (anchored : Bool) (path : List ℕ) → HasNoStar literal → Spells literal anchored path → (rest : List ℕ) × (path ≡ literal ++ rest) × (IsTrue anchored → rest ≡ [])
+off_last literal anchored path plain spells =
+    let off = off_run literal [] anchored path plain (subst (λ pattern. Spells pattern anchored path) (sym (append-nil literal)) spells) in
     (off.0, off.1, off_nothing anchored off.0 off.2)
 
--- ---- a run and a star after it, at the start of the path and after a star
+-- ---- a literal and a wildcard after it, at the start of the path and after a wildcard
 
-pub on_start : (pattern run after : List ℕ) (anchored : Bool) (path rest : List ℕ) → IsSplitAtStar pattern run after → path ≡ run ++ rest → Spells (star ∷ after) anchored rest → Spells pattern anchored path
-on_start pattern run after anchored path rest split is spells =
-    subst (λ p. Spells p anchored path) (sym split.parts) (subst (Spells (run ++ star ∷ after) anchored) (sym is) (on_run run (star ∷ after) anchored rest split.plain spells))
+pub on_start : (pattern literal after : List ℕ) (anchored : Bool) (path rest : List ℕ) → IsSplitAtStar pattern literal after → path ≡ literal ++ rest → Spells (star ∷ after) anchored rest → Spells pattern anchored path
+on_start pattern literal after anchored path rest split is spells =
+    subst (λ p. Spells p anchored path) (sym split.parts) (subst (Spells (literal ++ star ∷ after) anchored) (sym is) (on_run literal (star ∷ after) anchored rest split.plain spells))
 
-pub off_start : (pattern run after : List ℕ) (anchored : Bool) (path : List ℕ) → IsSplitAtStar pattern run after → Spells pattern anchored path → (rest : List ℕ) × (path ≡ run ++ rest) × Spells (star ∷ after) anchored rest
-off_start pattern run after anchored path split spells =
-    off_run run (star ∷ after) anchored path split.plain (subst (λ p. Spells p anchored path) split.parts spells)
+pub off_start : (pattern literal after : List ℕ) (anchored : Bool) (path : List ℕ) → IsSplitAtStar pattern literal after → Spells pattern anchored path → (rest : List ℕ) × (path ≡ literal ++ rest) × Spells (star ∷ after) anchored rest
+off_start pattern literal after anchored path split spells =
+    off_run literal (star ∷ after) anchored path split.plain (subst (λ p. Spells p anchored path) split.parts spells)
 
-pub on_first : (pattern run after : List ℕ) (anchored : Bool) (path rest : List ℕ) → IsSplitAtStar pattern run after → IsAfterFirst path run rest → Spells (star ∷ after) anchored rest → Spells (star ∷ pattern) anchored path
-on_first pattern run after anchored path rest split first spells =
-    let fits = on_start pattern run after anchored (run ++ rest) rest split refl spells in
-    subst (Spells (star ∷ pattern) anchored) (sym first.stands) (on_star first.front pattern anchored (run ++ rest) fits)
+pub on_first : (pattern literal after : List ℕ) (anchored : Bool) (path rest : List ℕ) → IsSplitAtStar pattern literal after → IsAfterFirst path literal rest → Spells (star ∷ after) anchored rest → Spells (star ∷ pattern) anchored path
+on_first pattern literal after anchored path rest split first spells =
+    let fits = on_start pattern literal after anchored (literal ++ rest) rest split refl spells in
+    subst (Spells (star ∷ pattern) anchored) (sym first.stands) (on_star first.front pattern anchored (literal ++ rest) fits)
 
-pub off_first : (pattern run after : List ℕ) (anchored : Bool) (path rest : List ℕ) → IsSplitAtStar pattern run after → IsAfterFirst path run rest → Spells (star ∷ pattern) anchored path → Spells (star ∷ after) anchored rest
-off_first pattern run after anchored path rest split first spells =
+pub off_first : (pattern literal after : List ℕ) (anchored : Bool) (path rest : List ℕ) → IsSplitAtStar pattern literal after → IsAfterFirst path literal rest → Spells (star ∷ pattern) anchored path → Spells (star ∷ after) anchored rest
+off_first pattern literal after anchored path rest split first spells =
     let tail = off_star pattern anchored path spells in
-    let start = off_start pattern run after anchored tail.1 split tail.3 in
+    let start = off_start pattern literal after anchored tail.1 split tail.3 in
     let between = first.first tail.0 start.0 (tail.2 ∙ ap (λ t. tail.0 ++ t) start.1) in
     subst (Spells (star ∷ after) anchored) (sym between.1) (star_longer between.0 after anchored start.0 start.2)
 
-pub off_nowhere : (pattern run after : List ℕ) (anchored : Bool) (path : List ℕ) → IsSplitAtStar pattern run after → StandsNowhere path run → Spells (star ∷ pattern) anchored path → ⊥
-off_nowhere pattern run after anchored path split nowhere spells =
+pub off_nowhere : (pattern literal after : List ℕ) (anchored : Bool) (path : List ℕ) → IsSplitAtStar pattern literal after → StandsNowhere path literal → Spells (star ∷ pattern) anchored path → ⊥
+off_nowhere pattern literal after anchored path split nowhere spells =
     let tail = off_star pattern anchored path spells in
-    let start = off_start pattern run after anchored tail.1 split tail.3 in
+    let start = off_start pattern literal after anchored tail.1 split tail.3 in
     nowhere tail.0 start.0 (tail.2 ∙ ap (λ t. tail.0 ++ t) start.1)
 
--- ---- a last run
+-- ---- a last literal
 
-pub rest_is : (run path rest other : List ℕ) → path ≡ run ++ rest → path ≡ run ++ other → rest ≡ other
-rest_is run path rest other is is' =
-    sym (drop-append_seam run rest) ∙ ap (drop (length run)) (sym is ∙ is') ∙ drop-append_seam run other
+pub rest_is : (literal path rest other : List ℕ) → path ≡ literal ++ rest → path ≡ literal ++ other → rest ≡ other
+rest_is literal path rest other is is' =
+    sym (drop-append_seam literal rest) ∙ ap (drop (length literal)) (sym is ∙ is') ∙ drop-append_seam literal other
 
 empty_is : (rest : List ℕ) → (length rest == 0) ≡ true → rest ≡ []
 empty_is [] is = refl
 empty_is (octet ∷ rest) is = absurd (omega (arith, eqb-true (length (octet ∷ rest)) 0 is))
 
-pub fits_open : (run : List ℕ) (anchored : Bool) (path rest : List ℕ) → HasNoStar run → path ≡ run ++ rest → anchored ≡ false → Spells run anchored path
-fits_open run anchored path rest plain is free = on_last run anchored path rest plain is (λ bound. absurd (true≢false (sym bound ∙ free)))
+pub fits_open : (literal : List ℕ) (anchored : Bool) (path rest : List ℕ) → HasNoStar literal → path ≡ literal ++ rest → anchored ≡ false → Spells literal anchored path
+fits_open literal anchored path rest plain is free = on_last literal anchored path rest plain is (λ bound. absurd (true≢false (sym bound ∙ free)))
 
-pub fits_ended : (run : List ℕ) (anchored empty : Bool) (path rest : List ℕ) → HasNoStar run → path ≡ run ++ rest → anchored ≡ true → empty ≡ (length rest == 0) → IsTrue empty ↔ Spells run anchored path
-fits_ended run anchored empty path rest plain is bound tested = (
-  λ none. on_last run anchored path rest plain is (λ _. empty_is rest (sym tested ∙ none)),
+pub fits_ended : (literal : List ℕ) (anchored empty : Bool) (path rest : List ℕ) → HasNoStar literal → path ≡ literal ++ rest → anchored ≡ true → empty ≡ (length rest == 0) → IsTrue empty ↔ Spells literal anchored path
+fits_ended literal anchored empty path rest plain is bound tested = (
+  λ none. on_last literal anchored path rest plain is (λ _. empty_is rest (sym tested ∙ none)),
   λ spells.
-      let off = off_last run anchored path plain spells in
-      tested ∙ ap (λ t. length t == 0) (rest_is run path rest off.0 is off.1 ∙ off.2 bound),
+      let off = off_last literal anchored path plain spells in
+      tested ∙ ap (λ t. length t == 0) (rest_is literal path rest off.0 is off.1 ∙ off.2 bound),
 )
 
-pub fits_nowhere : (run : List ℕ) (anchored : Bool) (path : List ℕ) → HasNoStar run → BeginsNot path run → Spells run anchored path → ⊥
-fits_nowhere run anchored path plain begins spells =
-    let off = off_last run anchored path plain spells in
+pub fits_nowhere : (literal : List ℕ) (anchored : Bool) (path : List ℕ) → HasNoStar literal → BeginsNot path literal → Spells literal anchored path → ⊥
+fits_nowhere literal anchored path plain begins spells =
+    let off = off_last literal anchored path plain spells in
     begins off.0 off.1
 
-pub last_ended : (run : List ℕ) (anchored ends : Bool) (path : List ℕ) → HasNoStar run → anchored ≡ true → (IsTrue ends ↔ ((front : List ℕ) × (path ≡ front ++ run))) → IsTrue ends ↔ Spells (star ∷ run) anchored path
-last_ended run anchored ends path plain bound tested = (
+pub last_ended : (literal : List ℕ) (anchored ends : Bool) (path : List ℕ) → HasNoStar literal → anchored ≡ true → (IsTrue ends ↔ ((front : List ℕ) × (path ≡ front ++ literal))) → IsTrue ends ↔ Spells (star ∷ literal) anchored path
+last_ended literal anchored ends path plain bound tested = (
   λ is.
       let stands = tested.0 is in
-      let fits = on_last run anchored run [] plain (sym (append-nil run)) (λ _. refl) in
-      subst (Spells (star ∷ run) anchored) (sym stands.1) (on_star stands.0 run anchored run fits),
+      let fits = on_last literal anchored literal [] plain (sym (append-nil literal)) (λ _. refl) in
+      subst (Spells (star ∷ literal) anchored) (sym stands.1) (on_star stands.0 literal anchored literal fits),
   λ spells.
-      let tail = off_star run anchored path spells in
-      let off = off_last run anchored tail.1 plain tail.3 in
-      tested.1 (tail.0, tail.2 ∙ ap (λ t. tail.0 ++ t) (off.1 ∙ ap (λ t. run ++ t) (off.2 bound) ∙ append-nil run)),
+      let tail = off_star literal anchored path spells in
+      let off = off_last literal anchored tail.1 plain tail.3 in
+      tested.1 (tail.0, tail.2 ∙ ap (λ t. tail.0 ++ t) (off.1 ∙ ap (λ t. literal ++ t) (off.2 bound) ∙ append-nil literal)),
 )
 
-pub last_open : (run : List ℕ) (anchored : Bool) (path : List ℕ) (found : Option (List ℕ)) → HasNoStar run → anchored ≡ false → MatchOption found (StandsNowhere path run) (λ rest. IsAfterFirst path run rest) → IsTrue (is_some found) ↔ Spells (star ∷ run) anchored path
-last_open run anchored path None plain free nowhere = (
+pub last_open : (literal : List ℕ) (anchored : Bool) (path : List ℕ) (found : Option (List ℕ)) → HasNoStar literal → anchored ≡ false → MatchOption found (StandsNowhere path literal) (λ rest. IsAfterFirst path literal rest) → IsTrue (is_some found) ↔ Spells (star ∷ literal) anchored path
+last_open literal anchored path None plain free nowhere = (
   λ no. absurd (true≢false (sym no)),
   λ spells.
-      let tail = off_star run anchored path spells in
-      let off = off_last run anchored tail.1 plain tail.3 in
+      let tail = off_star literal anchored path spells in
+      let off = off_last literal anchored tail.1 plain tail.3 in
       absurd (nowhere tail.0 off.0 (tail.2 ∙ ap (λ t. tail.0 ++ t) off.1)),
 )
-last_open run anchored path (Some rest) plain free first = (
+last_open literal anchored path (Some rest) plain free first = (
   λ _.
-      let fits = fits_open run anchored (run ++ rest) rest plain refl free in
-      subst (Spells (star ∷ run) anchored) (sym first.stands) (on_star first.front run anchored (run ++ rest) fits),
+      let fits = fits_open literal anchored (literal ++ rest) rest plain refl free in
+      subst (Spells (star ∷ literal) anchored) (sym first.stands) (on_star first.front literal anchored (literal ++ rest) fits),
   λ _. refl,
 )
 
--- the same by where what follows the run begins
-pub last_from : (run : List ℕ) (anchored : Bool) (path : List ℕ) (from : ℕ) (found : Option ℕ) → HasNoStar run → anchored ≡ false → MatchOption found (StandsNowhere (drop from path) run) (λ next. (next ≤ length path) × IsAfterFirst (drop from path) run (drop next path)) → IsTrue (is_some found) ↔ Spells (star ∷ run) anchored (drop from path)
-last_from run anchored path from None plain free none = last_open run anchored (drop from path) None plain free none
-last_from run anchored path from (Some next) plain free first = last_open run anchored (drop from path) (Some (drop next path)) plain free first.1
+-- the same by where what follows the literal begins
+pub last_from : (literal : List ℕ) (anchored : Bool) (path : List ℕ) (from : ℕ) (found : Option ℕ) → HasNoStar literal → anchored ≡ false → MatchOption found (StandsNowhere (drop from path) literal) (λ next. (next ≤ length path) × IsAfterFirst (drop from path) literal (drop next path)) → IsTrue (is_some found) ↔ Spells (star ∷ literal) anchored (drop from path)
+last_from literal anchored path from None plain free none = last_open literal anchored (drop from path) None plain free none
+last_from literal anchored path from (Some next) plain free first = last_open literal anchored (drop from path) (Some (drop next path)) plain free first.1
 
 -- ---- all ways to cut a path
 

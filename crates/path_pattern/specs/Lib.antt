@@ -3,5 +3,6 @@
 pub mod Blocks
 pub mod Kept
 pub mod Matches
-pub mod Runs
+pub mod Literals
 pub mod Sorted
+pub mod Texts

@@ -1,19 +1,21 @@
-//! Patterns of robots files, and which paths they match.
+//! Patterns of robots.txt files, and which paths they match.
 //! RFC 9309, section 2.2.3.
 #![tactic(auto)]
 
 mod blocks;
 mod kept;
 pub mod laws;
+mod literals;
 mod order;
 mod path;
 mod pattern;
-mod places;
 mod ranks;
-mod runs;
+mod suffix_array;
+mod texts;
 
 pub use kept::empty_room;
+pub use literals::has_no_star;
 pub use path::Path;
 pub use pattern::{Pattern, matches};
-pub use places::Places;
-pub use runs::has_no_star;
+pub use suffix_array::SuffixArray;
+pub use texts::{compare_texts, front};

@@ -1,15 +1,15 @@
-//! A pattern of a robots file in normal form, and whether it matches a path.
+//! A pattern of a robots.txt in normal form, and whether it matches a path.
 //! RFC 9309, section 2.2.3.
 ghost use Rattle.std.specs.Prelude.{◌≡◌, ◌↔◌, ◌∷◌, ◌≤◌, drop, IfOk, IsTrue, length};
 ghost use Rattle.path_normal.specs.Normal.{normal_pattern, unanchored};
 ghost use Rattle.path_normal.specs.Octets.{star};
 ghost use Rattle.path_pattern.specs.Matches.{Matches, Spells};
-ghost use Rattle.path_pattern.specs.Runs.{HasNoStar, IsStarOf};
+ghost use Rattle.path_pattern.specs.Literals.{HasNoStar, IsStarOf};
 
-use crate::path::Path;
-use crate::runs::{
+use crate::literals::{
     Star, begins_with, ends_with, first_star, split_at_place, split_at_star, star_of,
 };
+use crate::path::Path;
 use path_normal::{normal_pattern, split_anchor};
 use std::alloc::{AllocError, Global};
 use std::marker::Model;
@@ -32,7 +32,7 @@ impl Model for Pattern {
 
     ghost use Rattle.std.specs.Prelude.{◌≡◌};
     ghost use Rattle.path_normal.specs.Normal.{normal_pattern, unanchored};
-    ghost use Rattle.path_pattern.specs.Runs.{IsStarOf};
+    ghost use Rattle.path_pattern.specs.Literals.{IsStarOf};
 
     ghost view = { λ pattern. pattern.text.items };
 
@@ -86,7 +86,7 @@ impl Pattern {
     }
 }
 
-/// Whether a pattern matches a path, both in normal form. The second star is looked for only where the
+/// Whether a pattern matches a path, both in normal form. The second wildcard is looked for only where the
 /// path begins with what stands before the first. Takes no memory.
 pub fn matches(pattern: &[u8], path: &mut Path<'_, '_>) -> bool
     ensures tells { IsTrue result ↔ Matches pattern.now path.old }
@@ -108,25 +108,26 @@ fn fits(pattern: &[u8], star: Star, anchored: bool, path: &mut Path<'_, '_>) -> 
     match star {
         Star::None => fits_run(pattern, anchored, path.octets()),
         Star::Only(place) => {
-            let (run, after) = split_at_place(pattern, place);
-            begins_with(path.octets(), run) && fits_last(after, anchored, path, run.len())
+            let (literal, after) = split_at_place(pattern, place);
+            begins_with(path.octets(), literal) && fits_last(after, anchored, path, literal.len())
         }
         Star::First(place) => {
-            let (run, after) = split_at_place(pattern, place);
-            begins_with(path.octets(), run) && fits_after_star(after, anchored, path, run.len())
+            let (literal, after) = split_at_place(pattern, place);
+            begins_with(path.octets(), literal)
+                && fits_after_star(after, anchored, path, literal.len())
         }
     }
 }
 
-// Whether a run without a wildcard fits the path from its first octet on.
-fn fits_run(run: &[u8], anchored: bool, path: &[u8]) -> bool
-    requires { HasNoStar run.now }
-    ensures { IsTrue result ↔ Spells run.now anchored path.now }
+// Whether a literal without a wildcard fits the path from its first octet on.
+fn fits_run(literal: &[u8], anchored: bool, path: &[u8]) -> bool
+    requires { HasNoStar literal.now }
+    ensures { IsTrue result ↔ Spells literal.now anchored path.now }
 {
-    begins_with(path, run) && (!anchored || path[run.len()..].is_empty())
+    begins_with(path, literal) && (!anchored || path[literal.len()..].is_empty())
 }
 
-// Whether the pattern fits from some octet on that is not before this place: a star stands before it. Each run
+// Whether the pattern fits from some octet on that is not before this place: a wildcard stands before it. Each literal
 // is taken at its first place: what a later place would leave is the end of what that leaves.
 fn fits_after_star(pattern: &[u8], anchored: bool, path: &mut Path<'_, '_>, from: usize) -> bool
     requires { from ≤ length path.old }
@@ -135,8 +136,8 @@ fn fits_after_star(pattern: &[u8], anchored: bool, path: &mut Path<'_, '_>, from
 {
     let mut left = pattern;
     let mut place = from;
-    while let Some((run, after)) = split_at_star(left) {
-        let Some(next) = path.after(run, place) else {
+    while let Some((literal, after)) = split_at_star(left) {
+        let Some(next) = path.after(literal, place) else {
             return false;
         };
         place = next;
@@ -145,16 +146,16 @@ fn fits_after_star(pattern: &[u8], anchored: bool, path: &mut Path<'_, '_>, from
     fits_last(left, anchored, path, place)
 }
 
-// Whether a run without a wildcard, the last of its pattern, fits behind a place.
-fn fits_last(run: &[u8], anchored: bool, path: &mut Path<'_, '_>, from: usize) -> bool
-    requires plain { HasNoStar run.now }
+// Whether a literal without a wildcard, the last of its pattern, fits behind a place.
+fn fits_last(literal: &[u8], anchored: bool, path: &mut Path<'_, '_>, from: usize) -> bool
+    requires plain { HasNoStar literal.now }
     requires within { from ≤ length path.old }
-    ensures tells { IsTrue result ↔ Spells (star ∷ run.now) anchored (drop from path.old) }
+    ensures tells { IsTrue result ↔ Spells (star ∷ literal.now) anchored (drop from path.old) }
     ensures stays { path.new ≡ path.old }
 {
     if anchored {
-        ends_with(&path.octets()[from..], run)
+        ends_with(&path.octets()[from..], literal)
     } else {
-        path.after(run, from).is_some()
+        path.after(literal, from).is_some()
     }
 }

@@ -3,8 +3,8 @@
 use Rattle.std.proofs.Common.{◌≡◌, ℕ, ◌<◌, ◌==◌, true, max, if◌then◌else◌, List, [], length, inl, inr, refl, sym, ap, subst, ◌∙◌, arith}
 use Rattle.std.proofs.lemmas.Bool.Decides.{leb_tells}
 use Rattle.std.proofs.lemmas.List.{get_or_past}
-use Rattle.permit_book.specs.declared.out.Out.{Out}
-use Rattle.permit_book.specs.declared.out.Out.TheVariants.{Nothing, Unspent, Running}
+use Rattle.permit_book.specs.declared.out.SlotContent.{SlotContent}
+use Rattle.permit_book.specs.declared.out.SlotContent.TheVariants.{Nothing, Unspent, Running}
 use Rattle.permit_book.specs.declared.granted_permit.GrantedPermit.{GrantedPermit}
 use Rattle.permit_book.specs.Numbers.{generation_of, number_in, slot_of}
 use Rattle.permit_book.specs.Table.{Table, is_nothing, last_in, noted, out_under, slot_at, unused, with_out}
@@ -15,7 +15,7 @@ use Rattle.permit_book.proofs.TellingFree.{number_parts, own_number}
 use Rattle.permit_book.proofs.TableLaws.{same_number}
 
 -- what is neither unspent nor running is nothing
-neither : (number : ℕ) (out : Out) → [] ≡ unspent_in number out → [] ≡ running_in number out → is_nothing out ≡ true
+neither : (number : ℕ) (out : SlotContent) → [] ≡ unspent_in number out → [] ≡ running_in number out → is_nothing out ≡ true
 neither number Nothing unspent running = refl
 neither number (Unspent fetch) unspent running = absurd (omega (arith, ap (λ (ps : List GrantedPermit). length ps) unspent))
 neither number (Running fetch) unspent running = absurd (omega (arith, ap (λ (ps : List GrantedPermit). length ps) running))

@@ -5,10 +5,10 @@ use Rattle.std.proofs.lemmas.Bool.Decides.{eqb_tells}
 use Rattle.std.proofs.lemmas.List.{append-nil, length-take-le, take_more}
 use Rattle.std.proofs.lemmas.List.Elements.{filter-append}
 use Rattle.permit_book.specs.declared.granted_permit.GrantedPermit.{GrantedPermit}
-use Rattle.permit_book.specs.declared.out.Out.{Out}
-use Rattle.permit_book.specs.declared.out.Out.TheVariants.{Nothing, Unspent, Running}
-use Rattle.permit_book.specs.declared.listing.Stage.{Stage}
-use Rattle.permit_book.specs.declared.listing.Stage.TheVariants as stages
+use Rattle.permit_book.specs.declared.out.SlotContent.{SlotContent}
+use Rattle.permit_book.specs.declared.out.SlotContent.TheVariants.{Nothing, Unspent, Running}
+use Rattle.permit_book.specs.declared.listing.PermitState.{PermitState}
+use Rattle.permit_book.specs.declared.listing.PermitState.TheVariants as stages
 use Rattle.permit_book.specs.declared.out.Slot.{Slot}
 use Rattle.permit_book.specs.Numbers.{generation_of, most_slots, number_in, slot_of}
 use Rattle.permit_book.specs.Outstanding.{is_numbered, listed_in, running_in, unspent_in}
@@ -17,12 +17,12 @@ use Rattle.permit_book.proofs.TableLaws.{same_number}
 use Rattle.permit_book.proofs.TellingFree.{number_parts}
 
 -- what slots have, from the one of a place on
-abbrev pub all_from : (ℕ → Out → List GrantedPermit) → ℕ → List Slot → List GrantedPermit
+abbrev pub all_from : (ℕ → SlotContent → List GrantedPermit) → ℕ → List Slot → List GrantedPermit
 all_from has i [] = []
 all_from has i (s ∷ slots) = has (number_in i s.last) s.out ++ all_from has (i + 1) slots
 
 -- with one slot more
-all_more : (has : ℕ → Out → List GrantedPermit) (i : ℕ) (slots : List Slot) (s : Slot) →
+all_more : (has : ℕ → SlotContent → List GrantedPermit) (i : ℕ) (slots : List Slot) (s : Slot) →
     all_from has i (slots ++ s ∷ []) ≡ all_from has i slots ++ has (number_in (i + length slots) s.last) s.out
 all_more has i [] s = append-nil (has (number_in i s.last) s.out) ∙ ap (λ n. has (number_in n s.last) s.out) (omega arith)
 all_more has i (f ∷ slots) s =
@@ -31,7 +31,7 @@ all_more has i (f ∷ slots) s =
     ∙ sym (append_assoc (has (number_in i f.last) f.out) (all_from has (i + 1) slots) (has (number_in (i + length (f ∷ slots)) s.last) s.out))
 
 -- with the slot at a place more
-pub listed-more : (has : ℕ → Out → List GrantedPermit) (slots : List Slot) (i : ℕ) → i < length slots →
+pub listed-more : (has : ℕ → SlotContent → List GrantedPermit) (slots : List Slot) (i : ℕ) → i < length slots →
     all_from has 0 (take (i + 1) slots) ≡ all_from has 0 (take i slots) ++ has (number_in i (get_or slots i unused).last) (get_or slots i unused).out
 listed-more has slots i low =
     ap (all_from has 0) (take_more slots i unused low)
@@ -47,16 +47,16 @@ other_slot number i last small apart = elim (eqb_tells (number_in i last) number
 ]
 
 -- what a slot has under the number
-abbrev in_slot : (ℕ → Out → List GrantedPermit) → ℕ → Slot → List GrantedPermit
+abbrev in_slot : (ℕ → SlotContent → List GrantedPermit) → ℕ → Slot → List GrantedPermit
 in_slot has number s = if s.last == generation_of number then has number s.out else []
 
 -- how lists of what is out are made
-pub record Lists (has : ℕ → Out → List GrantedPermit) : Type 0 where
-  pub own : (number : ℕ) (out : Out) → filter (is_numbered number) (has number out) ≡ has number out
-  pub others : (number m : ℕ) (out : Out) → (m == number) ≡ false → filter (is_numbered number) (has m out) ≡ []
+pub record Lists (has : ℕ → SlotContent → List GrantedPermit) : Type 0 where
+  pub own : (number : ℕ) (out : SlotContent) → filter (is_numbered number) (has number out) ≡ has number out
+  pub others : (number m : ℕ) (out : SlotContent) → (m == number) ≡ false → filter (is_numbered number) (has m out) ≡ []
   pub none : (number : ℕ) → has number Nothing ≡ []
 
-module _ (has : ℕ → Out → List GrantedPermit) (lists : Lists has) where
+module _ (has : ℕ → SlotContent → List GrantedPermit) (lists : Lists has) where
   -- past the number's slot there is nothing under it
   past : (number i : ℕ) (slots : List Slot) → slot_of number < i → i + length slots ≤ most_slots → filter (is_numbered number) (all_from has i slots) ≡ []
   past number i [] low few = refl
@@ -117,12 +117,12 @@ lists_unspent = record {
   none = λ number. refl;
 }
   where
-    own : (number : ℕ) (out : Out) → filter (is_numbered number) (unspent_in number out) ≡ unspent_in number out
+    own : (number : ℕ) (out : SlotContent) → filter (is_numbered number) (unspent_in number out) ≡ unspent_in number out
     own number Nothing = refl
     own number (Unspent fetch) = rw (same_number number) refl
     own number (Running fetch) = refl
 
-    others : (number m : ℕ) (out : Out) → (m == number) ≡ false → filter (is_numbered number) (unspent_in m out) ≡ []
+    others : (number m : ℕ) (out : SlotContent) → (m == number) ≡ false → filter (is_numbered number) (unspent_in m out) ≡ []
     others number m Nothing apart = refl
     others number m (Unspent fetch) apart = rw apart refl
     others number m (Running fetch) apart = refl
@@ -135,17 +135,17 @@ lists_running = record {
   none = λ number. refl;
 }
   where
-    own : (number : ℕ) (out : Out) → filter (is_numbered number) (running_in number out) ≡ running_in number out
+    own : (number : ℕ) (out : SlotContent) → filter (is_numbered number) (running_in number out) ≡ running_in number out
     own number Nothing = refl
     own number (Unspent fetch) = refl
     own number (Running fetch) = rw (same_number number) refl
 
-    others : (number m : ℕ) (out : Out) → (m == number) ≡ false → filter (is_numbered number) (running_in m out) ≡ []
+    others : (number m : ℕ) (out : SlotContent) → (m == number) ≡ false → filter (is_numbered number) (running_in m out) ≡ []
     others number m Nothing apart = refl
     others number m (Unspent fetch) apart = refl
     others number m (Running fetch) apart = rw apart refl
 
 -- and those at each stage
-pub lists_at : (stage : Stage) → Lists (listed_in stage)
+pub lists_at : (stage : PermitState) → Lists (listed_in stage)
 lists_at stages.Unspent = lists_unspent
 lists_at stages.Running = lists_running

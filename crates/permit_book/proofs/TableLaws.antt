@@ -5,8 +5,8 @@ use Rattle.std.proofs.lemmas.Bool.{lt-ltb, ltb-true}
 use Rattle.std.proofs.lemmas.Bool.Decides.{eqb_tells, leb_tells}
 use Rattle.std.proofs.lemmas.List.{get_or-set_same, get_or-set_other, get_or_past, length-set, length-replicate}
 use Rattle.std.proofs.lemmas.List.Sums.{length-filter, count_by-le-length, get_or-le-sum_by, sum_by-set}
-use Rattle.permit_book.specs.declared.out.Out.{Out}
-use Rattle.permit_book.specs.declared.out.Out.TheVariants.{Nothing, Unspent, Running}
+use Rattle.permit_book.specs.declared.out.SlotContent.{SlotContent}
+use Rattle.permit_book.specs.declared.out.SlotContent.TheVariants.{Nothing, Unspent, Running}
 use Rattle.permit_book.specs.declared.out.Slot.{Slot}
 use Rattle.permit_book.specs.Numbers.{slot_of, generation_of, most_slots, last_generation}
 use Rattle.permit_book.specs.Bits.{bit_of, AreFirst}
@@ -63,7 +63,7 @@ out_there t number some = elim (eqb_tells (last_in t (slot_of number)) (generati
 ]
 
 -- the table of such a number with something else out is that with one slot written
-pub with_out-there : (t : Table) (number : ℕ) (out : Out) → last_in t (slot_of number) ≡ generation_of number →
+pub with_out-there : (t : Table) (number : ℕ) (out : SlotContent) → last_in t (slot_of number) ≡ generation_of number →
     with_out t number out ≡ with_slot t (slot_of number) (record { last = last_in t (slot_of number); out = out })
 with_out-there t number out last = rw last refl
 
@@ -147,25 +147,25 @@ free_there t place free = by (nat_lt place (length t.slots)) (is_nothing (slot_a
     by true false inside nothing = absurd (true≢false (sym free ∙ rw (inside, nothing) refl))
 
 -- where nothing is out, no unspent permit is
-pub nothing_unspent : (out : Out) → is_nothing out ≡ true → is_unspent_out out ≡ false
+pub nothing_unspent : (out : SlotContent) → is_nothing out ≡ true → is_unspent_out out ≡ false
 nothing_unspent Nothing nothing = refl
 nothing_unspent (Unspent fetch) nothing = absurd (true≢false (sym nothing))
 nothing_unspent (Running fetch) nothing = absurd (true≢false (sym nothing))
 
 -- where nothing is out, no running fetch is
-pub nothing_running : (out : Out) → is_nothing out ≡ true → is_running_out out ≡ false
+pub nothing_running : (out : SlotContent) → is_nothing out ≡ true → is_running_out out ≡ false
 nothing_running Nothing nothing = refl
 nothing_running (Unspent fetch) nothing = absurd (true≢false (sym nothing))
 nothing_running (Running fetch) nothing = absurd (true≢false (sym nothing))
 
 -- where an unspent permit is out, something is
-pub unspent_something : (out : Out) → is_unspent_out out ≡ true → (is_nothing out ≡ false) × (is_running_out out ≡ false)
+pub unspent_something : (out : SlotContent) → is_unspent_out out ≡ true → (is_nothing out ≡ false) × (is_running_out out ≡ false)
 unspent_something (Unspent fetch) unspent = (refl, refl)
 unspent_something (Running fetch) unspent = absurd (true≢false (sym unspent))
 unspent_something Nothing unspent = absurd (true≢false (sym unspent))
 
 -- where a running fetch is out, something is
-pub running_something : (out : Out) → is_running_out out ≡ true → (is_nothing out ≡ false) × (is_unspent_out out ≡ false)
+pub running_something : (out : SlotContent) → is_running_out out ≡ true → (is_nothing out ≡ false) × (is_unspent_out out ≡ false)
 running_something (Running fetch) running = (refl, refl)
 running_something (Unspent fetch) running = absurd (true≢false (sym running))
 running_something Nothing running = absurd (true≢false (sym running))
@@ -219,7 +219,7 @@ running_there t number running =
     (rw (← there.1) kinds.1, rw (← there.1) running, rw (← there.1) kinds.0, there.2)
 
 -- an unspent permit that is started runs
-started_out : (out : Out) → is_unspent_out out ≡ true →
+started_out : (out : SlotContent) → is_unspent_out out ≡ true →
     (is_unspent_out (decided true out) ≡ false) × (is_running_out (decided true out) ≡ true) × (is_nothing (decided true out) ≡ false)
 started_out (Unspent fetch) unspent = (refl, refl, refl)
 started_out (Running fetch) unspent = absurd (true≢false (sym unspent))

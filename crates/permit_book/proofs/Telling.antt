@@ -4,8 +4,8 @@ use Rattle.std.proofs.Common.{◌≡◌, ◌≢◌, ℕ, ◌+◌, ◌<◌, ◌�
 use Rattle.std.proofs.lemmas.Bool.Decides.{eqb_tells}
 use Rattle.std.proofs.lemmas.List.{get_or-set_same, get_or-set_other, length-set}
 use Rattle.permit_book.specs.declared.out.Fetch.{Fetch}
-use Rattle.permit_book.specs.declared.out.Out.{Out}
-use Rattle.permit_book.specs.declared.out.Out.TheVariants.{Nothing, Unspent, Running}
+use Rattle.permit_book.specs.declared.out.SlotContent.{SlotContent}
+use Rattle.permit_book.specs.declared.out.SlotContent.TheVariants.{Nothing, Unspent, Running}
 use Rattle.permit_book.specs.declared.out.Slot.{Slot}
 use Rattle.permit_book.specs.declared.granted_permit.GrantedPermit.{GrantedPermit}
 use Rattle.permit_book.specs.Numbers.{slot_of, generation_of}
@@ -21,16 +21,16 @@ other_generation : (m n : ℕ) → slot_of m ≡ slot_of n → m ≢ n → gener
 other_generation m n slot apart same = apart (omega arith)
 
 -- a slot of the grant's place, after something else is out under one number
-slot_here : (t : Table) (n : ℕ) (out : Out) → slot_of n < length t.slots →
+slot_here : (t : Table) (n : ℕ) (out : SlotContent) → slot_of n < length t.slots →
     slot_at (with_out t n out) (slot_of n) ≡ record { last = generation_of n; out = out }
 slot_here t n out within = get_or-set_same t.slots (slot_of n) (record { last = generation_of n; out = out }) unused within
 
 -- the other slots
-slot_elsewhere : (t : Table) (n : ℕ) (out : Out) (place : ℕ) → place ≢ slot_of n → slot_at (with_out t n out) place ≡ slot_at t place
+slot_elsewhere : (t : Table) (n : ℕ) (out : SlotContent) (place : ℕ) → place ≢ slot_of n → slot_at (with_out t n out) place ≡ slot_at t place
 slot_elsewhere t n out place apart = get_or-set_other t.slots (slot_of n) place (record { last = generation_of n; out = out }) unused apart
 
 -- what a slot has out under a number
-abbrev held_under : ℕ → Slot → Out
+abbrev held_under : ℕ → Slot → SlotContent
 held_under m slot = if slot.last == generation_of m then slot.out else Nothing
 
 -- two numbers that are not equal
@@ -38,7 +38,7 @@ pub unequal : {a b : ℕ} → a ≢ b → (a == b) ≡ false
 unequal {a} {b} apart = elim (eqb_tells a b) [ inl e ↦ absurd (apart e.1) | inr d ↦ d.0 ]
 
 -- what is out under each number, after something else is out under one
-out_under-with_out : (t : Table) (n : ℕ) (out : Out) → slot_of n < length t.slots →
+out_under-with_out : (t : Table) (n : ℕ) (out : SlotContent) → slot_of n < length t.slots →
     ((m : ℕ) → slot_of m ≡ slot_of n → m ≢ n → out_under t m ≡ Nothing) → (m : ℕ) →
     out_under (with_out t n out) m ≡ (if m == n then out else out_under t m)
 out_under-with_out t n out within others m = elim (eqb_tells m n) [
@@ -58,7 +58,7 @@ out_under-with_out t n out within others m = elim (eqb_tells m n) [
         ∙ rw (unequal (other_generation m n same apart)) refl
 
 -- what is nothing
-pub nothing_is : (out : Out) → is_nothing out ≡ true → out ≡ Nothing
+pub nothing_is : (out : SlotContent) → is_nothing out ≡ true → out ≡ Nothing
 nothing_is Nothing nothing = refl
 nothing_is (Unspent fetch) nothing = absurd (true≢false (sym nothing))
 nothing_is (Running fetch) nothing = absurd (true≢false (sym nothing))
@@ -85,7 +85,7 @@ pub record Changes (old new : List GrantedPermit) (number : ℕ) (part : List Gr
   pub counted : (test : Fetch → Bool) → count_for test new + less test ≡ count_for test old + more test
 
 -- what a table tells, after something else is out under one number
-pub step : (t : Table) (unspent running unspent' running' : List GrantedPermit) (greatest greatest' : ℕ → ℕ) (n : ℕ) (old out : Out) →
+pub step : (t : Table) (unspent running unspent' running' : List GrantedPermit) (greatest greatest' : ℕ → ℕ) (n : ℕ) (old out : SlotContent) →
     TellsPermits t unspent running greatest → slot_of n < length t.slots → (slot_at t (slot_of n)).out ≡ old →
     ((m : ℕ) → slot_of m ≡ slot_of n → m ≢ n → out_under t m ≡ Nothing) →
     Changes unspent unspent' n (unspent_in n out) (λ test. one_if (is_unspent_for test old)) (λ test. one_if (is_unspent_for test out)) →
@@ -150,13 +150,13 @@ pub Changes-nothing : (permits : List GrantedPermit) (n : ℕ) (part : List Gran
 Changes-nothing permits n part is = record { own = is; others = λ m apart. refl; counted = λ test. refl }
 
 -- an unspent permit has a fetch
-unspent_fetch : (out : Out) → is_unspent_out out ≡ true → (fetch : Fetch) × (out ≡ Unspent fetch)
+unspent_fetch : (out : SlotContent) → is_unspent_out out ≡ true → (fetch : Fetch) × (out ≡ Unspent fetch)
 unspent_fetch (Unspent fetch) is = (fetch, refl)
 unspent_fetch (Running fetch) is = absurd (true≢false (sym is))
 unspent_fetch Nothing is = absurd (true≢false (sym is))
 
 -- a running one has a fetch
-running_fetch : (out : Out) → is_running_out out ≡ true → (fetch : Fetch) × (out ≡ Running fetch)
+running_fetch : (out : SlotContent) → is_running_out out ≡ true → (fetch : Fetch) × (out ≡ Running fetch)
 running_fetch (Running fetch) is = (fetch, refl)
 running_fetch (Unspent fetch) is = absurd (true≢false (sym is))
 running_fetch Nothing is = absurd (true≢false (sym is))

@@ -7,8 +7,8 @@ use Rattle.std.proofs.lemmas.Bool.{lt-ltb, le-ltb}
 use Rattle.std.proofs.lemmas.Bool.Decides.{eqb_tells, leb_tells}
 use Rattle.path_normal.specs.PageText.{authority_of}
 use Rattle.permit_book.specs.declared.out.Fetch.{Fetch}
-use Rattle.permit_book.specs.declared.out.Out.{Out}
-use Rattle.permit_book.specs.declared.out.Out.TheVariants.{Nothing, Unspent, Running}
+use Rattle.permit_book.specs.declared.out.SlotContent.{SlotContent}
+use Rattle.permit_book.specs.declared.out.SlotContent.TheVariants.{Nothing, Unspent, Running}
 use Rattle.permit_book.specs.declared.out.Slot.{Slot}
 use Rattle.permit_book.specs.declared.granted_permit.GrantedPermit.{GrantedPermit}
 use Rattle.permit_book.specs.Numbers.{slot_of, generation_of, number_in, last_generation, most_slots}
@@ -31,13 +31,13 @@ own_number t slot small =
     rw (parts.0, parts.1, same_number (last_in t slot)) refl
 
 -- a number is listed as unspent where its permit is
-listed_unspent : (number : ℕ) (out : Out) → list_any (λ _. true) (unspent_in number out) ≡ is_unspent_out out
+listed_unspent : (number : ℕ) (out : SlotContent) → list_any (λ _. true) (unspent_in number out) ≡ is_unspent_out out
 listed_unspent number (Unspent fetch) = refl
 listed_unspent number (Running fetch) = refl
 listed_unspent number Nothing = refl
 
 -- and as running where its fetch is
-listed_running : (number : ℕ) (out : Out) → list_any (λ _. true) (running_in number out) ≡ is_running_out out
+listed_running : (number : ℕ) (out : SlotContent) → list_any (λ _. true) (running_in number out) ≡ is_running_out out
 listed_running number (Unspent fetch) = refl
 listed_running number (Running fetch) = refl
 listed_running number Nothing = refl
@@ -123,7 +123,7 @@ free_alike t unspent running greatest tells slot inside =
     )
     (by (slot_at t slot).out)
   where
-    by : (out : Out) → (is_nothing out && nat_lt (last_in t slot) last_generation)
+    by : (out : SlotContent) → (is_nothing out && nat_lt (last_in t slot) last_generation)
         ≡ (not (is_unspent_out out || is_running_out out) && nat_lt (last_in t slot) last_generation)
     by Nothing = refl
     by (Unspent fetch) = refl
@@ -189,7 +189,7 @@ count-parts all first second parts (x ∷ xs) =
     omega (arith, count-cons all x xs, count-cons first x xs, count-cons second x xs)
 
 -- what is out for an authority is unspent or running
-held_part : (authority : List ℕ) (out : Out) → one_if (is_out_for authority out)
+held_part : (authority : List ℕ) (out : SlotContent) → one_if (is_out_for authority out)
     ≡ one_if (is_unspent_for (λ fetch. bytes_eq (authority_of fetch.url) authority) out)
     + one_if (is_running_for (λ fetch. bytes_eq (authority_of fetch.url) authority) out)
 held_part authority (Unspent fetch) = omega arith
@@ -197,13 +197,13 @@ held_part authority (Running fetch) = omega arith
 held_part authority Nothing = refl
 
 -- any unspent permit passes a test that all pass
-any_unspent : (out : Out) → is_unspent_out out ≡ is_unspent_for (λ _. true) out
+any_unspent : (out : SlotContent) → is_unspent_out out ≡ is_unspent_for (λ _. true) out
 any_unspent (Unspent fetch) = refl
 any_unspent (Running fetch) = refl
 any_unspent Nothing = refl
 
 -- and so does any running fetch
-any_running : (out : Out) → is_running_out out ≡ is_running_for (λ _. true) out
+any_running : (out : SlotContent) → is_running_out out ≡ is_running_for (λ _. true) out
 any_running (Unspent fetch) = refl
 any_running (Running fetch) = refl
 any_running Nothing = refl
@@ -229,7 +229,7 @@ reads_alike t unspent running greatest tells = record {
       ∙ (sym (tells.running_for (λ _. true)) ∙ ap length (filter-all running));
 }
   where
-    one : (number : ℕ) (token url : List ℕ) (out : Out) → list_any (λ p. is_fetch_of token url (fetch_of p)) (unspent_in number out) ≡ is_permit_for token url out
+    one : (number : ℕ) (token url : List ℕ) (out : SlotContent) → list_any (λ p. is_fetch_of token url (fetch_of p)) (unspent_in number out) ≡ is_permit_for token url out
     one number token url (Unspent fetch) = or_false (is_fetch_of token url fetch)
       where
         or_false : (b : Bool) → (b || false) ≡ b

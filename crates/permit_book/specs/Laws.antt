@@ -2,7 +2,7 @@
 -- The contracts of `laws.rt`.
 use Rattle.std.specs.Prelude.{◌≡◌, ◌↔◌, ℕ, ◌+◌, ◌<◌, ◌==◌, true, false, if◌then◌else◌, max, List, [], ◌∷◌, ◌++◌, length, filter, replicate}
 use Rattle.permit_book.specs.declared.out.Fetch.{Fetch}
-use Rattle.permit_book.specs.declared.out.Out.TheVariants.{Nothing, Unspent}
+use Rattle.permit_book.specs.declared.out.SlotContent.TheVariants.{Nothing, Unspent}
 use Rattle.permit_book.specs.declared.granted_permit.GrantedPermit.{GrantedPermit}
 use Rattle.permit_book.specs.Table.{Table, decided, held_count, is_nothing, is_running, is_unspent, noted, one_for, out_under, running_count, slot_at, stands, unspent_count, unused, with_out}
 use Rattle.permit_book.specs.Next.{IsNext, NoneFree}
@@ -74,7 +74,8 @@ GreatestAlike = (t : Table) (unspent running : List GrantedPermit) (greatest oth
 
 -- a table that tells of no permit has nothing out in any slot
 abbrev pub IdleIsEmpty : Type 0
-IdleIsEmpty = (t : Table) (greatest : ℕ → ℕ) (slot : ℕ) → TellsPermits t [] [] greatest → is_nothing (slot_at t slot).out ≡ true
+IdleIsEmpty =
+    (t : Table) (greatest : ℕ → ℕ) (slot : ℕ) → TellsPermits t [] [] greatest → is_nothing (slot_at t slot).out ≡ true
 
 -- a grant of before that is noted is one more of its slot, and the permits stay
 abbrev pub NoteTells : Type 0
@@ -86,7 +87,8 @@ NoteTells = (t : Table) (unspent running : List GrantedPermit) (greatest : ℕ �
 -- a grant is one permit more for its URL's authority
 abbrev pub GrantHolds : Type 0
 GrantHolds = (t : Table) (number : ℕ) (fetch : Fetch) (authority : List ℕ) → IsNext t number
-    → held_count (with_out t number (Unspent fetch)) authority ≡ held_count t authority + one_for authority (Unspent fetch)
+    → held_count (with_out t number (Unspent fetch)) authority
+    ≡ held_count t authority + one_for authority (Unspent fetch)
 
 -- an allowed start leaves as many out for each authority
 abbrev pub StartHolds : Type 0

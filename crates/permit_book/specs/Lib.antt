@@ -1,5 +1,5 @@
 -- What the contracts of the table of permits cite.
--- RFC 9309 has no permits: they make each fetch look at the answer in force (2.4).
+-- Each file is about one of numbers, the table, what is out, and the lists of it.
 pub mod Numbers
 pub mod Bits
 pub mod FreeSlots

@@ -1,5 +1,5 @@
 -- The numbers of permits and their limits.
--- RFC 9309 has no permits: they make each fetch look at the answer in force (2.4).
+-- Cited by the contracts of `PermitNo`, and by the definition of a legal history.
 use Rattle.std.specs.Prelude.{ℕ, ◌+◌, ◌*◌, ◌/◌, ◌%◌}
 
 -- the most slots that a table has

@@ -1,16 +1,16 @@
 -- What is out by the lists of a history: its unspent permits, its running ones, and the greatest
 -- generation that was granted in each slot; and a table that says the same.
--- RFC 9309 has no permits: they make each fetch look at the answer in force (2.4).
+-- Cited by the contracts of `Permits`, and by those of the book.
 use Rattle.std.specs.Prelude.{◌≡◌, ℕ, ◌<◌, ◌==◌, Bool, true, false, not, ◌&&◌, ◌||◌, nat_lt, List, [], ◌∷◌, if◌then◌else◌, length, filter}
 use Rattle.std.specs.List.{list_any}
 use Rattle.std.specs.Str.{bytes_eq}
 use Rattle.path_normal.specs.PageText.{authority_of}
 use Rattle.permit_book.specs.declared.out.Fetch.{Fetch}
-use Rattle.permit_book.specs.declared.out.Out.{Out}
-use Rattle.permit_book.specs.declared.out.Out.TheVariants.{Unspent, Running}
+use Rattle.permit_book.specs.declared.out.SlotContent.{SlotContent}
+use Rattle.permit_book.specs.declared.out.SlotContent.TheVariants.{Unspent, Running}
 use Rattle.permit_book.specs.declared.granted_permit.GrantedPermit.{GrantedPermit}
-use Rattle.permit_book.specs.declared.listing.Stage.{Stage}
-use Rattle.permit_book.specs.declared.listing.Stage.TheVariants as stages
+use Rattle.permit_book.specs.declared.listing.PermitState.{PermitState}
+use Rattle.permit_book.specs.declared.listing.PermitState.TheVariants as stages
 use Rattle.permit_book.specs.Numbers.{slot_of, generation_of, last_generation}
 use Rattle.permit_book.specs.Table.{Table, is_fetch_of, last_in, out_under}
 use Rattle.permit_book.specs.Next.{generation_after}
@@ -29,17 +29,17 @@ abbrev pub permit_for : ℕ → Fetch → GrantedPermit
 permit_for number fetch = record { number = number; token = fetch.token; url = fetch.url }
 
 -- the permit of the number, where what is out is unspent
-abbrev pub unspent_in : ℕ → Out → List GrantedPermit
+abbrev pub unspent_in : ℕ → SlotContent → List GrantedPermit
 unspent_in number (Unspent fetch) = permit_for number fetch ∷ []
 unspent_in number _ = []
 
 -- the permit of the number, where what is out is running
-abbrev pub running_in : ℕ → Out → List GrantedPermit
+abbrev pub running_in : ℕ → SlotContent → List GrantedPermit
 running_in number (Running fetch) = permit_for number fetch ∷ []
 running_in number _ = []
 
 -- the permit of the number, where what is out has come so far
-abbrev pub listed_in : Stage → ℕ → Out → List GrantedPermit
+abbrev pub listed_in : PermitState → ℕ → SlotContent → List GrantedPermit
 listed_in stages.Unspent = unspent_in
 listed_in stages.Running = running_in
 
@@ -48,7 +48,7 @@ abbrev pub ListsEach : (ℕ → List GrantedPermit) → List GrantedPermit → T
 ListsEach permits_of permits = (number : ℕ) → filter (is_numbered number) permits ≡ permits_of number
 
 -- the list has each permit that is out and has come so far, once
-abbrev pub ListsAt : Stage → Table → List GrantedPermit → Type 0
+abbrev pub ListsAt : PermitState → Table → List GrantedPermit → Type 0
 ListsAt stage t = ListsEach (λ number. listed_in stage number (out_under t number))
 
 -- the list has each unspent permit that is out, once
@@ -60,12 +60,12 @@ abbrev pub ListsRunning : Table → List GrantedPermit → Type 0
 ListsRunning = ListsAt stages.Running
 
 -- what is out is an unspent permit whose fetch passes the test
-abbrev pub is_unspent_for : (Fetch → Bool) → Out → Bool
+abbrev pub is_unspent_for : (Fetch → Bool) → SlotContent → Bool
 is_unspent_for test (Unspent fetch) = test fetch
 is_unspent_for test _ = false
 
 -- what is out is a running fetch that passes the test
-abbrev pub is_running_for : (Fetch → Bool) → Out → Bool
+abbrev pub is_running_for : (Fetch → Bool) → SlotContent → Bool
 is_running_for test (Running fetch) = test fetch
 is_running_for test _ = false
 
@@ -81,8 +81,10 @@ pub record TellsPermits (t : Table) (unspent running : List GrantedPermit) (grea
   pub last : (slot : ℕ) → slot < length t.slots → last_in t slot ≡ greatest slot
   pub unspent_under : ListsUnspent t unspent
   pub running_under : ListsRunning t running
-  pub unspent_for : (test : Fetch → Bool) → count_for test unspent ≡ length (filter (λ slot. is_unspent_for test slot.out) t.slots)
-  pub running_for : (test : Fetch → Bool) → count_for test running ≡ length (filter (λ slot. is_running_for test slot.out) t.slots)
+  pub unspent_for : (test : Fetch → Bool)
+      → count_for test unspent ≡ length (filter (λ slot. is_unspent_for test slot.out) t.slots)
+  pub running_for : (test : Fetch → Bool)
+      → count_for test running ≡ length (filter (λ slot. is_running_for test slot.out) t.slots)
 
 -- an unspent permit of this number is listed
 abbrev pub is_listed : List GrantedPermit → ℕ → Bool
@@ -90,7 +92,8 @@ is_listed permits number = list_any (is_numbered number) permits
 
 -- a permit of this number for this token and URL is listed
 abbrev pub is_listed_for : List GrantedPermit → ℕ → List ℕ → List ℕ → Bool
-is_listed_for permits number token url = list_any (λ p. is_numbered number p && is_fetch_of token url (fetch_of p)) permits
+is_listed_for permits number token url =
+    list_any (λ p. is_numbered number p && is_fetch_of token url (fetch_of p)) permits
 
 -- how many of the permits are for pages of this authority
 abbrev pub listed_for : List GrantedPermit → List ℕ → ℕ
@@ -106,7 +109,8 @@ is_free_by unspent running greatest slot =
     not (holds_slot unspent slot || holds_slot running slot) && nat_lt (greatest slot) last_generation
 
 -- the next number by the lists: the lowest free slot, with the generation after its greatest
-pub record IsNextBy (slots first : ℕ) (unspent running : List GrantedPermit) (greatest : ℕ → ℕ) (number : ℕ) : Type 0 where
+pub record IsNextBy (slots first : ℕ) (unspent running : List GrantedPermit) (greatest : ℕ → ℕ)
+    (number : ℕ) : Type 0 where
   pub in_range : slot_of number < slots
   pub free : is_free_by unspent running greatest (slot_of number) ≡ true
   pub lowest : (slot : ℕ) → slot < slot_of number → is_free_by unspent running greatest slot ≡ false

@@ -1,11 +1,11 @@
 -- What contracts see of the permits: a table of slots, and what is out under a number.
--- RFC 9309 has no permits: they make each fetch look at the answer in force (2.4).
+-- Cited by the contracts of `Permits`.
 use Rattle.std.specs.Prelude.{ℕ, ◌==◌, Bool, true, false, ◌&&◌, nat_lt, max, List, Option, Some, None, if◌then◌else◌, length, slice_index_or, slice_set, filter}
 use Rattle.std.specs.Str.{bytes_eq}
 use Rattle.path_normal.specs.PageText.{authority_of}
 use Rattle.permit_book.specs.declared.out.Fetch.{Fetch}
-use Rattle.permit_book.specs.declared.out.Out.{Out}
-use Rattle.permit_book.specs.declared.out.Out.TheVariants.{Nothing, Unspent, Running}
+use Rattle.permit_book.specs.declared.out.SlotContent.{SlotContent}
+use Rattle.permit_book.specs.declared.out.SlotContent.TheVariants.{Nothing, Unspent, Running}
 use Rattle.permit_book.specs.declared.out.Slot.{Slot}
 use Rattle.permit_book.specs.Numbers.{slot_of, generation_of, last_generation}
 
@@ -27,11 +27,12 @@ abbrev pub last_in : Table → ℕ → ℕ
 last_in t slot = (slot_at t slot).last
 
 -- what is out under the number: what its slot holds, where the number is that of the slot's last grant
-abbrev pub out_under : Table → ℕ → Out
-out_under t number = if last_in t (slot_of number) == generation_of number then (slot_at t (slot_of number)).out else Nothing
+abbrev pub out_under : Table → ℕ → SlotContent
+out_under t number =
+    if last_in t (slot_of number) == generation_of number then (slot_at t (slot_of number)).out else Nothing
 
 -- the table with this out under the number, as its slot's last grant
-abbrev pub with_out : Table → ℕ → Out → Table
+abbrev pub with_out : Table → ℕ → SlotContent → Table
 with_out t number out = record {
   first_generation = t.first_generation;
   slots = slice_set t.slots (slot_of number) (record { last = generation_of number; out = out });
@@ -45,17 +46,17 @@ noted t slot generation = record {
 }
 
 -- a permit is out that no start has spent
-abbrev pub is_unspent_out : Out → Bool
+abbrev pub is_unspent_out : SlotContent → Bool
 is_unspent_out (Unspent fetch) = true
 is_unspent_out _ = false
 
 -- a fetch is out that was started
-abbrev pub is_running_out : Out → Bool
+abbrev pub is_running_out : SlotContent → Bool
 is_running_out (Running fetch) = true
 is_running_out _ = false
 
 -- nothing is out
-abbrev pub is_nothing : Out → Bool
+abbrev pub is_nothing : SlotContent → Bool
 is_nothing Nothing = true
 is_nothing _ = false
 
@@ -72,7 +73,7 @@ abbrev pub is_fetch_of : List ℕ → List ℕ → Fetch → Bool
 is_fetch_of token url fetch = bytes_eq fetch.token token && bytes_eq fetch.url url
 
 -- an unspent permit for this token and URL
-abbrev pub is_permit_for : List ℕ → List ℕ → Out → Bool
+abbrev pub is_permit_for : List ℕ → List ℕ → SlotContent → Bool
 is_permit_for token url (Unspent fetch) = is_fetch_of token url fetch
 is_permit_for token url _ = false
 
@@ -81,7 +82,7 @@ abbrev pub stands : Table → ℕ → List ℕ → List ℕ → Bool
 stands t number token url = is_permit_for token url (out_under t number)
 
 -- what a decided permit becomes: an allowed one runs, and of a denied one nothing is out
-abbrev pub decided : Bool → Out → Out
+abbrev pub decided : Bool → SlotContent → SlotContent
 decided true (Unspent fetch) = Running fetch
 decided _ _ = Nothing
 
@@ -102,7 +103,7 @@ abbrev pub running_count : Table → ℕ
 running_count t = length (filter (λ slot. is_running_out slot.out) t.slots)
 
 -- what is out is for a page of this authority
-abbrev pub is_out_for : List ℕ → Out → Bool
+abbrev pub is_out_for : List ℕ → SlotContent → Bool
 is_out_for authority (Unspent fetch) = bytes_eq (authority_of fetch.url) authority
 is_out_for authority (Running fetch) = bytes_eq (authority_of fetch.url) authority
 is_out_for authority Nothing = false
@@ -112,11 +113,11 @@ abbrev pub held_count : Table → List ℕ → ℕ
 held_count t authority = length (filter (λ slot. is_out_for authority slot.out) t.slots)
 
 -- the URL of what is out
-abbrev pub url_out : Out → Option (List ℕ)
+abbrev pub url_out : SlotContent → Option (List ℕ)
 url_out (Unspent fetch) = Some fetch.url
 url_out (Running fetch) = Some fetch.url
 url_out Nothing = None
 
 -- 1 where what is out is for a page of this authority
-abbrev pub one_for : List ℕ → Out → ℕ
+abbrev pub one_for : List ℕ → SlotContent → ℕ
 one_for authority out = if is_out_for authority out then 1 else 0

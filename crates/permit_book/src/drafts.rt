@@ -1,14 +1,14 @@
 //! The draft of a permit: a free slot that is looked at and not yet taken.
-//! RFC 9309 has no permits: they make each fetch look at the answer in force (2.4).
+//! Used by `Book::ask`, which commits it once nothing can refuse the grant any more.
 ghost use Rattle.std.specs.Prelude.{◌≡◌, IfOk, MatchOption, OnErr};
 ghost use Rattle.std.specs.Borrow.{sem, RestsIfErr};
-ghost use Rattle.permit_book.specs.declared.out.Out.TheVariants.{Unspent};
+ghost use Rattle.permit_book.specs.declared.out.SlotContent.TheVariants.{Unspent};
 ghost use Rattle.permit_book.specs.contracts.permits.Permits.{the_row};
 ghost use Rattle.permit_book.specs.Next.{IsNext, NoneFree};
 ghost use Rattle.permit_book.specs.Table.{with_out};
 
 use crate::number::PermitNo;
-use crate::out::{Fetch, Out, Slot};
+use crate::out::{Fetch, Slot, SlotContent};
 use crate::permits::Permits;
 use crate::refusal::PermitsFull;
 use path_normal::PageUrl;
@@ -64,7 +64,7 @@ impl Permits {
         self.free.remove(number.slot());
         self.slots[number.slot() as usize] = Slot {
             last: number.generation(),
-            out: Out::Unspent(fetch),
+            out: SlotContent::Unspent(fetch),
         };
         self.unspent += 1;
     }

@@ -1,13 +1,13 @@
 //! The ends of a permit: a start that spends it, its return, and the end of its fetch.
-//! RFC 9309 has no permits: they make each fetch look at the answer in force (2.4).
+//! Used by `Book::start`, `Book::back` and `Book::finish`.
 ghost use Rattle.std.specs.Prelude.{◌≡◌, ◌↔◌, ◌*◌, ◌<◌, ◌≤◌, true, IsOk, IsTrue, OnErr, OnOk, length};
-ghost use Rattle.permit_book.specs.declared.out.Out.TheVariants.{Nothing};
+ghost use Rattle.permit_book.specs.declared.out.SlotContent.TheVariants.{Nothing};
 ghost use Rattle.permit_book.specs.Table.{decided, is_running, is_unspent, out_under, with_out};
 ghost use Rattle.permit_book.specs.Kept.{Vacates};
 
 use crate::free_slots::FreeSlots;
 use crate::number::PermitNo;
-use crate::out::{Out, Slot};
+use crate::out::{Slot, SlotContent};
 use crate::permits::Permits;
 use crate::refusal::NotOut;
 
@@ -80,7 +80,7 @@ fn vacate(slots: &mut [Slot], free: &mut FreeSlots, place: u64)
     ensures { Vacates slots.old free.old place slots.new free.new }
 {
     let slot = &mut slots[place as usize];
-    slot.out = Out::Nothing;
+    slot.out = SlotContent::Nothing;
     if slot.is_free() {
         free.insert(place);
     }

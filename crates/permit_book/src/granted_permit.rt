@@ -1,5 +1,5 @@
 //! A permit as lists of permits have it: that of a history, or of a segment of one.
-//! RFC 9309 has no permits: they make each fetch look at the answer in force (2.4).
+//! Used by bases, by the texts of histories, and by audits.
 
 use crate::number::PermitNo;
 use path_normal::PageUrl;

@@ -18,6 +18,6 @@ mod words;
 pub use drafts::Draft;
 pub use granted_permit::GrantedPermit;
 pub use number::{LAST_GENERATION, MAX_SLOTS, PermitNo, SLOTS_PER_GENERATION};
-pub use out::{Fetch, Out, Slot};
+pub use out::{Fetch, Slot, SlotContent};
 pub use permits::Permits;
 pub use refusal::{NotOut, PermitsFull};

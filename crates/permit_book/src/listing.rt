@@ -1,18 +1,18 @@
 //! What is out, in lists that outlive the table.
-//! RFC 9309 has no permits: they make each fetch look at the answer in force (2.4).
+//! Used by `Book::seal` for the base that it leaves.
 ghost use Rattle.std.specs.Prelude.{◌≡◌, ◌<◌, ◌≤◌, ◌++◌, IfOk, OnOk};
 ghost use Rattle.permit_book.specs.Numbers.{last_generation, most_slots, number_in};
 ghost use Rattle.permit_book.specs.Outstanding.{listed_in, ListsAt, ListsRunning, ListsUnspent, permit_for};
 
 use crate::granted_permit::GrantedPermit;
 use crate::number::PermitNo;
-use crate::out::{Fetch, Out, Slot};
+use crate::out::{Fetch, Slot, SlotContent};
 use crate::permits::Permits;
 use std::alloc::{AllocError, Global};
 
 // How far a permit has come that is out.
 #[derive(Clone, Copy)]
-pub(crate) enum Stage {
+pub(crate) enum PermitState {
     // No start has spent it.
     Unspent,
     // Its fetch was started.
@@ -24,18 +24,22 @@ impl Permits {
     pub fn unspent_permits(&self, alloc: Global) -> Result<Vec<GrantedPermit>, AllocError>
         ensures { IfOk result (λ permits. ListsUnspent self.now permits.items) }
     {
-        self.permits_at(alloc, Stage::Unspent)
+        self.permits_at(alloc, PermitState::Unspent)
     }
 
     /// The permits whose fetch was started and has not ended, in the order of their slots.
     pub fn running_permits(&self, alloc: Global) -> Result<Vec<GrantedPermit>, AllocError>
         ensures { IfOk result (λ permits. ListsRunning self.now permits.items) }
     {
-        self.permits_at(alloc, Stage::Running)
+        self.permits_at(alloc, PermitState::Running)
     }
 
     // The permits that have come so far, in the order of their slots.
-    fn permits_at(&self, alloc: Global, stage: Stage) -> Result<Vec<GrantedPermit>, AllocError>
+    fn permits_at(
+        &self,
+        alloc: Global,
+        stage: PermitState,
+    ) -> Result<Vec<GrantedPermit>, AllocError>
         ensures { IfOk result (λ permits. ListsAt stage self.now permits.items) }
     {
         let mut permits = Vec::new(alloc);
@@ -49,7 +53,7 @@ impl Permits {
 // Adds the permit of a slot, where one is out that has come so far.
 fn push_at(
     permits: &mut Vec<GrantedPermit>,
-    stage: Stage,
+    stage: PermitState,
     place: u64,
     slot: &Slot,
 ) -> Result<(), AllocError>
@@ -59,7 +63,8 @@ fn push_at(
         ≡ permits.old.items ++ listed_in stage (number_in place slot.now.last) slot.now.out) }
 {
     match (stage, &slot.out) {
-        (Stage::Unspent, Out::Unspent(fetch)) | (Stage::Running, Out::Running(fetch)) => {
+        (PermitState::Unspent, SlotContent::Unspent(fetch))
+        | (PermitState::Running, SlotContent::Running(fetch)) => {
             permits.push(permit_for(place, slot.last, fetch)?)?;
         }
         _ => {}

@@ -1,5 +1,5 @@
 //! The number of a permit: which slot it was granted in, and which grant of that slot it is.
-//! RFC 9309 has no permits; they make each fetch look at the robots answer then in force (2.4).
+//! Used wherever a permit is named: by crawlers, histories and audits.
 ghost use Rattle.std.specs.Prelude.{◌≡◌, ◌<◌, ◌≤◌};
 ghost use Rattle.permit_book.specs.Numbers.{slot_of, generation_of, number_in, last_generation, most_slots};
 

@@ -20,7 +20,7 @@ pub struct Fetch {
 
 /// What is out in a slot.
 #[derive(Drop)]
-pub enum Out {
+pub enum SlotContent {
     /// No permit: none was granted, or the last one has ended.
     Nothing,
     /// A permit that no start has spent.
@@ -35,7 +35,7 @@ pub struct Slot {
     /// The generation of its last grant, 0 where none was.
     pub last: u64,
     /// What is out under the number of that grant.
-    pub out: Out,
+    pub out: SlotContent,
 }
 
 impl Fetch {
@@ -47,26 +47,26 @@ impl Fetch {
     }
 }
 
-impl Out {
+impl SlotContent {
     /// Whether nothing is out.
     pub fn is_nothing(&self) -> bool
         ensures { result ≡ is_nothing self.now }
     {
-        matches!(self, Out::Nothing)
+        matches!(self, SlotContent::Nothing)
     }
 
     /// Whether an unspent permit is out.
     pub fn is_unspent(&self) -> bool
         ensures { result ≡ is_unspent_out self.now }
     {
-        matches!(self, Out::Unspent(_))
+        matches!(self, SlotContent::Unspent(_))
     }
 
     /// Whether a running fetch is out.
     pub fn is_running(&self) -> bool
         ensures { result ≡ is_running_out self.now }
     {
-        matches!(self, Out::Running(_))
+        matches!(self, SlotContent::Running(_))
     }
 
     /// Whether an unspent permit for this token and URL is out.
@@ -74,7 +74,7 @@ impl Out {
         ensures { result ≡ is_permit_for token.now url.now self.now }
     {
         match self {
-            Out::Unspent(fetch) => fetch.is_of(token, url),
+            SlotContent::Unspent(fetch) => fetch.is_of(token, url),
             _ => false,
         }
     }
@@ -84,8 +84,9 @@ impl Out {
         ensures { result ≡ is_out_for authority.now self.now }
     {
         match self {
-            Out::Unspent(fetch) | Out::Running(fetch) => fetch.url.authority() == authority,
-            Out::Nothing => false,
+            SlotContent::Unspent(fetch) | SlotContent::Running(fetch) => fetch.url.authority()
+                == authority,
+            SlotContent::Nothing => false,
         }
     }
 
@@ -94,8 +95,8 @@ impl Out {
         ensures { option_copied result ≡ url_out self.now }
     {
         match self {
-            Out::Unspent(fetch) | Out::Running(fetch) => Some(&fetch.url),
-            Out::Nothing => None,
+            SlotContent::Unspent(fetch) | SlotContent::Running(fetch) => Some(&fetch.url),
+            SlotContent::Nothing => None,
         }
     }
 
@@ -103,9 +104,9 @@ impl Out {
     pub(crate) fn start(&mut self)
         ensures { self.new ≡ decided true self.old }
     {
-        *self = match mem::replace(self, Out::Nothing) {
-            Out::Unspent(fetch) => Out::Running(fetch),
-            _ => Out::Nothing,
+        *self = match mem::replace(self, SlotContent::Nothing) {
+            SlotContent::Unspent(fetch) => SlotContent::Running(fetch),
+            _ => SlotContent::Nothing,
         };
     }
 }

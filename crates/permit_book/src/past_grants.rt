@@ -1,5 +1,5 @@
 //! Grants of before the table was made, as a history that goes on has them.
-//! RFC 9309 has no permits: they make each fetch look at the answer in force (2.4).
+//! Used by `Book::resume`.
 ghost use Rattle.std.specs.Prelude.{◌≡◌, ◌<◌, ◌≤◌, IsTrue, length};
 ghost use Rattle.permit_book.specs.Numbers.{last_generation};
 ghost use Rattle.permit_book.specs.Table.{is_nothing, noted, slot_at};

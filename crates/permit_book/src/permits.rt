@@ -1,7 +1,7 @@
 //! The table of permits, and what is read of it.
-//! RFC 9309 has no permits: they make each fetch look at the answer in force (2.4).
+//! Used by the book, which has one table.
 ghost use Rattle.std.specs.Prelude.{◌≡◌, ◌*◌, ◌≤◌, length, replicate, IfNone, IfOk, IfSome};
-ghost use Rattle.permit_book.specs.declared.out.Out.TheVariants.{Nothing};
+ghost use Rattle.permit_book.specs.declared.out.SlotContent.TheVariants.{Nothing};
 ghost use Rattle.permit_book.specs.Numbers.{last_generation, most_slots};
 ghost use Rattle.permit_book.specs.Bits.{AreFirst};
 ghost use Rattle.std.specs.Option.{option_copied};
@@ -10,7 +10,7 @@ ghost use Rattle.permit_book.specs.Kept.{IsWithin};
 
 use crate::free_slots::FreeSlots;
 use crate::number::PermitNo;
-use crate::out::{Out, Slot};
+use crate::out::{Slot, SlotContent};
 use path_normal::PageUrl;
 use robots_text::Token;
 use std::alloc::{AllocError, Global};
@@ -154,7 +154,7 @@ fn unused_slots(alloc: Global, count: u64) -> Result<Vec<Slot>, AllocError>
     for _ in 0..count {
         slots.push_reserved(Slot {
             last: 0,
-            out: Out::Nothing,
+            out: SlotContent::Nothing,
         });
     }
     Ok(slots)

@@ -21,8 +21,8 @@ use Rattle.robots_check.specs.Targets.{HasFault, HasPath, page_named}
 use Rattle.robots_check.specs.Told.{IsBefore, IsTold}
 use Rattle.robots_check.specs.declared.detail.Detail.{Detail}
 use Rattle.robots_check.specs.declared.detail.Detail.TheVariants.{Plain, Explained}
-use Rattle.robots_check.specs.declared.outcome.Outcome.{Outcome}
-use Rattle.robots_check.specs.declared.rows.Row.{Row}
+use Rattle.robots_check.specs.declared.check_outcome.CheckOutcome.{CheckOutcome}
+use Rattle.robots_check.specs.declared.rows.ComparedRule.{ComparedRule}
 use Rattle.robots_check.proofs.Judging.{on_path}
 use Rattle.robots_check.proofs.Passing.{cut_none, cut_one, outcome_one, passing_one}
 
@@ -42,7 +42,7 @@ told_on detail lines word url path answer before has says is = record {
 }
 
 -- the answer passes behind what stands before it
-pub passes_page : (detail : Detail) (lines : List Numbered) (word url path text : List ℕ) (answer : Answer) (a b c : Option (List ℕ)) (pending mid left : List ℕ) (outcome : Outcome) → HasPath url path → IsAnswerOn lines word path answer →
+pub passes_page : (detail : Detail) (lines : List Numbered) (word url path text : List ℕ) (answer : Answer) (a b c : Option (List ℕ)) (pending mid left : List ℕ) (outcome : CheckOutcome) → HasPath url path → IsAnswerOn lines word path answer →
     PassesBefore detail lines word path answer a b pending mid → text ≡ answer_text url answer → Passes b c (mid ++ text) left → outcome ≡ outcome_of_one answer → Passing detail lines word (url ∷ []) a c pending left outcome
 passes_page detail lines word url path text answer a b c pending mid left outcome has says first text_is passed comes =
     passing_one detail lines word url (record { before = first.before; answer = answer }) a c pending left outcome (told_on detail lines word url path answer first.before has says first.is)
@@ -69,7 +69,7 @@ unread_told Plain lines word url fault has = record { answer = has; before = ref
 unread_told Explained lines word url fault has = record { answer = has; before = refl }
 
 -- the answer to a URL that can't be read passes
-pub passes_unread : (detail : Detail) (lines : List Numbered) (word url text : List ℕ) (fault : UrlFault) (a b : Option (List ℕ)) (pending left : List ℕ) (outcome : Outcome) → HasFault url fault →
+pub passes_unread : (detail : Detail) (lines : List Numbered) (word url text : List ℕ) (fault : UrlFault) (a b : Option (List ℕ)) (pending left : List ℕ) (outcome : CheckOutcome) → HasFault url fault →
     text ≡ answer_text url (unread fault) → Passes a b (pending ++ text) left → outcome ≡ outcome_of_one (unread fault) → Passing detail lines word (url ∷ []) a b pending left outcome
 passes_unread detail lines word url text fault a b pending left outcome has text_is passed comes =
     passing_one detail lines word url (record { before = []; answer = unread fault }) a b pending left outcome (unread_told detail lines word url fault has)
@@ -82,12 +82,12 @@ cuts_unread detail lines word url text fault a b pending has text_is cut =
     cut_one detail lines word url (record { before = []; answer = unread fault }) a b pending (unread_told detail lines word url fault has)
     (subst (λ t. AppendsPrefix a b (pending ++ t)) text_is cut)
 
-rows_text : (rows : List Row) → flat_map (λ row. row_text (row_seen row)) rows ≡ flat_map row_text (map row_seen rows)
+rows_text : (rows : List ComparedRule) → flat_map (λ row. row_text (row_seen row)) rows ≡ flat_map row_text (map row_seen rows)
 rows_text [] = refl
 rows_text (row ∷ rows) = ap (λ l. row_text (row_seen row) ++ l) (rows_text rows)
 
 -- the three parts are an explanation
-pub explains : (lines : List Numbered) (word path : List ℕ) (answer : Answer) (agents : List Shown) (rules : List Ruled) (rows searched pushed : List Row) (octets : ℕ) (second : Option Tried) (reason : List ℕ) →
+pub explains : (lines : List Numbered) (word path : List ℕ) (answer : Answer) (agents : List Shown) (rules : List Ruled) (rows searched pushed : List ComparedRule) (octets : ℕ) (second : Option Tried) (reason : List ℕ) →
     agents ≡ agents_for lines word → AreRulesFor lines word rules → AreRows path rules (map row_seen rows) → searched ≡ rows → pushed ≡ rows → IsSecondFor (map row_seen searched) answer second → octets ≡ winner_octets answer → reason ≡ because_text octets answer second →
     Explains lines word path answer (agents_text agents ++ (flat_map (λ row. row_text (row_seen row)) pushed ++ reason))
 explains lines word path answer agents rules rows searched pushed octets second reason agents_are are_rules are_rows searched_is pushed_is is_second octets_are reason_is = record {

@@ -1,54 +1,59 @@
--- The rule line that gives a verdict stands among those for the token.
+-- The rule line that gives a verdict stands among those of the text.
 -- Used by `Judge`.
 use Rattle.std.proofs.Common.{◌≡◌, ◌<◌, ℕ, List, [], Contains, length, map, slice_index_or, sym, ap, ◌∙◌, subst, arith}
 use Rattle.std.proofs.lemmas.List.{get_or_default, get_or-map, length-map}
 use Rattle.robots_text.specs.declared.record.RuleKind.{RuleKind}
 use Rattle.robots_text.specs.declared.record.RuleKind.TheVariants as kinds
-use Rattle.robots_text.specs.Groups.{AreRulesFor, Ruled}
-use Rattle.robots_text.specs.Records.{Numbered}
+use Rattle.robots_text.specs.Groups.{Ruled}
+use Rattle.robots_text.specs.Records.{Numbered, numbered_records, records_of}
 use Rattle.robots_text.specs.Walk.{rule_seen}
 use Rattle.robots_text.specs.declared.groups.RuleLine.{RuleLine}
 use Rattle.robots_verdict.specs.declared.decision.Allowed.TheVariants.{Line}
 use Rattle.robots_verdict.specs.declared.decision.Verdict.TheVariants.{Allow, Deny}
 use Rattle.robots_verdict.specs.Verdict.{Decides, IsStrongest, IsVerdict}
 use Rattle.robots_check.specs.Answers.{Answer, allowed_by, allowed_unruled, allowed_robots, denied_by, unread, GivenBy, IsAnswer, IsAnswerOn}
-use Rattle.robots_check.specs.Rules.{IsRuleAt, no_rule, rule_at}
+use Rattle.robots_check.specs.Rules.{IsRising, IsRuleAt, no_rule, rule_at, rules_among}
 use Rattle.robots_check.specs.Targets.{HasPath}
 use Rattle.robots_check.proofs.Placing.{one_place}
+use Rattle.robots_check.proofs.RuleLines.{rises_among, stands_among}
 
 entry_at : (rules : List Ruled) (ruled : Ruled) → (there : Contains rules ruled) → rule_at rules there.0 ≡ ruled
 entry_at rules ruled there = get_or_default rules there.0 no_rule ruled there.1 ∙ there.2
 
 -- the line that decides has a place
-pub place_there : (lines : List Numbered) (word path : List ℕ) (rules : List Ruled) (line : ℕ) (kind : RuleKind) → AreRulesFor lines word rules → Decides lines word path line kind →
+pub place_there : (lines : List Numbered) (word path : List ℕ) (rules : List Ruled) (line : ℕ) (kind : RuleKind) → rules ≡ rules_among lines → Decides lines word path line kind →
     (place : ℕ) × IsRuleAt rules line place
 place_there lines word path rules line kind are decides =
-    let there = are.every decides.ruled decides.strongest.applies.for_token in
+    let there = subst (λ l. Contains l decides.ruled) (sym are) (stands_among lines decides.ruled decides.strongest.applies.for_token.governs.line_stands) in
     (there.0, (there.1, ap (λ ruled. ruled.line) (entry_at rules decides.ruled there) ∙ decides.is_line))
 
+-- the numbers of the lines rise
+pub rising : (text : List ℕ) (rules : List Ruled) → rules ≡ rules_among (numbered_records text) → IsRising rules
+rising text rules are = subst IsRising (sym are) (rises_among 1 (records_of text))
+
 -- the line at the place of its number is the one that decides
-strongest_at : (lines : List Numbered) (word path : List ℕ) (rules : List Ruled) (line : ℕ) (kind : RuleKind) (place : ℕ) → AreRulesFor lines word rules → Decides lines word path line kind → IsRuleAt rules line place →
+strongest_at : (lines : List Numbered) (word path : List ℕ) (rules : List Ruled) (line : ℕ) (kind : RuleKind) (place : ℕ) → rules ≡ rules_among lines → IsRising rules → Decides lines word path line kind → IsRuleAt rules line place →
     IsStrongest lines word path (rule_at rules place)
 unfolding place_there
-strongest_at lines word path rules line kind place are decides at =
-    let there = are.every decides.ruled decides.strongest.applies.for_token in
+strongest_at lines word path rules line kind place are rising decides at =
+    let there = subst (λ l. Contains l decides.ruled) (sym are) (stands_among lines decides.ruled decides.strongest.applies.for_token.governs.line_stands) in
     let found = place_there lines word path rules line kind are decides in
-    let same : there.0 ≡ place = one_place rules are.ordered line there.0 place found.1 at in
+    let same : there.0 ≡ place = one_place rules rising line there.0 place found.1 at in
     subst (IsStrongest lines word path) (sym (entry_at rules decides.ruled there) ∙ ap (rule_at rules) same) decides.strongest
 
 -- it gives the verdict
-pub given_allow : (lines : List Numbered) (word path : List ℕ) (rules : List Ruled) (line place : ℕ) (ruled : Ruled) → AreRulesFor lines word rules → Decides lines word path line kinds.Allow → IsRuleAt rules line place →
+pub given_allow : (lines : List Numbered) (word path : List ℕ) (rules : List Ruled) (line place : ℕ) (ruled : Ruled) → rules ≡ rules_among lines → IsRising rules → Decides lines word path line kinds.Allow → IsRuleAt rules line place →
     ruled ≡ rule_at rules place → GivenBy lines word path (Allow (Line ruled.line)) ruled
-given_allow lines word path rules line place ruled are decides at is = record {
+given_allow lines word path rules line place ruled are rising decides at is = record {
   verdict = subst (λ l. IsVerdict lines word path (Allow (Line l))) (sym (ap (λ r. r.line) is ∙ at.1)) decides;
-  strongest = subst (IsStrongest lines word path) (sym is) (strongest_at lines word path rules line kinds.Allow place are decides at);
+  strongest = subst (IsStrongest lines word path) (sym is) (strongest_at lines word path rules line kinds.Allow place are rising decides at);
 }
 
-pub given_deny : (lines : List Numbered) (word path : List ℕ) (rules : List Ruled) (line place : ℕ) (ruled : Ruled) → AreRulesFor lines word rules → Decides lines word path line kinds.Disallow → IsRuleAt rules line place →
+pub given_deny : (lines : List Numbered) (word path : List ℕ) (rules : List Ruled) (line place : ℕ) (ruled : Ruled) → rules ≡ rules_among lines → IsRising rules → Decides lines word path line kinds.Disallow → IsRuleAt rules line place →
     ruled ≡ rule_at rules place → GivenBy lines word path (Deny ruled.line) ruled
-given_deny lines word path rules line place ruled are decides at is = record {
+given_deny lines word path rules line place ruled are rising decides at is = record {
   verdict = subst (λ l. IsVerdict lines word path (Deny l)) (sym (ap (λ r. r.line) is ∙ at.1)) decides;
-  strongest = subst (IsStrongest lines word path) (sym is) (strongest_at lines word path rules line kinds.Disallow place are decides at);
+  strongest = subst (IsStrongest lines word path) (sym is) (strongest_at lines word path rules line kinds.Disallow place are rising decides at);
 }
 
 -- what is said of the path of a URL is the answer to the URL

@@ -8,4 +8,5 @@ mod Passing
 mod Placing
 pub mod Printing
 mod Reading
+mod RuleLines
 mod Showing

@@ -17,8 +17,8 @@ use Rattle.robots_check.specs.Told.{Told, AreTold, IsTold, answers_text, told_te
 use Rattle.robots_check.specs.declared.detail.Detail.{Detail}
 use Rattle.robots_check.specs.Checks.{Answers, AnswersFront}
 use Rattle.robots_check.specs.Outcomes.{is_denied, is_unread, outcome_of, outcome_of_one, outcome_of_some, worse}
-use Rattle.robots_check.specs.declared.outcome.Outcome.{Outcome}
-use Rattle.robots_check.specs.declared.outcome.Outcome.TheVariants as outcomes
+use Rattle.robots_check.specs.declared.check_outcome.CheckOutcome.{CheckOutcome}
+use Rattle.robots_check.specs.declared.check_outcome.CheckOutcome.TheVariants as outcomes
 
 are_more : (detail : Detail) (lines : List Numbered) (word : List ℕ) (urls more : List (List ℕ)) (answers others : List Told) → AreTold detail lines word urls answers → AreTold detail lines word more others → AreTold detail lines word (urls ++ more) (answers ++ others)
 are_more detail lines word [] more [] others are after = after
@@ -66,7 +66,7 @@ outcome_more (told ∷ answers) [] =
 outcome_more (told ∷ answers) (other ∷ others) = some_more (told ∷ answers) (other ∷ others)
 
 -- more answers pass behind those before
-pub passing_more : (detail : Detail) (lines : List Numbered) (word : List ℕ) (urls more : List (List ℕ)) (a b c : Option (List ℕ)) (pending mid left : List ℕ) (one other outcome : Outcome) →
+pub passing_more : (detail : Detail) (lines : List Numbered) (word : List ℕ) (urls more : List (List ℕ)) (a b c : Option (List ℕ)) (pending mid left : List ℕ) (one other outcome : CheckOutcome) →
     Passing detail lines word urls a b pending mid one → Passing detail lines word more b c mid left other → outcome ≡ worse one other → Passing detail lines word (urls ++ more) a c pending left outcome
 passing_more detail lines word urls more a b c pending mid left one other outcome before next is = record {
   answers = before.answers ++ next.answers;
@@ -77,7 +77,7 @@ passing_more detail lines word urls more a b c pending mid left one other outcom
 }
 
 -- the answers before a fault, and a front of those at it
-pub passing_cut : (detail : Detail) (lines : List Numbered) (word : List ℕ) (urls more rest : List (List ℕ)) (a b c : Option (List ℕ)) (pending mid : List ℕ) (one : Outcome) →
+pub passing_cut : (detail : Detail) (lines : List Numbered) (word : List ℕ) (urls more rest : List (List ℕ)) (a b c : Option (List ℕ)) (pending mid : List ℕ) (one : CheckOutcome) →
     Passing detail lines word urls a b pending mid one → PassingFront detail lines word more b c mid → PassingFront detail lines word (urls ++ (more ++ rest)) a c pending
 passing_cut detail lines word urls more rest a b c pending mid one before next = record {
   first = urls ++ next.first;
@@ -110,7 +110,7 @@ cut_none detail lines word urls a pending = record {
 }
 
 -- what is told of one URL passes
-pub passing_one : (detail : Detail) (lines : List Numbered) (word url : List ℕ) (told : Told) (a b : Option (List ℕ)) (pending left : List ℕ) (outcome : Outcome) →
+pub passing_one : (detail : Detail) (lines : List Numbered) (word url : List ℕ) (told : Told) (a b : Option (List ℕ)) (pending left : List ℕ) (outcome : CheckOutcome) →
     IsTold detail lines word url told → Passes a b (pending ++ told_text url told) left → outcome ≡ outcome_of (told ∷ []) → Passing detail lines word (url ∷ []) a b pending left outcome
 passing_one detail lines word url told a b pending left outcome is passed comes = record {
   answers = told ∷ [];
@@ -151,7 +151,7 @@ front_none detail lines word urls a = record {
 }
 
 -- what passed was written in part
-pub front_all : (detail : Detail) (lines : List Numbered) (word : List ℕ) (urls : List (List ℕ)) (a b c : Option (List ℕ)) (pending mid : List ℕ) (outcome : Outcome) → pending ≡ [] →
+pub front_all : (detail : Detail) (lines : List Numbered) (word : List ℕ) (urls : List (List ℕ)) (a b c : Option (List ℕ)) (pending mid : List ℕ) (outcome : CheckOutcome) → pending ≡ [] →
     Passing detail lines word urls a b pending mid outcome → AppendsPrefix b c mid → AnswersFront detail lines word urls a c
 front_all detail lines word urls a b c pending mid outcome none passing cut = record {
   first = urls;
@@ -175,7 +175,7 @@ front_cut detail lines word urls a b pending none cut = record {
 }
 
 -- what passed was written
-pub all_written : (detail : Detail) (lines : List Numbered) (word : List ℕ) (urls : List (List ℕ)) (a b c : Option (List ℕ)) (pending mid : List ℕ) (outcome : Outcome) → pending ≡ [] →
+pub all_written : (detail : Detail) (lines : List Numbered) (word : List ℕ) (urls : List (List ℕ)) (a b c : Option (List ℕ)) (pending mid : List ℕ) (outcome : CheckOutcome) → pending ≡ [] →
     Passing detail lines word urls a b pending mid outcome → Appends b c mid → Answers detail lines word urls a c outcome
 all_written detail lines word urls a b c pending mid outcome none passing wrote = record {
   answers = passing.answers;
@@ -186,7 +186,7 @@ all_written detail lines word urls a b c pending mid outcome none passing wrote 
 }
 
 -- an answer more passes behind those to the first URLs
-pub passing_next : (detail : Detail) (lines : List Numbered) (word : List ℕ) {X : Type 0} (f : X → List ℕ) (xs : List X) (i : ℕ) (d : X) (a b c : Option (List ℕ)) (pending mid left : List ℕ) (one other outcome : Outcome) → i < length xs →
+pub passing_next : (detail : Detail) (lines : List Numbered) (word : List ℕ) {X : Type 0} (f : X → List ℕ) (xs : List X) (i : ℕ) (d : X) (a b c : Option (List ℕ)) (pending mid left : List ℕ) (one other outcome : CheckOutcome) → i < length xs →
     Passing detail lines word (map f (take i xs)) a b pending mid one → Passing detail lines word (f (slice_index_or xs i d) ∷ []) b c mid left other → outcome ≡ worse one other →
     Passing detail lines word (map f (take (i + 1) xs)) a c pending left outcome
 passing_next detail lines word f xs i d a b c pending mid left one other outcome within before next is =
@@ -194,7 +194,7 @@ passing_next detail lines word f xs i d a b c pending mid left one other outcome
     (passing_more detail lines word (map f (take i xs)) (f (slice_index_or xs i d) ∷ []) a b c pending mid left one other outcome before next is)
 
 -- the answer at which there was a fault comes behind those to the first URLs
-pub passing_stop : (detail : Detail) (lines : List Numbered) (word : List ℕ) {X : Type 0} (f : X → List ℕ) (xs : List X) (i : ℕ) (d : X) (a b c : Option (List ℕ)) (pending mid : List ℕ) (one : Outcome) → i < length xs →
+pub passing_stop : (detail : Detail) (lines : List Numbered) (word : List ℕ) {X : Type 0} (f : X → List ℕ) (xs : List X) (i : ℕ) (d : X) (a b c : Option (List ℕ)) (pending mid : List ℕ) (one : CheckOutcome) → i < length xs →
     Passing detail lines word (map f (take i xs)) a b pending mid one → PassingFront detail lines word (f (slice_index_or xs i d) ∷ []) b c mid → PassingFront detail lines word (map f xs) a c pending
 passing_stop detail lines word f xs i d a b c pending mid one within before next =
     subst (λ urls. PassingFront detail lines word urls a c pending)
@@ -202,12 +202,12 @@ passing_stop detail lines word f xs i d a b c pending mid one within before next
     (passing_cut detail lines word (map f (take i xs)) (f (slice_index_or xs i d) ∷ []) (map f (drop (suc i) xs)) a b c pending mid one before next)
 
 -- what was told of a policy's text was told of the text that it was made of
-pub told_all : (detail : Detail) (text policy word : List ℕ) (urls : List (List ℕ)) (a b c : Option (List ℕ)) (pending mid : List ℕ) (outcome : Outcome) → policy ≡ text → pending ≡ [] →
+pub told_all : (detail : Detail) (text policy word : List ℕ) (urls : List (List ℕ)) (a b c : Option (List ℕ)) (pending mid : List ℕ) (outcome : CheckOutcome) → policy ≡ text → pending ≡ [] →
     Passing detail (numbered_records policy) word urls a b pending mid outcome → Appends b c mid → Answers detail (numbered_records text) word urls a c outcome
 told_all detail text policy word urls a b c pending mid outcome same none passing wrote =
     subst (λ t. Answers detail (numbered_records t) word urls a c outcome) same (all_written detail (numbered_records policy) word urls a b c pending mid outcome none passing wrote)
 
-pub told_front : (detail : Detail) (text policy word : List ℕ) (urls : List (List ℕ)) (a b c : Option (List ℕ)) (pending mid : List ℕ) (outcome : Outcome) → policy ≡ text → pending ≡ [] →
+pub told_front : (detail : Detail) (text policy word : List ℕ) (urls : List (List ℕ)) (a b c : Option (List ℕ)) (pending mid : List ℕ) (outcome : CheckOutcome) → policy ≡ text → pending ≡ [] →
     Passing detail (numbered_records policy) word urls a b pending mid outcome → AppendsPrefix b c mid → AnswersFront detail (numbered_records text) word urls a c
 told_front detail text policy word urls a b c pending mid outcome same none passing cut =
     subst (λ t. AnswersFront detail (numbered_records t) word urls a c) same (front_all detail (numbered_records policy) word urls a b c pending mid outcome none passing cut)

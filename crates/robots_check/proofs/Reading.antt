@@ -9,7 +9,7 @@ use Rattle.robots_check.specs.Checks.{Checks, ReadsBody, ReadsText, Tells}
 use Rattle.robots_check.specs.declared.detail.Detail.{Detail}
 use Rattle.robots_check.specs.declared.fault.TextFault.{TextFault}
 use Rattle.robots_check.specs.declared.fault.TextFault.TheVariants.{Read, Write, NoMemory}
-use Rattle.robots_check.specs.declared.outcome.Outcome.{Outcome}
+use Rattle.robots_check.specs.declared.check_outcome.CheckOutcome.{CheckOutcome}
 
 -- what is kept of what was read is what is kept of the input
 pub body_read : (old new : Option (List ℕ)) (body : List ℕ) → ReadsTo (text_limit + 1) old new body → ReadsBody old new body
@@ -20,7 +20,7 @@ pub text_read : (old new : Option (List ℕ)) (body text : List ℕ) → ReadsBo
 text_read old new body text reads is = record { body = body; reads = reads; text_is = is }
 
 -- what was told of the text is what was told of the input
-pub checks_of : (detail : Detail) (input left : Option (List ℕ)) (word : List ℕ) (urls : List (List ℕ)) (written new : Option (List ℕ)) (text : List ℕ) (result : Result Outcome TextFault) →
+pub checks_of : (detail : Detail) (input left : Option (List ℕ)) (word : List ℕ) (urls : List (List ℕ)) (written new : Option (List ℕ)) (text : List ℕ) (result : Result CheckOutcome TextFault) →
     ReadsText input left text → Tells detail text word urls written new result → Checks detail input left word urls written new result
 checks_of detail input left word urls written new text (Ok outcome) reads tells = (text, reads, tells)
 checks_of detail input left word urls written new text (Err Read) reads tells = absurd tells

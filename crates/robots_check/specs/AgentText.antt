@@ -6,7 +6,7 @@ use Rattle.robots_text.specs.Grouped.{Grouped, grouped_from}
 use Rattle.robots_text.specs.Groups.{is_agent, speaks_to}
 use Rattle.robots_text.specs.Records.{everybody, token, nobody, Record, agent, rule, other, Numbered, kind_seen}
 use Rattle.robots_text.specs.Token.{lower_case}
-use Rattle.robots_check.specs.declared.agents.Head.{Head}
+use Rattle.robots_check.specs.declared.agents.AgentLine.{AgentLine}
 use Rattle.robots_check.specs.declared.detail.Detail.{Detail}
 use Rattle.robots_check.specs.declared.detail.Detail.TheVariants.{Plain, Explained}
 
@@ -17,7 +17,7 @@ pub record Shown : Type 0 where
   pub speaks : Bool
 
 -- what a head is seen as
-abbrev pub head_seen : Head → Shown
+abbrev pub head_seen : AgentLine → Shown
 head_seen head = record { line = head.line; kind = kind_seen head.kind; speaks = head.speaks }
 
 -- the numbers of the groups in which a line speaks, one for each such line
@@ -39,7 +39,8 @@ heads_in test groups lines = map (shown_of test) (filter (is_head_of groups) lin
 -- the user-agent lines of the groups in which a line speaks to the token, in order
 abbrev pub agents_for : List Numbered → List ℕ → List Shown
 agents_for lines word =
-    heads_in (speaks_to lines word) (groups_that (speaks_to lines word) (grouped_from 0 true lines)) (grouped_from 0 true lines)
+    heads_in (speaks_to lines word) (groups_that (speaks_to lines word) (grouped_from 0 true lines))
+    (grouped_from 0 true lines)
 
 -- these are they, where they are to be explained
 abbrev pub AreHeadsAt : Detail → List Numbered → List ℕ → List Shown → Type 0
@@ -57,7 +58,8 @@ beside_text speaks = if speaks then codes "\n" else codes " same group\n"
 -- whom the line of this number names
 abbrev pub agent_said : ℕ → Record → Bool → List ℕ
 agent_said line (agent everybody) speaks = agent_line_text line (codes " all") [] (beside_text speaks)
-agent_said line (agent (token name)) speaks = agent_line_text line (codes " name ") (lower_case name) (beside_text speaks)
+agent_said line (agent (token name)) speaks =
+    agent_line_text line (codes " name ") (lower_case name) (beside_text speaks)
 agent_said line (agent nobody) speaks = agent_line_text line (codes " none") [] (beside_text speaks)
 agent_said line (rule kind value) speaks = agent_line_text line [] [] (beside_text speaks)
 agent_said line other speaks = agent_line_text line [] [] (beside_text speaks)

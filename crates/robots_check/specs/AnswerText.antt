@@ -25,8 +25,10 @@ rule_answer_text front line kind value url =
 
 -- the line of an answer to a URL
 abbrev pub answer_text : List ℕ → Answer → List ℕ
-answer_text url (allowed_by ruled) = rule_answer_text (codes "allowed line ") ruled.line (codes " allow ") ruled.pattern url
+answer_text url (allowed_by ruled) =
+    rule_answer_text (codes "allowed line ") ruled.line (codes " allow ") ruled.pattern url
 answer_text url allowed_unruled = url_answer_text (codes "allowed norule ") url
 answer_text url allowed_robots = url_answer_text (codes "allowed robots ") url
-answer_text url (denied_by ruled) = rule_answer_text (codes "denied line ") ruled.line (codes " disallow ") ruled.pattern url
+answer_text url (denied_by ruled) =
+    rule_answer_text (codes "denied line ") ruled.line (codes " disallow ") ruled.pattern url
 answer_text url (unread fault) = codes "ERR url " ++ (fault_word fault ++ (codes " " ++ (escaped url ++ codes "\n")))

@@ -10,17 +10,19 @@ use Rattle.robots_check.specs.Outcomes.{outcome_of}
 use Rattle.robots_check.specs.Told.{Told, AreTold, answers_text}
 use Rattle.robots_check.specs.declared.detail.Detail.{Detail}
 use Rattle.robots_check.specs.declared.detail.Detail.TheVariants.{Plain, Explained}
-use Rattle.robots_check.specs.declared.outcome.Outcome.{Outcome}
+use Rattle.robots_check.specs.declared.check_outcome.CheckOutcome.{CheckOutcome}
 
 -- the answers to all URLs passed behind what was pending, and come to this
-pub record Passing (detail : Detail) (lines : List Numbered) (word : List ℕ) (urls : List (List ℕ)) (old new : Option (List ℕ)) (pending left : List ℕ) (outcome : Outcome) : Type 0 where
+pub record Passing (detail : Detail) (lines : List Numbered) (word : List ℕ) (urls : List (List ℕ))
+    (old new : Option (List ℕ)) (pending left : List ℕ) (outcome : CheckOutcome) : Type 0 where
   pub answers : List Told
   pub are : AreTold detail lines word urls answers
   pub passed : Passes old new (pending ++ answers_text urls answers) left
   pub come_to : outcome ≡ outcome_of answers
 
 -- no more than a front of the answers to the first URLs was written behind what was pending
-pub record PassingFront (detail : Detail) (lines : List Numbered) (word : List ℕ) (urls : List (List ℕ)) (old new : Option (List ℕ)) (pending : List ℕ) : Type 0 where
+pub record PassingFront (detail : Detail) (lines : List Numbered) (word : List ℕ) (urls : List (List ℕ))
+    (old new : Option (List ℕ)) (pending : List ℕ) : Type 0 where
   pub first : List (List ℕ)
   pub later : List (List ℕ)
   pub split : urls ≡ first ++ later
@@ -34,17 +36,21 @@ IsBeforeOn Plain lines word path answer before = before ≡ []
 IsBeforeOn Explained lines word path answer before = Explains lines word path answer before
 
 -- it passed behind what was pending
-pub record PassesBefore (detail : Detail) (lines : List Numbered) (word path : List ℕ) (answer : Answer) (old new : Option (List ℕ)) (pending left : List ℕ) : Type 0 where
+pub record PassesBefore (detail : Detail) (lines : List Numbered) (word path : List ℕ) (answer : Answer)
+    (old new : Option (List ℕ)) (pending left : List ℕ) : Type 0 where
   pub before : List ℕ
   pub is : IsBeforeOn detail lines word path answer before
   pub passed : Passes old new (pending ++ before) left
 
 -- no more than a front of it was written behind what was pending
-pub record CutsWithin (detail : Detail) (lines : List Numbered) (word path : List ℕ) (answer : Answer) (old new : Option (List ℕ)) (pending : List ℕ) : Type 0 where
+pub record CutsWithin (detail : Detail) (lines : List Numbered) (word path : List ℕ) (answer : Answer)
+    (old new : Option (List ℕ)) (pending : List ℕ) : Type 0 where
   pub before : List ℕ
   pub is : IsBeforeOn detail lines word path answer before
   pub wrote : AppendsPrefix old new (pending ++ before)
 
 -- so it is, or nothing was written
-abbrev pub CutsBefore : Detail → List Numbered → (word path : List ℕ) → Answer → (old new : Option (List ℕ)) → List ℕ → Type 0
-CutsBefore detail lines word path answer old new pending = (new ≡ old) ⊎ CutsWithin detail lines word path answer old new pending
+abbrev pub CutsBefore : Detail → List Numbered → (word path : List ℕ) → Answer → (old new : Option (List ℕ)) → List ℕ
+    → Type 0
+CutsBefore detail lines word path answer old new pending =
+    (new ≡ old) ⊎ CutsWithin detail lines word path answer old new pending

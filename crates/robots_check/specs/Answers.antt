@@ -13,7 +13,7 @@ use Rattle.robots_check.specs.declared.finding.Finding.{Finding}
 use Rattle.robots_check.specs.declared.finding.Finding.TheVariants as findings
 use Rattle.robots_check.specs.Targets.{HasFault, HasPath}
 
--- what is said of a URL: allowed by a rule line, or where none applies, or as that of a robots file; denied by a
+-- what is said of a URL: allowed by a rule line, or where none applies, or as that of a robots.txt; denied by a
 -- rule line; or not read
 pub data Answer : Type 0 where
   allowed_by : Ruled → Answer

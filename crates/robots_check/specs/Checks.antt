@@ -14,7 +14,7 @@ use Rattle.robots_check.specs.declared.fault.TextFault.{TextFault}
 use Rattle.robots_check.specs.declared.fault.TextFault.TheVariants.{Read, Write, NoMemory}
 use Rattle.robots_check.specs.Told.{Told, AreTold, answers_text}
 use Rattle.robots_check.specs.declared.detail.Detail.{Detail}
-use Rattle.robots_check.specs.declared.outcome.Outcome.{Outcome}
+use Rattle.robots_check.specs.declared.check_outcome.CheckOutcome.{CheckOutcome}
 
 -- the body of a robots text was read: all that the input has, but at most one octet more than the limit
 pub record ReadsBody (old new : Option (List ℕ)) (body : List ℕ) : Type 0 where
@@ -28,14 +28,16 @@ pub record ReadsText (old new : Option (List ℕ)) (text : List ℕ) : Type 0 wh
   pub text_is : text ≡ kept body
 
 -- the answers to all URLs were written, and come to this
-pub record Answers (detail : Detail) (lines : List Numbered) (word : List ℕ) (urls : List (List ℕ)) (old new : Option (List ℕ)) (outcome : Outcome) : Type 0 where
+pub record Answers (detail : Detail) (lines : List Numbered) (word : List ℕ) (urls : List (List ℕ))
+    (old new : Option (List ℕ)) (outcome : CheckOutcome) : Type 0 where
   pub answers : List Told
   pub are : AreTold detail lines word urls answers
   pub wrote : Appends old new (answers_text urls answers)
   pub come_to : outcome ≡ outcome_of answers
 
 -- no more than a front of the answers to the first URLs was written
-pub record AnswersFront (detail : Detail) (lines : List Numbered) (word : List ℕ) (urls : List (List ℕ)) (old new : Option (List ℕ)) : Type 0 where
+pub record AnswersFront (detail : Detail) (lines : List Numbered) (word : List ℕ) (urls : List (List ℕ))
+    (old new : Option (List ℕ)) : Type 0 where
   pub first : List (List ℕ)
   pub later : List (List ℕ)
   pub split : urls ≡ first ++ later
@@ -44,27 +46,34 @@ pub record AnswersFront (detail : Detail) (lines : List Numbered) (word : List �
   pub wrote : AppendsPrefix old new (answers_text first answers)
 
 -- what was written of a text for the token, by the result
-abbrev pub Tells : Detail → List ℕ → List ℕ → List (List ℕ) → (written new : Option (List ℕ)) → Result Outcome TextFault → Type 0
-Tells detail text word urls written new (Ok outcome) = Answers detail (numbered_records text) word urls written new outcome
+abbrev pub Tells : Detail → List ℕ → List ℕ → List (List ℕ) → (written new : Option (List ℕ))
+    → Result CheckOutcome TextFault → Type 0
+Tells detail text word urls written new (Ok outcome) =
+    Answers detail (numbered_records text) word urls written new outcome
 Tells detail text word urls written new (Err Read) = ⊥
 Tells detail text word urls written new (Err Write) = AnswersFront detail (numbered_records text) word urls written new
-Tells detail text word urls written new (Err NoMemory) = AnswersFront detail (numbered_records text) word urls written new
+Tells detail text word urls written new (Err NoMemory) =
+    AnswersFront detail (numbered_records text) word urls written new
 
 -- the input was read no further than a robots text needs, and nothing was written
 abbrev pub StopsAtInput : (input left written new : Option (List ℕ)) → Type 0
 StopsAtInput input left written new = ReadsFront (text_limit + 1) input left × Appends written new []
 
 -- the text was read, and what is told of it was written
-abbrev pub ReadsAndTells : Detail → (input left : Option (List ℕ)) → List ℕ → List (List ℕ) → (written new : Option (List ℕ)) → Result Outcome TextFault → Type 0
+abbrev pub ReadsAndTells : Detail → (input left : Option (List ℕ)) → List ℕ → List (List ℕ)
+    → (written new : Option (List ℕ)) → Result CheckOutcome TextFault → Type 0
 ReadsAndTells detail input left word urls written new result =
     (text : List ℕ) × ReadsText input left text × Tells detail text word urls written new result
 
 -- the text was read and all was told; or a read failed or memory was refused, and nothing was written; or a write
 -- failed or memory was refused later, and no more than a front of what was to be told was written
-abbrev pub Checks : Detail → (input left : Option (List ℕ)) → List ℕ → List (List ℕ) → (written new : Option (List ℕ)) → Result Outcome TextFault → Type 0
-Checks detail input left word urls written new (Ok outcome) = ReadsAndTells detail input left word urls written new (Ok outcome)
+abbrev pub Checks : Detail → (input left : Option (List ℕ)) → List ℕ → List (List ℕ) → (written new : Option (List ℕ))
+    → Result CheckOutcome TextFault → Type 0
+Checks detail input left word urls written new (Ok outcome) =
+    ReadsAndTells detail input left word urls written new (Ok outcome)
 Checks detail input left word urls written new (Err Read) = StopsAtInput input left written new
-Checks detail input left word urls written new (Err Write) = ReadsAndTells detail input left word urls written new (Err Write)
+Checks detail input left word urls written new (Err Write) =
+    ReadsAndTells detail input left word urls written new (Err Write)
 Checks detail input left word urls written new (Err NoMemory) =
     StopsAtInput input left written new ⊎ ReadsAndTells detail input left word urls written new (Err NoMemory)
 
@@ -78,7 +87,8 @@ abbrev pub StopsWithin : (input left written new : Option (List ℕ)) → Type 0
 StopsWithin input left written new = ((front : List ℕ) × Consumes input left front) × Appends written new []
 
 -- the whole input was read, and what is told of its text and its URLs was written
-pub record ReadsAndTellsWhole (detail : Detail) (input left : Option (List ℕ)) (word : List ℕ) (written new : Option (List ℕ)) (result : Result Outcome TextFault) : Type 0 where
+pub record ReadsAndTellsWhole (detail : Detail) (input left : Option (List ℕ)) (word : List ℕ)
+    (written new : Option (List ℕ)) (result : Result CheckOutcome TextFault) : Type 0 where
   pub whole : List ℕ
   pub reads : ReadsWhole input left whole
   pub text : List ℕ
@@ -87,15 +97,19 @@ pub record ReadsAndTellsWhole (detail : Detail) (input left : Option (List ℕ))
   pub tells : Tells detail text word urls written new result
 
 -- the same as `Checks` where the URLs stand in the input behind the text
-abbrev pub ChecksInput : Detail → (input left : Option (List ℕ)) → List ℕ → (written new : Option (List ℕ)) → Result Outcome TextFault → Type 0
-ChecksInput detail input left word written new (Ok outcome) = ReadsAndTellsWhole detail input left word written new (Ok outcome)
+abbrev pub ChecksInput : Detail → (input left : Option (List ℕ)) → List ℕ → (written new : Option (List ℕ))
+    → Result CheckOutcome TextFault → Type 0
+ChecksInput detail input left word written new (Ok outcome) =
+    ReadsAndTellsWhole detail input left word written new (Ok outcome)
 ChecksInput detail input left word written new (Err Read) = StopsWithin input left written new
-ChecksInput detail input left word written new (Err Write) = ReadsAndTellsWhole detail input left word written new (Err Write)
+ChecksInput detail input left word written new (Err Write) =
+    ReadsAndTellsWhole detail input left word written new (Err Write)
 ChecksInput detail input left word written new (Err NoMemory) =
     StopsWithin input left written new ⊎ ReadsAndTellsWhole detail input left word written new (Err NoMemory)
 
 -- the whole input was read, and what is told of what is kept of a body and of the URLs of the lines was written
-pub record ReadsLinesAndTells (detail : Detail) (body : List ℕ) (input left : Option (List ℕ)) (word : List ℕ) (written new : Option (List ℕ)) (result : Result Outcome TextFault) : Type 0 where
+pub record ReadsLinesAndTells (detail : Detail) (body : List ℕ) (input left : Option (List ℕ)) (word : List ℕ)
+    (written new : Option (List ℕ)) (result : Result CheckOutcome TextFault) : Type 0 where
   pub lines : List ℕ
   pub reads : ReadsWhole input left lines
   pub urls : List (List ℕ)
@@ -103,10 +117,13 @@ pub record ReadsLinesAndTells (detail : Detail) (body : List ℕ) (input left : 
   pub tells : Tells detail (kept body) word urls written new result
 
 -- the same as `Checks` where the input has the URLs alone, and the text is what is kept of a body
-abbrev pub ChecksLines : Detail → (body : List ℕ) → (input left : Option (List ℕ)) → List ℕ → (written new : Option (List ℕ)) → Result Outcome TextFault → Type 0
-ChecksLines detail body input left word written new (Ok outcome) = ReadsLinesAndTells detail body input left word written new (Ok outcome)
+abbrev pub ChecksLines : Detail → (body : List ℕ) → (input left : Option (List ℕ)) → List ℕ
+    → (written new : Option (List ℕ)) → Result CheckOutcome TextFault → Type 0
+ChecksLines detail body input left word written new (Ok outcome) =
+    ReadsLinesAndTells detail body input left word written new (Ok outcome)
 ChecksLines detail body input left word written new (Err Read) = StopsWithin input left written new
-ChecksLines detail body input left word written new (Err Write) = ReadsLinesAndTells detail body input left word written new (Err Write)
+ChecksLines detail body input left word written new (Err Write) =
+    ReadsLinesAndTells detail body input left word written new (Err Write)
 ChecksLines detail body input left word written new (Err NoMemory) =
     StopsWithin input left written new ⊎ ReadsLinesAndTells detail body input left word written new (Err NoMemory)
 

@@ -1,6 +1,6 @@
--- What an explanation says of a path before the answer: the user-agent lines of the groups that speak to the token, each
--- rule line for it, and why the one that gives the verdict is above the others.
--- RFC 9309, section 2.2; docs/FORMATS.md has the lines.
+-- What an explanation says of a path before the answer: the user-agent lines of the groups that speak to the token,
+-- each rule line for it, and why the one that gives the verdict is above the others. RFC 9309, section 2.2;
+-- docs/FORMATS.md has the lines.
 use Rattle.std.specs.Prelude.{◌≡◌, ◌==◌, ℕ, Bool, List, [], ◌++◌, Option, Some, None, codes, decimal, flat_map, length, if◌then◌else◌}
 use Rattle.line_text.specs.RuleWords.{rule_word, value_text}
 use Rattle.path_normal.specs.Normal.{normal_pattern}
@@ -72,4 +72,5 @@ pub record Explains (lines : List Numbered) (word path : List ℕ) (answer : Ans
   pub are_rows : AreRows path rules rows
   pub second : Option Tried
   pub is_second : IsSecondFor rows answer second
-  pub text_is : text ≡ agents_text (agents_for lines word) ++ (flat_map row_text rows ++ because_text (winner_octets answer) answer second)
+  pub text_is : text ≡ agents_text (agents_for lines word)
+      ++ (flat_map row_text rows ++ because_text (winner_octets answer) answer second)

@@ -1,9 +1,10 @@
 -- Rule lines with their patterns in normal form, from which the rows beside each path are made.
 -- RFC 9309, section 2.2.2.
-use Rattle.std.specs.Prelude.{◌≡◌, List, map}
+use Rattle.std.specs.Prelude.{◌≡◌, ℕ, List, map}
 use Rattle.std.specs.List.{All}
 use Rattle.path_normal.specs.Normal.{normal_pattern}
-use Rattle.robots_text.specs.Groups.{Ruled}
+use Rattle.robots_text.specs.Groups.{AreRulesFor, Ruled}
+use Rattle.robots_text.specs.Records.{Numbered}
 use Rattle.robots_text.specs.Walk.{rule_seen}
 use Rattle.robots_check.specs.declared.detail.Detail.{Detail}
 use Rattle.robots_check.specs.declared.detail.Detail.TheVariants.{Plain, Explained}
@@ -17,12 +18,12 @@ formed_rule formed = rule_seen formed.rule
 abbrev pub IsFormed : Formed → Type 0
 IsFormed formed = formed.form.items ≡ normal_pattern (formed_rule formed).pattern
 
--- these are the rule lines, in order, each with its pattern
-pub record AreFormsOf (rules : List Ruled) (forms : List Formed) : Type 0 where
-  pub of_rules : map formed_rule forms ≡ rules
+-- these are the rule lines for the token, in order, each with its pattern
+pub record AreFormsFor (lines : List Numbered) (word : List ℕ) (forms : List Formed) : Type 0 where
+  pub are_rules : AreRulesFor lines word (map formed_rule forms)
   pub formed : All IsFormed forms
 
 -- so it is where they are to be explained
-abbrev pub AreFormsAt : Detail → List Ruled → List Formed → Type 0
-AreFormsAt Plain rules forms = Unit {0}
-AreFormsAt Explained rules forms = AreFormsOf rules forms
+abbrev pub AreFormsAt : Detail → List Numbered → List ℕ → List Formed → Type 0
+AreFormsAt Plain lines word forms = Unit {0}
+AreFormsAt Explained lines word forms = AreFormsFor lines word forms

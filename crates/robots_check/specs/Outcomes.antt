@@ -4,8 +4,8 @@ use Rattle.std.specs.Prelude.{Bool, true, false, List, [], ◌∷◌, if◌then�
 use Rattle.std.specs.List.{list_any}
 use Rattle.robots_check.specs.Answers.{Answer, allowed_by, allowed_unruled, allowed_robots, denied_by, unread}
 use Rattle.robots_check.specs.Told.{Told}
-use Rattle.robots_check.specs.declared.outcome.Outcome.{Outcome}
-use Rattle.robots_check.specs.declared.outcome.Outcome.TheVariants.{NoUrls, Allowed, Denied, Unread}
+use Rattle.robots_check.specs.declared.check_outcome.CheckOutcome.{CheckOutcome}
+use Rattle.robots_check.specs.declared.check_outcome.CheckOutcome.TheVariants.{NoUrls, Allowed, Denied, Unread}
 
 -- the URL is denied
 abbrev pub is_denied : Answer → Bool
@@ -24,17 +24,18 @@ is_unread (denied_by ruled) = false
 is_unread (unread fault) = true
 
 -- of some answers one that could not be read outranks all, and one that is denied those that are allowed
-abbrev pub outcome_of_some : List Told → Outcome
+abbrev pub outcome_of_some : List Told → CheckOutcome
 outcome_of_some answers =
-    if list_any (λ told. is_unread told.answer) answers then Unread else if list_any (λ told. is_denied told.answer) answers then Denied else Allowed
+    if list_any (λ told. is_unread told.answer) answers then Unread else if list_any
+    (λ told. is_denied told.answer) answers then Denied else Allowed
 
 -- what the answers come to, if there are any
-abbrev pub outcome_of : List Told → Outcome
+abbrev pub outcome_of : List Told → CheckOutcome
 outcome_of [] = NoUrls
 outcome_of (told ∷ later) = outcome_of_some (told ∷ later)
 
 -- what one answer comes to
-abbrev pub outcome_of_one : Answer → Outcome
+abbrev pub outcome_of_one : Answer → CheckOutcome
 outcome_of_one (allowed_by ruled) = Allowed
 outcome_of_one allowed_unruled = Allowed
 outcome_of_one allowed_robots = Allowed
@@ -42,7 +43,7 @@ outcome_of_one (denied_by ruled) = Denied
 outcome_of_one (unread fault) = Unread
 
 -- what two come to together
-abbrev pub worse : Outcome → Outcome → Outcome
+abbrev pub worse : CheckOutcome → CheckOutcome → CheckOutcome
 worse NoUrls other = other
 worse Allowed NoUrls = Allowed
 worse Allowed Allowed = Allowed

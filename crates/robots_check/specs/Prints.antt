@@ -19,7 +19,9 @@ WritesLines body written new (Err NoMemory) = Appends written new []
 -- the body was read, and its text was written; or a read failed or memory was refused, and nothing was
 -- written; or a write failed, and no more than a front of the text was written
 abbrev pub Prints : (input left written new : Option (List ℕ)) → Result (Unit {0}) TextFault → Type 0
-Prints input left written new (Ok _) = (body : List ℕ) × ReadsBody input left body × Appends written new (lines_text body)
+Prints input left written new (Ok _) =
+    (body : List ℕ) × ReadsBody input left body × Appends written new (lines_text body)
 Prints input left written new (Err Read) = StopsAtInput input left written new
-Prints input left written new (Err Write) = (body : List ℕ) × ReadsBody input left body × AppendsPrefix written new (lines_text body)
+Prints input left written new (Err Write) =
+    (body : List ℕ) × ReadsBody input left body × AppendsPrefix written new (lines_text body)
 Prints input left written new (Err NoMemory) = StopsAtInput input left written new

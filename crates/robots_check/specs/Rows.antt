@@ -6,7 +6,7 @@ use Rattle.path_pattern.specs.Matches.{Matches}
 use Rattle.robots_text.specs.Groups.{Ruled}
 use Rattle.robots_text.specs.Walk.{rule_seen}
 use Rattle.robots_verdict.specs.Weights.{is_above}
-use Rattle.robots_check.specs.declared.rows.Row.{Row}
+use Rattle.robots_check.specs.declared.rows.ComparedRule.{ComparedRule}
 
 -- a rule line, the octets of its pattern in normal form, and whether that matches a path
 pub record Tried : Type 0 where
@@ -15,7 +15,7 @@ pub record Tried : Type 0 where
   pub hits : Bool
 
 -- what a row is seen as
-abbrev pub row_seen : Row → Tried
+abbrev pub row_seen : ComparedRule → Tried
 row_seen row = record { ruled = rule_seen row.rule; octets = row.octets; hits = row.matches }
 
 -- it is that of the rule line, beside the path

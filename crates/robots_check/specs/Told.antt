@@ -32,7 +32,8 @@ pub record IsTold (detail : Detail) (lines : List Numbered) (word url : List ℕ
 -- this is to be told of the URLs, of each in order
 abbrev pub AreTold : Detail → List Numbered → List ℕ → List (List ℕ) → List Told → Type 0
 AreTold detail lines word [] [] = Unit {0}
-AreTold detail lines word (url ∷ urls) (told ∷ answers) = IsTold detail lines word url told × AreTold detail lines word urls answers
+AreTold detail lines word (url ∷ urls) (told ∷ answers) =
+    IsTold detail lines word url told × AreTold detail lines word urls answers
 AreTold detail lines word [] (told ∷ answers) = ⊥
 AreTold detail lines word (url ∷ urls) [] = ⊥
 

@@ -19,7 +19,7 @@ use std::alloc::{AllocError, Global};
 
 /// A user-agent line of a group that speaks to the token.
 #[derive(Clone, Copy)]
-pub(crate) struct Head<'t> {
+pub(crate) struct AgentLine<'t> {
     pub(crate) line: u64,
     pub(crate) kind: RecordKind<'t>,
     /// Whether the line itself speaks to the token.
@@ -32,7 +32,7 @@ pub(crate) fn agents_at<'t>(
     text: &'t RobotsText,
     token: &Token,
     detail: Detail,
-) -> Result<Vec<Head<'t>>, AllocError>
+) -> Result<Vec<AgentLine<'t>>, AllocError>
     ensures { IfOk result (λ agents.
         AreHeadsAt detail (numbered_records text.now) token.now (map head_seen agents.items)) }
 {
@@ -46,7 +46,7 @@ fn agents_for<'t>(
     alloc: Global,
     text: &'t RobotsText,
     token: &Token,
-) -> Result<Vec<Head<'t>>, AllocError>
+) -> Result<Vec<AgentLine<'t>>, AllocError>
     ensures { IfOk result (λ agents.
         map head_seen agents.items ≡ agents_for (numbered_records text.now) token.now) }
 {
@@ -81,7 +81,7 @@ fn heads_in<'t>(
     lines: GroupedRecords<'t>,
     whom: Whom<'_>,
     groups: &[u64],
-) -> Result<Vec<Head<'t>>, AllocError>
+) -> Result<Vec<AgentLine<'t>>, AllocError>
     ensures { IfOk result (λ heads. map head_seen heads.items
         ≡ heads_in (speaks whom.entry) groups.now (grouped_left lines.entry)) }
 {
@@ -89,7 +89,7 @@ fn heads_in<'t>(
     let mut left = lines;
     while let Some(line) = left.next() {
         if is_head_of(groups, line) {
-            heads.push(Head {
+            heads.push(AgentLine {
                 line: line.line,
                 kind: line.kind,
                 speaks: speaks(whom, line.kind),
@@ -116,7 +116,7 @@ fn has_group(groups: &[u64], sought: u64) -> bool
 
 /// Pushes their lines, or one that says that there is none.
 pub(crate) fn push_agents<W: Sink>(
-    agents: &[Head<'_>],
+    agents: &[AgentLine<'_>],
     output: &mut Output,
     sink: &mut W,
 ) -> Result<(), DeviceFault>
@@ -131,7 +131,7 @@ pub(crate) fn push_agents<W: Sink>(
 }
 
 fn push_lines<W: Sink>(
-    agents: &[Head<'_>],
+    agents: &[AgentLine<'_>],
     output: &mut Output,
     sink: &mut W,
 ) -> Result<(), DeviceFault>
@@ -145,7 +145,7 @@ fn push_lines<W: Sink>(
     Ok(())
 }
 
-fn agent_pieces(head: Head<'_>) -> Pieces<'_>
+fn agent_pieces(head: AgentLine<'_>) -> Pieces<'_>
     ensures { pieces_text result ≡ agent_text (head_seen head.entry) }
 {
     match head.kind {

@@ -7,18 +7,20 @@ ghost use Rattle.robots_check.specs.Answers.{answer_seen};
 ghost use Rattle.robots_check.specs.Targets.{HasFault, page_named};
 ghost use Rattle.robots_check.specs.Ready.{IsReady};
 ghost use Rattle.robots_check.specs.Checks.{IsTellFault, Tells, failures_after_writes};
+ghost use Rattle.robots_check.specs.Notes.{IsNoted, notes_of};
 
 use crate::agents::agents_at;
+use crate::check_outcome::CheckOutcome;
 use crate::detail::Detail;
 use crate::explaining::{push_explanation, reason_pieces, second_for, winner_octets};
 use crate::fault::TextFault;
 use crate::finding::{Finding, finding_pieces};
 use crate::forms::forms_at;
 use crate::judge::Judge;
-use crate::outcome::Outcome;
+use crate::notes::tell_rule_notes;
 use crate::page::read_page;
 use crate::rows::rows_of;
-use crate::rules::rules_for;
+use crate::rules::rules_among;
 use counted_io::{Output, Sink};
 use path_normal::{PageUrl, Unread, UrlFault};
 use robots_text::{RobotsText, Token};
@@ -28,37 +30,41 @@ use std::alloc::{AllocError, Global};
 // The most URLs for which no index is made: that takes as long as several walks over the text.
 const FEW_URLS: usize = 16;
 
-/// Writes what a text says to a crawler of each URL, and tells what that comes to.
-pub(crate) fn answer<W: Sink>(
+/// Tells what of a text, whose body had so many octets, may surprise. Then it writes what the text says to a crawler of
+/// each URL, and tells what that comes to.
+pub(crate) fn answer<W: Sink, E: Sink>(
     alloc: Global,
     text: RobotsText,
+    count: usize,
     token: &Token,
     urls: &[&[u8]],
     detail: Detail,
     writer: &mut W,
-) -> Result<Outcome, TextFault>
+    errors: &mut E,
+) -> Result<CheckOutcome, TextFault>
     ensures tells { Tells detail text token.now (map (λ url. url.now) urls.now)
         (W.written writer.old) (W.written writer.new) result }
     ensures writes { W.failures writer.new
         ≡ failures_after_writes (W.failures writer.old) result }
+    ensures notes { IfOk result (λ _. IsNoted (notes_of count (numbered_records text))
+        (E.written errors.old) (E.written errors.new)
+        (E.failures errors.old) (E.failures errors.new)) }
 {
     let policy = policy_for(alloc, text, urls.len())?;
-    let lines = rules_for(alloc, policy.text(), token)?;
-    let rules = lines.as_slice();
-    let forms = forms_at(alloc, rules, detail)?;
-    let agents = agents_at(alloc, policy.text(), token, detail)?;
-    let mut output = Output::new(alloc)?;
+    let text = policy.text();
+    let rules = rules_among(alloc, text.records())?;
+    tell_rule_notes(alloc, text, rules.as_slice(), count, errors)?;
+    let forms = forms_at(alloc, text, token, detail)?;
+    let agents = agents_at(alloc, text, token, detail)?;
     let judge = Judge {
         policy: &policy,
         token,
-        rules,
+        rules: rules.as_slice(),
         forms: forms.as_slice(),
         agents: agents.as_slice(),
         detail,
     };
-    let outcome = push_answers(alloc, judge, urls, &mut output, writer)?;
-    output.flush(writer)?;
-    Ok(outcome)
+    write_answers(alloc, judge, urls, writer)
 }
 
 // The policy of a text that answers so many URLs, with an index if they are many.
@@ -73,6 +79,25 @@ fn policy_for(alloc: Global, text: RobotsText, urls: usize) -> Result<Policy, Al
     }
 }
 
+// Writes the answer to each URL.
+fn write_answers<W: Sink>(
+    alloc: Global,
+    judge: Judge<'_>,
+    urls: &[&[u8]],
+    writer: &mut W,
+) -> Result<CheckOutcome, TextFault>
+    requires { IsReady judge }
+    ensures tells { Tells judge.entry.detail judge.entry.policy.now judge.entry.token.now
+        (map (λ url. url.now) urls.now) (W.written writer.old) (W.written writer.new) result }
+    ensures writes { W.failures writer.new
+        ≡ failures_after_writes (W.failures writer.old) result }
+{
+    let mut output = Output::new(alloc)?;
+    let outcome = push_answers(alloc, judge, urls, &mut output, writer)?;
+    output.flush(writer)?;
+    Ok(outcome)
+}
+
 // Pushes the answer to each URL.
 fn push_answers<W: Sink>(
     alloc: Global,
@@ -80,7 +105,7 @@ fn push_answers<W: Sink>(
     urls: &[&[u8]],
     output: &mut Output,
     sink: &mut W,
-) -> Result<Outcome, TextFault>
+) -> Result<CheckOutcome, TextFault>
     requires { IsReady judge }
     ensures passes { IfOk result (Passing judge.entry.detail
         (numbered_records judge.entry.policy.now) judge.entry.token.now (map (λ url. url.now) urls.now)
@@ -91,7 +116,7 @@ fn push_answers<W: Sink>(
     ensures faults { IfErr result IsTellFault }
     ensures count { W.failures sink.new ≡ failures_after_writes (W.failures sink.old) result }
 {
-    let mut outcome = Outcome::NoUrls;
+    let mut outcome = CheckOutcome::NoUrls;
     for url in urls {
         outcome = outcome.worse(push_answer(alloc, judge, url, output, sink)?);
     }
@@ -105,7 +130,7 @@ fn push_answer<W: Sink>(
     url: &[u8],
     output: &mut Output,
     sink: &mut W,
-) -> Result<Outcome, TextFault>
+) -> Result<CheckOutcome, TextFault>
     requires { IsReady judge }
     ensures passes { IfOk result (Passing judge.entry.detail
         (numbered_records judge.entry.policy.now) judge.entry.token.now (url.now ∷ [])
@@ -130,7 +155,7 @@ fn push_unread<W: Sink>(
     fault: UrlFault,
     output: &mut Output,
     sink: &mut W,
-) -> Result<Outcome, TextFault>
+) -> Result<CheckOutcome, TextFault>
     requires { HasFault url.now fault }
     ensures passes { IfOk result (Passing judge.entry.detail
         (numbered_records judge.entry.policy.now) judge.entry.token.now (url.now ∷ [])
@@ -154,7 +179,7 @@ fn push_page<W: Sink>(
     page: &PageUrl,
     output: &mut Output,
     sink: &mut W,
-) -> Result<Outcome, TextFault>
+) -> Result<CheckOutcome, TextFault>
     requires ready { IsReady judge }
     requires named { page_named url.now ≡ Ok page.now }
     ensures passes { IfOk result (Passing judge.entry.detail

@@ -6,11 +6,10 @@ ghost use Rattle.robots_check.specs.Notes.{IsNoted, NotesFront, NotesText, notes
 
 use crate::answering::answer;
 use crate::body::{read_body, read_whole};
+use crate::check_outcome::CheckOutcome;
 use crate::detail::Detail;
 use crate::fault::TextFault;
 use crate::input::{split_input, urls_of};
-use crate::notes::tell_notes;
-use crate::outcome::Outcome;
 use counted_io::{Sink, Source};
 use robots_text::{RobotsText, Token};
 use std::alloc::Global;
@@ -27,7 +26,7 @@ pub fn check<R: Source, W: Sink, E: Sink>(
     token: &Token,
     urls: &[&[u8]],
     detail: Detail,
-) -> Result<Outcome, TextFault>
+) -> Result<CheckOutcome, TextFault>
     ensures checks { Checks detail (R.left reader.old) (R.left reader.new) token.now
         (map (λ url. url.now) urls.now) (W.written writer.old) (W.written writer.new) result }
     ensures reads { R.failures reader.new ≡ failures_after_reads (R.failures reader.old) result }
@@ -40,8 +39,7 @@ pub fn check<R: Source, W: Sink, E: Sink>(
     let body = read_body(alloc, reader)?;
     let count = body.len();
     let text = RobotsText::of(body);
-    tell_notes(alloc, &text, count, errors)?;
-    answer(alloc, text, token, urls, detail, writer)
+    answer(alloc, text, count, token, urls, detail, writer, errors)
 }
 
 /// `check` where the URLs stand in the input, one a line, behind the robots text: that ends at the
@@ -54,7 +52,7 @@ pub fn check_input<R: Source, W: Sink, E: Sink>(
     errors: &mut E,
     token: &Token,
     detail: Detail,
-) -> Result<Outcome, TextFault>
+) -> Result<CheckOutcome, TextFault>
     ensures checks { ChecksInput detail (R.left reader.old) (R.left reader.new) token.now
         (W.written writer.old) (W.written writer.new) result }
     ensures reads { R.failures reader.new ≡ failures_after_reads (R.failures reader.old) result }
@@ -68,8 +66,9 @@ pub fn check_input<R: Source, W: Sink, E: Sink>(
     let (front, lines) = split_input(input.as_slice());
     let urls = urls_of(alloc, lines)?;
     let text = RobotsText::read(alloc, front)?;
-    tell_notes(alloc, &text, front.len(), errors)?;
-    answer(alloc, text, token, urls.as_slice(), detail, writer)
+    let count = front.len();
+    let urls = urls.as_slice();
+    answer(alloc, text, count, token, urls, detail, writer, errors)
 }
 
 /// `check` where the input has the URLs alone, one a line, and the robots text is what is kept of
@@ -82,7 +81,7 @@ pub fn check_lines<R: Source, W: Sink, E: Sink>(
     errors: &mut E,
     token: &Token,
     detail: Detail,
-) -> Result<Outcome, TextFault>
+) -> Result<CheckOutcome, TextFault>
     ensures checks { ChecksLines detail body.now (R.left reader.old) (R.left reader.new) token.now
         (W.written writer.old) (W.written writer.new) result }
     ensures reads { R.failures reader.new ≡ failures_after_reads (R.failures reader.old) result }
@@ -95,6 +94,7 @@ pub fn check_lines<R: Source, W: Sink, E: Sink>(
     let lines = read_whole(alloc, reader)?;
     let urls = urls_of(alloc, lines.as_slice())?;
     let text = RobotsText::read(alloc, body)?;
-    tell_notes(alloc, &text, body.len(), errors)?;
-    answer(alloc, text, token, urls.as_slice(), detail, writer)
+    let count = body.len();
+    let urls = urls.as_slice();
+    answer(alloc, text, count, token, urls, detail, writer, errors)
 }

@@ -9,9 +9,9 @@ ghost use Rattle.robots_check.specs.Explained.{IsSecondFor, alike_text, because_
 ghost use Rattle.robots_check.specs.Rows.{row_seen};
 ghost use Rattle.robots_text.specs.Walk.{rule_seen};
 
-use crate::agents::{Head, push_agents};
+use crate::agents::{AgentLine, push_agents};
 use crate::finding::Finding;
-use crate::rows::{Row, second};
+use crate::rows::{ComparedRule, second};
 use counted_io::{DeviceFault, Output, Sink};
 use line_text::{Piece, Pieces, gap_before, rule_word};
 use path_normal::normal_pattern;
@@ -20,8 +20,8 @@ use std::alloc::{AllocError, Global};
 
 /// Pushes the explanation of a finding: the user-agent lines, the rows, and the reason.
 pub(crate) fn push_explanation<W: Sink>(
-    agents: &[Head<'_>],
-    rows: &[Row<'_>],
+    agents: &[AgentLine<'_>],
+    rows: &[ComparedRule<'_>],
     reason: Pieces<'_>,
     output: &mut Output,
     sink: &mut W,
@@ -36,7 +36,7 @@ pub(crate) fn push_explanation<W: Sink>(
 }
 
 fn push_rows_and<W: Sink>(
-    rows: &[Row<'_>],
+    rows: &[ComparedRule<'_>],
     reason: Pieces<'_>,
     output: &mut Output,
     sink: &mut W,
@@ -50,7 +50,7 @@ fn push_rows_and<W: Sink>(
 }
 
 fn push_rows<W: Sink>(
-    rows: &[Row<'_>],
+    rows: &[ComparedRule<'_>],
     output: &mut Output,
     sink: &mut W,
 ) -> Result<(), DeviceFault>
@@ -64,7 +64,7 @@ fn push_rows<W: Sink>(
     Ok(())
 }
 
-fn row_pieces(row: Row<'_>) -> Pieces<'_>
+fn row_pieces(row: ComparedRule<'_>) -> Pieces<'_>
     ensures { pieces_text result ≡ row_text (row_seen row.entry) }
 {
     Pieces::of(&[
@@ -87,7 +87,10 @@ fn hits_word(hits: bool) -> &'static str
 }
 
 /// The strongest row that matches, but for that of the line that decides.
-pub(crate) fn second_for<'t>(rows: &[Row<'t>], finding: Finding<'t>) -> Option<Row<'t>>
+pub(crate) fn second_for<'t>(
+    rows: &[ComparedRule<'t>],
+    finding: Finding<'t>,
+) -> Option<ComparedRule<'t>>
     ensures { IsSecondFor (map row_seen rows.now) (answer_seen finding.entry)
         (option_map row_seen result) }
 {
@@ -113,7 +116,7 @@ pub(crate) fn winner_octets(alloc: Global, finding: Finding<'_>) -> Result<usize
 pub(crate) fn reason_pieces<'a>(
     octets: usize,
     finding: Finding<'a>,
-    second: Option<Row<'a>>,
+    second: Option<ComparedRule<'a>>,
 ) -> Pieces<'a>
     ensures { pieces_text result ≡ because_text octets (answer_seen finding.entry)
         (option_map row_seen second.entry) }
@@ -126,7 +129,11 @@ pub(crate) fn reason_pieces<'a>(
     }
 }
 
-fn above_pieces<'a>(octets: usize, rule: RuleLine<'a>, second: Option<Row<'a>>) -> Pieces<'a>
+fn above_pieces<'a>(
+    octets: usize,
+    rule: RuleLine<'a>,
+    second: Option<ComparedRule<'a>>,
+) -> Pieces<'a>
     ensures { pieces_text result ≡ because_by octets (rule_seen rule.entry)
         (option_map row_seen second.entry) }
 {

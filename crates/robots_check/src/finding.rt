@@ -6,7 +6,7 @@ ghost use Rattle.robots_check.specs.AnswerText.{answer_text, fault_word, rule_an
 ghost use Rattle.robots_check.specs.Answers.{answer_seen};
 ghost use Rattle.robots_check.specs.Outcomes.{outcome_of_one};
 
-use crate::outcome::Outcome;
+use crate::check_outcome::CheckOutcome;
 use line_text::{Piece, Pieces};
 use path_normal::UrlFault;
 use robots_text::RuleLine;
@@ -18,7 +18,7 @@ pub(crate) enum Finding<'t> {
     Allowed(RuleLine<'t>),
     /// No rule line for the token matches it.
     NoRule,
-    /// It is the URL of a robots file.
+    /// It is the URL of a robots.txt.
     RobotsFile,
     /// This rule line denies it.
     Denied(RuleLine<'t>),
@@ -28,13 +28,13 @@ pub(crate) enum Finding<'t> {
 
 impl<'t> Finding<'t> {
     /// What it comes to.
-    pub(crate) fn outcome(self) -> Outcome
+    pub(crate) fn outcome(self) -> CheckOutcome
         ensures { result ≡ outcome_of_one (answer_seen self.entry) }
     {
         match self {
-            Finding::Allowed(_) | Finding::NoRule | Finding::RobotsFile => Outcome::Allowed,
-            Finding::Denied(_) => Outcome::Denied,
-            Finding::Unread(_) => Outcome::Unread,
+            Finding::Allowed(_) | Finding::NoRule | Finding::RobotsFile => CheckOutcome::Allowed,
+            Finding::Denied(_) => CheckOutcome::Denied,
+            Finding::Unread(_) => CheckOutcome::Unread,
         }
     }
 }

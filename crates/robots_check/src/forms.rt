@@ -1,12 +1,12 @@
 //! The rule lines that explanations compare, each with its pattern in normal form.
 //! They are made once, for all URLs; RFC 9309, section 2.2.2.
-ghost use Rattle.std.specs.Prelude.{IfOk, map};
-ghost use Rattle.robots_text.specs.Walk.{rule_seen};
-ghost use Rattle.robots_check.specs.Forms.{AreFormsAt, AreFormsOf};
+ghost use Rattle.std.specs.Prelude.{IfOk};
+ghost use Rattle.robots_text.specs.Records.{numbered_records};
+ghost use Rattle.robots_check.specs.Forms.{AreFormsAt, AreFormsFor};
 
 use crate::detail::Detail;
 use path_normal::normal_pattern;
-use robots_text::RuleLine;
+use robots_text::{RobotsText, RuleLine, Token};
 use std::alloc::{AllocError, Global};
 
 /// A rule line with its pattern in normal form.
@@ -16,28 +16,35 @@ pub(crate) struct Formed<'t> {
     pub(crate) form: Vec<u8>,
 }
 
-/// The rule lines with their patterns, where they are to be explained.
+/// The rule lines for the token with their patterns, where they are to be explained.
 pub(crate) fn forms_at<'t>(
     alloc: Global,
-    rules: &[RuleLine<'t>],
+    text: &'t RobotsText,
+    token: &Token,
     detail: Detail,
 ) -> Result<Vec<Formed<'t>>, AllocError>
     ensures { IfOk result (λ forms.
-        AreFormsAt detail (map rule_seen rules.now) forms.items) }
+        AreFormsAt detail (numbered_records text.now) token.now forms.items) }
 {
     match detail {
         Detail::Plain => Ok(Vec::new(alloc)),
-        Detail::Explained => forms_of(alloc, rules),
+        Detail::Explained => forms_for(alloc, text, token),
     }
 }
 
-fn forms_of<'t>(alloc: Global, rules: &[RuleLine<'t>]) -> Result<Vec<Formed<'t>>, AllocError>
-    ensures { IfOk result (λ forms. AreFormsOf (map rule_seen rules.now) forms.items) }
+fn forms_for<'t>(
+    alloc: Global,
+    text: &'t RobotsText,
+    token: &Token,
+) -> Result<Vec<Formed<'t>>, AllocError>
+    ensures { IfOk result (λ forms.
+        AreFormsFor (numbered_records text.now) token.now forms.items) }
 {
     let mut forms = Vec::new(alloc);
-    for rule in rules {
+    let mut left = text.rules_for(token);
+    while let Some(rule) = left.next() {
         let form = normal_pattern(alloc, rule.pattern)?;
-        forms.push(Formed { rule: *rule, form })?;
+        forms.push(Formed { rule, form })?;
     }
     Ok(forms)
 }

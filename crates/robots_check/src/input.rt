@@ -3,8 +3,9 @@
 ghost use Rattle.std.specs.Prelude.{◌≡◌, ◌<◌, ◌∷◌, ℕ, List, IfOk, IfSome, IfNone, length, map};
 ghost use Rattle.counted_io.specs.Lines.{IsPart, line_feed, without_cr};
 ghost use Rattle.robots_check.specs.Input.{AreUrlLines, FollowsEmpty, IsLineLen, IsSplit, TakesUrl, UrlsFollow, begins_http, begins_url};
-ghost use Rattle.robots_check.specs.Targets.{begins_https, begins_path};
+ghost use Rattle.robots_check.specs.Targets.{begins_path};
 
+use crate::page::behind_https;
 use memchr::memchr;
 use robots_text::is_same_word;
 use std::alloc::{AllocError, Global};
@@ -117,7 +118,7 @@ fn part_len(octets: &[u8]) -> usize
 fn begins_url(text: &[u8]) -> bool
     ensures { result ≡ begins_url text.now }
 {
-    begins_path(text) || begins_http(text) || begins_https(text)
+    begins_path(text) || begins_http(text) || behind_https(text).is_some()
 }
 
 fn begins_path(text: &[u8]) -> bool
@@ -132,17 +133,6 @@ fn begins_http(text: &[u8]) -> bool
     match text {
         [one, two, three, four, five, ..] => {
             is_same_word(&[*one, *two, *three, *four, *five], b"http:")
-        }
-        _ => false,
-    }
-}
-
-fn begins_https(text: &[u8]) -> bool
-    ensures { result ≡ begins_https text.now }
-{
-    match text {
-        [one, two, three, four, five, six, ..] => {
-            is_same_word(&[*one, *two, *three, *four, *five, *six], b"https:")
         }
         _ => false,
     }

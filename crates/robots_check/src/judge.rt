@@ -6,7 +6,7 @@ ghost use Rattle.robots_text.specs.Records.{numbered_records};
 ghost use Rattle.robots_check.specs.Answers.{IsAnswerOn, answer_seen};
 ghost use Rattle.robots_check.specs.Ready.{IsReady};
 
-use crate::agents::Head;
+use crate::agents::AgentLine;
 use crate::detail::Detail;
 use crate::finding::Finding;
 use crate::forms::Formed;
@@ -22,7 +22,7 @@ pub(crate) struct Judge<'t> {
     pub(crate) token: &'t Token,
     pub(crate) rules: &'t [RuleLine<'t>],
     pub(crate) forms: &'t [Formed<'t>],
-    pub(crate) agents: &'t [Head<'t>],
+    pub(crate) agents: &'t [AgentLine<'t>],
     pub(crate) detail: Detail,
 }
 

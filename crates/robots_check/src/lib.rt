@@ -6,6 +6,7 @@
 mod agents;
 mod answering;
 mod body;
+mod check_outcome;
 mod checking;
 mod detail;
 mod explaining;
@@ -17,16 +18,15 @@ mod judge;
 pub mod laws;
 mod lines_text;
 mod notes;
-mod outcome;
 mod page;
 mod rows;
 mod rules;
 mod writing;
 
 pub use body::{MAX_BODY, read_body};
+pub use check_outcome::CheckOutcome;
 pub use checking::{check, check_input, check_lines};
 pub use detail::Detail;
 pub use fault::TextFault;
 pub use notes::tell_notes;
-pub use outcome::Outcome;
 pub use writing::{lines, lines_of};

@@ -1,16 +1,19 @@
 //! What is told of a robots text beside what it says of URLs.
 //! docs/FORMATS.md has the lines.
-ghost use Rattle.std.specs.Prelude.{◌≡◌, ◌++◌, [], IfOk, flat_map};
+ghost use Rattle.std.specs.Prelude.{◌≡◌, ◌++◌, [], IfOk, flat_map, map};
 ghost use Rattle.std.specs.List.{list_any};
 ghost use Rattle.counted_io.specs.Output.{Pushes};
 ghost use Rattle.line_text.specs.Pieces.{pieces_text};
 ghost use Rattle.robots_text.specs.Left.{records_left};
-ghost use Rattle.robots_text.specs.Records.{kind_seen, line_seen, numbered_records};
-ghost use Rattle.robots_check.specs.Notes.{IsNoted, behind_question, cut_note, has_query_apostrophe, is_said, line_note, notes_of, silent_note};
+ghost use Rattle.robots_text.specs.Records.{kind_seen, numbered_records};
+ghost use Rattle.robots_text.specs.Walk.{rule_seen};
+ghost use Rattle.robots_check.specs.Notes.{IsNoted, behind_question, cut_note, has_query_apostrophe, is_said, notes_of, rule_note, silent_note};
+ghost use Rattle.robots_check.specs.Rules.{rules_among};
 
+use crate::rules::rules_among;
 use counted_io::{DeviceFault, Output, Sink};
 use line_text::{Piece, Pieces};
-use robots_text::{MAX_TEXT, RecordKind, RecordLine, Records, RobotsText};
+use robots_text::{MAX_TEXT, RecordKind, Records, RobotsText, RuleLine};
 use std::alloc::{AllocError, Global};
 
 /// Tells of a text, whose body had so many octets, what may surprise who reads its verdicts. A write
@@ -25,39 +28,60 @@ pub fn tell_notes<E: Sink>(
         (E.written errors.old) (E.written errors.new)
         (E.failures errors.old) (E.failures errors.new)) }
 {
+    let rules = rules_among(alloc, text.records())?;
+    tell_rule_notes(alloc, text, rules.as_slice(), count, errors)
+}
+
+/// Tells the same of a text with these rule lines.
+pub(crate) fn tell_rule_notes<E: Sink>(
+    alloc: Global,
+    text: &RobotsText,
+    rules: &[RuleLine<'_>],
+    count: usize,
+    errors: &mut E,
+) -> Result<(), AllocError>
+    requires { map rule_seen rules.now ≡ rules_among (numbered_records text.now) }
+    ensures { IfOk result (λ _. IsNoted (notes_of count (numbered_records text.now))
+        (E.written errors.old) (E.written errors.new)
+        (E.failures errors.old) (E.failures errors.new)) }
+{
     let mut output = Output::new(alloc)?;
-    let _ = write_notes(text, count, &mut output, errors);
+    let _ = write_notes(text, rules, count, &mut output, errors);
     Ok(())
 }
 
 fn write_notes<E: Sink>(
     text: &RobotsText,
+    rules: &[RuleLine<'_>],
     count: usize,
     output: &mut Output,
     errors: &mut E,
 ) -> Result<(), DeviceFault>
-    requires { output.old ≡ [] }
+    requires pending { output.old ≡ [] }
+    requires rules { map rule_seen rules.now ≡ rules_among (numbered_records text.now) }
     ensures { IsNoted (notes_of count (numbered_records text.now))
         (E.written errors.old) (E.written errors.new)
         (E.failures errors.old) (E.failures errors.new) }
 {
-    push_notes(text, count, output, errors)?;
+    push_notes(text, rules, count, output, errors)?;
     output.flush(errors)?;
     Ok(())
 }
 
 fn push_notes<E: Sink>(
     text: &RobotsText,
+    rules: &[RuleLine<'_>],
     count: usize,
     output: &mut Output,
     errors: &mut E,
 ) -> Result<(), DeviceFault>
+    requires { map rule_seen rules.now ≡ rules_among (numbered_records text.now) }
     ensures { Pushes (E.written errors.old) (E.written errors.new)
         (E.failures errors.old) (E.failures errors.new) output.old output.new
         (notes_of count (numbered_records text.now)) result }
 {
     head_pieces(text, count).push(output, errors)?;
-    push_line_notes(text.records(), output, errors)
+    push_rule_notes(rules, output, errors)
 }
 
 // What is told of the text as a whole.
@@ -114,34 +138,33 @@ fn is_said(kind: RecordKind<'_>) -> bool
     }
 }
 
-// Pushes what is told of each line that is left.
-fn push_line_notes<E: Sink>(
-    records: Records<'_>,
+// Pushes what is told of each rule line.
+fn push_rule_notes<E: Sink>(
+    rules: &[RuleLine<'_>],
     output: &mut Output,
     errors: &mut E,
 ) -> Result<(), DeviceFault>
     ensures { Pushes (E.written errors.old) (E.written errors.new)
         (E.failures errors.old) (E.failures errors.new) output.old output.new
-        (flat_map line_note (records_left records.entry)) result }
+        (flat_map (λ rule. rule_note rule.line rule.pattern.now) rules.now) result }
 {
-    let mut left = records;
-    while let Some(item) = left.next() {
-        line_pieces(item).push(output, errors)?;
+    for rule in rules {
+        rule_note_pieces(*rule).push(output, errors)?;
     }
     Ok(())
 }
 
-fn line_pieces(item: RecordLine<'_>) -> Pieces<'static>
-    ensures { pieces_text result ≡ line_note (line_seen item.entry) }
+fn rule_note_pieces(rule: RuleLine<'_>) -> Pieces<'static>
+    ensures { pieces_text result ≡ rule_note rule.entry.line rule.entry.pattern.now }
 {
-    match item.kind {
-        RecordKind::Rule(_, value) if has_query_apostrophe(value) => Pieces::of(&[
-            Piece::Text("crawlgate: line "),
-            Piece::Number(item.line),
-            Piece::Text(" matches no URL: a URL has %27 for ' in its query\n"),
-        ]),
-        _ => Pieces::whole(""),
+    if !has_query_apostrophe(rule.pattern) {
+        return Pieces::whole("");
     }
+    Pieces::of(&[
+        Piece::Text("crawlgate: line "),
+        Piece::Number(rule.line),
+        Piece::Text(" matches no URL: a URL has %27 for ' in its query\n"),
+    ])
 }
 
 // Whether an apostrophe stands behind a question mark.

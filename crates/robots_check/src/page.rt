@@ -1,7 +1,7 @@
 //! The page that a URL of a check names: a path stands for one of any host, and https for http.
 //! Only its path and query count; RFC 9309, section 2.2.2.
-ghost use Rattle.std.specs.Prelude.{◌≡◌, ◌++◌};
-ghost use Rattle.robots_check.specs.Targets.{IsReadAs, page_named, page_octets, page_read};
+ghost use Rattle.std.specs.Prelude.{◌≡◌, ◌++◌, false, true, IfNone, IfSome, drop};
+ghost use Rattle.robots_check.specs.Targets.{IsReadAs, begins_https, page_named, page_octets, page_read};
 
 use path_normal::{PageUrl, Unread, UrlFault};
 use robots_text::is_same_word;
@@ -24,13 +24,23 @@ pub(crate) fn read_page(alloc: Global, url: &[u8]) -> Result<PageUrl, Unread>
 fn split_url(url: &[u8]) -> (&[u8], &[u8])
     ensures { page_octets url.now ≡ result.0.now ++ result.1.now }
 {
-    match url {
-        [b'/', ..] => (b"http://h".as_slice(), url),
-        [one, two, three, four, five, six, rest @ ..]
-            if is_same_word(&[*one, *two, *three, *four, *five, *six], b"https:") => {
-            (b"http:".as_slice(), rest)
-        }
+    match (url, behind_https(url)) {
+        ([b'/', ..], _) => (b"http://h".as_slice(), url),
+        (_, Some(rest)) => (b"http:".as_slice(), rest),
         _ => (b"".as_slice(), url),
+    }
+}
+
+/// What follows the `https:` with which a URL begins, in whatever case.
+pub(crate) fn behind_https(url: &[u8]) -> Option<&[u8]>
+    ensures some { IfSome result
+        (λ rest. (begins_https url.now ≡ true) × (rest.now ≡ drop 6 url.now)) }
+    ensures none { IfNone result (begins_https url.now ≡ false) }
+{
+    match url {
+        [one, two, three, four, five, six, rest @ ..]
+            if is_same_word(&[*one, *two, *three, *four, *five, *six], b"https:") => Some(rest),
+        _ => None,
     }
 }
 

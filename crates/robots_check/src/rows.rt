@@ -13,7 +13,7 @@ use std::alloc::{AllocError, Global};
 
 /// A rule line beside a path.
 #[derive(Clone, Copy)]
-pub(crate) struct Row<'t> {
+pub(crate) struct ComparedRule<'t> {
     pub(crate) rule: RuleLine<'t>,
     /// The octets of its pattern in normal form.
     pub(crate) octets: usize,
@@ -26,24 +26,24 @@ pub(crate) fn rows_of<'t>(
     alloc: Global,
     forms: &[Formed<'t>],
     path: &[u8],
-) -> Result<Vec<Row<'t>>, AllocError>
+) -> Result<Vec<ComparedRule<'t>>, AllocError>
     requires { All IsFormed forms.now }
     ensures { IfOk result (λ rows.
         AreRows path.now (map formed_rule forms.now) (map row_seen rows.items)) }
 {
-    let mut rows = Vec::new(alloc);
+    let mut rows = Vec::with_capacity(alloc, forms.len())?;
     for formed in forms {
         rows.push(row_of(formed, path))?;
     }
     Ok(rows)
 }
 
-fn row_of<'t>(formed: &Formed<'t>, path: &[u8]) -> Row<'t>
+fn row_of<'t>(formed: &Formed<'t>, path: &[u8]) -> ComparedRule<'t>
     requires { IsFormed formed.now }
     ensures { IsRow path.now (formed_rule formed.now) (row_seen result) }
 {
     let form = formed.form.as_slice();
-    Row {
+    ComparedRule {
         rule: formed.rule,
         octets: form.len(),
         matches: matches(form, &mut Path::new(path)),
@@ -51,7 +51,7 @@ fn row_of<'t>(formed: &Formed<'t>, path: &[u8]) -> Row<'t>
 }
 
 /// The strongest row that matches, but for that of the line of this number.
-pub(crate) fn second<'t>(rows: &[Row<'t>], line: u64) -> Option<Row<'t>>
+pub(crate) fn second<'t>(rows: &[ComparedRule<'t>], line: u64) -> Option<ComparedRule<'t>>
     ensures { IsSecond (map row_seen rows.now) line (option_map row_seen result) }
 {
     let mut best = None;
@@ -62,7 +62,11 @@ pub(crate) fn second<'t>(rows: &[Row<'t>], line: u64) -> Option<Row<'t>>
 }
 
 // The best with a row more.
-fn weighed<'t>(best: Option<Row<'t>>, row: Row<'t>, line: u64) -> Option<Row<'t>>
+fn weighed<'t>(
+    best: Option<ComparedRule<'t>>,
+    row: ComparedRule<'t>,
+    line: u64,
+) -> Option<ComparedRule<'t>>
     ensures { option_map row_seen result
         ≡ weighed_row line (option_map row_seen best.entry) (row_seen row.entry) }
 {
@@ -73,7 +77,7 @@ fn weighed<'t>(best: Option<Row<'t>>, row: Row<'t>, line: u64) -> Option<Row<'t>
     }
 }
 
-fn stronger<'t>(best: Option<Row<'t>>, other: Row<'t>) -> Row<'t>
+fn stronger<'t>(best: Option<ComparedRule<'t>>, other: ComparedRule<'t>) -> ComparedRule<'t>
     ensures { row_seen result
         ≡ stronger_row (option_map row_seen best.entry) (row_seen other.entry) }
 {
@@ -83,7 +87,7 @@ fn stronger<'t>(best: Option<Row<'t>>, other: Row<'t>) -> Row<'t>
     }
 }
 
-fn is_above(one: Row<'_>, other: Row<'_>) -> bool
+fn is_above(one: ComparedRule<'_>, other: ComparedRule<'_>) -> bool
     ensures { result ≡ is_row_above (row_seen one.entry) (row_seen other.entry) }
 {
     other

@@ -1,27 +1,32 @@
-//! The rule lines for a token, in order, and the one of a line.
-//! RFC 9309, section 2.2.1.
+//! The rule lines of a robots text, in order, and the one of a line.
+//! RFC 9309, section 2.2.
 ghost use Rattle.std.specs.Prelude.{◌≡◌, ◌<◌, ℕ, IfOk, map};
-ghost use Rattle.robots_text.specs.Groups.{AreRulesFor};
-ghost use Rattle.robots_text.specs.Records.{numbered_records};
+ghost use Rattle.robots_text.specs.Left.{records_left};
 ghost use Rattle.robots_text.specs.Walk.{rule_seen};
-ghost use Rattle.robots_check.specs.Rules.{IsRising, IsRuleAt};
+ghost use Rattle.robots_check.specs.Rules.{IsRising, IsRuleAt, rules_among};
 
-use robots_text::{RobotsText, RuleLine, Token};
+use robots_text::{RecordKind, Records, RuleLine};
 use std::alloc::{AllocError, Global};
 
-/// The rule lines that govern the token.
-pub(crate) fn rules_for<'t>(
+/// The rule lines among the records that are left, whomever they govern.
+pub(crate) fn rules_among<'t>(
     alloc: Global,
-    text: &'t RobotsText,
-    token: &Token,
+    records: Records<'t>,
 ) -> Result<Vec<RuleLine<'t>>, AllocError>
     ensures { IfOk result (λ rules.
-        AreRulesFor (numbered_records text.now) token.now (map rule_seen rules.items)) }
+        map rule_seen rules.items ≡ rules_among (records_left records.entry)) }
 {
     let mut rules = Vec::new(alloc);
-    let mut left = text.rules_for(token);
-    while let Some(rule) = left.next() {
-        rules.push(rule)?;
+    let mut left = records;
+    while let Some(record) = left.next() {
+        if let RecordKind::Rule(kind, pattern) = record.kind {
+            let line = record.line;
+            rules.push(RuleLine {
+                line,
+                kind,
+                pattern,
+            })?;
+        }
     }
     Ok(rules)
 }

@@ -16,17 +16,21 @@ use Rattle.robots_fetch.specs.Walk.{AnswerOfAmong, LeadsOverAmong}
 -- a list decides one answer at most, of one life, whichever schemes are read
 abbrev pub OneAnswer : Type 0
 OneAnswer = (schemes : Schemes) (authority : List ℕ) (replies : List RobotsReply) (one other : Said) (life life' : ℕ) →
-    AnswerOfAmong schemes authority replies one life → AnswerOfAmong schemes authority replies other life' → (one ≡ other) × (life ≡ life')
+    AnswerOfAmong schemes authority replies one life → AnswerOfAmong schemes authority replies other life'
+    → (one ≡ other) × (life ≡ life')
 
 -- a list that decides goes no further than a front of it that decides
 abbrev pub DecidedOnce : Type 0
-DecidedOnce = (schemes : Schemes) (authority : List ℕ) (front rest : List RobotsReply) (one other : Said) (life life' : ℕ) →
-    AnswerOfAmong schemes authority front one life → AnswerOfAmong schemes authority (front ++ rest) other life' → rest ≡ []
+DecidedOnce =
+    (schemes : Schemes) (authority : List ℕ) (front rest : List RobotsReply) (one other : Said) (life life' : ℕ) →
+    AnswerOfAmong schemes authority front one life → AnswerOfAmong schemes authority (front ++ rest) other life'
+    → rest ≡ []
 
 -- a walk over a list is done with the answer that the list decides, where these schemes are read
 abbrev pub IsDoneAmong : Schemes → Type 0
 IsDoneAmong schemes = (authority : List ℕ) (walk : Walk) (replies : List RobotsReply) (answer : Timed) →
-    IsBegun authority walk → StepsOverAmong schemes walk replies (Done answer) → AnswerOfAmong schemes authority replies answer.says answer.life
+    IsBegun authority walk → StepsOverAmong schemes walk replies (Done answer)
+    → AnswerOfAmong schemes authority replies answer.says answer.life
 
 -- it is so whichever schemes are read
 abbrev pub IsDoneWithAnswer : Type 0
@@ -41,8 +45,10 @@ IsAsDecided rest says life (NoMemory kept) = Unit {0}
 
 -- a walk over a front of replies that decide steps as they decide, where these schemes are read
 abbrev pub DecideSteps : Schemes → Type 0
-DecideSteps schemes = (authority : List ℕ) (walk : Walk) (front rest : List RobotsReply) (says : Said) (life : ℕ) (step : Step) →
-    IsBegun authority walk → AnswerOfAmong schemes authority (front ++ rest) says life → StepsOverAmong schemes walk front step →
+DecideSteps schemes =
+    (authority : List ℕ) (walk : Walk) (front rest : List RobotsReply) (says : Said) (life : ℕ) (step : Step) →
+    IsBegun authority walk → AnswerOfAmong schemes authority (front ++ rest) says life
+    → StepsOverAmong schemes walk front step →
     IsAsDecided rest says life step
 
 -- it is so whichever schemes are read
@@ -52,7 +58,8 @@ StepsAsDecided = (schemes : Schemes) → DecideSteps schemes
 -- a walk over redirects goes on where they lead
 abbrev pub GoesWhereTheyLead : Type 0
 GoesWhereTheyLead = (schemes : Schemes) (authority : List ℕ) (walk next : Walk) (replies : List RobotsReply) →
-    IsBegun authority walk → StepsOverAmong schemes walk replies (Go next) → LeadsOverAmong schemes (robots_url_of authority) replies next.url
+    IsBegun authority walk → StepsOverAmong schemes walk replies (Go next)
+    → LeadsOverAmong schemes (robots_url_of authority) replies next.url
 
 -- a walk goes on behind five replies at most
 abbrev pub GoesOnFiveTimes : Type 0

@@ -1,4 +1,4 @@
--- What a status means for a robots file.
+-- What a status means for a robots.txt.
 -- RFC 9309, sections 2.3.1.1 to 2.3.1.4; the redirects are those of RFC 9110, section 15.4.
 use Rattle.std.specs.Prelude.{ℕ, Bool, ◌==◌, ◌||◌, ◌&&◌, nat_le, if◌then◌else◌}
 use Rattle.robots_fetch.specs.declared.status.StatusClass.{StatusClass}

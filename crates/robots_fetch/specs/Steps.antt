@@ -33,7 +33,8 @@ abbrev pub StepsAmong : Schemes → Walk → RobotsReply → Step → Type 0
 StepsAmong schemes walk reply (Go next) =
     LeadsAmong schemes walk.url reply next.url × (walk.followed < most_redirects) × (next.followed ≡ walk.followed + 1)
 StepsAmong schemes walk reply (Done answer) =
-    EndsWalkAmong schemes walk.followed walk.url reply answer.says × (answer.life ≡ life_of answer.says (asked_life reply))
+    EndsWalkAmong schemes walk.followed walk.url reply answer.says
+    × (answer.life ≡ life_of answer.says (asked_life reply))
     × (answer.spares ≡ 2)
 StepsAmong schemes walk reply (NoMemory kept) = kept ≡ walk
 

@@ -39,21 +39,24 @@ ResponseSays classes.Other target body says = says ≡ Closed closures.Other
 -- before it, and says so
 abbrev pub EndsWalkAmong : Schemes → ℕ → List ℕ → RobotsReply → Said → Type 0
 EndsWalkAmong schemes followed url (Status code location body max_age) says =
-    ResponseSays (class_of code) (redirect_target_among schemes followed url (option_map string_bytes location)) body.items says
+    ResponseSays (class_of code)
+    (redirect_target_among schemes followed url (option_map string_bytes location)) body.items says
 EndsWalkAmong schemes followed url CodingFault says = says ≡ Closed closures.Coding
 EndsWalkAmong schemes followed url NetworkFault says = says ≡ Closed closures.Network
 
 -- the reply is a redirect from the one URL to the other, where these schemes are read
 abbrev pub LeadsAmong : Schemes → List ℕ → RobotsReply → List ℕ → Type 0
 LeadsAmong schemes url (Status code location body max_age) next =
-    (class_of code ≡ classes.Redirect) × (location_target_among schemes url (option_map string_bytes location) ≡ Ok next)
+    (class_of code ≡ classes.Redirect)
+    × (location_target_among schemes url (option_map string_bytes location) ≡ Ok next)
 LeadsAmong schemes url CodingFault next = ⊥
 LeadsAmong schemes url NetworkFault next = ⊥
 
 -- the replies are redirects from the one URL to the other, each from where the one before it led
 abbrev pub LeadsOverAmong : Schemes → List ℕ → List RobotsReply → List ℕ → Type 0
 LeadsOverAmong schemes url [] last = url ≡ last
-LeadsOverAmong schemes url (reply ∷ replies) last = (next : List ℕ) × (LeadsAmong schemes url reply next × LeadsOverAmong schemes next replies last)
+LeadsOverAmong schemes url (reply ∷ replies) last =
+    (next : List ℕ) × (LeadsAmong schemes url reply next × LeadsOverAmong schemes next replies last)
 
 -- the seconds that a reply asks for
 abbrev pub asked_life : RobotsReply → ℕ
@@ -62,9 +65,10 @@ asked_life CodingFault = greatest_life
 asked_life NetworkFault = greatest_life
 
 -- the replies decide an answer for the authority, of this life, where these schemes are read: all but the
--- last are redirects, at most five, that begin at the URL of its robots file, and the last ends the walk
+-- last are redirects, at most five, that begin at the URL of its robots.txt, and the last ends the walk
 -- where they led
-pub record AnswerOfAmong (schemes : Schemes) (authority : List ℕ) (replies : List RobotsReply) (says : Said) (life : ℕ) : Type 0 where
+pub record AnswerOfAmong (schemes : Schemes) (authority : List ℕ) (replies : List RobotsReply) (says : Said)
+    (life : ℕ) : Type 0 where
   pub way : List RobotsReply
   pub last : RobotsReply
   pub url : List ℕ

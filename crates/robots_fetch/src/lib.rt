@@ -1,4 +1,4 @@
-//! The walk over redirects to the answer of a robots file, and where a redirect leads.
+//! The walk over redirects to the answer of a robots.txt, and where a redirect leads.
 //! RFC 9309, section 2.3.1.
 #![tactic(auto)]
 

@@ -1,7 +1,7 @@
-//! What came of one request for a robots file.
+//! What came of one request for a robots.txt.
 //! RFC 9309, section 2.3.1.
 
-/// What came of one request for a robots file.
+/// What came of one request for a robots.txt.
 #[derive(Drop)]
 pub enum RobotsReply {
     /// A response.

@@ -1,9 +1,9 @@
-//! The classes of statuses that a robots file may be answered with.
+//! The classes of statuses that a robots.txt may be answered with.
 //! RFC 9309, sections 2.3.1.1 to 2.3.1.4.
 ghost use Rattle.std.specs.Prelude.{◌≡◌};
 ghost use Rattle.robots_fetch.specs.Statuses.{class_of};
 
-/// What a status means for a robots file.
+/// What a status means for a robots.txt.
 #[derive(Clone, Copy, Debug, PartialEq, Eq)]
 pub enum StatusClass {
     /// 200 to 299: the file is the body.
@@ -18,7 +18,7 @@ pub enum StatusClass {
     Other,
 }
 
-/// What the status means for a robots file.
+/// What the status means for a robots.txt.
 pub fn class_of(code: u16) -> StatusClass
     ensures { result ≡ class_of code }
 {

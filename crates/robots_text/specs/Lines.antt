@@ -61,7 +61,7 @@ abbrev pub lines_from : Bool → List ℕ → List (List ℕ)
 lines_from behind_cr [] = []
 lines_from behind_cr (octet ∷ text) = with_octet behind_cr octet (lines_from (octet == carriage_return) text)
 
--- the lines of a text, without its mark
+-- the lines of a text, without its byte order mark
 abbrev pub lines_of : List ℕ → List (List ℕ)
 lines_of text = lines_from false (unmarked text)
 

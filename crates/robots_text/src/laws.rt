@@ -10,7 +10,7 @@ ghost use Rattle.robots_text.specs.Token.{token_limit};
 use crate::text::MAX_TEXT;
 use crate::token::MAX_TOKEN;
 
-/// The lines of a text are the one way to write it, without its mark, as lines and their ends.
+/// The lines of a text are the one way to write it, without its byte order mark, as lines and their ends.
 pub fn one_way_to_write_lines()
     ensures lines { (text : List ℕ) → AreLines (unmarked text) (lines_of text) }
     ensures only { (text : List ℕ) (lines : List (List ℕ))

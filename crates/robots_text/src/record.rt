@@ -1,5 +1,11 @@
 //! A record: what one line of a robots text says.
-//! RFC 9309, section 2.2.
+//! RFC 9309, section 2.2, whose grammar has these rules for a line:
+//! startgroupline = *WS "user-agent" *WS ":" *WS product-token EOL
+//! rule = *WS ("allow" / "disallow") *WS ":" *WS (path-pattern / empty-pattern) EOL
+//! product-token = identifier / "*"
+//! identifier = 1*(%x2D / %x41-5A / %x5F / %x61-7A)
+//! emptyline = EOL
+//! EOL = *WS [comment] NL
 ghost use Rattle.std.specs.Prelude.{◌≡◌, ◌<◌, length, IfSome};
 ghost use Rattle.std.specs.List.{position, before_first};
 ghost use Rattle.robots_text.specs.Records.{agent_seen, ends_token, is_blank};

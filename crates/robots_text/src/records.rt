@@ -18,7 +18,7 @@ impl<'a> Records<'a> {
     ghost use Rattle.robots_text.specs.Lines.{lines_from};
     ghost use Rattle.robots_text.specs.Records.{numbered_from, record_of};
 
-    /// The records of a text without its mark.
+    /// The records of a text without its byte order mark.
     pub(crate) fn of(text: &'a [u8]) -> Records<'a>
         requires { length text.now < 2 ^ 63 }
         ensures { records_left result

@@ -15,7 +15,7 @@ use std::marker::Model;
 /// How many octets of a robots text are read (RFC 9309, 2.5).
 pub const MAX_TEXT: usize = 512000;
 
-/// A robots text: the octets that are kept of it, its mark included.
+/// A robots text: the octets that are kept of it, its byte order mark included.
 #[derive(Drop)]
 pub struct RobotsText {
     octets: Vec<u8>,
@@ -73,7 +73,7 @@ impl RobotsText {
         GroupedRecords::of(Records::of(unmarked(self.octets.as_slice())))
     }
 
-    /// The octets that are kept, the mark included.
+    /// The octets that are kept, the byte order mark included.
     pub fn bytes(&self) -> &[u8]
         ensures value { result.now ≡ self.now }
         ensures few { length result.now ≤ text_limit }

@@ -1,6 +1,6 @@
 -- The forms that a text keeps, as they are kept and as they are seen.
 -- Used by `Rewritten`.
-use Rattle.std.proofs.Common.{◌≡◌, ℕ, ◌<◌, ◌≤◌, All, Contains, List, [], ◌∷◌, ◌++◌, length, map, get_or, inl, inr, refl, sym, ap, ◌∙◌, subst, arith}
+use Rattle.std.proofs.Common.{◌≡◌, ◌⊎◌, ℕ, ◌-◌, ◌<◌, ◌≤◌, All, Contains, List, [], ◌∷◌, ◌++◌, length, map, get_or, inl, inr, refl, sym, ap, ◌∙◌, subst, arith}
 use Rattle.std.specs.Prelude.{Err, MatchResult, Ok, Result}
 use Rattle.std.specs.List.{AllWithin}
 use Rattle.std.specs.List.Sorted.{IsBinarySearchResult, IsNonDecreasing, IsSearchInRange}
@@ -94,3 +94,18 @@ found octets forms seen line (Err i) is up within searches =
     let rise = subst IsNonDecreasing (sym are) up in
     let at = searched lines line (Err i) (search_of_lines forms line (Err i) within searches) (λ j k order last. rise j k 0 order last) in
     nowhere seen lines line i are at.1 at.2
+
+-- where the forms before a place are of lines before this one, and that at the place is of one behind it, none is of this one
+pub none_at_gap : (seen : List FormOfLine) (line i : ℕ) → IsNonDecreasing (map line_of seen) → i ≤ length seen → (i ≡ 0) ⊎ ((form_at seen (i - 1)).line < line) → (i ≡ length seen) ⊎ (line < (form_at seen i).line) →
+    (form : FormOfLine) → Contains seen form → form.line ≡ line → ⊥
+none_at_gap seen line i up within before behind =
+    let few = length-map seen line_of in
+    nowhere seen (map line_of seen) line i refl
+    (λ k less. elim before [
+      | inl none ↦ absurd (omega (arith, none, less))
+      | inr low ↦ (let rise = up k (i - 1) 0 (omega (arith, less)) (omega (arith, less, within, few)) in let is = line_at seen (i - 1) (omega (arith, less, within)) in omega (arith, rise, is, low))
+    ])
+    (λ k more last. elim behind [
+      | inl end ↦ absurd (omega (arith, end, more, last, few))
+      | inr high ↦ (let rise = up i k 0 (omega (arith, more)) last in let is = line_at seen i (omega (arith, more, last, few)) in omega (arith, rise, is, high))
+    ])

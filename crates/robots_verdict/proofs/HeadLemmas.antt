@@ -136,7 +136,7 @@ run_of named token low high low_fits fits lows highs = record {
 group_of : NamedGroup → ℕ
 group_of n = n.group
 
--- a group of the run is one of the name
+-- a group of the literal is one of the name
 pub run_groups : (named : List NamedGroup) (groups token : List ℕ) (low high : ℕ) → groups ≡ map (λ (n : NamedGroup). n.group) named → IsRun named token low high → (group : ℕ) →
     Contains (take (high - low) (drop low groups)) group ↔ Contains named (record { name = token; group = group })
 run_groups named groups token low high are run group = (
@@ -172,7 +172,7 @@ run_groups named groups token low high are run group = (
       ),
 )
 
--- and the groups of the run rise
+-- and the groups of the literal rise
 pub run_rises : (named : List NamedGroup) (groups token : List ℕ) (low high : ℕ) → groups ≡ map (λ (n : NamedGroup). n.group) named → IsSortedBy is_name_before named → IsRun named token low high →
     IsNonDecreasing (take (high - low) (drop low groups))
 run_rises named groups token low high are sorted run = IsNonDecreasingBy-from_default (λ (n : ℕ). n) (take (high - low) (drop low groups)) 0 rise

@@ -1,5 +1,5 @@
 -- The least of what passes one test or another.
--- Used by `Ranks`.
+-- Used by `RankedRows`.
 use Rattle.std.proofs.Common.{◌≡◌, ◌⊎◌, ℕ, ◌≤◌, Bool, true, false, inl, inr, List, [], ◌∷◌, ◌++◌, Contains, refl, sym, ap, subst, arith}
 use Rattle.std.specs.Prelude.{Option, Some, None, IfSome, not, unwrap_or, is_some}
 use Rattle.std.specs.Option.{option_eq}

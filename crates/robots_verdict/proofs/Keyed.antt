@@ -15,7 +15,7 @@ use Rattle.robots_verdict.specs.Keys.{compare_keys, IsKeyOf, number}
 use Rattle.robots_verdict.specs.Placed.{Placed}
 use Rattle.robots_verdict.specs.Rows.{row_at}
 use Rattle.robots_verdict.specs.Search.{compare_plain, IsPlainOrder}
-use Rattle.robots_verdict.proofs.Spelling.{by_front}
+use Rattle.path_pattern.proofs.CallerLemmas.{by_front}
 
 pub keys_total : (rows : List Placed) → IsTotalOrder (compare_keys rows)
 keys_total rows =

@@ -11,7 +11,6 @@ pub mod Rewriting
 pub mod Forms
 pub mod Readings
 pub mod Begins
-pub mod Spelling
 pub mod Chains
 pub mod Keyed
 pub mod Placing

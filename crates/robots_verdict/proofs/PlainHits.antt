@@ -14,7 +14,7 @@ use Rattle.std.proofs.lemmas.List.Sorted.{ranks_by, sorted_far}
 use Rattle.path_normal.specs.Normal.{is_anchored, unanchored}
 use Rattle.path_normal.specs.Octets.{star}
 use Rattle.path_pattern.specs.Matches.{Matches, Spells}
-use Rattle.path_pattern.specs.Runs.{HasNoStar}
+use Rattle.path_pattern.specs.Literals.{HasNoStar}
 use Rattle.path_pattern.proofs.CallerLemmas.{no_star, off_last, on_last}
 use Rattle.robots_verdict.specs.Index.{FindsLeast}
 use Rattle.robots_verdict.specs.Placed.{Placed}

@@ -27,4 +27,5 @@ has_name named word = list_any (λ one. bytes_eq one.name word) named
 -- the group is for the token: one of that name, or one of everybody where none has the name
 abbrev pub IsGroupFor : Names → List ℕ → ℕ → Type 0
 IsGroupFor names word group =
-    MatchBool (has_name names.named word) (Contains names.named (record { name = word; group = group })) (Contains names.everybody group)
+    MatchBool (has_name names.named word) (Contains names.named (record { name = word; group = group }))
+    (Contains names.everybody group)

@@ -1,23 +1,13 @@
 -- The keys by which plain places are sorted: each has the first octets of its pattern beside it, as a number.
--- Cited by the contracts of `Key`, and by the order of texts.
-use Rattle.std.specs.Prelude.{◌≡◌, ℕ, zero, suc, ◌+◌, ◌*◌, ◌^◌, ◌<◌, List, [], ◌∷◌, slice_index_or}
+-- Cited by the contracts of `Key`.
+use Rattle.std.specs.Prelude.{◌≡◌, ℕ, ◌+◌, ◌*◌, ◌^◌, List}
+use Rattle.path_pattern.specs.Texts.{AreOctets, spelled_number}
 use Rattle.std.specs.declared.cmp.Ordering.{Ordering}
 use Rattle.std.specs.Ordering.{nat_cmp, ordering_then}
 use Rattle.std.specs.Cmp.Lexicographic.{slice_cmp}
 use Rattle.robots_verdict.specs.declared.keys.Key.{Key}
 use Rattle.robots_verdict.specs.Placed.{Placed}
 use Rattle.robots_verdict.specs.Rows.{row_at}
-
--- the number that the next octets of a text, so many, spell behind those that spell this one; zeros stand
--- behind the end of the text
-abbrev pub spelled_number : ℕ → ℕ → List ℕ → ℕ
-spelled_number zero so_far text = so_far
-spelled_number (suc count) so_far [] = spelled_number count (so_far * 256) []
-spelled_number (suc count) so_far (octet ∷ text) = spelled_number count (so_far * 256 + octet) text
-
--- each number is that of an octet
-abbrev pub AreOctets : List ℕ → Type 0
-AreOctets text = (i : ℕ) → slice_index_or text i 0 < 256
 
 -- the number that both halves make
 abbrev pub number : Key → ℕ
@@ -33,7 +23,8 @@ pub record IsKeyOf (rows : List Placed) (key : Key) : Type 0 where
 abbrev pub compare_patterns : List Placed → Key → Key → Ordering
 compare_patterns rows one other =
     ordering_then (nat_cmp (number one) (number other))
-    (ordering_then (slice_cmp nat_cmp (row_at rows one.place).form (row_at rows other.place).form) (nat_cmp other.place one.place))
+    (ordering_then (slice_cmp nat_cmp (row_at rows one.place).form (row_at rows other.place).form)
+    (nat_cmp other.place one.place))
 
 -- the order of keys: by groups, then by patterns
 abbrev pub compare_keys : List Placed → Key → Key → Ordering

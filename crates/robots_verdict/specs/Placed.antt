@@ -32,7 +32,8 @@ pub record Names : Type 0 where
 -- the row that a record of a group makes
 abbrev pub placed_at : ℕ → ℕ → Record → List Placed
 placed_at group line (agent who) = []
-placed_at group line (rule kind value) = record { group = group; line = line; kind = kind; form = normal_pattern value } ∷ []
+placed_at group line (rule kind value) =
+    record { group = group; line = line; kind = kind; form = normal_pattern value } ∷ []
 placed_at group line other = []
 
 -- the rows of the records

@@ -2,7 +2,7 @@
 -- Cited by the contracts of `Rows`.
 use Rattle.std.specs.Prelude.{ℕ, ◌+◌, ◌≤◌, Bool, List, [], length, map, take, drop, slice_index_or}
 use Rattle.robots_text.specs.declared.record.RuleKind.TheVariants.{Allow}
-use Rattle.robots_verdict.specs.declared.row.Row.{Row}
+use Rattle.robots_verdict.specs.declared.rule_row.RuleRow.{RuleRow}
 use Rattle.robots_verdict.specs.declared.weight.Weight.{Weight}
 use Rattle.robots_verdict.specs.Placed.{Placed}
 use Rattle.robots_verdict.specs.Weights.{is_above}
@@ -12,15 +12,16 @@ abbrev pub part : List ℕ → ℕ → ℕ → List ℕ
 part octets start len = take len (drop start octets)
 
 -- the row that is kept so
-abbrev pub row_seen : List ℕ → Row → Placed
-row_seen octets row = record { group = row.group; line = row.line; kind = row.kind; form = part octets row.start row.len }
+abbrev pub row_seen : List ℕ → RuleRow → Placed
+row_seen octets row =
+    record { group = row.group; line = row.line; kind = row.kind; form = part octets row.start row.len }
 
 -- all rows
-abbrev pub rows_seen : List ℕ → List Row → List Placed
+abbrev pub rows_seen : List ℕ → List RuleRow → List Placed
 rows_seen octets rows = map (row_seen octets) rows
 
 -- the octets of the row's pattern are there
-abbrev pub IsThere : List ℕ → Row → Type 0
+abbrev pub IsThere : List ℕ → RuleRow → Type 0
 IsThere octets row = row.start + row.len ≤ length octets
 
 -- what a row weighs
@@ -32,7 +33,7 @@ abbrev pub is_row_above : Placed → Placed → Bool
 is_row_above one other = is_above (weight_at one) (weight_at other)
 
 -- the same of a row as it is kept
-abbrev pub weight_kept : Row → Weight
+abbrev pub weight_kept : RuleRow → Weight
 weight_kept row = record { octets = row.len; kind = row.kind; line = row.line }
 
 -- a row that stands for places past the end

@@ -1,5 +1,5 @@
 -- How rows are found by their texts: two lists of places, and for each plain row the one that begins it.
--- Cited by the contracts of `Ranks`.
+-- Cited by the contracts of `RankedRows`.
 use Rattle.std.specs.Prelude.{◌≡◌, ℕ, ◌+◌, ◌<◌, ◌≤◌, Bool, true, false, not, ◌&&◌, ◌==◌, nat_lt, ◌↔◌, Contains, List, [], ◌∷◌, length, map, Option, Some, None, slice_index, slice_index_or, if◌then◌else◌}
 use Rattle.std.specs.List.Sorted.{IsSortedBy}
 use Rattle.std.specs.declared.cmp.Ordering.{Ordering}
@@ -7,9 +7,9 @@ use Rattle.std.specs.Ordering.{is_gt, is_lt, nat_cmp, ordering_then}
 use Rattle.std.specs.Cmp.Lexicographic.{slice_cmp}
 use Rattle.path_normal.specs.Normal.{is_anchored}
 use Rattle.path_pattern.specs.Matches.{Matches}
-use Rattle.path_pattern.specs.Runs.{has_no_star}
+use Rattle.path_pattern.specs.Literals.{has_no_star}
 use Rattle.robots_text.specs.Lines.{text_limit}
-use Rattle.robots_verdict.specs.declared.ranks.Ranks.{Ranks}
+use Rattle.robots_verdict.specs.declared.ranked_rows.RankedRows.{RankedRows}
 use Rattle.robots_verdict.specs.Placed.{Placed}
 use Rattle.robots_verdict.specs.Rows.{row_at}
 
@@ -25,7 +25,7 @@ common [] other = 0
 common (octet ∷ one) [] = 0
 common (octet ∷ one) (first ∷ other) = if octet == first then common one other + 1 else 0
 
--- the pattern matches just what it begins: it has no sign, and is not empty
+-- the pattern matches just what it begins: it has no special character, and is not empty
 abbrev pub is_plain_pattern : List ℕ → Bool
 is_plain_pattern form = nat_lt 0 (length form) && not (is_anchored form) && has_no_star form
 
@@ -43,7 +43,8 @@ IsPlainOrder rows places = IsSortedBy (λ one other. is_lt (compare_plain rows o
 
 -- the order of the other places: by groups, and the stronger first
 abbrev pub compare_others : List Placed → ℕ → ℕ → Ordering
-compare_others rows one other = ordering_then (nat_cmp (row_at rows one).group (row_at rows other).group) (nat_cmp one other)
+compare_others rows one other =
+    ordering_then (nat_cmp (row_at rows one).group (row_at rows other).group) (nat_cmp one other)
 
 -- the key at an index of a list of places
 abbrev pub key_at : List Placed → List ℕ → ℕ → List ℕ
@@ -57,14 +58,17 @@ pub record IsCut (rows : List Placed) (places text : List ℕ) (count : ℕ) : T
 
 -- of the first indices, the last one whose key begins the text, if one does
 abbrev pub IsLastBegun : List Placed → List ℕ → ℕ → List ℕ → Option ℕ → Type 0
-IsLastBegun rows plain count text None = (index : ℕ) → index < count → is_front_of (key_at rows plain index) text ≡ false
+IsLastBegun rows plain count text None =
+    (index : ℕ) → index < count → is_front_of (key_at rows plain index) text ≡ false
 IsLastBegun rows plain count text (Some last) =
     (last < count) × (is_front_of (key_at rows plain last) text ≡ true)
     × ((index : ℕ) → index < count → is_front_of (key_at rows plain index) text ≡ true → index ≤ last)
 
 -- each plain place knows the last one before it that begins it
 abbrev pub AreParents : List Placed → List ℕ → List (Option ℕ) → ℕ → Type 0
-AreParents rows plain parents count = (index : ℕ) (past : Option ℕ) → index < count → IsLastBegun rows plain index (key_at rows plain index) (slice_index_or parents index past)
+AreParents rows plain parents count =
+    (index : ℕ) (past : Option ℕ) → index < count
+    → IsLastBegun rows plain index (key_at rows plain index) (slice_index_or parents index past)
 
 -- so many of the first places are there, and so many of their parents
 pub record IsCountOf (places : List ℕ) (parents : List (Option ℕ)) (count : ℕ) : Type 0 where
@@ -74,7 +78,8 @@ pub record IsCountOf (places : List ℕ) (parents : List (Option ℕ)) (count : 
 -- these are the places below the count whose rows are plain, or those whose are not
 pub record ArePlaces (rows : List Placed) (plain : Bool) (places : List ℕ) (count : ℕ) : Type 0 where
   pub few : length places ≤ count
-  pub are : (place : ℕ) → Contains places place ↔ ((place < count) × (is_plain_pattern (row_at rows place).form ≡ plain))
+  pub are : (place : ℕ)
+      → Contains places place ↔ ((place < count) × (is_plain_pattern (row_at rows place).form ≡ plain))
 
 -- the groups of the rows at these places
 abbrev pub groups_at : List Placed → List ℕ → List ℕ
@@ -83,7 +88,8 @@ groups_at rows places = map (λ place. (row_at rows place).group) places
 -- the plain places in the order of their keys, each with its group and its parent
 pub record IsPlainIndex (rows : List Placed) (places groups : List ℕ) (parents : List (Option ℕ)) : Type 0 where
   pub few : length places ≤ text_limit
-  pub are : (place : ℕ) → Contains places place ↔ ((place < length rows) × (is_plain_pattern (row_at rows place).form ≡ true))
+  pub are : (place : ℕ)
+      → Contains places place ↔ ((place < length rows) × (is_plain_pattern (row_at rows place).form ≡ true))
   pub rise : IsPlainOrder rows places
   pub groups_are : groups ≡ groups_at rows places
   pub known : length parents ≡ length places
@@ -98,7 +104,8 @@ pub record IsPlainHit (rows : List Placed) (group : ℕ) (path : List ℕ) (plac
 
 -- the other places in the order of their groups, each with its group
 pub record IsOtherIndex (rows : List Placed) (places groups : List ℕ) : Type 0 where
-  pub are : (place : ℕ) → Contains places place ↔ ((place < length rows) × (is_plain_pattern (row_at rows place).form ≡ false))
+  pub are : (place : ℕ)
+      → Contains places place ↔ ((place < length rows) × (is_plain_pattern (row_at rows place).form ≡ false))
   pub rise : IsSortedBy (λ one other. is_lt (compare_others rows one other)) places
   pub groups_are : groups ≡ groups_at rows places
 
@@ -136,6 +143,6 @@ IsPassed rows places group path start index =
     (k : ℕ) → start ≤ k → k < index → IsOtherHit rows group path (slice_index places k) → ⊥
 
 -- both lists of places are those of the rows
-pub record IsSearchable (rows : List Placed) (ranks : Ranks) : Type 0 where
+pub record IsSearchable (rows : List Placed) (ranks : RankedRows) : Type 0 where
   pub plain : IsPlainIndex rows ranks.plain.places.items ranks.plain.groups.items ranks.plain.parents.items
   pub others : IsOtherIndex rows ranks.others.places.items ranks.others.groups.items

@@ -13,7 +13,7 @@ use Rattle.robots_verdict.specs.declared.decision.Verdict.{Verdict}
 use Rattle.robots_verdict.specs.declared.decision.Verdict.TheVariants.{Allow, Deny}
 use Rattle.robots_verdict.specs.Weights.{is_above, weight_of}
 
--- the path of robots files, which each crawler may fetch
+-- the path of robots.txt files, which each crawler may fetch
 abbrev pub robots_path : List ℕ
 robots_path = codes "/robots.txt"
 

@@ -10,21 +10,21 @@ use robots_text::RobotsText;
 use std::alloc::{AllocError, Global};
 use std::sync::Arc;
 
-/// The answer of an authority's robots file. Answers are equal where they say the same.
+/// The answer of an authority's robots.txt. Answers are equal where they say the same.
 #[derive(Drop, PartialEq, Eq)]
 pub enum Answer {
-    /// The rules of the robots file bind.
+    /// The rules of the robots.txt bind.
     Rules(Rules),
-    /// There is no robots file that binds: every page may be fetched.
+    /// There is no robots.txt that binds: every page may be fetched.
     Open(Opening),
-    /// The robots file can't be had or read: no page may be fetched.
+    /// The robots.txt can't be had or read: no page may be fetched.
     Closed(Closure),
 }
 
 /// Why an answer is open (RFC 9309, sections 2.3.1.2 and 2.3.1.3).
 #[derive(Clone, Copy, Debug, PartialEq, Eq)]
 pub enum Opening {
-    /// The robots file was answered with a status from 400 to 499.
+    /// The robots.txt was answered with a status from 400 to 499.
     Unavailable,
     /// A sixth redirect stood where the file should be.
     TooManyRedirects,

@@ -22,7 +22,7 @@ pub enum Allowed {
     Line(u64),
     /// No line for the token matches it.
     NoRule,
-    /// It is the path of the robots file itself.
+    /// It is the path of the robots.txt itself.
     RobotsPath,
 }
 

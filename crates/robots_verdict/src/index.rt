@@ -9,7 +9,7 @@ ghost use Rattle.robots_verdict.specs.Index.{IsIndexOf};
 ghost use Rattle.robots_verdict.specs.Placed.{everybody_at, everybody_in, named_at, named_in, placed_at, placed_in};
 
 use crate::heads::{Heads, NamedGroups};
-use crate::ranks::Ranks;
+use crate::ranked_rows::RankedRows;
 use crate::rows::Rows;
 use robots_text::{GroupedRecord, RecordKind, RobotsText};
 use std::alloc::{AllocError, Global};
@@ -18,7 +18,7 @@ use std::alloc::{AllocError, Global};
 #[derive(Drop)]
 pub(crate) struct Index {
     pub(crate) rows: Rows,
-    pub(crate) ranks: Ranks,
+    pub(crate) ranks: RankedRows,
     pub(crate) heads: Heads,
 }
 
@@ -31,7 +31,7 @@ impl Index {
         // What is left of growing goes before the lists of places are made.
         rows.fit();
         rows.sort();
-        let ranks = Ranks::of(alloc, &rows)?;
+        let ranks = RankedRows::of(alloc, &rows)?;
         let heads = Heads::of(alloc, names)?;
         Ok(Index { rows, ranks, heads })
     }

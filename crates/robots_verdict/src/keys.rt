@@ -2,11 +2,12 @@
 //! Used by `Plain`: most comparisons of two keys look at no pattern.
 ghost use Rattle.std.specs.Prelude.{◌≡◌, All, drop, IfOk, map};
 ghost use Rattle.std.specs.List.Sorted.{IsPermutation};
-ghost use Rattle.robots_verdict.specs.Keys.{AreOctets, compare_keys, compare_patterns, IsKeyOf, number, spelled_number};
+ghost use Rattle.path_pattern.specs.Texts.{AreOctets, spelled_number};
+ghost use Rattle.robots_verdict.specs.Keys.{compare_keys, compare_patterns, IsKeyOf, number};
 ghost use Rattle.robots_verdict.specs.Search.{IsPlainOrder};
 
 use crate::rows::Rows;
-use crate::texts::{compare_texts, front};
+use path_pattern::{compare_texts, front};
 use std::alloc::{AllocError, Global};
 use std::cmp::Ordering;
 

@@ -13,13 +13,12 @@ mod others;
 mod places;
 mod plain;
 mod policy;
-mod ranks;
+mod ranked_rows;
 mod rewritten;
-mod row;
 mod rows;
+mod rule_row;
 mod rules;
 mod said;
-mod texts;
 mod weight;
 
 pub use answer::{Answer, Closure, Opening};

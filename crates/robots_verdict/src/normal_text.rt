@@ -58,9 +58,10 @@ impl NormalText {
         ensures { IsBest (numbered_records self.now) token.now path.old result }
     {
         let mut best = None;
+        let mut near = 0;
         let mut rules = self.text.rules_for(token);
         while let Some(rule) = rules.next() {
-            let form = self.form(rule);
+            let form = self.form(rule, &mut near);
             if matches(form, path) {
                 best = Some(stronger(
                     best,
@@ -75,12 +76,12 @@ impl NormalText {
         best
     }
 
-    // The pattern of a rule line of the text in its normal form.
-    fn form<'s>(&'s self, rule: RuleLine<'s>) -> &'s [u8]
+    // The pattern of a rule line of the text in its normal form, which may be kept near this place.
+    fn form<'s>(&'s self, rule: RuleLine<'s>, near: &mut usize) -> &'s [u8]
         requires { Contains (numbered_records self.now) (record_ruled (rule_seen rule)) }
         ensures { result.now ≡ normal_pattern rule.entry.pattern.now }
     {
-        match self.rewritten.form_at(rule.line) {
+        match self.rewritten.form_near(rule.line, near) {
             Some(form) => form,
             None => rule.pattern,
         }

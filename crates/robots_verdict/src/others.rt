@@ -1,4 +1,4 @@
-//! The rows whose pattern has a sign or is empty: they are tried one after another.
+//! The rows whose pattern has a special character or is empty: they are tried one after another.
 //! RFC 9309, section 2.2.2.
 ghost use Rattle.std.specs.Prelude.{◌≡◌, ◌⊎◌, ◌<◌, false, IfOk, IsTrue, ◌↔◌, length};
 ghost use Rattle.std.specs.List.Sorted.{IsNonDecreasing};

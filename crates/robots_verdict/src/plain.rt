@@ -1,4 +1,4 @@
-//! The plain rows by their texts: a pattern that is free of signs matches just the paths that begin
+//! The plain rows by their texts: a pattern without special characters matches just the paths that begin
 //! with it.
 //! RFC 9309, section 2.2.2.
 ghost use Rattle.std.specs.Prelude.{◌≡◌, ◌∷◌, ◌<◌, ◌≤◌, ◌==◌, ℕ, false, true, IfOk, length};
@@ -13,7 +13,7 @@ ghost use Rattle.robots_verdict.specs.Search.{AreParents, ArePlaces, common, gro
 use crate::keys::in_order;
 use crate::places::groups_at;
 use crate::rows::Rows;
-use crate::texts::compare_texts;
+use path_pattern::compare_texts;
 use std::alloc::{AllocError, Global};
 use std::cmp::Ordering;
 

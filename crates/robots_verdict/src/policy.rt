@@ -12,7 +12,7 @@ use crate::index::Index;
 use crate::normal_text::NormalText;
 use crate::weight::Weight;
 use memchr::memchr_iter;
-use path_pattern::{Path, Places, empty_room};
+use path_pattern::{Path, SuffixArray, empty_room};
 use robots_text::{RobotsText, Token};
 use std::alloc::{AllocError, Global};
 use std::marker::Model;
@@ -23,22 +23,22 @@ use std::sync::atomic::{AtomicU64, Ordering};
 // the memory of the text, and a crawl asks most sites less often.
 const WALKS: u64 = 16;
 
-// The longest text over which a verdict walks in about ten microseconds, and how many patterns with signs it
+// The longest text over which a verdict walks in about ten microseconds, and how many patterns with special characters it
 // tries in as long.
 const SHORT_TEXT: usize = 1_024;
 
 const FEW_OTHERS: usize = 32;
 
 // To put the places of a path in order takes a few milliseconds, a tenth of one where the path is short. It pays where
-// patterns with stars may take longer: on a path of more octets than these, over a text of more than those that has
-// more stars than this, or by an index with as many such patterns.
+// patterns with wildcards may take longer: on a path of more octets than these, over a text of more than those that has
+// more wildcards than this, or by an index with as many such patterns.
 const SHORT_PATH: usize = 512;
 
 const LONG_TEXT: usize = 16_384;
 
 const FEW_STARS: usize = 64;
 
-// A text with more stars than these has its index after the first walk that tries them on a long path.
+// A text with more wildcards than these has its index after the first walk that tries them on a long path.
 const MANY_STARS: usize = 1_000;
 
 /// A robots text, and an index of its rules, where one was made. Without it, verdicts walk over the text.
@@ -103,8 +103,8 @@ impl Policy {
     }
 
     /// Whether a verdict takes long, so that no lock should be held for it: without an index by the length of
-    /// the text, with one by how many patterns have signs. So it does where an index is wanted.
-    pub fn is_dear(&self) -> bool {
+    /// the text, with one by how many patterns have special characters. So it does where an index is wanted.
+    pub fn is_slow(&self) -> bool {
         match &self.index {
             Some(index) => index.ranks.other_count() > FEW_OTHERS,
             None => self.wants_index() || self.text().bytes().len() > SHORT_TEXT,
@@ -127,13 +127,13 @@ impl Policy {
             return Verdict::Allow(Allowed::RobotsPath);
         }
         if self.wants_places(path) {
-            self.dear_verdict(token, path)
+            self.slow_verdict(token, path)
         } else {
             self.verdict_elsewhere(token, &mut Path::new(path))
         }
     }
 
-    // Whether to put the places of a path in order pays: where it is long, and where many patterns with signs
+    // Whether to put the places of a path in order pays: where it is long, and where many patterns with special characters
     // may be tried on it.
     fn wants_places(&self, path: &[u8]) -> bool {
         path.len() > SHORT_PATH
@@ -149,23 +149,23 @@ impl Policy {
     // The verdict where many patterns may be tried on a long path. What is kept of the path takes much of the stack,
     // which other verdicts need not have.
     #[inline(never)]
-    fn dear_verdict(&self, token: &Token, path: &[u8]) -> Verdict
+    fn slow_verdict(&self, token: &Token, path: &[u8]) -> Verdict
         requires { path.now ≢ robots_path }
         ensures { IsVerdict (numbered_records self.now) token.now path.now result }
     {
-        self.count_dear();
-        let (places, mut room) = (Places::of(path), empty_room());
+        self.count_slow();
+        let (places, mut room) = (SuffixArray::of(path), empty_room());
         self.verdict_elsewhere(token, &mut Path::with(path, &places, &mut room))
     }
 
     // Counts a walk that tries very many patterns as all those after which an index pays.
-    fn count_dear(&self) {
+    fn count_slow(&self) {
         if self.index.is_none() && has_more_stars(self.text().bytes(), MANY_STARS) {
             self.walks.fetch_add(WALKS, Ordering::Relaxed);
         }
     }
 
-    // The verdict on a path that is not that of robots files.
+    // The verdict on a path that is not that of robots.txt files.
     fn verdict_elsewhere(&self, token: &Token, path: &mut Path<'_, '_>) -> Verdict
         requires { path.old ≢ robots_path }
         ensures { IsVerdict (numbered_records self.now) token.now path.old result }
@@ -179,7 +179,7 @@ impl Policy {
         }
     }
 
-    // The verdict by the index, on a path that is not that of robots files.
+    // The verdict by the index, on a path that is not that of robots.txt files.
     fn verdict_by(&self, index: &Index, token: &Token, path: &mut Path<'_, '_>) -> Verdict
         requires index { IsIndexOf self.now index.now }
         requires elsewhere { path.old ≢ robots_path }

@@ -1,6 +1,6 @@
 //! The rule lines of a text whose patterns are not written in their normal forms, with those forms.
 //! RFC 9309, section 2.2.2.
-ghost use Rattle.std.specs.Prelude.{◌≡◌, ◌+◌, ◌*◌, ◌^◌, ◌∷◌, ◌≤◌, ◌<◌, ◌++◌, [], IfOk, length, map, MatchOption};
+ghost use Rattle.std.specs.Prelude.{◌≡◌, ◌+◌, ◌*◌, ◌^◌, ◌∷◌, ◌≤◌, ◌<◌, ◌++◌, [], IfOk, IsTrue, length, map, MatchOption};
 ghost use Rattle.std.specs.List.Sorted.{IsNonDecreasing};
 ghost use Rattle.robots_text.specs.Grouped.{grouped_records, value_octets};
 ghost use Rattle.robots_text.specs.Records.{kind_seen};
@@ -88,19 +88,52 @@ impl Rewritten {
         self.forms.shrink_to_fit();
     }
 
-    /// The normal form of the pattern of the line of this number, where it is not written so.
-    pub(crate) fn form_at(&self, line: u64) -> Option<&[u8]>
+    /// The normal form of the pattern of the line of this number, where it is not written so. It is looked for at this place
+    /// first, which is then that of the next line's: a walk over the lines seldom has to search.
+    pub(crate) fn form_near(&self, line: u64, near: &mut usize) -> Option<&[u8]>
         requires { IsNonDecreasing (map (λ form. form.line) self.now.of_lines) }
         ensures { MatchOption result (HasNoForm self.now.of_lines line)
             (λ octets. HasForm self.now.of_lines line octets.now) }
     {
+        let place = *near;
+        if self.is_gap(line, place) {
+            return None;
+        }
+        if place < self.forms.len() && self.line(place) == line {
+            *near = place + 1;
+            return Some(self.form(place));
+        }
         match self
             .forms
             .binary_search_by_key(&line, |form| u64::from(form.line))
         {
-            Ok(place) => Some(self.form(place)),
-            Err(_) => None,
+            Ok(place) => {
+                *near = place + 1;
+                Some(self.form(place))
+            }
+            Err(place) => {
+                *near = place;
+                None
+            }
         }
+    }
+
+    // Whether the forms before this place are of lines before this one, and those from there on of lines behind it.
+    fn is_gap(&self, line: u64, place: usize) -> bool
+        requires { IsNonDecreasing (map (λ form. form.line) self.now.of_lines) }
+        ensures { IsTrue result → HasNoForm self.now.of_lines line }
+    {
+        if place > self.forms.len() || (place > 0 && self.line(place - 1) >= line) {
+            return false;
+        }
+        place == self.forms.len() || line < self.line(place)
+    }
+
+    fn line(&self, place: usize) -> u64
+        requires { place < length self.now.of_lines }
+        ensures { result ≡ (form_at self.now.of_lines place).line }
+    {
+        u64::from(self.forms[place].line)
     }
 
     fn form(&self, place: usize) -> &[u8]

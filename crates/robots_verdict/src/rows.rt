@@ -8,7 +8,7 @@ ghost use Rattle.robots_verdict.specs.Strongest.{verdict_at};
 ghost use Rattle.robots_verdict.specs.Weights.{falling};
 
 use crate::decision::{Allowed, Verdict};
-use crate::row::Row;
+use crate::rule_row::RuleRow;
 use crate::weight::Weight;
 use path_normal::push_normal_pattern;
 use robots_text::RuleKind;
@@ -20,7 +20,7 @@ use std::marker::Model;
 #[derive(Drop)]
 pub(crate) struct Rows {
     octets: Vec<u8>,
-    rows: Vec<Row>,
+    rows: Vec<RuleRow>,
 }
 
 impl Model for Rows {
@@ -67,7 +67,7 @@ impl Rows {
         let start = self.octets.len();
         push_normal_pattern(&mut self.octets, pattern)?;
         let len = self.octets.len() - start;
-        self.rows.push(Row {
+        self.rows.push(RuleRow {
             start: start as u32,
             len: len as u32,
             line,
@@ -149,13 +149,13 @@ pub(crate) fn part(octets: &[u8], start: usize, len: usize) -> &[u8]
     &octets[start..start + len]
 }
 
-fn falling_rows(one: &Row, other: &Row) -> Ordering
+fn falling_rows(one: &RuleRow, other: &RuleRow) -> Ordering
     ensures { result ≡ falling (weight_kept one.now) (weight_kept other.now) }
 {
     weight(one).falling(&weight(other))
 }
 
-fn weight(row: &Row) -> Weight
+fn weight(row: &RuleRow) -> Weight
     ensures { result ≡ weight_kept row.now }
 {
     Weight {

@@ -1,4 +1,4 @@
-//! The answer of a robots file that could be read: its policy, with spare handles of it.
+//! The answer of a robots.txt that could be read: its policy, with spare handles of it.
 //! RFC 9309, section 2.3.1.1.
 ghost use Rattle.std.specs.Prelude.{◌≡◌, ◌+◌, ◌<◌, ℕ, List, IfOk, bytes_eq};
 ghost use Rattle.std.specs.Cmp.{on_equiv, partial_equiv_from_equiv};

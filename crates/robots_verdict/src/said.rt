@@ -12,11 +12,11 @@ use std::sync::Arc;
 /// What an answer says. It has no spares, so that no twin can be made of it.
 #[derive(Drop, PartialEq, Eq)]
 pub enum Said {
-    /// The rules of the robots file bind.
+    /// The rules of the robots.txt bind.
     Rules(PolicyHandle),
-    /// There is no robots file that binds: every page may be fetched.
+    /// There is no robots.txt that binds: every page may be fetched.
     Open(Opening),
-    /// The robots file can't be had or read: no page may be fetched.
+    /// The robots.txt can't be had or read: no page may be fetched.
     Closed(Closure),
 }
 

@@ -12,9 +12,10 @@ mod turns;
 
 use command_server::{DeskKeeper, Keeper, SessionFault, serve};
 use counted_io::{FailAt, Sink, Source};
-use crawl_workers::{Clock, ScriptedPage, ScriptedSites};
+use crawl_workers::Clock;
 use gate_core::{Book, Config, Limits};
 use gate_lock::{Gate, GateLock, SettleFault, Settled, settle};
+use scripted_sites::{ScriptedPage, ScriptedSites};
 use std::alloc::Global;
 use std::hash::RandomState;
 use std::random::RandomSource;
@@ -31,7 +32,7 @@ impl Clock for FixedClock {
     }
 }
 
-// The sites of the rows: `a.example` has no robots file and one page, `b.example` denies one of its pages.
+// The sites of the rows: `a.example` has no robots.txt and one page, `b.example` denies one of its pages.
 const PAGES: [ScriptedPage<'static>; 5] = [
     ScriptedPage {
         url: "http://a.example/robots.txt",

@@ -1,4 +1,4 @@
-//! Tests of what clauses don't show: what workers do in each other's way, their waits, and how often a robots file
+//! Tests of what clauses don't show: what workers do in each other's way, their waits, and how often a robots.txt
 //! is fetched.
 
 mod clocks;

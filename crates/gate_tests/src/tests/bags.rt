@@ -38,9 +38,9 @@ struct BagRow<'r, R: Wait> {
 }
 
 impl<R: Wait> Visit for BagRow<'_, R> {
-    type Out = Result<Steps, Fail>;
+    type Output = Result<Steps, Fail>;
 
-    fn visit<G: Gate>(self, gate: &GateLock<G>) -> Self::Out {
+    fn visit<G: Gate>(self, gate: &GateLock<G>) -> Self::Output {
         at_a_desk(self.rt, self.alloc, gate)
     }
 }

@@ -25,7 +25,7 @@ pub(super) enum Form {
     Held,
 }
 
-// Begins a turn of the authority, where that is not refused, brings that there is no robots file, and
+// Begins a turn of the authority, where that is not refused, brings that there is no robots.txt, and
 // tells the turn's number.
 pub(super) fn fetch<G: Gate, R: Wait>(
     rt: &R,

@@ -53,9 +53,9 @@ struct SettleRow<'r, R: Wait> {
 }
 
 impl<R: Wait> Visit for SettleRow<'_, R> {
-    type Out = Result<Settlements, Fail>;
+    type Output = Result<Settlements, Fail>;
 
-    fn visit<G: Gate>(self, gate: &GateLock<G>) -> Self::Out {
+    fn visit<G: Gate>(self, gate: &GateLock<G>) -> Self::Output {
         settle_both(self.rt, self.alloc, gate, self.form)
     }
 }
@@ -162,9 +162,9 @@ struct FitRow<'r, R: Wait> {
 }
 
 impl<R: Wait> Visit for FitRow<'_, R> {
-    type Out = Result<[bool; 2], Fail>;
+    type Output = Result<[bool; 2], Fail>;
 
-    fn visit<G: Gate>(self, gate: &GateLock<G>) -> Self::Out {
+    fn visit<G: Gate>(self, gate: &GateLock<G>) -> Self::Output {
         let mut all = Vec::new(self.alloc);
         fit_those(self.rt, self.alloc, gate, self.page, &mut all)
     }

@@ -61,9 +61,9 @@ struct JudgedRow<'r, 't, R: Wait> {
 }
 
 impl<R: Wait> Visit for JudgedRow<'_, '_, R> {
-    type Out = Result<Result<u64, Cause>, Fail>;
+    type Output = Result<Result<u64, Cause>, Fail>;
 
-    fn visit<G: Gate>(self, gate: &GateLock<G>) -> Self::Out {
+    fn visit<G: Gate>(self, gate: &GateLock<G>) -> Self::Output {
         let rt = self.rt;
         let site = Authority::new(self.alloc, "a.example")?;
         let mut desk = gate.desk(rt, self.alloc)?;

@@ -21,7 +21,7 @@ struct DeskRow<'r, R: Wait> {
 }
 
 impl<R: Wait> Visit for DeskRow<'_, R> {
-    type Out = u64;
+    type Output = u64;
 
     fn visit<G: Gate>(self, gate: &GateLock<G>) -> u64 {
         last_desk(self.rt, self.alloc, gate)
@@ -61,9 +61,9 @@ struct LimitRow<'r, R: Wait> {
 }
 
 impl<R: Wait> Visit for LimitRow<'_, R> {
-    type Out = Result<Limited, Fail>;
+    type Output = Result<Limited, Fail>;
 
-    fn visit<G: Gate>(self, gate: &GateLock<G>) -> Self::Out {
+    fn visit<G: Gate>(self, gate: &GateLock<G>) -> Self::Output {
         one_at_a_time(self.rt, self.alloc, gate, self.form)
     }
 }

@@ -49,9 +49,9 @@ struct SessionsRow<'r, R: Wait> {
 }
 
 impl<R: Wait> Visit for SessionsRow<'_, R> {
-    type Out = Result<(Answers, Shown), Fail>;
+    type Output = Result<(Answers, Shown), Fail>;
 
-    fn visit<G: Gate>(self, gate: &GateLock<G>) -> Self::Out {
+    fn visit<G: Gate>(self, gate: &GateLock<G>) -> Self::Output {
         let mut all = Vec::new(self.alloc);
         let mut wanted = Vec::new(self.alloc);
         add_entries(self.alloc, PAGE, 65_536, &mut wanted)?;

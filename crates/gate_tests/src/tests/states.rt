@@ -76,9 +76,9 @@ struct StateRow<'r, R: Wait> {
 }
 
 impl<R: Wait> Visit for StateRow<'_, R> {
-    type Out = Result<[State; 3], Fail>;
+    type Output = Result<[State; 3], Fail>;
 
-    fn visit<G: Gate>(self, gate: &GateLock<G>) -> Self::Out {
+    fn visit<G: Gate>(self, gate: &GateLock<G>) -> Self::Output {
         let answer = TimedAnswer::new(answer(self.alloc, self.brought)?, self.life);
         let mut desk = gate.desk(self.rt, self.alloc)?;
         let states = states(

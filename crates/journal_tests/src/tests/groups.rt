@@ -4,7 +4,8 @@ ghost use Rattle.std.specs.Prelude.{⊤};
 
 use counted_io::Output;
 use journal_files::{
-    Chronicle, Folder, GroupJournal, JournalFault, Place, Records, Sealer, Spelled, SyncPolicy,
+    Chronicle, Folder, GroupJournal, JournalFault, JournalPosition, Recorder, Sealer, Spelled,
+    SyncPolicy,
 };
 use std::alloc::Global;
 use std::process::Abort;
@@ -44,11 +45,15 @@ impl Chronicle for Numbers {
         self.count.load(Ordering::SeqCst)
     }
 
-    fn follow(&self, _output: &mut Output, place: Place) -> Result<Spelled, JournalFault> {
+    fn follow(
+        &self,
+        _output: &mut Output,
+        place: JournalPosition,
+    ) -> Result<Spelled, JournalFault> {
         let spelled = self.count.load(Ordering::SeqCst);
         let text = self.lines(place.spelled, spelled)?;
         let begun = place.begun;
-        Ok((text, Place { begun, spelled }))
+        Ok((text, JournalPosition { begun, spelled }))
     }
 
     fn begin(&self, _output: &mut Output) -> Result<Spelled, JournalFault> {
@@ -56,7 +61,7 @@ impl Chronicle for Numbers {
         let mut text = Vec::new(self.alloc);
         text.extend_from_slice(b"V\n")?;
         let begun = spelled;
-        Ok((text, Place { begun, spelled }))
+        Ok((text, JournalPosition { begun, spelled }))
     }
 
     fn is_due(&self) -> bool {
@@ -86,7 +91,7 @@ impl Sealer for Seal {
         alloc: Global,
         sealed: &u64,
         _output: &mut Output,
-        place: Place,
+        place: JournalPosition,
     ) -> Option<Result<Vec<u8>, JournalFault>> {
         let numbers = Numbers {
             alloc,

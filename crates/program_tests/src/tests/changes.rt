@@ -1,4 +1,4 @@
-//! A site whose robots file changes between two jobs: the first file decides until a day has passed.
+//! A site whose robots.txt changes between two jobs: the first file decides until a day has passed.
 //! RFC 9309, section 2.4.
 use super::sites::crawl_over;
 use super::{demand, new_writer, reader_of};
@@ -17,7 +17,7 @@ use std::time;
 
 const JOBS: &[u8] = b"foobot http://a.example/x\nfoobot http://a.example/y\n";
 
-// A site without a robots file, which has one from the second fetch of it on. After each fetch of a page
+// A site without a robots.txt, which has one from the second fetch of it on. After each fetch of a page
 // so many seconds have passed.
 #[derive(Drop)]
 struct Changing<'a> {

@@ -1,4 +1,4 @@
-//! A session at a desk: pages and robots files are fetched for it, and what it leaves out is given back.
+//! A session at a desk: pages and robots.txt files are fetched for it, and what it leaves out is given back.
 
 use super::{book, demand, session_at};
 use counted_io::FailAt;
@@ -79,9 +79,9 @@ struct SessionRow<'r, R: Wait> {
 }
 
 impl<R: Wait> Visit for SessionRow<'_, R> {
-    type Out = Result<(FailAt, Result<Settled, SettleFault>), Fail>;
+    type Output = Result<(FailAt, Result<Settled, SettleFault>), Fail>;
 
-    fn visit<G: Gate>(self, gate: &GateLock<G>) -> Self::Out {
+    fn visit<G: Gate>(self, gate: &GateLock<G>) -> Self::Output {
         let lines = self.lines.as_bytes().to_vec(self.alloc)?;
         let mut reader = FailAt::new(lines, 65_536, None);
         let mut writer = FailAt::new(Vec::new(self.alloc), 65_536, None);

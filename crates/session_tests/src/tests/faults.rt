@@ -31,9 +31,9 @@ struct FaultRow<'r, R: Wait> {
 }
 
 impl<R: Wait> Visit for FaultRow<'_, R> {
-    type Out = Result<Ended, Fail>;
+    type Output = Result<Ended, Fail>;
 
-    fn visit<G: Gate>(self, gate: &GateLock<G>) -> Self::Out {
+    fn visit<G: Gate>(self, gate: &GateLock<G>) -> Self::Output {
         let lines = LINES.as_bytes().to_vec(self.alloc)?;
         let mut reader = FailAt::new(lines, 1, self.read_fails);
         let mut writer = FailAt::new(Vec::new(self.alloc), 1, self.write_fails);

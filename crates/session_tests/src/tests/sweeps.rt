@@ -4,12 +4,13 @@ ghost use Rattle.std.specs.Prelude.{◌≡◌, []};
 ghost use Rattle.gate_history.specs.Base.{empty_base};
 
 use super::{PAGES, book, demand};
-use client_wire::{Connections, Listener};
-use crawl_workers::{Clock, ScriptedSites};
+use client_connections::{Connections, Listener};
+use crawl_workers::Clock;
 use gate_core::{Book, Limits};
 use gate_lock::{Blanks, Gate, GateLock};
 use keepers::Bounds;
 use line_server::{Alarm, Server};
+use scripted_sites::ScriptedSites;
 use std::alloc::Global;
 use std::io::{Read, Write};
 use std::marker::Brand;

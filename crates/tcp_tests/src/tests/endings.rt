@@ -2,6 +2,7 @@
 //! In the texts `|` stands for CR LF.
 
 use super::test_server::{Script, fetch, listen, page_of, patient, run};
+use http_client::Failure;
 use path_normal::PageUrl;
 use std::alloc::Global;
 use std::net::{Net, TcpListener, TcpStream};
@@ -10,7 +11,6 @@ use std::test::Fail;
 use std::thread::Threads;
 use std::time;
 use std::time::Duration;
-use tcp_wire::Failure;
 
 // A name, what the server sends first, what it sends again and again, the limit, and what comes of
 // it.

@@ -1,11 +1,11 @@
 //! Reads and writes that a signal interrupts, and those whose time is over.
 
+use http_client::{Deadline, Failure, TimedStream, Waits};
 use std::io::{ErrorKind, Read, Write};
 use std::sync::atomic::AtomicBool;
 use std::test::Fail;
 use std::time::{Duration, Instant};
 use std::{io, time};
-use tcp_wire::{Deadline, Failure, TimedStream, Waits};
 
 // A connection whose first calls a signal interrupts. Then it gives and takes one octet a call.
 #[derive(Drop)]

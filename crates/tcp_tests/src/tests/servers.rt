@@ -1,11 +1,11 @@
 //! The servers of pages.
 //! RFC 3986, section 3.2; RFC 9110, section 4.2.1.
 
+use http_client::host_port_of;
 use path_normal::PageUrl;
 use std::alloc::Global;
 use std::process::Abort;
 use std::test::Fail;
-use tcp_wire::server_of;
 
 // A name, a URL, and the host and the port of its server.
 const SERVERS: [(&str, &str, &str, u16); 10] = [
@@ -54,7 +54,7 @@ fn check_servers(
 }
 
 fn check_server(rt: &impl Abort, name: &str, url: &PageUrl, host: &str, port: u16) {
-    let server = server_of(url);
+    let server = host_port_of(url);
     assert_eq!(rt; server.host, host, "{name}");
     assert_eq!(rt; server.port, port, "{name}");
 }

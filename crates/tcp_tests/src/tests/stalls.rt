@@ -2,13 +2,13 @@
 //! In the texts `|` stands for CR LF.
 
 use super::test_server::{Script, Timed, fetch, hasty, listen, page_of, run};
+use http_client::{Failure, TimeLimits};
 use std::alloc::{AllocError, Global};
 use std::net::{Net, SocketAddr, TcpListener, TcpStream};
 use std::process::Abort;
 use std::test::Fail;
 use std::time;
 use std::time::Duration;
-use tcp_wire::{Failure, TimeLimits};
 
 // A name, and what the server sends before it waits.
 const STALLS: [(&str, &str); 4] = [

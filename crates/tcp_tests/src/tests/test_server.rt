@@ -1,5 +1,6 @@
 //! A server on the loopback for one connection, and one fetch from it.
 
+use http_client::{Failure, TcpClient, TimeLimits};
 use http_wire::{HttpReply, WireFault};
 use path_normal::PageUrl;
 use std::alloc::{AllocError, Global};
@@ -9,7 +10,6 @@ use std::test::Fail;
 use std::thread::Threads;
 use std::time::{Duration, Instant};
 use std::{io, thread, time};
-use tcp_wire::{Failure, TcpClient, TimeLimits};
 
 /// What the server does after it has read the head of a request. In its texts `|` stands for CR LF.
 #[derive(Clone, Copy)]

@@ -1,12 +1,12 @@
 //! The octets that go before the request for a page of https, put together by hand from the PROXY protocol's text.
 //! The PROXY protocol, version 2, sections 2.2 and 2.2.2.
 
+use http_client::{TlsHeaderFault, tls_header_of};
 use path_normal::{PageUrl, Schemes};
 use std::alloc::Global;
 use std::net::IpAddr;
 use std::process::Abort;
 use std::test::Fail;
-use tcp_wire::{TlsHeaderFault, tls_header_of};
 
 const V4: &str = "192.0.2.1";
 

@@ -4,6 +4,7 @@
 use super::test_server::{
     Timed, accept, fetch_by, hasty, listen, page_of, patient, read_head, send,
 };
+use http_client::{Failure, Reach, TcpClient, TimeLimits, tls_header_of};
 use path_normal::{PageUrl, Schemes};
 use std::alloc::Global;
 use std::io::Read;
@@ -13,7 +14,6 @@ use std::test::Fail;
 use std::thread::Threads;
 use std::time::Duration;
 use std::{io, thread, time};
-use tcp_wire::{Failure, Reach, TcpClient, TimeLimits, tls_header_of};
 
 // The two addresses.
 fn addresses() -> [IpAddr; 2] {

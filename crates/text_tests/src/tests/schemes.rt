@@ -5,7 +5,7 @@ use path_normal::{Authority, AuthorityFault, PageUrl, Schemes, UrlFault};
 use std::alloc::Global;
 use std::test::Fail;
 
-// A text, and what it reads as: the URL, its authority, host and target, and the URL of its robots file.
+// A text, and what it reads as: the URL, its authority, host and target, and the URL of its robots.txt.
 const PAGES: [(&str, &str, &str, &str, &str, &str); 7] = [
     (
         "http://a.example/x?q",

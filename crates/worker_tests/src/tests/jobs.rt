@@ -4,10 +4,11 @@ ghost use Rattle.gate_core.specs.Limits.{AreLimits};
 use super::gates::{FixedClock, book};
 use super::pages::{job, pages};
 use super::words::{push_entries, push_numbered};
-use crawl_workers::{Job, Outcome, ScriptedSites, work};
+use crawl_workers::{Job, Outcome, work};
 use gate_core::Limits;
 use gate_lock::{Gate, GateLock, Mark, Visit, with_gate};
 use permit_book::LAST_GENERATION;
+use scripted_sites::ScriptedSites;
 use std::alloc::{AllocError, Global};
 use std::process::Abort;
 use std::random::RandomSource;
@@ -60,9 +61,9 @@ struct JobRow<'r, R: Wait> {
 }
 
 impl<R: Wait> Visit for JobRow<'_, R> {
-    type Out = Result<String, Fail>;
+    type Output = Result<String, Fail>;
 
-    fn visit<G: Gate>(self, gate: &GateLock<G>) -> Self::Out {
+    fn visit<G: Gate>(self, gate: &GateLock<G>) -> Self::Output {
         job_text(self.rt, self.alloc, gate, self.url)
     }
 }

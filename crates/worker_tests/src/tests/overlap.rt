@@ -1,4 +1,4 @@
-//! Workers that fetch at the same time, and robots files that are fetched for all of them.
+//! Workers that fetch at the same time, and robots.txt files that are fetched for all of them.
 
 use super::pages::{job, jobs_of};
 use super::shift::given_of;
@@ -118,7 +118,7 @@ const JOBS: usize = 64;
 
 const WORKERS: u64 = 16;
 
-// Counts the robots files, for each site, and the pages that it is asked for.
+// Counts the robots.txt files, for each site, and the pages that it is asked for.
 #[derive(Drop)]
 struct Counting {
     alloc: Global,

@@ -1,12 +1,13 @@
 //! Pages of sites in memory, and jobs that lead to them.
 
-use crawl_workers::{Job, ScriptedPage};
+use crawl_workers::Job;
 use path_normal::PageUrl;
 use robots_text::Token;
+use scripted_sites::ScriptedPage;
 use std::alloc::{AllocError, Global};
 use std::test::Fail;
 
-// The pages: of `a.example` anything may be fetched, of `b.example` nothing. The robots file of
+// The pages: of `a.example` anything may be fetched, of `b.example` nothing. The robots.txt of
 // `c.example` is elsewhere, that of `d.example` can't be had, and that of `e.example` is coded.
 const PAGES: [(&str, &str); 15] = [
     ("http://a.example/robots.txt", "HTTP/1.1 404 No\r\n\r\n"),

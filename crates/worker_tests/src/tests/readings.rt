@@ -1,4 +1,4 @@
-//! Jobs by a clock that goes on with each reading: the moments of their entries, and how often a robots file is
+//! Jobs by a clock that goes on with each reading: the moments of their entries, and how often a robots.txt is
 //! fetched. RFC 9309, section 2.4.
 
 use super::gates::book;
@@ -18,7 +18,7 @@ use std::sync::atomic::{AtomicU64, Ordering};
 use std::test::Fail;
 
 // The seconds between two readings of the clock, of which the first is 100; the entries of two jobs of one site, with their
-// moments; and how often its robots file was fetched. A job reads the clock to look for an answer, once more where it
+// moments; and how often its robots.txt was fetched. A job reads the clock to look for an answer, once more where it
 // brings one, to ask and to start.
 const ROWS: [(&str, u64, &str); 3] = [
     (
@@ -51,7 +51,7 @@ impl Clock for Stepping {
     }
 }
 
-// A site without a robots file, and how often it was asked for one.
+// A site without a robots.txt, and how often it was asked for one.
 #[derive(Drop)]
 struct Open {
     alloc: Global,
@@ -103,9 +103,9 @@ struct TwoJobs<'r, R: Wait> {
 }
 
 impl<R: Wait> Visit for TwoJobs<'_, R> {
-    type Out = Result<String, Fail>;
+    type Output = Result<String, Fail>;
 
-    fn visit<G: Gate>(self, gate: &GateLock<G>) -> Self::Out {
+    fn visit<G: Gate>(self, gate: &GateLock<G>) -> Self::Output {
         let TwoJobs {
             rt,
             alloc,

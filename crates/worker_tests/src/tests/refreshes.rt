@@ -4,10 +4,11 @@ ghost use Rattle.gate_core.specs.Limits.{AreLimits};
 use super::gates::{FixedClock, book};
 use super::pages::pages;
 use super::words::push_entries;
-use crawl_workers::{ScriptedSites, refresh};
+use crawl_workers::refresh;
 use gate_core::{BeginRefusal, Limits};
 use gate_lock::{Gate, GateLock, Mark, Visit, with_gate};
 use path_normal::Authority;
+use scripted_sites::ScriptedSites;
 use std::alloc::{AllocError, Global};
 use std::process::Abort;
 use std::random::RandomSource;
@@ -32,9 +33,9 @@ struct RefreshRow<'r, R: Wait> {
 }
 
 impl<R: Wait> Visit for RefreshRow<'_, R> {
-    type Out = Result<String, Fail>;
+    type Output = Result<String, Fail>;
 
-    fn visit<G: Gate>(self, gate: &GateLock<G>) -> Self::Out {
+    fn visit<G: Gate>(self, gate: &GateLock<G>) -> Self::Output {
         refresh_text(self.rt, self.alloc, gate, self.authority)
     }
 }

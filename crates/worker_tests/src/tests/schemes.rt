@@ -2,10 +2,11 @@
 //! RFC 9309, sections 2.3 and 2.3.1.2.
 use super::pages::pages_of;
 use super::shift::given_of;
-use crawl_workers::{Deadline, Failure, Fetcher, Job, PageLeave, RobotsLeave, ScriptedSites};
+use crawl_workers::{Deadline, Failure, Fetcher, Job, PageLeave, RobotsLeave};
 use http_wire::{HttpReply, WireFault};
 use path_normal::{PageUrl, Schemes};
 use robots_text::Token;
+use scripted_sites::ScriptedSites;
 use std::alloc::Global;
 use std::process::Abort;
 use std::random::RandomSource;
@@ -14,7 +15,7 @@ use std::test::Fail;
 use std::thread::Threads;
 
 // The pages: `a.example` lets in everybody by `http` and nobody by `https`, `b.example` nobody by `http` and all by `https`;
-// the robots file of `c.example` leads to `https`, that of `https://d.example` to `http`.
+// the robots.txt of `c.example` leads to `https`, that of `https://d.example` to `http`.
 const PAGES: [(&str, &str); 11] = [
     ("http://a.example/robots.txt", "HTTP/1.1 404 No\r\n\r\n"),
     ("http://a.example/x", "HTTP/1.1 200 OK\r\n\r\nopen"),

@@ -3,10 +3,10 @@
 use super::gates::book;
 use super::leaves::{open_site, page_text};
 use super::pages::pages_of;
-use crawl_workers::ScriptedSites;
 use gate_core::Limits;
 use gate_lock::{Gate, GateLock, Visit, with_gate};
 use path_normal::PageUrl;
+use scripted_sites::ScriptedSites;
 use std::alloc::Global;
 use std::process::Abort;
 use std::random::RandomSource;
@@ -44,9 +44,9 @@ struct FetchRow<'r, R: Wait> {
 }
 
 impl<R: Wait> Visit for FetchRow<'_, R> {
-    type Out = Result<String, Fail>;
+    type Output = Result<String, Fail>;
 
-    fn visit<G: Gate>(self, gate: &GateLock<G>) -> Self::Out {
+    fn visit<G: Gate>(self, gate: &GateLock<G>) -> Self::Output {
         let FetchRow {
             rt,
             alloc,

@@ -7,11 +7,12 @@ use super::gates::{FixedClock, book};
 use super::jobs::job_text;
 use super::pages::{job, pages};
 use authority_cache::{LIFE, TimedAnswer};
-use crawl_workers::{Job, ScriptedSites, refresh};
+use crawl_workers::{Job, refresh};
 use gate_core::{Book, Limits};
 use gate_lock::{Blanks, Desk, DesksFull, Gate, GateLock, Visit, with_gate};
 use path_normal::Authority;
 use robots_verdict::{Answer, Opening};
+use scripted_sites::ScriptedSites;
 use std::alloc::Global;
 use std::marker::Brand;
 use std::process::Abort;
@@ -137,9 +138,9 @@ struct BusyRow<'r, R: Wait> {
 }
 
 impl<R: Wait> Visit for BusyRow<'_, R> {
-    type Out = Result<String, Fail>;
+    type Output = Result<String, Fail>;
 
-    fn visit<G: Gate>(self, gate: &GateLock<G>) -> Self::Out {
+    fn visit<G: Gate>(self, gate: &GateLock<G>) -> Self::Output {
         busy_text(self.rt, self.alloc, gate, self.sites)
     }
 }

@@ -21,7 +21,7 @@ Says a begun = (place : Place) → StandsAt a place → IsTrue begun ↔ HasBegu
 begun_at : (schemes : Schemes) (a : Auditor) (lines : List (List ℕ)) (place : Place) (begun : Bool) → Says a begun → begun ≡ true → Holds schemes a lines place → HasBegun place
 begun_at schemes a lines place begun says begins holds = (says place holds.stands).0 begins
 
-is_left : (a : Auditor) (left : Base) → IsLeft a left → IsBaseOf a.ledger left
+is_left : (a : Auditor) (left : Base) → IsLeft a left → IsBaseOf a.open_state left
 is_left a left is = record { says = is.says; is_base = is.is_base; order = is.order }
 
 -- the auditor `a` is that of what was read
@@ -32,22 +32,22 @@ module _ (w : WholeLines) (a : Auditor) (same : a ≡ w.auditor) (begun : Bool) 
   begins : (schemes : Schemes) (input : Option (List ℕ)) (cut : HeardCut schemes w input) → HasBegun cut.place
   begins schemes input cut = begun_at schemes a cut.lines cut.place begun says has (here schemes cut.lines cut.place cut.holds)
 
-  known_first : (schemes : Schemes) (input : Option (List ℕ)) → HeardCut schemes w input → Known a.ledger
+  known_first : (schemes : Schemes) (input : Option (List ℕ)) → HeardCut schemes w input → Known a.open_state
   known_first schemes input cut = known_before schemes a cut.lines cut.place (begins schemes input cut) (here schemes cut.lines cut.place cut.holds)
 
-  known_then : (schemes : Schemes) (input : Option (List ℕ)) → HeardCut schemes w input → (left : Base) (text : List ℕ) (a' : Auditor) → Took a left text a' → Known a'.ledger
+  known_then : (schemes : Schemes) (input : Option (List ℕ)) → HeardCut schemes w input → (left : Base) (text : List ℕ) (a' : Auditor) → Took a left text a' → Known a'.open_state
   known_then schemes input cut left text a' took =
       known_after schemes a cut.lines cut.place (begins schemes input cut) left text a' took (here schemes cut.lines cut.place cut.holds)
 
-  recovers : (schemes : Schemes) (input : Option (List ℕ)) (cut : HeardCut schemes w input) (left : Base) → IsLeft a left → (a' : Auditor) (found : Recovered) → Took a left found.ending.items a' → IsBaseOf a'.ledger found.base
-      → found.cache ≡ a'.ledger.cache → found.whole ≡ w.octets → found.begun.items ≡ map (λ t. t.authority) left.in_flight → Results schemes input found
+  recovers : (schemes : Schemes) (input : Option (List ℕ)) (cut : HeardCut schemes w input) (left : Base) → IsLeft a left → (a' : Auditor) (found : Recovered) → Took a left found.ending.items a' → IsBaseOf a'.open_state found.base
+      → found.cache ≡ a'.open_state.cache → found.whole ≡ w.octets → found.begun.items ≡ map (λ t. t.authority) left.in_flight → Results schemes input found
   recovers schemes input cut left is a' found took base_of cached octets sites =
-      results schemes input w cut (begins schemes input cut) left (subst (λ (b : Auditor). IsBaseOf b.ledger left) same (is_left a left is)) a' found
+      results schemes input w cut (begins schemes input cut) left (subst (λ (b : Auditor). IsBaseOf b.open_state left) same (is_left a left is)) a' found
       (subst (λ (b : Auditor). Took b left found.ending.items a') same took) base_of cached octets sites
 
   stops : (schemes : Schemes) (input : Option (List ℕ)) (cut : HeardCut schemes w input) (fault : RecoverFault) (a' : Auditor) → EndsOpen a (Err fault) a' → Recovers schemes input (Err fault)
   stops schemes input cut fault a' (inl (left, (is, ends))) =
-      refuses schemes input w cut (begins schemes input cut) left (subst (λ (b : Auditor). IsBaseOf b.ledger left) same (is_left a left is)) a' fault
+      refuses schemes input w cut (begins schemes input cut) left (subst (λ (b : Auditor). IsBaseOf b.open_state left) same (is_left a left is)) a' fault
       (subst (λ (b : Auditor). EndsLeft b left (Err fault) a') same ends)
   stops schemes input cut fault a' (inr none) = subst (λ (f : RecoverFault). Recovers schemes input (Err f)) (sym none) (λ text is. tt)
 

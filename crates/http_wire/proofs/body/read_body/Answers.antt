@@ -14,11 +14,11 @@ returns-in_err-body-clause-reads g c =
     (sym (same_fault _ _ c.from_residual.ensures.1))
     (broken_read _ _ _ _ _ _ _ is c.in_err-body.ensures.err)
 
-pub returns-in-Found-clause-reads : goal.returns-in-Found-clause-reads
-returns-in-Found-clause-reads g c =
+pub returns-in-Parsed-clause-reads : goal.returns-in-Parsed-clause-reads
+returns-in-Parsed-clause-reads g c =
     let new = c.new-decoder.ensures in
     let is : IsFor c.args.framing c.args.limit c.args.start c.new-decoder.result = record { framing_is = new.framing; limit_is = new.limit; start_is = new.start } in
-    found_read _ _ _ _ _ _ _ _ _ is (rw c.in-Found.is at c.in_ok-body.ensures.ok)
+    found_read _ _ _ _ _ _ _ _ _ is (rw c.in-Parsed.is at c.in_ok-body.ensures.ok)
 
 pub returns-in-Ended-clause-reads : goal.returns-in-Ended-clause-reads
 returns-in-Ended-clause-reads g c =

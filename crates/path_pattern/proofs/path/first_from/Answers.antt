@@ -9,8 +9,8 @@ use Rattle.path_pattern.proofs.path.first_from.Goals as goal
 
 pub returns-in_err-place : goal.returns-in_err-place
 returns-in_err-place c =
-    subst (FindsNeedle c.args.path.now c.args.run.now c.args.from) (sym c.from_residual.ensures)
-    (from_nowhere c.args.path.now c.args.run.now c.args.from c.requires (subst (λ part. FindsNeedle part c.args.run.now 0 None) (take_rest c.args.path.now c.args.from) c.in_err-place.ensures))
+    subst (FindsNeedle c.args.path.now c.args.literal.now c.args.from) (sym c.from_residual.ensures)
+    (from_nowhere c.args.path.now c.args.literal.now c.args.from c.requires (subst (λ part. FindsNeedle part c.args.literal.now 0 None) (take_rest c.args.path.now c.args.from) c.in_err-place.ensures))
 
 pub returns : goal.returns
-returns c = from_first c.args.path.now c.args.run.now c.args.from c.in_ok-place.place c.requires (subst (λ part. FindsNeedle part c.args.run.now 0 (Some c.in_ok-place.place)) (take_rest c.args.path.now c.args.from) c.in_ok-place.ensures)
+returns c = from_first c.args.path.now c.args.literal.now c.args.from c.in_ok-place.place c.requires (subst (λ part. FindsNeedle part c.args.literal.now 0 (Some c.in_ok-place.place)) (take_rest c.args.path.now c.args.from) c.in_ok-place.ensures)

@@ -1,31 +1,31 @@
--- The first run begins the path, and the star after it stands for any octets.
+-- The first literal begins the path, and the wildcard after it stands for any octets.
 -- Used by `fits`.
 use Rattle.std.proofs.Common.{◌≡◌, ◌∷◌, ◌∙◌, ◌↔◌, List, ℕ, Bool, false, IsTrue, drop, length, sym, subst}
 use Rattle.std.proofs.lemmas.Bool.{true≢false}
 use Rattle.memchr.specs.Find.{OccursAt}
 use Rattle.path_pattern.specs.Matches.{Spells}
-use Rattle.path_pattern.specs.Runs.{IsSplitAtStar}
+use Rattle.path_pattern.specs.Literals.{IsSplitAtStar}
 use Rattle.path_pattern.proofs.PlaceLemmas.{begun, not_begun}
 use Rattle.path_pattern.proofs.SpellsLemmas.{off_start, on_start, rest_is}
 use Rattle.path_pattern.proofs.pattern.fits.Goals as goal
 use Rattle.path_normal.specs.Octets.{star}
 
-module _ (pattern run after path octets : List ℕ) (anchored begins : Bool) (split : IsSplitAtStar pattern run after) (same : octets ≡ path) (tested : IsTrue begins ↔ OccursAt octets run 0) where
-  fits_begun : (result : Bool) → IsTrue begins → (IsTrue result ↔ Spells (star ∷ after) anchored (drop (length run) path)) → IsTrue result ↔ Spells pattern anchored path
+module _ (pattern literal after path octets : List ℕ) (anchored begins : Bool) (split : IsSplitAtStar pattern literal after) (same : octets ≡ path) (tested : IsTrue begins ↔ OccursAt octets literal 0) where
+  fits_begun : (result : Bool) → IsTrue begins → (IsTrue result ↔ Spells (star ∷ after) anchored (drop (length literal) path)) → IsTrue result ↔ Spells pattern anchored path
   fits_begun result begun_so rest_fits =
-      let is = begun path run (subst (λ them. OccursAt them run 0) same (tested.0 begun_so)) in (
-        λ fits. on_start pattern run after anchored path (drop (length run) path) split is (rest_fits.0 fits),
+      let is = begun path literal (subst (λ them. OccursAt them literal 0) same (tested.0 begun_so)) in (
+        λ fits. on_start pattern literal after anchored path (drop (length literal) path) split is (rest_fits.0 fits),
         λ spells.
-            let off = off_start pattern run after anchored path split spells in
-            rest_fits.1 (subst (Spells (star ∷ after) anchored) (rest_is run path off.0 (drop (length run) path) off.1 is) off.2),
+            let off = off_start pattern literal after anchored path split spells in
+            rest_fits.1 (subst (Spells (star ∷ after) anchored) (rest_is literal path off.0 (drop (length literal) path) off.1 is) off.2),
       )
 
   fits_not : begins ≡ false → IsTrue begins ↔ Spells pattern anchored path
   fits_not not_so = (
     λ begins_so. absurd (true≢false (sym begins_so ∙ not_so)),
     λ spells.
-        let off = off_start pattern run after anchored path split spells in
-        absurd (not_begun path run (λ occurs. true≢false (sym (tested.1 (subst (λ them. OccursAt them run 0) (sym same) occurs)) ∙ not_so)) off.0 off.1),
+        let off = off_start pattern literal after anchored path split spells in
+        absurd (not_begun path literal (λ occurs. true≢false (sym (tested.1 (subst (λ them. OccursAt them literal 0) (sym same) occurs)) ∙ not_so)) off.0 off.1),
   )
 
 pub returns-then-begins_with-clause-tells : goal.returns-then-begins_with-clause-tells

@@ -1,4 +1,4 @@
--- The last run fits where it stands anywhere, or at the end if it is anchored.
+-- The last literal fits where it stands anywhere, or at the end if it is anchored.
 -- Used by `fits_last`.
 use Rattle.std.proofs.Common.{◌≡◌, ◌↔◌, ◌++◌, ◌∙◌, ℕ, List, IsTrue, ap, drop, subst, sym}
 use Rattle.std.proofs.lemmas.List.{take_rest}
@@ -7,12 +7,12 @@ use Rattle.path_pattern.proofs.pattern.fits_last.Goals as goal
 
 pub returns-then-anchored-clause-tells : goal.returns-then-anchored-clause-tells
 returns-then-anchored-clause-tells c =
-    let run = c.args.run.now in
+    let literal = c.args.literal.now in
     let from = c.args.from in
-    last_ended run c.args.anchored c.ends_with.result (drop from c.args.path.now) c.requires.plain c.if-anchored.true
-    (subst (λ rest. IsTrue c.ends_with.result ↔ ((front : List ℕ) × (rest ≡ front ++ run))) (take_rest c.octets.result.now from ∙ ap (drop from) c.octets.ensures) c.ends_with.ensures)
+    last_ended literal c.args.anchored c.ends_with.result (drop from c.args.path.now) c.requires.plain c.if-anchored.true
+    (subst (λ rest. IsTrue c.ends_with.result ↔ ((front : List ℕ) × (rest ≡ front ++ literal))) (take_rest c.octets.result.now from ∙ ap (drop from) c.octets.ensures) c.ends_with.ensures)
 
 pub returns-else-anchored-clause-tells : goal.returns-else-anchored-clause-tells
 returns-else-anchored-clause-tells c =
-    let last = last_from c.args.run.now c.args.anchored c.args.path.now c.args.from c.after.result c.requires.plain c.if-anchored.false c.after.ensures.found in
+    let last = last_from c.args.literal.now c.args.anchored c.args.path.now c.args.from c.after.result c.requires.plain c.if-anchored.false c.after.ensures.found in
     (λ yes. last.0 (sym c.is_some.ensures ∙ yes), λ spells. c.is_some.ensures ∙ last.1 spells)

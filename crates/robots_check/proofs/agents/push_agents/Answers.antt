@@ -3,19 +3,19 @@ use Rattle.std.proofs.Common.{◌≡◌, ◌++◌, ◌∙◌, ℕ, List, [], ◌
 use Rattle.std.proofs.lemmas.Bool.Decides.{nat_tests}
 use Rattle.std.proofs.lemmas.List.{nil_from_length}
 use Rattle.counted_io.specs.Output.{Pushes}
-use Rattle.robots_check.specs.declared.agents.Head.{Head}
+use Rattle.robots_check.specs.declared.agents.AgentLine.{AgentLine}
 use Rattle.robots_check.specs.AgentText.{agent_text, agents_text, head_seen}
 use Rattle.robots_check.proofs.agents.push_agents.Goals as goal
 
-seen_texts : (agents : List Head) → flat_map (λ line. agent_text (head_seen line)) agents ≡ flat_map agent_text (map head_seen agents)
+seen_texts : (agents : List AgentLine) → flat_map (λ line. agent_text (head_seen line)) agents ≡ flat_map agent_text (map head_seen agents)
 seen_texts [] = refl
 seen_texts (agent ∷ agents) = ap (λ l. agent_text (head_seen agent) ++ l) (seen_texts agents)
 
-some_text : (agents : List Head) → (length agents ≡ 0 → ⊥) → flat_map (λ line. agent_text (head_seen line)) agents ≡ agents_text (map head_seen agents)
+some_text : (agents : List AgentLine) → (length agents ≡ 0 → ⊥) → flat_map (λ line. agent_text (head_seen line)) agents ≡ agents_text (map head_seen agents)
 some_text [] some = absurd (some refl)
 some_text (agent ∷ agents) some = seen_texts (agent ∷ agents)
 
-none_text : (agents : List Head) (text : List ℕ) → length agents ≡ 0 → text ≡ agents_text [] → text ≡ agents_text (map head_seen agents)
+none_text : (agents : List AgentLine) (text : List ℕ) → length agents ≡ 0 → text ≡ agents_text [] → text ≡ agents_text (map head_seen agents)
 none_text agents text none is = is ∙ ap (λ l. agents_text (map head_seen l)) (sym (nil_from_length agents none))
 
 pub returns-then-is_empty : goal.returns-then-is_empty

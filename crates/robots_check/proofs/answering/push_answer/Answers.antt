@@ -1,4 +1,4 @@
--- Where memory is refused nothing was written.
+-- If memory runs out nothing was written.
 -- Used by `push_answer`.
 use Rattle.std.proofs.Common.{inr, refl}
 use Rattle.robots_check.proofs.Passing.{cut_none}

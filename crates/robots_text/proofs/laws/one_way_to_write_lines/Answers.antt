@@ -1,4 +1,4 @@
--- Both laws hold of a text without its mark.
+-- Both laws hold of a text without its byte order mark.
 use Rattle.robots_text.specs.Lines.{unmarked}
 use Rattle.robots_text.proofs.LineLaws.{are_lines, only_lines}
 use Rattle.robots_text.proofs.laws.one_way_to_write_lines.Goals as goal

@@ -1,7 +1,7 @@
 -- The group and the pattern are those of the row.
 -- Used by `key_at`.
 use Rattle.std.proofs.Common.{◌≡◌, ℕ, sym, ap, ◌∙◌, subst}
-use Rattle.robots_verdict.specs.Keys.{AreOctets, spelled_number}
+use Rattle.path_pattern.specs.Texts.{AreOctets, spelled_number}
 use Rattle.robots_verdict.specs.Rows.{row_at}
 use Rattle.robots_verdict.proofs.keys.key_at.Goals as goal
 

@@ -1,8 +1,8 @@
 -- The halves make the number that the first sixteen octets spell.
--- The lemma `halves` of `Spelling` says so.
+-- The lemma `halves` of `path_pattern` says so.
 use Rattle.std.proofs.Common.{◌+◌, ◌*◌, ◌^◌, arith, sym, ap, ◌∙◌}
-use Rattle.robots_verdict.specs.Keys.{spelled_number}
-use Rattle.robots_verdict.proofs.Spelling.{halves}
+use Rattle.path_pattern.specs.Texts.{spelled_number}
+use Rattle.path_pattern.proofs.CallerLemmas.{halves}
 use Rattle.robots_verdict.proofs.keys.key_of.Goals as goal
 
 pub returns-clause-spelled : goal.returns-clause-spelled

@@ -15,7 +15,7 @@ returns-then-eq-2-clause-moves c = λ stands.
     let a = c.args.self.now in
     let are = stands.1 in
     let same = (bytes_eq-Decides c.as_slice-2.result.now c.as_bytes-2.result.now).0 (sym c.eq-2.ensures ∙ c.if-eq-2.true) in
-    takes_three a _ a.line.items refl refl refl c.new.result (sym c.as_slice-2.ensures.value ∙ same ∙ c.as_bytes-2.ensures.value) refl (c.new.ensures a.ledger are.tells)
+    takes_three a _ a.line.items refl refl refl c.new.result (sym c.as_slice-2.ensures.value ∙ same ∙ c.as_bytes-2.ensures.value) refl (c.new.ensures a.open_state are.tells)
 
 two : (c : goal.After-take_entry) → c.args.self.now.line.items ≢ codes "V 2"
 two c is =

@@ -10,19 +10,19 @@ use Rattle.crawl_audit.proofs.first_base.FirstBase.may_stand.Goals as goal
 pub returns-then-is_before : goal.returns-then-is_before
 returns-then-is_before c = λ b says fields.
     let first = c.args.self.now in
-    let ledger = c.args.ledger.now in
+    let open_state = c.args.open_state.now in
     let row = row_of c.args.row.now in
     let same = ap (λ o. unwrap_or o c.in-Some.last) (sym c.in-Some.is ∙ says.last_is) in (
-      λ is. stands_from first ledger b says row fields (ap (λ l. is_behind l row) (sym same) ∙ sym c.is_before.ensures ∙ c.if-is_before.true) (sym c.fits.ensures ∙ is),
-      λ may. c.fits.ensures ∙ fits_too first ledger b says row may,
+      λ is. stands_from first open_state b says row fields (ap (λ l. is_behind l row) (sym same) ∙ sym c.is_before.ensures ∙ c.if-is_before.true) (sym c.fits.ensures ∙ is),
+      λ may. c.fits.ensures ∙ fits_too first open_state b says row may,
     )
 
 pub returns-else-is_before : goal.returns-else-is_before
 returns-else-is_before c = λ b says fields.
     let first = c.args.self.now in
-    let ledger = c.args.ledger.now in
+    let open_state = c.args.open_state.now in
     let row = row_of c.args.row.now in
     let same = ap (λ o. unwrap_or o c.in-Some.last) (sym c.in-Some.is ∙ says.last_is) in (
       λ is. absurd (true≢false (sym is ∙ c.if-is_before.false)),
-      λ may. c.is_before.ensures ∙ ap (λ l. is_behind l row) same ∙ comes_behind first ledger b says row may,
+      λ may. c.is_before.ensures ∙ ap (λ l. is_behind l row) same ∙ comes_behind first open_state b says row may,
     )

@@ -10,5 +10,5 @@ returns-then-eq c = λ lines reads.
     let is : c.args.line.now ≡ 69 ∷ [] = search rules in
     elim reads [
       | inl head ↦ absurd (true≢false (sym (c.is_none.ensures ∙ ap not c.if-is_none.false) ∙ ap is_some head.none))
-      | inr rows ↦ end_taken c.args.self.now c.args.ledger.now lines c.args.line.now rows is
+      | inr rows ↦ end_taken c.args.self.now c.args.open_state.now lines c.args.line.now rows is
     ]

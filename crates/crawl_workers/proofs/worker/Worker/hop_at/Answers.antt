@@ -1,4 +1,4 @@
--- Want of memory and a refused refresh end the list, behind what the refresh did.
+-- Out of memory and a refused refresh end the list, behind what the refresh did.
 use Rattle.crawl_job.specs.declared.hop.Hop.TheVariants as hops
 use Rattle.crawl_job.specs.declared.hop.Refusal.TheVariants as refusals
 use Rattle.crawl_workers.specs.Outcomes.{IsLastHop}

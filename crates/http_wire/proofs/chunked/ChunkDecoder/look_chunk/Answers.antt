@@ -2,7 +2,7 @@
 -- The lemmas of `ChunkPlaces` say so over plain lists.
 use Rattle.std.proofs.Common.{◌<◌, ◌≤◌, arith, ap, length, drop}
 use Rattle.std.proofs.lemmas.List.{take_rest}
-use Rattle.http_wire.specs.declared.chunked.Place.TheVariants as places
+use Rattle.http_wire.specs.declared.chunked.ChunkState.TheVariants as places
 use Rattle.http_wire.specs.Chunks.{IsOpenEnd, NeverHasEnd}
 use Rattle.http_wire.specs.declared.chunked.ChunkEnd.TheVariants as chunk_ends
 use Rattle.http_wire.specs.Decoding.{EndTells}

@@ -1,7 +1,7 @@
 -- A chunk line that was read moves the place behind it.
 -- The lemmas of `ChunkPlaces` and `ChunkMoves` say so over plain lists.
 use Rattle.std.proofs.Common.{◌<◌, arith, sym, ap, ◌∙◌}
-use Rattle.http_wire.specs.declared.chunked.Place.TheVariants as places
+use Rattle.http_wire.specs.declared.chunked.ChunkState.TheVariants as places
 use Rattle.http_wire.proofs.ChunkPlaces.{line_read, line_last}
 use Rattle.http_wire.proofs.ChunkMoves.{at_place, moved, line_found}
 use Rattle.http_wire.proofs.chunked.ChunkDecoder.look_line.Goals as goal

@@ -2,7 +2,7 @@
 -- The lemmas of `ChunkPlaces` say so over plain lists.
 use Rattle.std.proofs.Common.{◌≡◌, ◌<◌, ◌≤◌, ◌+◌, ◌++◌, arith, ap, subst, sym, ◌∙◌, length, drop, take}
 use Rattle.std.proofs.lemmas.List.{take_rest}
-use Rattle.http_wire.specs.declared.chunked.Place.TheVariants as places
+use Rattle.http_wire.specs.declared.chunked.ChunkState.TheVariants as places
 use Rattle.http_wire.specs.Chunks.{GivesCut}
 use Rattle.http_wire.proofs.ChunkPlaces.{octets_end, octets_cut}
 use Rattle.http_wire.proofs.ChunkMoves.{at_place}

@@ -14,7 +14,7 @@ use Rattle.robots_verdict.specs.Placed.{NamedGroup, Names}
 use Rattle.robots_verdict.proofs.HeadLemmas.{before_falls, behind_falls, choose, has_run, IsRun, no_run, partitioned_kept, point_seen, run_groups, run_of, run_rises}
 use Rattle.robots_verdict.proofs.heads.Heads.groups_for.Goals as goal
 
--- the run of the token among the names, as both searches find it
+-- the literal of the token among the names, as both searches find it
 run : (names : List Name) (token : List ℕ) (low high : ℕ) → low ≤ length names → high ≤ length names →
     IsPartitionPoint (λ (n : Name). is_lt (slice_cmp nat_cmp n.text.items token) ≡ true) (λ (n : Name). is_lt (slice_cmp nat_cmp n.text.items token) ≡ false) names low →
     IsPartitionPoint (λ (n : Name). not (is_gt (slice_cmp nat_cmp n.text.items token)) ≡ true) (λ (n : Name). not (is_gt (slice_cmp nat_cmp n.text.items token)) ≡ false) names high →
@@ -25,7 +25,7 @@ run names token low high low_fits fits lows highs =
     (point_seen name_seen (λ n. is_lt (slice_cmp nat_cmp n.name token)) names low low_fits lows)
     (point_seen name_seen (λ n. not (is_gt (slice_cmp nat_cmp n.name token))) names high fits highs)
 
--- the groups of the run are those for the token
+-- the groups of the literal are those for the token
 found : (names : Names) (groups token : List ℕ) (low high : ℕ) → groups ≡ map (λ (n : NamedGroup). n.group) names.named → IsRun names.named token low high → low < high →
     (group : ℕ) → Contains (take (high - low) (drop low groups)) group ↔ IsGroupFor names token group
 found names groups token low high are run order group =
@@ -33,7 +33,7 @@ found names groups token low high are run order group =
     (λ _. run_groups names.named groups token low high are run group)
     (λ none. absurd (true≢false (sym (has_run names.named token low high run order) ∙ none)))
 
--- where the run is empty, those of everybody are
+-- where the literal is empty, those of everybody are
 missing : (names : Names) (token : List ℕ) (low high : ℕ) → IsRun names.named token low high → high ≤ low →
     (group : ℕ) → Contains names.everybody group ↔ IsGroupFor names token group
 missing names token low high run order group =

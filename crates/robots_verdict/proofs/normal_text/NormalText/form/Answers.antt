@@ -9,8 +9,8 @@ use Rattle.robots_verdict.specs.Rewritten.{FormOfLine}
 use Rattle.robots_verdict.proofs.Rewriting.{kept_form, line_of, own_form, rises}
 use Rattle.robots_verdict.proofs.normal_text.NormalText.form.Goals as goal
 
-pub form_at-requires : goal.form_at-requires
-form_at-requires c = subst (λ (forms : List FormOfLine). IsNonDecreasing (map line_of forms)) (sym c.self.invariant) (rises c.self.inside.text)
+pub form_near-requires : goal.form_near-requires
+form_near-requires c = subst (λ (forms : List FormOfLine). IsNonDecreasing (map line_of forms)) (sym c.self.invariant) (rises c.self.inside.text)
 
 pub returns-in-Some : goal.returns-in-Some
 returns-in-Some c =

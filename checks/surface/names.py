@@ -1,0 +1,42 @@
+"""Names and widths that readers rely on: each public type of the product has a name of its own, and no line of a definition
+has over 120 columns, nor one of a contract's clauses over 100."""
+import os
+import re
+
+from sources import CLAUSE, read
+
+TYPE = re.compile(r"^\s*pub (?:struct|enum|trait|type) (\w+)", flags=re.M)
+DEFINITION, WIDE_CLAUSE = 120, 100
+
+
+def files_of(folder, ending):
+    for place, _, names in os.walk(folder):
+        yield from (f"{place}/{it}" for it in sorted(names) if it.endswith(ending))
+
+
+def named_twice(root):
+    """Returns a line for each name that two public types have. Crates of tests alone are left out."""
+    owners = {}
+    for crate in sorted(os.listdir(f"{root}/crates")):
+        for file in files_of(f"{root}/crates/{crate}/src", ".rt"):
+            for name in TYPE.findall(read(file)) if not crate.endswith("_tests") else ():
+                owners.setdefault(name, set()).add(os.path.relpath(file, f"{root}/crates"))
+    return [f"{name} is a public type of {' and '.join(sorted(files))}" for name, files in sorted(owners.items()) if len(files) > 1]
+
+
+def too_wide(root):
+    """Returns a line for each one of a definition or a clause that is too wide. Imports are as wide as they are."""
+    faults = []
+    for crate in sorted(os.listdir(f"{root}/crates")):
+        for part, ending in (("specs", ".antt"), ("src", ".rt")):
+            for file in files_of(f"{root}/crates/{crate}/{part}", ending):
+                for number, line in enumerate(read(file).split("\n"), 1):
+                    is_wide = len(line) > WIDE_CLAUSE and CLAUSE.match(line) if part == "src" else len(line) > DEFINITION
+                    if is_wide and not re.match(r"\s*(?:pub )?use ", line):
+                        faults.append(f"{os.path.relpath(file, root)}:{number} has {len(line)} columns")
+    return faults
+
+
+def compare(root):
+    """Returns the faults of names, and those of widths."""
+    return {"names": named_twice(root), "widths": too_wide(root)}

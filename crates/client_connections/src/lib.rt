@@ -1,0 +1,24 @@
+//! Clients over TCP, or over a socket that is a file: how they are accepted, how long they are waited for, and how they are
+//! let go.
+//! docs/FORMATS.md has the limits.
+#![tactic(auto)]
+
+mod accept_fault;
+mod at_hand;
+mod client_stream;
+mod closing;
+mod connections;
+mod in_turn;
+mod listener;
+mod socket_file;
+mod together;
+mod waiting;
+
+pub use accept_fault::{AcceptFault, MAX_ACCEPT_FAULTS};
+pub use at_hand::AtHand;
+pub use client_stream::ClientStream;
+pub use closing::{CLOSING_OCTETS, CLOSING_SECONDS, Closes, close, read_out};
+pub use connections::{Connections, MAX_CONNECTIONS};
+pub use in_turn::{AHEAD_SECONDS, FetchedAhead, LinesInTurn, RepliesInTurn};
+pub use listener::{Accepts, Listener, accept_from};
+pub use waiting::{PATIENCE_SECONDS, Waiting};

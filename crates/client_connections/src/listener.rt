@@ -1,0 +1,113 @@
+//! Where clients connect.
+
+use crate::accept_fault::{AcceptFault, MAX_ACCEPT_FAULTS};
+use crate::socket_file;
+use std::alloc::Global;
+use std::fs::Files;
+use std::io::ErrorKind;
+use std::net::{Ipv4Addr, Net, Shutdown, SocketAddr, TcpListener, TcpStream};
+use std::os::fd::OwnedFd;
+use std::os::unix::net::UnixListener;
+use std::{io, thread, time};
+
+/// Where clients of this machine connect: a port of the loopback, or a socket that is a file.
+#[derive(Drop)]
+pub struct Listener(Endpoint);
+
+// What is listened at.
+#[derive(Drop)]
+enum Endpoint {
+    Port(TcpListener),
+    File(UnixListener),
+}
+
+impl Listener {
+    /// Listens at this port of 127.0.0.1, or for 0 at one that is free.
+    pub fn bind<R: Net<Listener = TcpListener, Stream = TcpStream>>(
+        rt: &R,
+        port: u16,
+    ) -> io::Result<Listener> {
+        let address = SocketAddr::from((Ipv4Addr::LOCALHOST, port));
+        Ok(Listener(Endpoint::Port(TcpListener::bind(rt, address)?)))
+    }
+
+    /// Listens at a socket that is a file of this path, which its owner alone can open (mode 0600). A socket that a
+    /// server which is gone has left there is replaced; `AddrInUse` where a server still listens, or where the file is no
+    /// socket.
+    pub fn bind_socket<R: Files + Net>(rt: &R, alloc: Global, path: &str) -> io::Result<Listener> {
+        Ok(Listener(Endpoint::File(socket_file::bind(rt, alloc, path)?)))
+    }
+
+    /// The port at which it listens. A socket that is a file has none: `Unsupported`.
+    pub fn port(&self) -> io::Result<u16> {
+        match &self.0 {
+            Endpoint::Port(listener) => Ok(listener.local_addr()?.port()),
+            Endpoint::File(_) => Err(io::Error::from(ErrorKind::Unsupported)),
+        }
+    }
+
+    /// Takes no client from now on: whoever waits for one is told that the device has failed. It fails where no
+    /// descriptor can be had.
+    pub fn shut(&self) -> io::Result<()> {
+        // A shutdown is a call of a descriptor, and wakes each `accept` of it.
+        let descriptor = match &self.0 {
+            Endpoint::Port(listener) => OwnedFd::from(listener.try_clone()?),
+            Endpoint::File(listener) => OwnedFd::from(listener.try_clone()?),
+        };
+        TcpStream::from(descriptor).shutdown(Shutdown::Both)
+    }
+
+    /// Waits for a client and gives its connection, as `accept_from` does. One over a file has the type of the other:
+    /// reads, writes and limits of time are calls of a descriptor, which are the same for both.
+    pub fn accept<R: time::Clock>(&self, rt: &R) -> Result<TcpStream, AcceptFault> {
+        accept_from(rt, self)
+    }
+}
+
+/// What accepts connections, one at a time.
+pub trait Accepts {
+    type Stream;
+
+    /// Waits for a connection and gives it.
+    fn accept_next(&self) -> io::Result<Self::Stream>;
+}
+
+impl Accepts for Listener {
+    type Stream = TcpStream;
+
+    fn accept_next(&self) -> io::Result<TcpStream> {
+        match &self.0 {
+            Endpoint::Port(listener) => {
+                let (stream, _) = listener.accept()?;
+                // Replies are written whole, and are not to wait for more.
+                let _ = stream.set_nodelay(true);
+                Ok(stream)
+            }
+            Endpoint::File(listener) => {
+                let (stream, _) = listener.accept()?;
+                Ok(TcpStream::from(OwnedFd::from(stream)))
+            }
+        }
+    }
+}
+
+/// Accepts a connection. One that failed before it was accepted is passed over, and descriptors and
+/// memory are waited for, 899 times in a row at most; the last failure is told then. One of the device is
+/// told at once.
+pub fn accept_from<R: time::Clock, L: Accepts>(
+    rt: &R,
+    listener: &L,
+) -> Result<L::Stream, AcceptFault> {
+    let mut last = AcceptFault::Device;
+    for faults in 1..=MAX_ACCEPT_FAULTS {
+        match listener.accept_next() {
+            Ok(stream) => return Ok(stream),
+            Err(error) => last = AcceptFault::of(&error),
+        }
+        match last.wait_after(faults) {
+            Some(time) => thread::sleep(rt, time),
+            None => break,
+        }
+    }
+    Err(last)
+}

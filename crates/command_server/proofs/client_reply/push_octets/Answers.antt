@@ -1,0 +1,17 @@
+-- The octets are pushed, and the line end behind them.
+
+use Rattle.counted_io.proofs.CallerLemmas.{prefix_piece}
+use Rattle.line_text.proofs.CallerLemmas.{pushes_cut, pushes_then}
+use Rattle.std.proofs.Common.{[], ◌∷◌}
+use Rattle.counted_io.specs.Lines.{line_feed}
+use Rattle.command_server.proofs.client_reply.push_octets.Goals as goal
+
+pub returns-in_err-push : goal.returns-in_err-push
+returns-in_err-push g c =
+    pushes_cut _ _ _ _ _ _ _ c.from_residual.result c.from_residual.ensures.0
+    (prefix_piece _ _ c.args.output.now c.args.octets.now (line_feed ∷ []) c.in_err-push.ensures.err)
+    c.in_err-push.ensures.count
+
+pub returns : goal.returns
+returns g c =
+    pushes_then _ _ _ _ _ _ _ _ _ _ _ c.push-2.result c.in_ok-push.ensures.ok c.in_ok-push.ensures.count c.push-2.ensures.pushes

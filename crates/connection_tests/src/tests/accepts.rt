@@ -1,0 +1,89 @@
+//! Listeners that accept no connection.
+//! The numbers are those of errno(3) of Linux. Times are in milliseconds.
+
+use super::scripted::HandClock;
+use client_connections::{AcceptFault, Accepts, accept_from};
+use std::cell::Cell;
+use std::io;
+use std::io::ErrorKind;
+use std::process::Abort;
+use std::test::Fail;
+
+#[derive(Drop)]
+struct Accepted;
+
+// A listener that fails with this number so many times, and then accepts.
+#[derive(Drop)]
+struct Failing {
+    number: i32,
+    left: Cell<u32>,
+    calls: Cell<u32>,
+}
+
+impl Accepts for Failing {
+    type Stream = Accepted;
+
+    fn accept_next(&self) -> io::Result<Accepted> {
+        self.calls.set(self.calls.get().saturating_add(1));
+        match self.left.get().checked_sub(1) {
+            Some(left) => {
+                self.left.set(left);
+                Err(io::Error::from_raw_os_error(self.number))
+            }
+            None => Ok(Accepted),
+        }
+    }
+}
+
+// A name, a number, how often it comes, whether a connection is accepted then, how many calls that takes, and how long.
+const FAULTS: [(&str, i32, u32, bool, u32, u128); 14] = [
+    ("none", 0, 0, true, 1, 0),
+    ("ECONNABORTED", 103, 1, true, 2, 0),
+    ("ECONNABORTED often", 103, 899, true, 900, 0),
+    ("ECONNABORTED too often", 103, 900, false, 900, 0),
+    ("EPROTO", 71, 7, true, 8, 0),
+    ("EPERM", 1, 1, true, 2, 0),
+    ("EMFILE", 24, 1, true, 2, 200),
+    ("EMFILE often", 24, 899, true, 900, 179_800),
+    ("EMFILE too often", 24, 900, false, 900, 179_800),
+    ("ENFILE", 23, 2, true, 3, 400),
+    ("ENOBUFS", 105, 1, true, 2, 200),
+    ("ENOMEM", 12, 1, true, 2, 200),
+    ("EBADF", 9, 1, false, 1, 0),
+    ("EINVAL", 22, 1, false, 1, 0),
+];
+
+#[test]
+fn faults(rt: HostRuntime) -> Result<(), Fail> {
+    for (name, number, times, holds, calls, time) in FAULTS {
+        check_faults(&rt, name, (number, times), holds, calls, time);
+    }
+    Ok(())
+}
+
+fn check_faults(
+    rt: &impl Abort,
+    name: &str,
+    faults: (i32, u32),
+    holds: bool,
+    calls: u32,
+    time: u128,
+) {
+    let clock = HandClock::new();
+    let listener = Failing {
+        number: faults.0,
+        left: Cell::new(faults.1),
+        calls: Cell::new(0),
+    };
+    assert_eq!(rt; accept_from(&clock, &listener).is_ok(), holds, "{name}");
+    assert_eq!(rt; listener.calls.get(), calls, "{name}");
+    assert_eq!(rt; clock.milliseconds(), time, "{name}");
+}
+
+// Errors that have no number of the system are the device's.
+#[test]
+fn no_number(rt: HostRuntime) -> Result<(), Fail> {
+    let error = io::Error::from(ErrorKind::ConnectionAborted);
+    assert_eq!(rt; AcceptFault::of(&error), AcceptFault::Device);
+    Ok(())
+}

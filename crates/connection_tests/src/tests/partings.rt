@@ -1,0 +1,68 @@
+//! What is read from clients that are let go.
+//! docs/FORMATS.md, limits. Times are in milliseconds.
+
+use super::scripted::{HandClock, Scripted, Step};
+use client_connections::read_out;
+use std::process::Abort;
+use std::test::Fail;
+
+const SIXTEEN: &str = "0123456789abcdef";
+
+// A name, what the client does over and over, how many octets are read, and how long that takes.
+const PARTINGS: [(&str, &[Step], usize, u128); 7] = [
+    ("it closes", &[], 0, 0),
+    (
+        "it closes behind a few octets",
+        &[Step::Moves(10, "abc"), Step::Moves(10, "")],
+        3,
+        20,
+    ),
+    (
+        "it sends without end",
+        &[Step::Moves(0, SIXTEEN)],
+        65_536,
+        0,
+    ),
+    ("it is silent", &[Step::Moves(900_000, "a")], 0, 1_000),
+    ("it sends slowly", &[Step::Moves(300, "a")], 3, 1_000),
+    ("it resets", &[Step::Moves(0, "a"), Step::Resets(7)], 1, 7),
+    (
+        "a signal comes",
+        &[
+            Step::Interrupts(1),
+            Step::Moves(1, "a"),
+            Step::Interrupts(1),
+            Step::Moves(1, ""),
+        ],
+        1,
+        4,
+    ),
+];
+
+#[test]
+fn partings(rt: HostRuntime) -> Result<(), Fail> {
+    for (name, script, octets, time) in PARTINGS {
+        check_parting(&rt, name, script, octets, time);
+    }
+    Ok(())
+}
+
+fn check_parting(rt: &impl Abort, name: &str, script: &[Step], octets: usize, time: u128) {
+    let clock = HandClock::new();
+    let mut client = Scripted::new(&clock, script);
+    read_out(&clock, &mut client);
+    assert_eq!(rt; client.moved, octets, "{name}");
+    assert_eq!(rt; clock.milliseconds(), time, "{name}");
+}
+
+// Nothing is read from a client that is gone.
+#[test]
+fn gone(rt: HostRuntime) -> Result<(), Fail> {
+    let clock = HandClock::new();
+    let script = [Step::Moves(0, SIXTEEN)];
+    let mut client = Scripted::new(&clock, &script);
+    client.is_there = false;
+    read_out(&clock, &mut client);
+    assert_eq!(rt; client.moved, 0);
+    Ok(())
+}

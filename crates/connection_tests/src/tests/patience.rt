@@ -1,0 +1,200 @@
+//! How long reads and writes wait for a client.
+//! docs/FORMATS.md, limits. Times are in milliseconds.
+
+use super::scripted::{HandClock, Scripted, Step};
+use client_connections::{ClientStream, PATIENCE_SECONDS, Waiting};
+use std::cell::Cell;
+use std::io::{Read, Write};
+use std::process::Abort;
+use std::test::Fail;
+
+// More reads than these are not made.
+const MOST_CALLS: u32 = 1_000;
+
+// A name, what the client does over and over, how many reads succeed, and how long they and the first that fails
+// take in all.
+const READS: [(&str, &[Step], u32, u128); 9] = [
+    ("nothing comes", &[Step::Moves(900_000, "a")], 0, 300_000),
+    (
+        "an octet a second",
+        &[Step::Moves(1_000, "a")],
+        300,
+        300_000,
+    ),
+    (
+        "an octet in less than a second",
+        &[Step::Moves(700, "a")],
+        428,
+        300_000,
+    ),
+    (
+        "a line just in time",
+        &[Step::Moves(300_000, "a\n")],
+        1_000,
+        300_000_000,
+    ),
+    (
+        "a line just too late",
+        &[Step::Moves(300_001, "a\n")],
+        0,
+        300_000,
+    ),
+    (
+        "half lines, and their ends just in time",
+        &[Step::Moves(200_000, "a"), Step::Moves(100_000, "b\nc")],
+        1_000,
+        150_000_000,
+    ),
+    (
+        "a line without its end",
+        &[Step::Moves(0, "a\nb"), Step::Moves(900_000, "c")],
+        1,
+        300_000,
+    ),
+    (
+        "a signal each second",
+        &[Step::Interrupts(1_000)],
+        0,
+        300_000,
+    ),
+    (
+        "a reset",
+        &[Step::Moves(1_000, "a"), Step::Resets(1_000)],
+        1,
+        2_000,
+    ),
+];
+
+#[test]
+fn reads(rt: HostRuntime) -> Result<(), Fail> {
+    for (name, script, count, time) in READS {
+        check_reads(&rt, name, script, count, time);
+    }
+    Ok(())
+}
+
+fn check_reads(rt: &impl Abort, name: &str, script: &[Step], count: u32, time: u128) {
+    let clock = HandClock::new();
+    let waiting = Cell::new(Waiting::of_seconds(PATIENCE_SECONDS));
+    let mut client = ClientStream::new(&clock, Scripted::new(&clock, script), &waiting);
+    assert_eq!(rt; reads_of(&mut client), count, "{name}");
+    assert_eq!(rt; clock.milliseconds(), time, "{name}");
+}
+
+// How many reads succeed before one fails.
+fn reads_of<R: Read>(client: &mut R) -> u32 {
+    for count in 0..MOST_CALLS {
+        if client.read(&mut [0; 8]).is_err() {
+            return count;
+        }
+    }
+    MOST_CALLS
+}
+
+// How many writes succeed before one fails. What they write ends lines, but the client doesn't.
+const WRITES: [(&str, &[Step], u32, u128); 4] = [
+    ("nothing is taken", &[Step::Moves(900_000, "a")], 0, 300_000),
+    (
+        "an octet a second",
+        &[Step::Moves(1_000, "\n")],
+        300,
+        300_000,
+    ),
+    (
+        "a signal each second",
+        &[Step::Interrupts(1_000)],
+        0,
+        300_000,
+    ),
+    ("a reset", &[Step::Moves(0, "a"), Step::Resets(7)], 1, 7),
+];
+
+#[test]
+fn writes(rt: HostRuntime) -> Result<(), Fail> {
+    for (name, script, count, time) in WRITES {
+        check_writes(&rt, name, script, count, time);
+    }
+    Ok(())
+}
+
+fn check_writes(rt: &impl Abort, name: &str, script: &[Step], count: u32, time: u128) {
+    let clock = HandClock::new();
+    let waiting = Cell::new(Waiting::of_seconds(PATIENCE_SECONDS));
+    let mut client = ClientStream::new(&clock, Scripted::new(&clock, script), &waiting);
+    assert_eq!(rt; writes_of(&mut client), count, "{name}");
+    assert_eq!(rt; clock.milliseconds(), time, "{name}");
+}
+
+// How many writes succeed before one fails.
+fn writes_of<W: Write>(client: &mut W) -> u32 {
+    for count in 0..MOST_CALLS {
+        if client.write(b"\n\n").is_err() {
+            return count;
+        }
+    }
+    MOST_CALLS
+}
+
+// A name, what each read meets, what each write meets, and which calls succeed: `r` and `w` in the order of the calls,
+// in capitals where they fail.
+const BOTH: [(&str, &[Step], &[Step], &str); 4] = [
+    (
+        "the waiting of both sides adds up",
+        &[Step::Moves(100_000, "a")],
+        &[Step::Moves(150_000, "b")],
+        "rwRW",
+    ),
+    (
+        "a line that is read begins it again",
+        &[Step::Moves(100_000, "a\n")],
+        &[Step::Moves(200_000, "b")],
+        "rwrw",
+    ),
+    (
+        "nothing succeeds any more, though all is there",
+        &[Step::Moves(400_000, "a"), Step::Moves(0, "b\n")],
+        &[Step::Moves(0, "c")],
+        "RWRW",
+    ),
+    (
+        "a write that fails has all fail",
+        &[Step::Moves(0, "a\n")],
+        &[Step::Moves(300_001, "b")],
+        "rWRW",
+    ),
+];
+
+#[test]
+fn both_sides(rt: HostRuntime) -> Result<(), Fail> {
+    for (name, read, written, want) in BOTH {
+        check_both(&rt, name, read, written, want);
+    }
+    Ok(())
+}
+
+fn check_both(rt: &impl Abort, name: &str, read: &[Step], written: &[Step], want: &str) {
+    let clock = HandClock::new();
+    let waiting = Cell::new(Waiting::of_seconds(PATIENCE_SECONDS));
+    let mut reader = ClientStream::new(&clock, Scripted::new(&clock, read), &waiting);
+    let mut writer = ClientStream::new(&clock, Scripted::new(&clock, written), &waiting);
+    for call in want.bytes() {
+        let holds = if call.to_ascii_lowercase() == b'r' {
+            reader.read(&mut [0; 8]).is_ok()
+        } else {
+            writer.write(b"b").is_ok()
+        };
+        assert_eq!(rt; holds, call.is_ascii_lowercase(), "{name}, {call}");
+    }
+}
+
+// The patience may be another.
+#[test]
+fn of_two_seconds(rt: HostRuntime) -> Result<(), Fail> {
+    let clock = HandClock::new();
+    let waiting = Cell::new(Waiting::of_seconds(2));
+    let script = [Step::Moves(500, "a")];
+    let mut client = ClientStream::new(&clock, Scripted::new(&clock, &script), &waiting);
+    assert_eq!(rt; reads_of(&mut client), 4);
+    assert_eq!(rt; clock.milliseconds(), 2_000);
+    Ok(())
+}

@@ -1,0 +1,313 @@
+//! The open_state: what the entries that were read so far say, in tables, by which the next one is judged.
+//! RFC 9309, sections 2.2.2, 2.3.1 and 2.4.
+ghost use Rattle.std.specs.Prelude.{◌≡◌, ◌+◌, ◌<◌, ◌↔◌, IsTrue, false};
+ghost use Rattle.robots_verdict.specs.Answer.{said};
+ghost use Rattle.authority_cache.specs.Lives.{life_of};
+ghost use Rattle.gate_history.specs.declared.entry.Entry.TheVariants.{AskDenied, Arrived, Begun, Finished, Granted, Returned, StartDenied, Started, Swept};
+ghost use Rattle.gate_history.specs.Base.{empty_base};
+ghost use Rattle.gate_history.specs.History.{History, from, is_start};
+ghost use Rattle.gate_history.specs.Legal.{IsLegal, SpendsAs};
+ghost use Rattle.history_text.specs.Entries.{HasLife};
+ghost use Rattle.crawl_audit.specs.Records.{entry_of};
+ghost use Rattle.crawl_audit.specs.Tables.{EntersLegally, FollowsLegally, KeepsCounts, Tells, TellsAll};
+ghost use Rattle.gate_core.specs.Limits.{greatest_number};
+
+use crate::numbers::Numbers;
+use crate::record::Record;
+use authority_cache::{Cache, TimedAnswer, TurnNo};
+use gate_history::{Cause, Reason, decide};
+use history_text::Version;
+use path_normal::Authority;
+use permit_book::{Fetch, PermitNo};
+use robots_verdict::Answer;
+use std::alloc::{AllocError, Global};
+use std::hash::RandomState;
+
+/// Why an entry was not entered.
+#[derive(Clone, Copy, PartialEq, Eq)]
+pub(crate) enum Unfit {
+    /// It is not legal after the entries before it.
+    Illegal,
+    /// There is no memory for it.
+    NoMemory,
+}
+
+impl From<AllocError> for Unfit {
+    ghost use Rattle.std.specs.Prelude.{◌≡◌};
+    ghost use Rattle.crawl_audit.specs.declared.open_state.Unfit.{Unfit};
+
+    ghost from_gives = { λ _ unfit. unfit ≡ Unfit.NoMemory };
+
+    fn from(_: AllocError) -> Unfit {
+        Unfit::NoMemory
+    }
+}
+
+/// What the entries so far say. After an entry that is not entered it is of no use.
+#[derive(Drop)]
+pub(crate) struct OpenState {
+    pub(crate) clock: u64,
+    pub(crate) begins: u64,
+    /// How many entries there were ever, and how many of them are started fetches.
+    pub(crate) entries: u64,
+    pub(crate) started: u64,
+    pub(crate) cache: Cache,
+    pub(crate) numbers: Numbers,
+}
+
+impl OpenState {
+    /// The open_state of no entry, with the keys of its tables' hashers.
+    pub(crate) fn new(alloc: Global, keys: RandomState) -> OpenState
+        ensures tells { TellsAll result (from empty_base) }
+        ensures any { result.numbers.rising ≡ false }
+    {
+        OpenState {
+            clock: 0,
+            begins: 0,
+            entries: 0,
+            started: 0,
+            // The authorities of a text are not limited.
+            cache: Cache::new(alloc, u64::MAX, keys),
+            numbers: Numbers::new(alloc, keys),
+        }
+    }
+
+    /// Enters an entry, where it is legal after those so far.
+    pub(crate) fn enter(&mut self, found: Record) -> Result<(), Unfit>
+        requires life { HasLife Version.Two (entry_of found) }
+        requires room { self.old.entries < greatest_number }
+        ensures { (h : History) → IsLegal h → TellsAll self.old h
+            → EntersLegally self.old h (entry_of found) result self.new }
+    {
+        let start = is_start(&found);
+        match self.enter_open(found) {
+            Ok(()) => {}
+            Err(unfit) => return Err(unfit),
+        }
+        self.entries += 1;
+        if start {
+            self.started = self.started.saturating_add(1);
+        }
+        Ok(())
+    }
+
+    // Enters what an entry opens or ends.
+    fn enter_open(&mut self, found: Record) -> Result<(), Unfit>
+        requires { HasLife Version.Two (entry_of found) }
+        ensures tells { (h : History) → IsLegal h → Tells self.old h
+            → FollowsLegally self.old h (entry_of found) result self.new }
+        ensures counts { KeepsCounts self.old self.new }
+    {
+        match found {
+            Record::Begun {
+                moment,
+                authority,
+                turn,
+            } => self.enter_begun(moment, &authority, turn),
+            Record::Arrived {
+                moment,
+                authority,
+                turn,
+                answer,
+                life,
+            } => self.enter_arrived(moment, &authority, turn, answer, life),
+            Record::Granted {
+                moment,
+                number,
+                fetch,
+            } => self.enter_granted(moment, number, fetch),
+            Record::AskDenied {
+                moment,
+                fetch,
+                cause,
+            } => self.enter_ask_denied(moment, &fetch, cause),
+            Record::Started {
+                moment,
+                number,
+                reason,
+            } => self.enter_started(moment, number, reason),
+            Record::StartDenied {
+                moment,
+                number,
+                cause,
+            } => self.enter_start_denied(moment, number, cause),
+            Record::Returned { number } => self.enter_returned(number),
+            Record::Finished { number } => self.enter_finished(number),
+            Record::Swept { moment, count } => self.enter_swept(moment, count),
+        }
+    }
+
+    fn enter_begun(&mut self, moment: u64, authority: &Authority, turn: TurnNo) -> Result<(), Unfit>
+        ensures tells { (h : History) → Tells self.old h
+            → FollowsLegally self.old h (Begun moment authority.now turn) result self.new }
+        ensures counts { KeepsCounts self.old self.new }
+    {
+        if moment < self.clock || self.cache.in_flight(authority.text()) || !self.is_next(turn) {
+            return Err(Unfit::Illegal);
+        }
+        if self.cache.begin(authority, turn, moment).is_err() {
+            return Err(Unfit::NoMemory);
+        }
+        self.clock = moment;
+        self.begins = turn.number();
+        Ok(())
+    }
+
+    // Whether the turn is one more than the begins so far.
+    fn is_next(&self, turn: TurnNo) -> bool
+        ensures { IsTrue result ↔ (turn ≡ self.now.begins + 1) }
+    {
+        turn.number() > 0 && turn.number() - 1 == self.begins
+    }
+
+    fn enter_arrived(
+        &mut self,
+        moment: u64,
+        authority: &Authority,
+        turn: TurnNo,
+        answer: Answer,
+        life: u64,
+    ) -> Result<(), Unfit>
+        requires { life_of (said answer) life ≡ life }
+        ensures tells { (h : History) → IsLegal h → Tells self.old h
+            → FollowsLegally self.old h (Arrived moment authority.now turn (said answer) life)
+            result self.new }
+        ensures counts { KeepsCounts self.old self.new }
+    {
+        if moment < self.clock {
+            return Err(Unfit::Illegal);
+        }
+        let brought = TimedAnswer::new(answer, life);
+        if self.cache.arrive(authority, turn, brought).is_err() {
+            return Err(Unfit::Illegal);
+        }
+        self.clock = moment;
+        Ok(())
+    }
+
+    fn enter_granted(&mut self, moment: u64, number: PermitNo, fetch: Fetch) -> Result<(), Unfit>
+        ensures tells { (h : History) → Tells self.old h
+            → FollowsLegally self.old h (Granted moment number fetch) result self.new }
+        ensures counts { KeepsCounts self.old self.new }
+    {
+        if moment < self.clock || !self.numbers.is_new(number) {
+            return Err(Unfit::Illegal);
+        }
+        self.cache.make_index(fetch.url.authority());
+        if decide(&self.cache, &fetch.token, &fetch.url, None, moment).is_err() {
+            return Err(Unfit::Illegal);
+        }
+        self.numbers.grant(number, fetch)?;
+        self.clock = moment;
+        Ok(())
+    }
+
+    fn enter_ask_denied(&mut self, moment: u64, fetch: &Fetch, cause: Cause) -> Result<(), Unfit>
+        ensures tells { (h : History) → Tells self.old h
+            → FollowsLegally self.old h (AskDenied moment fetch.now cause) result self.new }
+        ensures counts { KeepsCounts self.old self.new }
+    {
+        self.cache.make_index(fetch.url.authority());
+        let decided = decide(&self.cache, &fetch.token, &fetch.url, None, moment);
+        if moment < self.clock || !is_same(decided, Err(cause)) {
+            return Err(Unfit::Illegal);
+        }
+        self.clock = moment;
+        Ok(())
+    }
+
+    fn enter_started(&mut self, moment: u64, number: PermitNo, reason: Reason) -> Result<(), Unfit>
+        ensures tells { (h : History) → Tells self.old h
+            → FollowsLegally self.old h (Started moment number reason) result self.new }
+        ensures counts { KeepsCounts self.old self.new }
+    {
+        if moment < self.clock || !self.decides(number, moment, Ok(reason)) {
+            return Err(Unfit::Illegal);
+        }
+        self.numbers.start(number)?;
+        self.clock = moment;
+        Ok(())
+    }
+
+    fn enter_start_denied(
+        &mut self,
+        moment: u64,
+        number: PermitNo,
+        cause: Cause,
+    ) -> Result<(), Unfit>
+        ensures tells { (h : History) → Tells self.old h
+            → FollowsLegally self.old h (StartDenied moment number cause) result self.new }
+        ensures counts { KeepsCounts self.old self.new }
+    {
+        if moment < self.clock || !self.decides(number, moment, Err(cause)) {
+            return Err(Unfit::Illegal);
+        }
+        self.numbers.end(number);
+        self.clock = moment;
+        Ok(())
+    }
+
+    // Whether an unspent permit of the number stands, whose fetch is decided so.
+    fn decides(&self, number: PermitNo, moment: u64, outcome: Result<Reason, Cause>) -> bool
+        ensures { (h : History) → Tells self.now h
+            → IsTrue result ↔ SpendsAs h number moment outcome }
+    {
+        match self.numbers.unspent(number) {
+            Some(fetch) => is_same(
+                decide(&self.cache, &fetch.token, &fetch.url, None, moment),
+                outcome,
+            ),
+            None => false,
+        }
+    }
+
+    fn enter_returned(&mut self, number: PermitNo) -> Result<(), Unfit>
+        ensures tells { (h : History) → Tells self.old h
+            → FollowsLegally self.old h (Returned number) result self.new }
+        ensures counts { KeepsCounts self.old self.new }
+    {
+        if self.numbers.unspent(number).is_none() {
+            return Err(Unfit::Illegal);
+        }
+        self.numbers.end(number);
+        Ok(())
+    }
+
+    fn enter_finished(&mut self, number: PermitNo) -> Result<(), Unfit>
+        ensures tells { (h : History) → Tells self.old h
+            → FollowsLegally self.old h (Finished number) result self.new }
+        ensures counts { KeepsCounts self.old self.new }
+    {
+        if !self.numbers.is_running(number) {
+            return Err(Unfit::Illegal);
+        }
+        self.numbers.end(number);
+        Ok(())
+    }
+
+    fn enter_swept(&mut self, moment: u64, count: u64) -> Result<(), Unfit>
+        ensures tells { (h : History) → Tells self.old h
+            → FollowsLegally self.old h (Swept moment count) result self.new }
+        ensures counts { KeepsCounts self.old self.new }
+    {
+        if moment < self.clock || self.cache.sweep(moment) != count {
+            return Err(Unfit::Illegal);
+        }
+        self.clock = moment;
+        Ok(())
+    }
+}
+
+// Whether the entry is a fetch that was started.
+pub(crate) fn is_start(found: &Record) -> bool
+    ensures { result ≡ is_start (entry_of found.now) }
+{
+    matches!(found, Record::Started { .. })
+}
+
+// Whether both decide the same.
+fn is_same(one: Result<Reason, Cause>, other: Result<Reason, Cause>) -> bool
+    ensures { IsTrue result ↔ (one ≡ other) }
+{
+    one == other
+}

@@ -1,0 +1,10 @@
+-- What is left of the places ascends exactly where all of them do.
+use Rattle.std.proofs.Common.{◌↔◌, length}
+use Rattle.gate_lock.specs.Places.{Ascend}
+use Rattle.gate_lock.proofs.merged_marks.all_ascend.Given as goal
+
+abbrev pub invariant-loop-place : goal.invariant-loop-place
+invariant-loop-place l = Ascend l.rest ↔ Ascend l.fn.places
+
+abbrev pub decreases-loop-place : goal.decreases-loop-place
+decreases-loop-place l = length l.rest

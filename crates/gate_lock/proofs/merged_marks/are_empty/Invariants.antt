@@ -1,0 +1,10 @@
+-- What is left of the lists is empty exactly where all of them are.
+use Rattle.std.proofs.Common.{◌↔◌, length}
+use Rattle.gate_lock.specs.Places.{AllEmpty}
+use Rattle.gate_lock.proofs.merged_marks.are_empty.Given as goal
+
+abbrev pub invariant-loop-rest : goal.invariant-loop-rest
+invariant-loop-rest l = AllEmpty l.rest ↔ AllEmpty l.left
+
+abbrev pub decreases-loop-rest : goal.decreases-loop-rest
+decreases-loop-rest l = length l.rest

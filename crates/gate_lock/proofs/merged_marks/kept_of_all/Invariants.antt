@@ -1,0 +1,12 @@
+-- The kept places of the receipts that were looked at and of those that are left are those of all.
+use Rattle.std.proofs.Common.{◌≡◌, ◌+◌, ◌≤◌, ◌++◌, length, map, vec_capacity}
+use Rattle.gate_lock.specs.Marks.{kept_places}
+use Rattle.gate_lock.proofs.merged_marks.kept_of_all.Given as goal
+
+abbrev pub invariant-loop-rest : goal.invariant-loop-rest
+invariant-loop-rest g l =
+    (l.left.items ++ map kept_places l.rest ≡ map kept_places l.all)
+    × (length l.left.items + length l.rest ≤ vec_capacity l.left)
+
+abbrev pub decreases-loop-rest : goal.decreases-loop-rest
+decreases-loop-rest g l = length l.rest

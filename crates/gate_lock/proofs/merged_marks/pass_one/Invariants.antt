@@ -1,0 +1,10 @@
+-- It is the next one of no list that was looked at, and nothing has changed.
+use Rattle.std.proofs.Common.{◌≡◌, ◌-◌, ◌≤◌, length, take}
+use Rattle.gate_lock.specs.Places.{IsNextOfNone}
+use Rattle.gate_lock.proofs.merged_marks.pass_one.Given as goal
+
+abbrev pub invariant-loop-index : goal.invariant-loop-index
+invariant-loop-index l = (l.left ≡ l.fn.left) × (l.index ≤ length l.left) × IsNextOfNone l.place (take l.index l.left)
+
+abbrev pub decreases-loop-index : goal.decreases-loop-index
+decreases-loop-index l = length l.left - l.index

@@ -1,0 +1,198 @@
+//! The values that must be spent: a permit, a fetch that runs, a fetch that was made, and a turn.
+//! Made and taken back by `Desk`; a program that drops one does not compile.
+ghost use Rattle.std.specs.Prelude.{◌≡◌};
+
+use crate::ledgers::{Gate, RunningLedger, TurnLedger, UnspentLedger};
+use crate::shares::One;
+use authority_cache::TurnNo;
+use gate_history::Reason;
+use path_normal::{Authority, PageUrl};
+use permit_book::PermitNo;
+use robots_text::Token;
+use std::marker::Model;
+use std::sync::ledger::Ledger;
+
+/// A permit, or a fetch that was made: its number, token and URL, and the desk that must spend it. It has no `Drop`, and
+/// counts for one in the ledger `L`.
+#[must_use]
+pub struct Pass<L: Ledger> {
+    pub(crate) number: PermitNo,
+    pub(crate) token: Token,
+    pub(crate) url: PageUrl,
+    pub(crate) desk: u64,
+    pub(crate) one: One<L>,
+}
+
+impl<L: Ledger> Model for Pass<L> {
+    ghost use Rattle.gate_lock.specs.Desks.{Pass as View};
+
+    ghost Value = { View };
+
+    ghost view = { λ pass. record {
+      number = pass.number;
+      token = pass.token;
+      url = pass.url;
+      desk = pass.desk;
+    } };
+}
+
+/// A permit for one fetch of a URL under a token. It has no `Drop`: a start spends it, or `back` returns it.
+/// Dropping one would leave it unspent forever, and its slot and its authority's place taken.
+pub type Permit<G> = Pass<UnspentLedger<G>>;
+
+/// A fetch that was made. It has no `Drop`: `finish` ends it.
+/// Dropping one would leave it running forever, and its slot and its authority's place taken.
+pub type Fetched<G> = Pass<RunningLedger<G>>;
+
+impl<L: Ledger> Pass<L> {
+    /// The number of the permit.
+    pub fn number(&self) -> PermitNo
+        ensures { result ≡ self.now.number }
+    {
+        self.number
+    }
+
+    /// The token under which the URL may be fetched, or was.
+    pub fn token(&self) -> &Token
+        ensures { result.now ≡ self.now.token }
+    {
+        &self.token
+    }
+
+    /// The URL that may be fetched, or was.
+    pub fn url(&self) -> &PageUrl
+        ensures { result.now ≡ self.now.url }
+    {
+        &self.url
+    }
+
+    /// The number of the desk that made it, at which it is spent.
+    pub fn desk_no(&self) -> u64
+        ensures { result ≡ self.now.desk }
+    {
+        self.desk
+    }
+
+    // Its number, and what it counts for.
+    pub(crate) fn into_share(self) -> (PermitNo, One<L>)
+        ensures { result.0 ≡ self.number }
+    {
+        let Pass {
+            number,
+            token: _,
+            url: _,
+            desk: _,
+            one,
+        } = self;
+        (number, one)
+    }
+}
+
+/// A fetch that may be made, once. It has no `Drop`: `spend` makes a `Fetched` of it when it is made.
+/// Dropping one would leave it running forever, and its slot and its authority's place taken.
+#[must_use]
+pub struct Running<G: Gate> {
+    pub(crate) fetched: Fetched<G>,
+    pub(crate) reason: Reason,
+}
+
+impl<G: Gate> Model for Running<G> {
+    ghost use Rattle.gate_lock.specs.Desks.{Run};
+
+    ghost Value = { Run };
+
+    ghost view = { λ run. record {
+      pass = run.fetched;
+      reason = run.reason;
+    } };
+}
+
+impl<G: Gate> Running<G> {
+    /// The number of the permit that was spent.
+    pub fn number(&self) -> PermitNo
+        ensures { result ≡ self.now.pass.number }
+    {
+        self.fetched.number
+    }
+
+    /// The token under which the URL is fetched.
+    pub fn token(&self) -> &Token
+        ensures { result.now ≡ self.now.pass.token }
+    {
+        &self.fetched.token
+    }
+
+    /// The URL to fetch.
+    pub fn url(&self) -> &PageUrl
+        ensures { result.now ≡ self.now.pass.url }
+    {
+        &self.fetched.url
+    }
+
+    /// Why the fetch is allowed.
+    pub fn reason(&self) -> Reason
+        ensures { result ≡ self.now.reason }
+    {
+        self.reason
+    }
+
+    /// The number of the desk that started it, at which it is finished.
+    pub fn desk_no(&self) -> u64
+        ensures { result ≡ self.now.pass.desk }
+    {
+        self.fetched.desk
+    }
+
+    /// The fetch is made: its one leave is used up, and what is left is to be finished.
+    pub fn spend(self) -> Fetched<G>
+        ensures { result ≡ self.pass }
+    {
+        let Running { fetched, reason: _ } = self;
+        fetched
+    }
+}
+
+/// A turn to fetch an authority's robots.txt. It has no `Drop`: `arrive` brings its answer.
+/// Dropping one would leave it in flight forever, and no other turn of the authority could begin.
+#[must_use]
+pub struct RobotsTurn<G: Gate> {
+    pub(crate) authority: Authority,
+    pub(crate) turn: TurnNo,
+    pub(crate) desk: u64,
+    pub(crate) one: One<TurnLedger<G>>,
+}
+
+impl<G: Gate> Model for RobotsTurn<G> {
+    ghost use Rattle.gate_lock.specs.Desks.{Errand};
+
+    ghost Value = { Errand };
+
+    ghost view = { λ turn. record {
+      authority = turn.authority;
+      turn = turn.turn;
+      desk = turn.desk;
+    } };
+}
+
+impl<G: Gate> RobotsTurn<G> {
+    /// Whose robots.txt is to be fetched.
+    pub fn authority(&self) -> &Authority
+        ensures { result.now ≡ self.now.authority }
+    {
+        &self.authority
+    }
+
+    /// The number of the turn.
+    pub fn number(&self) -> TurnNo
+        ensures { result ≡ self.now.turn }
+    {
+        self.turn
+    }
+
+    /// The number of the desk that began it, at which its answer is brought.
+    pub fn desk_no(&self) -> u64
+        ensures { result ≡ self.now.desk }
+    {
+        self.desk
+    }
+}

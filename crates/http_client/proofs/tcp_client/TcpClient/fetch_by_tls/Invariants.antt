@@ -1,0 +1,8 @@
+-- The last fault was one of a fetch.
+-- The proof of `fetch_by_tls` rests on it.
+use Rattle.std.specs.Prelude.{None, Err}
+use Rattle.http_wire.specs.Response.{Tells}
+use Rattle.http_client.proofs.tcp_client.TcpClient.fetch_by_tls.Given as goal
+
+abbrev pub invariant-loop-address : goal.invariant-loop-address
+invariant-loop-address g l = Tells None l.asked.limit (Err l.last)

@@ -1,0 +1,6 @@
+-- The octets of a connection are nobody's to know, so the exchange tells what some octets give.
+use Rattle.http_client.proofs.Exchanges.{exchange_tells}
+use Rattle.http_client.proofs.tcp_client.TcpClient.fetch_over.Goals as goal
+
+pub returns : goal.returns
+returns g c = exchange_tells _ _ _ _ _ _ _ _ _ c.exchange_behind-given.ensures

@@ -1,0 +1,24 @@
+//! Pages fetched over TCP in bounded time, each over a connection of its own.
+//! RFC 9110, section 4.2.1; RFC 9112, sections 2 and 3.
+#![tactic(auto)]
+
+mod deadline;
+mod failure;
+mod heard;
+mod host_port;
+mod http_exchange;
+mod reach;
+mod tcp_client;
+mod time_limits;
+mod timed_stream;
+mod tls_header;
+
+pub use deadline::Deadline;
+pub use failure::Failure;
+pub use host_port::{HostPort, host_port_of};
+pub use http_exchange::{exchange, exchange_behind};
+pub use reach::Reach;
+pub use tcp_client::TcpClient;
+pub use time_limits::{CONNECT_SECONDS, STEP_SECONDS, TimeLimits, WHOLE_SECONDS};
+pub use timed_stream::{TimedStream, Waits};
+pub use tls_header::{TlsHeaderFault, tls_header_of};

@@ -1,0 +1,102 @@
+//! What is told is written behind what records it: a handle of both, which comes up before each write.
+//! A server has one for each client's stream, and one for its fetcher.
+ghost use Rattle.std.specs.Prelude.{⊤};
+
+use crate::chronicle::{Chronicle, Sealer};
+use crate::group::GroupJournal;
+use crate::policy::SyncPolicy;
+use crate::shelf::Shelf;
+use counted_io::DeviceFault;
+use journal_tape::ComesUp;
+use std::sync::Wait;
+
+/// What records a chronicle, or doesn't.
+pub trait Recorder {
+    /// Waits until all that is entered may be told.
+    fn come_up<H: Chronicle, R: Wait>(&self, rt: &R, chronicle: &H) -> Result<(), DeviceFault>;
+
+    /// Seals, and begins a new file.
+    fn seal<H: Chronicle, R: Wait, K: Sealer>(
+        &self,
+        rt: &R,
+        chronicle: &H,
+        sealer: &mut K,
+    ) -> K::Sealed
+        ensures { K.seals sealer.old result sealer.new };
+
+    /// Whether it should be sealed, so that a new file is begun.
+    fn is_due<H: Chronicle, R: Wait>(&self, rt: &R, chronicle: &H) -> bool;
+
+    /// Comes up, and has each crash keep it all where that is done once a second: it is to be called as often.
+    fn see_to<H: Chronicle, R: Wait>(&self, rt: &R, chronicle: &H) -> Result<(), DeviceFault>;
+}
+
+/// Nothing is recorded: all may be told at once.
+#[derive(Clone, Copy, Debug)]
+pub struct Unrecorded;
+
+impl Recorder for Unrecorded {
+    fn come_up<H: Chronicle, R: Wait>(&self, _rt: &R, _chronicle: &H) -> Result<(), DeviceFault> {
+        Ok(())
+    }
+
+    fn seal<H: Chronicle, R: Wait, K: Sealer>(
+        &self,
+        _rt: &R,
+        _chronicle: &H,
+        sealer: &mut K,
+    ) -> K::Sealed {
+        sealer.seal()
+    }
+
+    fn is_due<H: Chronicle, R: Wait>(&self, _rt: &R, _chronicle: &H) -> bool {
+        false
+    }
+
+    fn see_to<H: Chronicle, R: Wait>(&self, _rt: &R, _chronicle: &H) -> Result<(), DeviceFault> {
+        Ok(())
+    }
+}
+
+impl<S: Shelf + Drop> Recorder for GroupJournal<S> {
+    fn come_up<H: Chronicle, R: Wait>(&self, rt: &R, chronicle: &H) -> Result<(), DeviceFault> {
+        GroupJournal::come_up(self, rt, chronicle)
+    }
+
+    fn seal<H: Chronicle, R: Wait, K: Sealer>(
+        &self,
+        rt: &R,
+        chronicle: &H,
+        sealer: &mut K,
+    ) -> K::Sealed {
+        self.rotate(rt, chronicle, sealer)
+    }
+
+    fn is_due<H: Chronicle, R: Wait>(&self, rt: &R, chronicle: &H) -> bool {
+        GroupJournal::is_due(self, rt, chronicle)
+    }
+
+    fn see_to<H: Chronicle, R: Wait>(&self, rt: &R, chronicle: &H) -> Result<(), DeviceFault> {
+        GroupJournal::come_up(self, rt, chronicle)?;
+        match self.policy() {
+            SyncPolicy::Second => self.sync(rt),
+            SyncPolicy::Always | SyncPolicy::Never => Ok(()),
+        }
+    }
+}
+
+/// A chronicle with what records it.
+#[derive(Drop)]
+pub struct Abreast<'a, H: Chronicle, J: Recorder, R: Wait> {
+    pub rt: &'a R,
+    pub chronicle: &'a H,
+    pub journal: &'a J,
+}
+
+impl<'a, H: Chronicle, J: Recorder, R: Wait> ComesUp for Abreast<'a, H, J, R> {
+    ghost comes = { λ _ _. ⊤ };
+
+    fn come_up(&self) -> Result<(), DeviceFault> {
+        self.journal.come_up(self.rt, self.chronicle)
+    }
+}

@@ -1,0 +1,10 @@
+-- The parts that were looked at make a plain URL.
+-- The lemma `plain_at` of `PlainLemmas` says so.
+use Rattle.std.proofs.Common.{◌∙◌, sym, arith}
+use Rattle.path_normal.proofs.PlainLemmas.{plain_at}
+use Rattle.path_normal.proofs.plain_url.plain_host_end.Goals as goal
+
+pub returns-then-is_plain_path : goal.returns-then-is_plain_path
+returns-then-is_plain_path c =
+    plain_at c.args.text.now c.in_ok-rest.rest.now c.in_ok-len.len (sym c.as_bytes.ensures.value ∙ c.in_ok-rest.ensures) (sym c.in_ok-len.ensures.place)
+    (omega (arith, c.if-len-le-MAX_AUTHORITY.true)) (sym c.is_plain_host.ensures ∙ c.if-is_plain_host.true) (sym c.is_plain_path.ensures ∙ c.if-is_plain_path.true)

@@ -1,0 +1,8 @@
+-- The octets spell the number.
+-- The lemma of `Spelling` says so.
+use Rattle.std.proofs.Common.{arith}
+use Rattle.path_pattern.proofs.Spelling.{first_eight}
+use Rattle.path_pattern.proofs.texts.front.Goals as goal
+
+pub returns : goal.returns
+returns c = omega (arith, c.from_be_bytes.ensures, first_eight 0 c.args.text.now)

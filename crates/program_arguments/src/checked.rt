@@ -1,0 +1,66 @@
+//! The words of `check`: its token, its URLs, and where its robots text comes from.
+//! docs/crawlgate.1.md has them.
+ghost use Rattle.std.specs.Prelude.{IfOk};
+ghost use Rattle.clap.specs.Words.{found_of};
+ghost use Rattle.program_arguments.specs.Options.{IsChosen, IsChosenBy, IsDetailOf, IsTextOf};
+
+use crate::subcommand::{CheckOptions, CheckedText, CheckedUrls, Subcommand};
+use crate::words::Chosen;
+use clap::ArgMatches;
+use robots_check::Detail;
+use robots_text::{Token, TokenFault};
+use std::alloc::{AllocError, Global};
+
+// Why a word that `clap` takes is refused.
+const BAD_TOKEN: &str = "a product token has 1 to 64 letters, - and _";
+
+/// The check that was matched.
+pub(crate) fn check_of(alloc: Global, matches: &ArgMatches<'_>) -> Result<Chosen, AllocError>
+    ensures range { IfOk result IsChosen }
+    ensures words { IfOk result (IsChosenBy (found_of matches.now)) }
+{
+    let token = matches.get_str("token").unwrap_or("");
+    match Token::new(alloc, token.as_bytes()) {
+        Ok(token) => Ok(Chosen::Taken(Subcommand::Check(CheckOptions {
+            token,
+            text: text_of(alloc, matches)?,
+            urls: urls_of(alloc, matches)?,
+            detail: detail_of(matches),
+        }))),
+        Err(TokenFault::BadToken) => Ok(Chosen::Refused(BAD_TOKEN)),
+        Err(TokenFault::NoMemory) => Err(AllocError),
+    }
+}
+
+// The robots text of a check: the file that the option names, and without it the input.
+fn text_of(alloc: Global, matches: &ArgMatches<'_>) -> Result<CheckedText, AllocError>
+    ensures { IfOk result (IsTextOf (found_of matches.now)) }
+{
+    match matches.get_str("robots") {
+        Some(name) => Ok(CheckedText::File(String::from_str(alloc, name)?)),
+        None => Ok(CheckedText::Input),
+    }
+}
+
+fn detail_of(matches: &ArgMatches<'_>) -> Detail
+    ensures { IsDetailOf (found_of matches.now) result }
+{
+    if matches.get_flag("explain") {
+        Detail::Explained
+    } else {
+        Detail::Plain
+    }
+}
+
+// The URLs of a check: `-` alone stands for lines of the input.
+fn urls_of(alloc: Global, matches: &ArgMatches<'_>) -> Result<CheckedUrls, AllocError> {
+    let words = matches.get_strs("url").unwrap_or(&[]);
+    if words.len() == 1 && words[0] == "-" {
+        return Ok(CheckedUrls::Input);
+    }
+    let mut urls = Vec::new(alloc);
+    for word in words {
+        urls.push(String::from_str(alloc, word)?)?;
+    }
+    Ok(CheckedUrls::Words(urls))
+}

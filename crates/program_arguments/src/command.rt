@@ -1,0 +1,241 @@
+//! The words that `clap` takes, with their ranges and their help.
+//! docs/crawlgate.1.md has them all.
+ghost use Rattle.std.specs.Prelude.{◌≡◌, Some};
+
+use crate::help;
+use crate::number_options::{
+    NumberOption, OF_CLIENTS, OF_FETCHES, OF_GATES, OF_PORTS, OF_REPLAYS, OF_SERVERS, OF_SHIFTS,
+    OptionText, OptionTexts,
+};
+use clap::{Arg, ArgAction, Command};
+use std::alloc::{AllocError, Global};
+
+/// The program, with its subcommands.
+pub(crate) fn program<'a>(
+    alloc: Global,
+    texts: &'a OptionTexts,
+) -> Result<Command<'a>, AllocError> {
+    let replay = replay_words(alloc, texts)?;
+    let shift = shift_words(alloc, texts)?;
+    let serve = serve_words(alloc, texts)?;
+    let check = check_words(alloc)?;
+    let lines = Command::new(alloc, "lines")
+        .about("Writes what each line of the robots.txt on standard input says")
+        .after_help(help::LINES)
+        .arg(flag(
+            alloc,
+            "notes",
+            "Tells on standard error what in the robots.txt may surprise",
+        ))?;
+    let audit = Command::new(alloc, "audit")
+        .about("Checks every decision in the history, or in the segments, on standard input")
+        .after_help(help::AUDIT)
+        .arg(flag(alloc, "https", "Takes lines that name https pages too"))?;
+    Command::new(alloc, "crawlgate")
+        .about("A gate for web crawlers, under every site's robots.txt (RFC 9309)")
+        .version(help::VERSION)
+        .subcommand_required(true)
+        .subcommand(replay)?
+        .subcommand(shift)?
+        .subcommand(serve)?
+        .subcommand(check)?
+        .subcommand(lines)?
+        .subcommand(audit)
+}
+
+// The words of `replay`.
+fn replay_words<'a>(alloc: Global, texts: &'a OptionTexts) -> Result<Command<'a>, AllocError> {
+    let replay = Command::new(alloc, "replay")
+        .about("Answers the lines of standard input, one reply a line")
+        .after_help(help::REPLAY);
+    let replay = numbers(alloc, &OF_GATES, &texts.of_gates, replay)?;
+    numbers(alloc, &OF_REPLAYS, &texts.of_replays, replay)?
+        .arg(flag(alloc, "https", "Reads https URLs too"))?
+        .arg(flag(
+            alloc,
+            "export",
+            "Writes the history at the end, and no replies",
+        ))
+}
+
+// The words of `shift`.
+fn shift_words<'a>(alloc: Global, texts: &'a OptionTexts) -> Result<Command<'a>, AllocError> {
+    let shift = Command::new(alloc, "shift")
+        .about("Fetches the pages of the jobs on standard input, and writes what came of them")
+        .after_help(help::SHIFT);
+    let shift = numbers(alloc, &OF_GATES, &texts.of_gates, shift)?;
+    let shift = numbers(alloc, &OF_SHIFTS, &texts.of_shifts, shift)?;
+    time_words(alloc, texts, shift)?
+        .arg(flag(
+            alloc,
+            "export",
+            "Writes the history at the end, and no outcomes",
+        ))?
+        .arg(flag(
+            alloc,
+            "tsv",
+            "Writes a table of the hops, each as soon as it has ended",
+        )
+        .conflicts_with("export")?)?
+        .arg(flag(
+            alloc,
+            "skip",
+            "Tells lines that are no jobs on standard error, and does the others",
+        ))?
+        .arg(journal_word(alloc).conflicts_with("export")?)?
+        .arg(sync_word(alloc)?)
+}
+
+// The words of `serve`.
+fn serve_words<'a>(alloc: Global, texts: &'a OptionTexts) -> Result<Command<'a>, AllocError> {
+    let serve = Command::new(alloc, "serve")
+        .about(
+            "Answers clients of this machine that connect to a port of 127.0.0.1 or to a socket, a reply a line",
+        )
+        .after_help(help::SERVE);
+    let serve = numbers(alloc, &OF_PORTS, &texts.of_ports, serve)?.arg(
+        Arg::new(alloc, "socket")
+            .long("socket")
+            .value_name("PATH")
+            .action(ArgAction::Set)
+            .help("Socket to listen at in place of a port, a file that its owner alone can open")
+            .conflicts_with("port")?,
+    )?;
+    let serve = numbers(alloc, &OF_SERVERS, &texts.of_servers, serve)?;
+    let serve = numbers(alloc, &OF_GATES, &texts.of_gates, serve)?;
+    let serve = time_words(alloc, texts, serve)?
+        .arg(journal_word(alloc))?
+        .arg(sync_word(alloc)?)?;
+    numbers(alloc, &OF_CLIENTS, &texts.of_clients, serve)?.arg(flag(
+        alloc,
+        "endless",
+        "Takes connections without end, until the process is ended",
+    )
+    .conflicts_with("connections")?)
+}
+
+// The words of `check`.
+fn check_words<'a>(alloc: Global) -> Result<Command<'a>, AllocError> {
+    Command::new(alloc, "check")
+        .about("Says of URLs whether a robots.txt allows them, and by which line")
+        .after_help(help::CHECK)
+        .arg(
+            Arg::new(alloc, "token")
+                .value_name("TOKEN")
+                .required(true)
+                .action(ArgAction::Set)
+                .help("Product token of the crawler: 1 to 64 letters, - and _"),
+        )?
+        .arg(
+            Arg::new(alloc, "url")
+                .value_name("URL")
+                .required(true)
+                .num_args(1..)
+                .action(ArgAction::Append)
+                .help("URLs, or paths that begin with /; - alone reads them from the input"),
+        )?
+        .arg(
+            Arg::new(alloc, "robots")
+                .long("robots")
+                .value_name("FILE")
+                .action(ArgAction::Set)
+                .help("Reads the robots.txt from this file, and not from the input"),
+        )?
+        .arg(flag(
+            alloc,
+            "explain",
+            "Writes before each answer the lines that it comes from, and why the one that decides does",
+        ))
+}
+
+// The limits of time of fetches, in seconds, where they lead, and by which program to https sites.
+fn time_words<'a>(
+    alloc: Global,
+    texts: &'a OptionTexts,
+    command: Command<'a>,
+) -> Result<Command<'a>, AllocError> {
+    numbers(alloc, &OF_FETCHES, &texts.of_fetches, command)?
+        .arg(flag(
+            alloc,
+            "public",
+            "Connects to addresses of the public internet alone",
+        ))?
+        .arg(
+            Arg::new(alloc, "tls-by")
+                .long("tls-by")
+                .value_name("ADDRESS:PORT")
+                .action(ArgAction::Set)
+                .help(
+                    "Reads https URLs too, by the TLS program that listens at this address of the loopback",
+                ),
+        )?
+        .arg(
+            Arg::new(alloc, "contact")
+                .long("contact")
+                .value_name("TEXT")
+                .action(ArgAction::Set)
+                .help("Tells sites whom to write to: User-Agent is the product token and (TEXT)"),
+        )
+}
+
+// Where the journal of the gate stands.
+fn journal_word<'a>(alloc: Global) -> Arg<'a> {
+    Arg::new(alloc, "journal")
+        .long("journal")
+        .value_name("FOLDER")
+        .action(ArgAction::Set)
+        .help(
+            "Writes the history to files of this folder before anything of it is told, and goes on where they end",
+        )
+}
+
+// When it is synced.
+fn sync_word<'a>(alloc: Global) -> Result<Arg<'a>, AllocError> {
+    Arg::new(alloc, "journal-sync")
+        .long("journal-sync")
+        .value_name("WHEN")
+        .action(ArgAction::Set)
+        .help(
+            "When that outlives the machine too: always before it is told, second by second, or never; always, where it is left out",
+        )
+        .requires_arg("journal")
+}
+
+// The options that are numbers, with what the help shows of each.
+fn numbers<'a>(
+    alloc: Global,
+    options: &[NumberOption],
+    texts: &'a [OptionText],
+    command: Command<'a>,
+) -> Result<Command<'a>, AllocError> {
+    let mut command = command;
+    for (option, text) in options.iter().zip(texts) {
+        command = command.arg(number(alloc, *option, text))?;
+    }
+    Ok(command)
+}
+
+// An option with a number in its range, which is matched under the name that it has in the words, and has its usual one.
+fn number<'a>(alloc: Global, option: NumberOption, text: &'a OptionText) -> Arg<'a>
+    ensures id { result.id.now ≡ option.name.now }
+    ensures long { result.long ≡ Some option.name }
+{
+    let number = Arg::new(alloc, option.name)
+        .long(option.name)
+        .value_name("N")
+        .action(ArgAction::Set)
+        .value_parser(clap::value_parser!(u64).range(option.least as i64..=option.most as i64))
+        .help(text.about.as_str());
+    match &text.usual {
+        Some(usual) => number.default_value(usual.as_str()),
+        None => number,
+    }
+}
+
+// An option that is there or not.
+fn flag<'a>(alloc: Global, name: &'static str, about: &'static str) -> Arg<'a> {
+    Arg::new(alloc, name)
+        .long(name)
+        .action(ArgAction::SetTrue)
+        .help(about)
+}

@@ -1,0 +1,20 @@
+//! The arguments of the program's command line, and the options that they set.
+//! docs/crawlgate.1.md has them all.
+#![tactic(auto)]
+
+mod checked;
+mod command;
+mod contact;
+mod help;
+mod journal;
+mod number_options;
+mod numbers;
+mod subcommand;
+mod tls;
+mod words;
+
+pub use subcommand::{
+    Ahead, BadJobs, CheckOptions, CheckedText, CheckedUrls, Contact, JournalOptions, ListenAddress,
+    Notes, ReplayOptions, ServeOptions, ShiftOptions, ShiftOutput, Subcommand,
+};
+pub use words::options;

@@ -1,0 +1,100 @@
+//! The options that are numbers, each matched under its own name and in its range.
+//! `number_options` has their table.
+ghost use Rattle.std.specs.Prelude.{◌≡◌, ◌≤◌, IfSome};
+ghost use Rattle.permit_book.specs.Numbers.{last_generation};
+ghost use Rattle.gate_core.specs.Limits.{AreLimits};
+ghost use Rattle.clap.specs.Words.{found_of};
+ghost use Rattle.client_connections.specs.Accepts.{AreServed};
+ghost use Rattle.program_arguments.specs.Options.{AreConnectionsOf, AreLimitsOf, AreTimesOf, IsAheadOf, IsAllowedAhead, IsBoundOf, IsNumberOf};
+ghost use Rattle.http_client.specs.TimeLimits.{AreWithin};
+
+use crate::number_options::{
+    AHEAD, AUTHORITIES, CONNECT, CONNECTIONS, FETCH, LOG, NumberOption, PLACES, READ, SLOTS,
+};
+use crate::subcommand::Ahead;
+use clap::ArgMatches;
+use client_connections::Connections;
+use gate_core::Limits;
+use http_client::TimeLimits;
+
+/// The limits that the options set, where each is in its range.
+pub(crate) fn limits_of(matches: &ArgMatches<'_>, first_generation: u64) -> Option<Limits>
+    requires { (1 ≤ first_generation) × (first_generation ≤ last_generation) }
+    ensures range { IfSome result AreLimits }
+    ensures first { IfSome result (λ limits. limits.first_generation ≡ first_generation) }
+    ensures words { IfSome result (AreLimitsOf (found_of matches.now)) }
+{
+    Some(Limits {
+        slots: number_of(matches, SLOTS)?,
+        first_generation,
+        log_limit: number_of(matches, LOG)?,
+        authority_limit: number_of(matches, AUTHORITIES)?,
+        places: number_of(matches, PLACES)?,
+    })
+}
+
+/// What an option bounds, and no bound where it was left out.
+pub(crate) fn bound_of(matches: &ArgMatches<'_>, option: NumberOption) -> Option<u64>
+    ensures { IfSome result (IsBoundOf (found_of matches.now) option.name.now) }
+{
+    match matches.get_str(option.name) {
+        Some(_) => number_of(matches, option),
+        None => Some(u64::MAX),
+    }
+}
+
+/// The number that was matched under the option's name, where it is in its range.
+pub(crate) fn number_of(matches: &ArgMatches<'_>, option: NumberOption) -> Option<u64>
+    ensures least { IfSome result (λ number. option.least ≤ number) }
+    ensures most { IfSome result (λ number. number ≤ option.most) }
+    ensures word { IfSome result (IsNumberOf (found_of matches.now) option.name.now) }
+{
+    let number = matches.get_one::<u64>(option.name)?;
+    if option.least <= number && number <= option.most {
+        Some(number)
+    } else {
+        None
+    }
+}
+
+/// The port that was matched under the option's name.
+pub(crate) fn port_of(matches: &ArgMatches<'_>, option: NumberOption) -> Option<u16>
+    ensures { IfSome result (IsNumberOf (found_of matches.now) option.name.now) }
+{
+    u16::try_from(number_of(matches, option)?).ok()
+}
+
+/// The limits of time that the options set, where each is in its range.
+pub(crate) fn times_of(matches: &ArgMatches<'_>) -> Option<TimeLimits>
+    ensures within { IfSome result AreWithin }
+    ensures words { IfSome result (AreTimesOf (found_of matches.now)) }
+{
+    let connect = number_of(matches, CONNECT)?;
+    let step = number_of(matches, READ)?;
+    let whole = number_of(matches, FETCH)?;
+    Some(TimeLimits::of_seconds(connect, step, whole))
+}
+
+/// How long the gate fetches for lines sent ahead, and no bound where the option was left out.
+pub(crate) fn ahead_of(matches: &ArgMatches<'_>) -> Option<Ahead>
+    ensures range { IfSome result IsAllowedAhead }
+    ensures words { IfSome result (IsAheadOf (found_of matches.now)) }
+{
+    match matches.get_str("ahead") {
+        Some(_) => Some(Ahead::Seconds(number_of(matches, AHEAD)?)),
+        None => Some(Ahead::Unbounded),
+    }
+}
+
+/// So many connections as the option says, or no end of them.
+pub(crate) fn connections_of(matches: &ArgMatches<'_>) -> Option<Connections>
+    ensures range { IfSome result AreServed }
+    ensures words { IfSome result (AreConnectionsOf (found_of matches.now)) }
+{
+    let count = number_of(matches, CONNECTIONS)?;
+    if matches.get_flag("endless") {
+        Some(Connections::Endless)
+    } else {
+        Some(Connections::AtMost(count))
+    }
+}

@@ -1,0 +1,27 @@
+//! Where the program listens that opens TLS: an address of this machine alone, since what goes there is plain.
+//! docs/crawlgate.1.md has the option.
+ghost use Rattle.std.specs.Prelude.{IfErr, IfOk, IfSome};
+ghost use Rattle.clap.specs.Words.{found_of};
+ghost use Rattle.program_arguments.specs.Tls.{IsLoopback, IsTlsByOf, NamesNoLoopback};
+
+use clap::ArgMatches;
+use std::net::SocketAddr;
+
+/// What an option names is no address and port of this machine.
+#[derive(Clone, Copy, Debug, PartialEq, Eq)]
+pub(crate) struct NotLoopback;
+
+/// The address and port that the option names, if it is there.
+pub(crate) fn tls_by_of(matches: &ArgMatches<'_>) -> Result<Option<SocketAddr>, NotLoopback>
+    ensures range { IfOk result (λ found. IfSome found IsLoopback) }
+    ensures words { IfOk result (IsTlsByOf (found_of matches.now)) }
+    ensures refused { IfErr result (λ _. NamesNoLoopback (found_of matches.now)) }
+{
+    let Some(text) = matches.get_str("tls-by") else {
+        return Ok(None);
+    };
+    match text.parse::<SocketAddr>() {
+        Ok(address) if address.ip().is_loopback() => Ok(Some(address)),
+        _ => Err(NotLoopback),
+    }
+}

@@ -1,0 +1,38 @@
+//! What the program's words ask for, but for a shift and a server, done over the standard streams; how it
+//! ends.
+//! docs/crawlgate.1.md is the program's manual page.
+#![tactic(auto)]
+
+mod asked;
+mod audit_result;
+mod audits;
+mod books;
+mod checks;
+mod ending;
+mod journals;
+mod message;
+mod next;
+mod reasoned;
+mod records;
+mod replays;
+mod robots_file;
+mod server_line;
+mod streams;
+mod telling;
+
+pub use asked::run;
+pub use books::new_book;
+pub use ending::Ending;
+pub use journals::{
+    tell_bad_folder, tell_bad_journal, tell_failed_journal, tell_few_slots, tell_full_journal,
+    tell_short_journal, tell_torn_line, tell_unread_journal,
+};
+pub use message::Message;
+pub use next::Next;
+pub use reasoned::Reasoned;
+pub use server_line::ServerLine;
+pub use streams::Stream;
+pub use telling::{
+    tell_bad_line, tell_ending, tell_failed, tell_full_log, tell_listening, tell_listening_at,
+    tell_no_place, tell_sealing, tell_served,
+};

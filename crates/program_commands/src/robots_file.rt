@@ -1,0 +1,38 @@
+//! The robots.txt that `check --robots` names.
+//! docs/crawlgate.1.md has what is told where it can't be read.
+ghost use Rattle.std.specs.Prelude.{◌≡◌, ◌+◌, IfSome, IfOk, take};
+ghost use Rattle.robots_text.specs.Lines.{text_limit};
+
+use crate::ending::Ending;
+use robots_check::MAX_BODY;
+use std::alloc::Global;
+use std::fs::File;
+use std::io;
+use std::io::Read;
+
+/// Reads a file, but no more of it than a robots text needs. What hinders that is told.
+pub(crate) fn read_file(rt: &HostRuntime, name: &str) -> Result<Vec<u8>, Ending> {
+    match read_named(rt, name) {
+        Ok(body) => Ok(body),
+        Err(error) if error.kind() == io::ErrorKind::OutOfMemory => Err(Ending::NoMemory),
+        Err(error) => {
+            // A standard error that fails too leaves the status alone.
+            let _ = eprintln!(rt; "crawlgate: cannot read {name:?}: {error}");
+            Err(Ending::BadFile)
+        }
+    }
+}
+
+fn read_named(rt: &HostRuntime, name: &str) -> io::Result<Vec<u8>> {
+    read_front(rt.alloc(), File::open(rt, name)?)
+}
+
+/// Reads a reader to its end, but no more than `MAX_BODY` octets.
+pub(crate) fn read_front<R: Read + Drop>(alloc: Global, reader: R) -> io::Result<Vec<u8>>
+    ensures { IfOk result (λ body. IfSome (R.remaining reader) (λ octets.
+        body.items ≡ take (text_limit + 1) octets)) }
+{
+    let mut body = Vec::new(alloc);
+    reader.take(MAX_BODY as u64).read_to_end(&mut body)?;
+    Ok(body)
+}

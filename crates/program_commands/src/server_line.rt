@@ -1,0 +1,51 @@
+//! The lines that a server writes: where it listens, and what it has done.
+//! docs/FORMATS.md has them.
+ghost use Rattle.std.specs.Prelude.{◌≡◌};
+ghost use Rattle.line_text.specs.Pieces.{pieces_text};
+ghost use Rattle.program_commands.specs.ServerLines.{server_text};
+
+use line_text::{Piece, Pieces};
+
+/// A line that a server writes.
+#[derive(Clone, Copy)]
+pub enum ServerLine<'a> {
+    /// Clients may connect at this port of the loopback.
+    Listens { port: u16 },
+    /// Clients may connect at the socket of this path.
+    ListensAt { path: &'a str },
+    /// Overseers may connect at this port of the loopback.
+    SealsAt { port: u16 },
+    /// So many connections were accepted, and so many entries the history has.
+    Served { connections: u64, events: u64 },
+}
+
+impl<'a> ServerLine<'a> {
+    /// The line.
+    pub fn pieces(self) -> Pieces<'a>
+        ensures { pieces_text result ≡ server_text self.entry }
+    {
+        match self {
+            ServerLine::Listens { port } => Pieces::of(&[
+                Piece::Text("LISTEN 127.0.0.1:"),
+                Piece::Number(u64::from(port)),
+                Piece::Text("\n"),
+            ]),
+            ServerLine::ListensAt { path } => Pieces::two_words("LISTEN", Piece::Text(path)),
+            ServerLine::SealsAt { port } => Pieces::of(&[
+                Piece::Text("SEAL 127.0.0.1:"),
+                Piece::Number(u64::from(port)),
+                Piece::Text("\n"),
+            ]),
+            ServerLine::Served {
+                connections,
+                events,
+            } => Pieces::of(&[
+                Piece::Text("SERVED connections "),
+                Piece::Number(connections),
+                Piece::Text(" events "),
+                Piece::Number(events),
+                Piece::Text("\n"),
+            ]),
+        }
+    }
+}

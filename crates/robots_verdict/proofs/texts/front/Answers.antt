@@ -1,8 +1,0 @@
--- The octets spell the number.
--- The lemma of `Spelling` says so.
-use Rattle.std.proofs.Common.{arith}
-use Rattle.robots_verdict.proofs.Spelling.{first_eight}
-use Rattle.robots_verdict.proofs.texts.front.Goals as goal
-
-pub returns : goal.returns
-returns c = omega (arith, c.from_be_bytes.ensures, first_eight 0 c.args.text.now)

@@ -1,0 +1,91 @@
+//! Sites in memory, whose responses are written down. They stand in for a network in tests.
+ghost use Rattle.std.specs.Prelude.{◌≡◌};
+ghost use Rattle.std.specs.Option.{option_map};
+ghost use Rattle.scripted_sites.specs.Scripted.{IsScripted, scripted_response};
+
+use counted_io::Counted;
+use fetchers::{Fetcher, PageLeave, RobotsLeave};
+use http_client::{Deadline, Failure};
+use http_wire::{HttpReply, WireFault, read_response};
+use path_normal::{PageUrl, Schemes};
+use robots_text::MAX_TEXT;
+use std::alloc::Global;
+
+// The octets of a robots.txt that are read: what is kept, and one that tells that there are more.
+const ROBOTS_LIMIT: usize = MAX_TEXT + 1;
+
+/// A page of a site in memory: its URL as `PageUrl::text` gives it, and its response, heads and all.
+#[derive(Clone, Copy)]
+pub struct ScriptedPage<'a> {
+    pub url: &'a str,
+    pub response: &'a [u8],
+}
+
+/// What fetches from pages in memory. For a URL that none of them has it gives `Device`, as of a
+/// host that is not there.
+#[derive(Drop)]
+pub struct ScriptedSites<'a> {
+    pub alloc: Global,
+    /// Of two pages with one URL the first counts.
+    pub pages: &'a [ScriptedPage<'a>],
+}
+
+impl<'a> ScriptedSites<'a> {
+    // The response that is written down for a URL.
+    fn response(&self, url: &PageUrl) -> Option<&'a [u8]>
+        ensures { option_map (λ response. response.now) result
+            ≡ scripted_response self.now.pages.now url.now }
+    {
+        for page in self.pages {
+            if page.url == url.text() {
+                return Some(page.response);
+            }
+        }
+        None
+    }
+
+    fn answer(&self, url: &PageUrl, limit: usize) -> Result<HttpReply, WireFault>
+        ensures { IsScripted self.now.pages.now url.now limit result }
+    {
+        match self.response(url) {
+            Some(response) => read_response(self.alloc, &mut Counted::new(response), limit),
+            None => Err(WireFault::Device),
+        }
+    }
+}
+
+impl<'a> Fetcher for ScriptedSites<'a> {
+    ghost use Rattle.scripted_sites.specs.Scripted.{GivesScripted};
+    ghost use Rattle.path_normal.specs.declared.schemes.Schemes.TheVariants.{Http};
+
+    ghost gives = { λ sites. GivesScripted sites.pages.now };
+
+    ghost follows = { λ _. Http };
+
+    /// Sites in memory are of `http` alone.
+    fn schemes(&self) -> Schemes {
+        Schemes::Http
+    }
+
+    fn load_page(
+        &self,
+        leave: PageLeave<'_>,
+        limit: usize,
+        _failure: &mut Option<Failure>,
+    ) -> Result<HttpReply, WireFault> {
+        let given = self.answer(leave.url(), limit);
+        leave.spend();
+        given
+    }
+
+    fn load_robots(
+        &self,
+        leave: RobotsLeave<'_>,
+        _time: Option<Deadline>,
+        _failure: &mut Option<Failure>,
+    ) -> Result<HttpReply, WireFault> {
+        let given = self.answer(leave.url(), ROBOTS_LIMIT);
+        leave.spend();
+        given
+    }
+}

@@ -1,6 +1,0 @@
--- The octets of a connection are nobody's to know, so the exchange tells what some octets give.
-use Rattle.tcp_wire.proofs.Exchanges.{exchange_tells}
-use Rattle.tcp_wire.proofs.tcp_client.TcpClient.fetch_straight.Goals as goal
-
-pub returns : goal.returns
-returns g c = exchange_tells _ _ _ _ _ _ _ _ _ c.exchange-given.ensures
