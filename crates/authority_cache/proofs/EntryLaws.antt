@@ -1,5 +1,5 @@
--- Entries of maps: look-ups, counts and tests of all, after an entry was written, added or taken away.
--- Cited by `SiteLaws`, which says it of what is known of authorities.
+-- Entries of maps: look-ups, counts and tests after an entry was written, added or removed.
+-- Used by `SiteLaws` for what is known of authorities.
 use Rattle.std.proofs.Common.{◌≡◌, ◌≢◌, ℕ, ◌+◌, ◌-◌, ◌<◌, ◌≤◌, ◌==◌, ◌⊎◌, zero, suc, Bool, true, false, cond, ◌&&◌, List, [], ◌∷◌, ◌++◌, length, filter, map, get_or, set, Some, None, is_some, unwrap_or, inl, inr, refl, sym, ap, ◌∙◌, true≢false, arith}
 use Rattle.std.specs.Prelude.{slice_get, swap_remove}
 use Rattle.std.specs.List.{list_all, sum_by}
@@ -13,7 +13,6 @@ use Rattle.std.proofs.lemmas.Option.{slice_get-get_or}
 use Rattle.indexmap.specs.IndexMap.{set_value_at}
 use Rattle.authority_cache.specs.Calls.{one_if}
 
--- a count of what passes a test, from the first element on
 pub count-cons : {X : Type 0} (test : X → Bool) (x : X) (xs : List X) →
     length (filter test (x ∷ xs)) ≡ one_if (test x) + length (filter test xs)
 count-cons test x xs = by (test x)
@@ -22,7 +21,6 @@ count-cons test x xs = by (test x)
     by true = omega arith
     by false = omega arith
 
--- a count of what passes a test, with one element more
 pub count-push : {X : Type 0} (test : X → Bool) (xs : List X) (x : X) →
     length (filter test (xs ++ x ∷ [])) ≡ length (filter test xs) + one_if (test x)
 count-push test [] x = omega (arith, count-cons test x [])
@@ -38,7 +36,6 @@ count-bound test (x ∷ xs) = by (test x) (count-bound test xs)
     by true fewer = omega arith
     by false fewer = omega arith
 
--- where all pass a test, its count is that of all
 pub count-all : {X : Type 0} (test : X → Bool) (xs : List X) → list_all test xs ≡ true → length (filter test xs) ≡ length xs
 count-all test [] all = refl
 count-all test (x ∷ xs) all = by (test x) (count-all test xs) all
@@ -49,7 +46,6 @@ count-all test (x ∷ xs) all = by (test x) (count-all test xs) all
     by false rest all = absurd (true≢false (sym all))
 
 module _ {K X : Type 0} where
-  -- where all values pass a test, the one that is found does
   pub all-lookup : (test : X → Bool) (key : K → Bool) (es : List (K × X)) (v : X) → list_all (λ e. test e.1) es ≡ true →
       lookup key es ≡ Some v → test v ≡ true
   all-lookup test key [] v all found = cc
@@ -61,7 +57,6 @@ module _ {K X : Type 0} where
       by false true passes rest all found = rest all found
       by b false passes rest all found = absurd (true≢false (sym all))
 
-  -- all values pass a test still, where the one that is written does
   pub all-set_value : (test : X → Bool) (key : K → Bool) (es : List (K × X)) (w : X) → list_all (λ e. test e.1) es ≡ true →
       test w ≡ true → list_all (λ e. test e.1) (set_value key es w) ≡ true
   all-set_value test key [] w all passes = refl
@@ -73,7 +68,6 @@ module _ {K X : Type 0} where
       by false true was rest all = rw was (rest all)
       by b false was rest all = absurd (true≢false (sym all))
 
-  -- a count of the values that pass a test, after one was written
   pub count-set_value : (test : X → Bool) (key : K → Bool) (es : List (K × X)) (v w : X) → lookup key es ≡ Some v →
       length (filter (λ e. test e.1) (set_value key es w)) + one_if (test v) ≡ length (filter (λ e. test e.1) es) + one_if (test w)
   count-set_value test key [] v w found = cc
@@ -91,7 +85,6 @@ module _ {K X : Type 0} where
           let later = rest found in
           omega (arith, count-cons (λ (e : K × X). test e.1) e (set_value key es w), count-cons (λ (e : K × X). test e.1) e es)
 
-  -- an entry that is written as it was
   pub set_value-same : (key : K → Bool) (es : List (K × X)) (v : X) → lookup key es ≡ Some v → set_value key es v ≡ es
   set_value-same key [] v found = refl
   set_value-same key (e ∷ es) v found = by (key e.0) (set_value-same key es v) found
@@ -101,7 +94,6 @@ module _ {K X : Type 0} where
       by true rest found = let same : e.1 ≡ v = cc in ap (λ x. (e.0, x) ∷ es) (sym same)
       by false rest found = ap (λ later. e ∷ later) (rest found)
 
-  -- what is found of entries of which one is new
   pub lookup-push : (key : K → Bool) (es : List (K × X)) (k : K) (v : X) → lookup key es ≡ None →
       lookup key (es ++ (k, v) ∷ []) ≡ cond (key k) (Some v) None
   lookup-push key [] k v none = refl
@@ -113,7 +105,6 @@ module _ {K X : Type 0} where
       by true rest none = cc
       by false rest none = rest none
 
-  -- what another key finds of them
   pub lookup-push_other : (key : K → Bool) (es : List (K × X)) (k : K) (v : X) → key k ≡ false →
       lookup key (es ++ (k, v) ∷ []) ≡ lookup key es
   lookup-push_other key [] k v other = rw other refl
@@ -124,7 +115,6 @@ module _ {K X : Type 0} where
       by true rest = refl
       by false rest = rest
 
-  -- what a key finds of entries of which each was changed
   pub lookup-map : {L Y : Type 0} (f : K → L) (g : X → Y) (test : L → Bool) (es : List (K × X)) →
       lookup test (map (λ e. (f e.0, g e.1)) es) ≡ option_map g (lookup (λ k. test (f k)) es)
   lookup-map f g test [] = refl
@@ -135,7 +125,6 @@ module _ {K X : Type 0} where
       by true rest = refl
       by false rest = rest
 
-  -- a count of entries of which each was changed
   pub count-map : {L Y : Type 0} (f : K → L) (g : X → Y) (test : Y → Bool) (es : List (K × X)) →
       length (filter (λ (p : L × Y). test p.1) (map (λ e. (f e.0, g e.1)) es)) ≡ length (filter (λ e. test (g e.1)) es)
   count-map f g test [] = refl
@@ -147,13 +136,11 @@ module _ {K X : Type 0} where
         count-cons (λ (p : K × X). test (g p.1)) e es,
       )
 
-  -- a test of all entries of which each was changed
   pub all-map : {L Y : Type 0} (f : K → L) (g : X → Y) (test : Y → Bool) (es : List (K × X)) →
       list_all (λ (p : L × Y). test p.1) (map (λ e. (f e.0, g e.1)) es) ≡ list_all (λ e. test (g e.1)) es
   all-map f g test [] = refl
   all-map f g test (e ∷ es) = ap (λ later. test (g e.1) && later) (all-map f g test es)
 
--- all pass a test, and one more that does
 pub all-push : {X : Type 0} (test : X → Bool) (xs : List X) (x : X) → list_all test xs ≡ true → test x ≡ true →
     list_all test (xs ++ x ∷ []) ≡ true
 all-push test [] x all passes = rw passes refl
@@ -164,7 +151,6 @@ all-push test (y ∷ xs) x all passes = by (test y) refl (λ rest. all-push test
     by true is rest all = rw is (rest all)
     by false is rest all = absurd (true≢false (sym all))
 
--- where all pass a test, the one at an index does
 pub all-at : {X : Type 0} (test : X → Bool) (xs : List X) (i : ℕ) (x : X) → list_all test xs ≡ true → slice_get xs i ≡ Some x → test x ≡ true
 all-at test [] i x all at = absurd (true≢false (ap is_some (sym at)))
 all-at test (y ∷ xs) zero x all at = by (test y) refl all
@@ -178,12 +164,10 @@ all-at test (y ∷ xs) (suc i) x all at = by (test y) all (λ rest. all-at test 
     by true all rest = rest all
     by false all rest = absurd (true≢false (sym all))
 
--- all pass a test where the one at each index does
 pub all-from : {X : Type 0} (test : X → Bool) (xs : List X) → ((i : ℕ) (x : X) → slice_get xs i ≡ Some x → test x ≡ true) → list_all test xs ≡ true
 all-from test [] each = refl
 all-from test (x ∷ xs) each = rw (each 0 x refl) (all-from test xs (λ i y at. each (suc i) y at))
 
--- two tests that agree on all count alike
 pub count-alike : {X : Type 0} (ok test other : X → Bool) → ((x : X) → ok x ≡ true → test x ≡ other x) → (xs : List X) → list_all ok xs ≡ true →
     length (filter test xs) ≡ length (filter other xs)
 count-alike ok test other same [] all = refl
@@ -196,29 +180,24 @@ count-alike ok test other same (x ∷ xs) all = by (ok x) refl all (λ later. co
         omega (arith, here, later all, count-cons test x xs, count-cons other x xs)
     by false is all later = absurd (true≢false (sym all))
 
--- none pass a test that nothing passes
 pub count-none : {X : Type 0} (xs : List X) → length (filter (λ (x : X). false) xs) ≡ 0
 count-none [] = refl
 count-none (x ∷ xs) = count-none xs
 
--- an index at which something stands is one of the list's
 pub at-within : {X : Type 0} (xs : List X) (i : ℕ) (x : X) → slice_get xs i ≡ Some x → (i < length xs) × (get_or xs i x ≡ x)
 at-within [] i x at = absurd (true≢false (ap is_some (sym at)))
 at-within (y ∷ xs) zero x at = (omega arith, ap (λ o. unwrap_or o y) at)
 at-within (y ∷ xs) (suc i) x at = let rest = at-within xs i x at in (omega (arith, rest.0), rest.1)
 
--- an entry stands at each index of a list
 pub entry-at : {X : Type 0} (xs : List X) (i : ℕ) → i < length xs → (x : X) × (slice_get xs i ≡ Some x)
 entry-at [] i low = absurd (omega (arith, low))
 entry-at (x ∷ xs) zero low = (x, refl)
 entry-at (x ∷ xs) (suc i) low = entry-at xs i (omega (arith, low))
 
--- what stands at an index of a list
 at-from : {X : Type 0} (xs : List X) (i : ℕ) (d x : X) → i < length xs → get_or xs i d ≡ x → slice_get xs i ≡ Some x
 at-from xs i d x low is = slice_get-get_or xs i d low ∙ ap Some is
 
 module _ {K X : Type 0} where
-  -- what stands at another index than that of a value that was written
   pub at-written_other : (es : List (K × X)) (i j : ℕ) (w : X) → j ≢ i → slice_get (set_value_at es i w) j ≡ slice_get es j
   at-written_other [] i j w other = refl
   at-written_other (e ∷ es) zero zero w other = absurd (other refl)
@@ -226,33 +205,29 @@ module _ {K X : Type 0} where
   at-written_other (e ∷ es) (suc i) zero w other = refl
   at-written_other (e ∷ es) (suc i) (suc j) w other = at-written_other es i j w (λ same. other (ap suc same))
 
-  -- what was written as it was
   pub written-same : (es : List (K × X)) (i : ℕ) (v : X) → slice_get (values_of es) i ≡ Some v → set_value_at es i v ≡ es
   written-same [] i v at = refl
   written-same (e ∷ es) zero v at = ap (λ o. (e.0, unwrap_or o v) ∷ es) (sym at)
   written-same (e ∷ es) (suc i) v at = ap (λ later. e ∷ later) (written-same es i v at)
 
-  -- the keys stay
   pub keys-written : (es : List (K × X)) (i : ℕ) (w : X) → keys_of (set_value_at es i w) ≡ keys_of es
   keys-written [] i w = refl
   keys-written (e ∷ es) zero w = refl
   keys-written (e ∷ es) (suc i) w = ap (λ ks. e.0 ∷ ks) (keys-written es i w)
 
-  -- and at its own
   pub at-written : (es : List (K × X)) (i : ℕ) (e : K × X) (w : X) → slice_get es i ≡ Some e → slice_get (set_value_at es i w) i ≡ Some (e.0, w)
   at-written [] i e w at = absurd (true≢false (ap is_some (sym at)))
   at-written (f ∷ es) zero e w at = ap (λ o. Some ((unwrap_or o f).0, w)) at
   at-written (f ∷ es) (suc i) e w at = at-written es i e w at
 
--- what stands at an index of a list with one element more
 pub at-push : {X : Type 0} (xs : List X) (x y : X) (i : ℕ) → slice_get (xs ++ x ∷ []) i ≡ Some y → (slice_get xs i ≡ Some y) ⊎ (x ≡ y)
 at-push [] x y zero at = inr (ap (λ o. unwrap_or o x) at)
 at-push [] x y (suc i) at = absurd (true≢false (ap is_some (sym at)))
 at-push (z ∷ xs) x y zero at = inl at
 at-push (z ∷ xs) x y (suc i) at = at-push xs x y i at
 
--- what stands at an index after one was taken away and the last came into its place: it stood there, or
--- elsewhere than the one that was taken
+-- after an element was removed and the last took its place, each element was there before, at its own index or
+-- elsewhere
 pub at-swapped : {X : Type 0} (xs : List X) (i j : ℕ) (d x : X) → i < length xs → slice_get (swap_remove xs i d) j ≡ Some x →
     (j ≢ i → slice_get xs j ≡ Some x) × ((k : ℕ) × (k ≢ i) × (slice_get xs k ≡ Some x))
 at-swapped {X = X} xs i j d x low at = by (j == i) refl
@@ -279,18 +254,15 @@ at-swapped {X = X} xs i j d x low at = by (j == i) refl
         let stays : slice_get xs j ≡ Some x = at-from xs j x x (omega (arith, few, there.0)) (sym (get_or-set_other xs i j last x apart) ∙ is) in
         (λ o. stays, (j, apart, stays))
 
--- a list without the one that was taken is shorter by one
 pub length-swapped : {X : Type 0} (xs : List X) (i : ℕ) (d : X) → i < length xs → length (swap_remove xs i d) + 1 ≡ length xs
 length-swapped xs i d low =
     let few = length-take-le (length xs - 1) (set xs i (get_or xs (length xs - 1) d)) (omega (arith, length-set xs i (get_or xs (length xs - 1) d))) in
     omega (arith, few, low)
 
--- a count is a sum
 count-sum : {X : Type 0} (test : X → Bool) (xs : List X) → length (filter test xs) ≡ sum_by (λ x. one_if (test x)) xs
 count-sum test [] = refl
 count-sum test (x ∷ xs) = omega (arith, count-sum test xs, count-cons test x xs, sum_by-cons (λ x. one_if (test x)) x xs)
 
--- a count, without the one that was taken
 pub count-swapped : {X : Type 0} (test : X → Bool) (xs : List X) (i : ℕ) (x : X) → slice_get xs i ≡ Some x →
     length (filter test (swap_remove xs i x)) + one_if (test x) ≡ length (filter test xs)
 count-swapped test xs i x at =

@@ -1,5 +1,5 @@
--- An authority that was found stands where it was found.
--- Cited by the proofs of `find.rt`, `look.rt` and `begin.rt`.
+-- A found authority is where it was found.
+-- Used for `find.rt`, `look.rt` and `begin.rt`.
 use Rattle.std.proofs.Common.{◌≡◌, ℕ, ◌<◌, ◌∷◌, [], Bool, true, false, cond, zero, suc, List, length, Option, Some, None, IfSome, IfNone, is_some, unwrap_or, string_bytes, refl, sym, ap, subst, ◌∙◌, true≢false, arith}
 use Rattle.std.specs.Prelude.{option_and_then, slice_get}
 use Rattle.std.specs.declared.string.String.{String}
@@ -17,7 +17,6 @@ use Rattle.authority_cache.specs.Sites.{AreApart, Known, State, is_known, nothin
 use Rattle.authority_cache.proofs.EntryLaws.{all-at, all-map}
 use Rattle.authority_cache.proofs.SiteLaws.{found-said, is_named, same_text}
 
--- what is known of an authority that was found
 pub state_found : (k : Known) (authority : List ℕ) (found : FoundSite) → IsFound k authority found → state_at k found ≡ site_of k authority
 state_found k authority found is = by found.index refl is.some is.none
   where
@@ -30,7 +29,6 @@ state_found k authority found is = by found.index refl is.some is.none
         ap (λ o. unwrap_or (option_map (λ (e : List ℕ × State). e.1) (option_and_then (slice_get k.sites) o)) nothing_known) at
         ∙ ap (λ o. unwrap_or (option_map (λ (e : List ℕ × State). e.1) o) nothing_known) some
 
--- what stands at an index is found
 found_somewhere : (a : List ℕ) (sites : List (List ℕ × State)) (i : ℕ) (s : State) → slice_get sites i ≡ Some (a, s) → is_some (lookup (bytes_eq a) sites) ≡ true
 found_somewhere a [] i s at = absurd (true≢false (ap is_some (sym at)))
 found_somewhere a (e ∷ sites) zero s at =
@@ -43,7 +41,6 @@ found_somewhere a (e ∷ sites) (suc i) s at = by (bytes_eq a e.0) (found_somewh
     by false rest = rest
 
 module _ {Y : Type 0} where
-  -- the key that is found passes the test
   pub key_passes : (test : String Y → Bool) (es : List (String Y × Site)) (k : String Y) → lookup_key test es ≡ Some k → test k ≡ true
   key_passes test [] k found = absurd (true≢false (ap is_some (sym found)))
   key_passes test (e ∷ es) k found = by (test e.0) refl (key_passes test es k) found
@@ -52,19 +49,16 @@ module _ {Y : Type 0} where
       by true is rest found = let same : e.0 ≡ k = ap (λ (o : Option (String Y)). unwrap_or o e.0) found in subst (λ (k : String Y). test k ≡ true) same is
       by false is rest found = rest found
 
-  -- an entry, by what is known
   pub said_at : (es : List (String Y × Site)) (i : ℕ) (e : String Y × Site) → slice_get es i ≡ Some e → slice_get (said_entries es) i ≡ Some (said_entry e)
   said_at [] i e at = absurd (true≢false (ap is_some (sym at)))
   said_at (first ∷ es) zero e at = ap (λ (o : Option (String Y × Site)). Some (said_entry (unwrap_or o first))) at
   said_at (first ∷ es) (suc i) e at = said_at es i e at
 
-  -- an index at which something is known is one of the entries
   pub within : (es : List (String Y × Site)) (i : ℕ) (e : List ℕ × State) → slice_get (said_entries es) i ≡ Some e → i < length es
   within [] i e at = absurd (true≢false (ap is_some (sym at)))
   within (first ∷ es) zero e at = omega arith
   within (first ∷ es) (suc i) e at = omega (arith, within es i e at)
 
-  -- a value that is written at the index of an authority is written at the authority
   pub written_at : (a : List ℕ) (es : List (String Y × Site)) (i : ℕ) (s : State) (w : Site) → AreApart (said_entries es) → slice_get (said_entries es) i ≡ Some (a, s) →
       set_value_at es i w ≡ set_value (is_named a) es w
   written_at a [] i s w apart at = absurd (true≢false (ap is_some (sym at)))
@@ -79,7 +73,6 @@ module _ {Y : Type 0} where
           absurd (true≢false (sym (found_somewhere a (said_entries es) i s at) ∙ ap is_some (ap (λ (b : List ℕ). lookup (bytes_eq b) (said_entries es)) same ∙ apart.0)))
       by false is rest = ap (λ later. e ∷ later) rest
 
-  -- what stands at the index of an authority is what is found of it
   pub found_at : (a : List ℕ) (es : List (String Y × Site)) (i : ℕ) (s : State) (v : Site) → AreApart (said_entries es) → slice_get (said_entries es) i ≡ Some (a, s) →
       slice_get (values_of es) i ≡ Some v → lookup (is_named a) es ≡ Some v
   found_at a [] i s v apart at is = absurd (true≢false (ap is_some (sym at)))
@@ -94,7 +87,6 @@ module _ {Y : Type 0} where
           absurd (true≢false (sym (found_somewhere a (said_entries es) i s at) ∙ ap is_some (ap (λ (b : List ℕ). lookup (bytes_eq b) (said_entries es)) same ∙ apart.0)))
       by false is rest = rest
 
-  -- what another authority's look-up finds then
   pub others_at : (a b : List ℕ) (es : List (String Y × Site)) (v w : Site) → lookup (is_named a) es ≡ Some v →
       lookup (is_named b) (set_value (is_named a) es w) ≡ cond (bytes_eq a b) (Some w) (lookup (is_named b) es)
   others_at a b [] v w found = absurd (true≢false (ap is_some (sym found)))
@@ -128,13 +120,11 @@ module _ {Y : Type 0} where
           ap (λ o. cond (bytes_eq b (string_bytes e.0)) (Some e.1) o) (rest found)
           ∙ later (bytes_eq a b) (bytes_eq b (string_bytes e.0)) refl refl is
 
-  -- where no entry stands, nothing is known
   pub not_at : (es : List (String Y × Site)) (i : ℕ) → slice_get es i ≡ None → slice_get (said_entries es) i ≡ None
   not_at [] i none = refl
   not_at (first ∷ es) zero none = absurd (true≢false (ap is_some none))
   not_at (first ∷ es) (suc i) none = not_at es i none
 
-  -- where nothing is found of what is known, no entry is
   pub none_said : (a : List ℕ) (es : List (String Y × Site)) → lookup (bytes_eq a) (said_entries es) ≡ None → lookup (is_named a) es ≡ None
   none_said a es none = by (lookup (is_named a) es) (sym (found-said a es) ∙ none)
     where
@@ -142,18 +132,15 @@ module _ {Y : Type 0} where
       by None is = refl
       by (Some v) is = absurd (true≢false (ap is_some is))
 
--- an index that is not Some is None
 pub no_index : (o : Option ℕ) → ((i : ℕ) → o ≡ Some i → ⊥) → o ≡ None
 no_index None none = refl
 no_index (Some i) none = absurd (none i refl)
 
--- nor is it where there is none
 pub empty_index : (o : Option ℕ) → is_some o ≡ false → o ≡ None
 empty_index None none = refl
 empty_index (Some i) none = absurd (true≢false none)
 
 module _ {Y : Type 0} where
-  -- an authority that stands somewhere is known
   pub found_known : (limit : ℕ) (a : List ℕ) (es : List (String Y × Site)) (found : FoundSite) → AllKnown es → IsFound (known_in limit es) a found →
       is_some found.index ≡ true → is_known (site_of (known_in limit es) a) ≡ true
   found_known limit a es found all is some = by found.index is.some some
@@ -166,6 +153,5 @@ module _ {Y : Type 0} where
       by None at some = absurd (true≢false (sym some))
       by (Some i) at some = all-at (λ (p : List ℕ × State). is_known p.1) (said_entries es) i (a, site_of (known_in limit es) a) known at
 
--- an authority stands where it was found
 pub found_index : (k : Known) (a : List ℕ) (found : FoundSite) (i : ℕ) → IsFound k a found → found.index ≡ Some i → slice_get k.sites i ≡ Some (a, site_of k a)
 found_index k a found i is at = subst (λ (o : Option ℕ). IfSome o (λ i. slice_get k.sites i ≡ Some (a, site_of k a))) at is.some

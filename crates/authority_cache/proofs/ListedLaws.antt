@@ -1,5 +1,5 @@
--- The lists of what stands in a cache have of each authority what its state has.
--- Cited by `Cache::standing_answers` and `Cache::turns`.
+-- The lists of the cache's contents have of each authority what its state has.
+-- Used by `Cache::standing_answers` and `Cache::turns`.
 use Rattle.std.proofs.Common.{◌≡◌, ℕ, ◌+◌, zero, suc, All, Bool, true, false, cond, List, [], ◌∷◌, ◌++◌, filter, take, get_or, Option, Some, None, is_some, string_bytes, unwrap_or, refl, sym, ap, subst, ◌∙◌, append_assoc, true≢false}
 use Rattle.std.specs.Prelude.{slice_get}
 use Rattle.std.specs.declared.string.String.{String}
@@ -22,13 +22,11 @@ abbrev pub all_of : {X : Type 0} → (List ℕ → State → List X) → List (L
 all_of has [] = []
 all_of has (e ∷ sites) = has e.0 e.1 ++ all_of has sites
 
--- with one state more
 pub all_more : {X : Type 0} (has : List ℕ → State → List X) (sites : List (List ℕ × State)) (e : List ℕ × State) →
     all_of has (sites ++ e ∷ []) ≡ all_of has sites ++ has e.0 e.1
 all_more has [] e = append-nil (has e.0 e.1)
 all_more has (f ∷ sites) e = ap (λ ys. has f.0 f.1 ++ ys) (all_more has sites e) ∙ sym (append_assoc (has f.0 f.1) (all_of has sites) (has e.0 e.1))
 
--- of an authority that does not stand among them nothing is listed, and of one that does what its state has
 pub listed : {X : Type 0} (has : List ℕ → State → List X) (is_of : List ℕ → X → Bool) →
     ((a : List ℕ) (s : State) → filter (is_of a) (has a s) ≡ has a s) →
     ((a b : List ℕ) (s : State) → bytes_eq b a ≡ false → filter (is_of a) (has b s) ≡ []) →
@@ -51,7 +49,6 @@ listed has is_of own others none a (e ∷ sites) apart = by (bytes_eq a e.0) ref
         both ∙ (ap (λ ys. ys ++ filter (is_of a) (all_of has sites)) here ∙ (ap (λ ys. has a e.1 ++ ys) left ∙ append-nil (has a e.1)))
     by false is rest = both ∙ (ap (λ ys. ys ++ filter (is_of a) (all_of has sites)) (others a e.0 e.1 (other_text a e.0 is)) ∙ rest)
 
--- the answers of a state are its authority's
 pub own_answers : (a : List ℕ) (s : State) → filter (is_answer_for a) (answers_in a s) ≡ answers_in a s
 own_answers a s = by s.standing
   where
@@ -59,7 +56,6 @@ own_answers a s = by s.standing
     by None = refl
     by (Some answered) = rw (same_text a) refl
 
--- and no other's
 pub other_answers : (a b : List ℕ) (s : State) → bytes_eq b a ≡ false → filter (is_answer_for a) (answers_in b s) ≡ []
 other_answers a b s apart = by s.standing
   where
@@ -67,7 +63,6 @@ other_answers a b s apart = by s.standing
     by None = refl
     by (Some answered) = rw apart refl
 
--- so are its turns
 pub own_turns : (a : List ℕ) (s : State) → filter (is_turn_of a) (turns_in a s) ≡ turns_in a s
 own_turns a s = by s.in_flight
   where
@@ -82,7 +77,6 @@ other_turns a b s apart = by s.in_flight
     by None = refl
     by (Some flight) = rw apart refl
 
--- with the state at an index more
 pub listed-more : {X : Type 0} (has : List ℕ → State → List X) (sites : List (List ℕ × State)) (i : ℕ) (e : List ℕ × State) → slice_get sites i ≡ Some e →
     all_of has (take (i + 1) sites) ≡ all_of has (take i sites) ++ has e.0 e.1
 listed-more has sites i e at =
@@ -91,7 +85,6 @@ listed-more has sites i e at =
     ∙ (all_more has (take i sites) (get_or sites i e) ∙ ap (λ (x : List ℕ × State). all_of has (take i sites) ++ has x.0 x.1) there.1)
 
 module _ {Y : Type 0} where
-  -- the name at an index is an authority
   pub named-at : (es : List (String Y × Site)) (i : ℕ) (e : String Y × Site) → slice_get es i ≡ Some e → All IsAuthority (names_in es) → IsAuthority (string_bytes e.0)
   named-at [] i e at all = absurd (true≢false (ap is_some (sym at)))
   named-at (f ∷ es) zero e at all =

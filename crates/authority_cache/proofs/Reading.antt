@@ -1,5 +1,5 @@
--- What is read of the cache and of the lists that it tells is the same.
--- Cited by `readers_are_alike` of `laws.rt`.
+-- What is read of the cache and of lists that agree with it is the same.
+-- Used by `readers_are_alike` of `laws.rt`.
 use Rattle.std.proofs.Common.{◌≡◌, ℕ, ◌==◌, Bool, true, false, cond, ◌&&◌, ◌||◌, List, [], ◌∷◌, filter, Option, Some, None, is_some, option_to_list, refl, sym, ap, ◌∙◌}
 use Rattle.std.proofs.Math.Bool.{or-false}
 use Rattle.std.specs.List.{find, list_any}
@@ -10,7 +10,6 @@ use Rattle.authority_cache.specs.Lists.{answer_for, has_number, is_answer_for, i
 use Rattle.authority_cache.specs.Laws.{TellingReadsAlike}
 use Rattle.authority_cache.proofs.Telling.{list_any-filter}
 
--- two tests find one together where the first finds one among those that the second keeps
 list_any-both : {X : Type 0} (p q : X → Bool) (xs : List X) → list_any (λ x. p x && q x) xs ≡ list_any p (filter q xs)
 list_any-both p q [] = refl
 list_any-both p q (x ∷ xs) = by (p x) (q x) refl (list_any-both p q xs)
@@ -22,7 +21,6 @@ list_any-both p q (x ∷ xs) = by (p x) (q x) refl (list_any-both p q xs)
     by true false is rest = rest
     by false false is rest = rest
 
--- the first that passes a test is the first of those that the test keeps
 find-filter : {X : Type 0} (p : X → Bool) (xs : List X) → find p xs ≡ find (λ _. true) (filter p xs)
 find-filter p [] = refl
 find-filter p (x ∷ xs) = by (p x) (find-filter p xs)
@@ -32,23 +30,19 @@ find-filter p (x ∷ xs) = by (p x) (find-filter p xs)
     by true rest = refl
     by false rest = rest
 
--- one or none is found of one or none
 any-one : {X Y : Type 0} (f : X → Y) (o : Option X) → list_any (λ _. true) (option_to_list (option_map f o)) ≡ is_some o
 any-one f None = refl
 any-one f (Some x) = refl
 
--- the first of one or none
 find-one : {Y : Type 0} (o : Option Y) → find (λ _. true) (option_to_list o) ≡ o
 find-one None = refl
 find-one (Some y) = refl
 
--- the turn of a number among one or none
 numbered-one : (authority : List ℕ) (turn : ℕ) (o : Option Flight) →
     list_any (has_number turn) (option_to_list (option_map (turn_for authority) o)) ≡ option_map_or (λ flight. flight.turn == turn) o false
 numbered-one authority turn None = refl
 numbered-one authority turn (Some flight) = or-false (flight.turn == turn)
 
--- all readers
 pub reads_alike : TellingReadsAlike
 reads_alike k standing in_flight tells = record {
   flying = λ a. sym (flies a);

@@ -1,5 +1,5 @@
 -- What is known of authorities, after an entry of the map was written or added.
--- Cited by the proofs of `cache.rt`, `look.rt`, `begin.rt` and `arrive.rt`.
+-- Used for `cache.rt`, `look.rt`, `begin.rt` and `arrive.rt`.
 use Rattle.std.proofs.Common.{◌≡◌, ℕ, ◌+◌, ◌<◌, ◌≤◌, ◌==◌, ◌&&◌, ◌||◌, ◌↔◌, All, Bool, true, false, cond, not, map, nat_le, List, [], ◌∷◌, ◌++◌, length, filter, Option, Some, None, unwrap_or, Result, Ok, Err, IsErr, IsOk, OnErr, OnOk, is_some, string_bytes, refl, sym, ap, subst, ◌∙◌, true≢false, arith}
 use Rattle.std.specs.declared.string.String.{String}
 use Rattle.std.specs.List.{list_all}
@@ -22,11 +22,9 @@ use Rattle.authority_cache.specs.Calls.{Arrives, Changes, cannot_know, one_if}
 use Rattle.authority_cache.specs.Kept.{AllKnown, known_in, names_in, said_entries}
 use Rattle.authority_cache.proofs.EntryLaws.{all-lookup, all-map, all-push, all-set_value, count-all, count-bound, count-map, count-push, count-set_value, lookup-map, lookup-push, lookup-push_other, set_value-same}
 
--- an authority is itself
 pub same_text : (a : List ℕ) → bytes_eq a a ≡ true
 same_text a = (bytes_eq-Decides a a).1 refl
 
--- two authorities that are not the same, the other way round
 pub other_text : (a b : List ℕ) → bytes_eq a b ≡ false → bytes_eq b a ≡ false
 other_text a b apart = by (bytes_eq b a) refl
   where
@@ -34,12 +32,10 @@ other_text a b apart = by (bytes_eq b a) refl
     by false is = is
     by true is = absurd (true≢false (sym (same_text a) ∙ (ap (bytes_eq a) (sym ((bytes_eq-Decides b a).0 is)) ∙ apart)))
 
--- a test with one that holds
 pub or_true : (b : Bool) → (b || true) ≡ true
 or_true true = refl
 or_true false = refl
 
--- a turn of a number that is in flight is in flight
 turn_flies : (turn : ℕ) (state : State) → has_turn turn state ≡ true → is_flying state ≡ true
 turn_flies turn state has = by state.in_flight has
   where
@@ -47,20 +43,17 @@ turn_flies turn state has = by state.in_flight has
     by None has = absurd (true≢false (sym has))
     by (Some flight) has = refl
 
--- one turn less is in flight where an answer arrived
 pub arrived_fewer : (old new : Known) (a : List ℕ) (turn : ℕ) (answer : Timed) → has_turn turn (site_of old a) ≡ true →
     Changes old a (arrived turn answer.says answer.life (site_of old a)) new → flight_count new + 1 ≡ flight_count old
 arrived_fewer old new a turn answer has changes =
     let was : one_if (is_flying (site_of old a)) ≡ 1 = ap one_if (turn_flies turn (site_of old a) has) in
     omega (arith, was, changes.counts is_flying refl)
 
--- an answer that was refused left all as it was
 pub refused : (old new : Known) (a : List ℕ) (turn : ℕ) (answer : Timed) (r : Result Unit Stale) → IsErr r →
     (has_turn turn (site_of old a) ≡ false) × (new ≡ old) → Arrives old a turn answer r new
 refused old new a turn answer (Ok done) is both = absurd (true≢false (sym is))
 refused old new a turn answer (Err stale) is both = both
 
--- a turn in flight makes an authority known
 pub flying-known : (flight : Flight) (v w : Site) → said_site w ≡ with_flight flight (said_site v) → is_known (said_site w) ≡ true
 flying-known flight v w now = ap is_known now ∙ or_true (is_some (said_site v).standing)
 
@@ -69,27 +62,22 @@ module _ {Y : Type 0} where
   abbrev pub is_named : List ℕ → String Y → Bool
   is_named a k = bytes_eq a (string_bytes k)
 
-  -- what is found of an authority, by what is known
   pub found-said : (a : List ℕ) (es : List (String Y × Site)) →
       lookup (bytes_eq a) (said_entries es) ≡ option_map said_site (lookup (is_named a) es)
   found-said a es = lookup-map string_bytes said_site (bytes_eq a) es
 
-  -- what is known of an authority that is found
   pub state-some : (limit : ℕ) (a : List ℕ) (es : List (String Y × Site)) (v : Site) → lookup (is_named a) es ≡ Some v →
       site_of (known_in limit es) a ≡ said_site v
   state-some limit a es v found = ap (λ o. unwrap_or o nothing_known) (found-said a es ∙ ap (option_map said_site) found)
 
-  -- nothing is known of one that is not
   pub state-none : (limit : ℕ) (a : List ℕ) (es : List (String Y × Site)) → lookup (is_named a) es ≡ None →
       site_of (known_in limit es) a ≡ nothing_known
   state-none limit a es none = ap (λ o. unwrap_or o nothing_known) (found-said a es ∙ ap (option_map said_site) none)
 
-  -- a count of authorities is one of entries
   pub counted : (test : State → Bool) (limit : ℕ) (es : List (String Y × Site)) →
       count_of test (known_in limit es) ≡ length (filter (λ e. test (said_site e.1)) es)
   counted test limit es = count-map string_bytes said_site test es
 
-  -- entries of the same keys have the same names
   pub names-kept : (es es' : List (String Y × Site)) → keys_of es' ≡ keys_of es → names_in es' ≡ names_in es
   names-kept es es' same = by_keys es' ∙ (ap (map string_bytes) same ∙ sym (by_keys es))
     where
@@ -97,16 +85,13 @@ module _ {Y : Type 0} where
       by_keys [] = refl
       by_keys (e ∷ es) = ap (λ names. string_bytes e.0 ∷ names) (by_keys es)
 
-  -- the names are those by what is known
   pub names-said : (es : List (String Y × Site)) → names_in es ≡ map (λ (e : List ℕ × State). e.0) (said_entries es)
   names-said [] = refl
   names-said (e ∷ es) = ap (λ names. string_bytes e.0 ∷ names) (names-said es)
 
-  -- as many authorities are known as there are entries
   pub known_many : (limit : ℕ) (es : List (String Y × Site)) → AllKnown es → known_count (known_in limit es) ≡ length es
   known_many limit es all = counted is_known limit es ∙ count-all (λ e. is_known (said_site e.1)) es all.known
 
-  -- an entry was written
   pub Changes-written : (limit : ℕ) (a : List ℕ) (es es' : List (String Y × Site)) (v w : Site) → lookup (is_named a) es ≡ Some v →
       es' ≡ set_value (is_named a) es w → ((b : List ℕ) → lookup (is_named b) es' ≡ cond (bytes_eq a b) (Some w) (lookup (is_named b) es)) →
       Changes (known_in limit es) a (said_site w) (known_in limit es')
@@ -126,13 +111,11 @@ module _ {Y : Type 0} where
       by b true = refl
       by b false = sym (ap (λ o. unwrap_or o nothing_known) (found-said b es))
 
-  -- nothing changed where an entry was written as it was
   pub unchanged-written : (limit : ℕ) (a : List ℕ) (es es' : List (String Y × Site)) (v w : Site) → lookup (is_named a) es ≡ Some v →
       es' ≡ set_value (is_named a) es w → w ≡ v → known_in limit es' ≡ known_in limit es
   unchanged-written limit a es es' v w found written same =
       ap (known_in limit) (written ∙ (ap (set_value (is_named a) es) same ∙ set_value-same (is_named a) es v found))
 
-  -- all are known still where the one that is written is
   pub known-written : (a : List ℕ) (es es' : List (String Y × Site)) (w : Site) → AllKnown es →
       es' ≡ set_value (is_named a) es w → is_known (said_site w) ≡ true → AllKnown es'
   known-written a es es' w all written known = record {
@@ -140,7 +123,6 @@ module _ {Y : Type 0} where
     named = subst (All IsAuthority) (sym (ap names_in written ∙ names-kept es (set_value (is_named a) es w) (keys-set_value (is_named a) es w))) all.named;
   }
 
-  -- a turn was begun at an authority that is known
   pub begun-known : (limit : ℕ) (a : List ℕ) (flight : Flight) (es es' : List (String Y × Site)) (v w : Site) → lookup (is_named a) es ≡ Some v →
       es' ≡ set_value (is_named a) es w → ((b : List ℕ) → lookup (is_named b) es' ≡ cond (bytes_eq a b) (Some w) (lookup (is_named b) es)) →
       said_site w ≡ with_flight flight (said_site v) →
@@ -149,7 +131,6 @@ module _ {Y : Type 0} where
       subst (λ s. Changes (known_in limit es) a (with_flight flight s) (known_in limit es')) (sym (state-some limit a es v found))
       (subst (λ s. Changes (known_in limit es) a s (known_in limit es')) now (Changes-written limit a es es' v w found written others))
 
-  -- an answer arrived, or was refused, at an authority that is known
   pub arrived-known : (limit : ℕ) (a : List ℕ) (turn : ℕ) (answer : Timed) (es es' : List (String Y × Site)) (v w : Site) (r : Result Unit Stale) →
       AllKnown es → lookup (is_named a) es ≡ Some v → es' ≡ set_value (is_named a) es w →
       ((b : List ℕ) → lookup (is_named b) es' ≡ cond (bytes_eq a b) (Some w) (lookup (is_named b) es)) →
@@ -184,7 +165,6 @@ module _ {Y : Type 0} where
       by false is = is
       by true is = absurd (true≢false (sym (has.1 is)))
 
--- an authority was added
 pub Changes-added : (limit : ℕ) (a : List ℕ) (state : State) (sites : List (List ℕ × State)) → lookup (bytes_eq a) sites ≡ None →
     Changes (record { limit = limit; sites = sites }) a state (record { limit = limit; sites = sites ++ (a, state) ∷ [] })
 Changes-added limit a state sites none = record {
@@ -202,26 +182,22 @@ Changes-added limit a state sites none = record {
     by b false is = rw (is, lookup-push_other (bytes_eq b) sites a state (other_text a b is)) refl
 
 module _ {Y : Type 0} where
-  -- a known authority needs no further place
   pub knows : (limit : ℕ) (a : List ℕ) (es : List (String Y × Site)) → is_known (site_of (known_in limit es) a) ≡ true →
       cannot_know (known_in limit es) a ≡ false
   knows limit a es known = ap (λ b. not b && nat_le limit (known_count (known_in limit es))) known
 
-  -- there is a place for one more
   pub may_know : (limit : ℕ) (a : List ℕ) (es : List (String Y × Site)) → AllKnown es → length es < limit →
       cannot_know (known_in limit es) a ≡ false
   may_know limit a es all room =
       ap (λ b. not (is_known (site_of (known_in limit es) a)) && b) (ap (nat_le limit) (known_many limit es all) ∙ lt-leb limit (length es) room)
       ∙ and_right (not (is_known (site_of (known_in limit es) a))) false refl
 
-  -- there is none
   pub full : (limit : ℕ) (a : List ℕ) (es : List (String Y × Site)) → AllKnown es → lookup (is_named a) es ≡ None → limit ≤ length es →
       cannot_know (known_in limit es) a ≡ true
   full limit a es all none over =
       ap (λ b. not b && nat_le limit (known_count (known_in limit es))) (ap is_known (state-none limit a es none))
       ∙ (ap (nat_le limit) (known_many limit es all) ∙ le-leb limit (length es) over)
 
-  -- a turn was begun at an authority that is new
   pub begun-new : (limit : ℕ) (a : List ℕ) (flight : Flight) (es es' : List (String Y × Site)) → lookup (is_named a) es ≡ None →
       said_entries es' ≡ said_entries es ++ (a, with_flight flight nothing_known) ∷ [] →
       Changes (known_in limit es) a (with_flight flight (site_of (known_in limit es) a)) (known_in limit es')
@@ -231,7 +207,6 @@ module _ {Y : Type 0} where
       (subst (λ sites. Changes (known_in limit es) a (with_flight flight nothing_known) (record { limit = limit; sites = sites })) (sym added)
       (Changes-added limit a (with_flight flight nothing_known) (said_entries es) unsaid))
 
-  -- all are known still, with the one that was added
   pub known-new : (a : List ℕ) (flight : Flight) (es es' : List (String Y × Site)) (r : Result Unit FlightRefusal) → AllKnown es → IsAuthority a →
       OnOk r (said_entries es' ≡ said_entries es ++ (a, with_flight flight nothing_known) ∷ []) → OnErr r (es' ≡ es) → AllKnown es'
   known-new a flight es es' (Ok done) all own added same =
@@ -247,6 +222,5 @@ module _ {Y : Type 0} where
       }
   known-new a flight es es' (Err refusal) all own added same = subst (λ entries. AllKnown entries) (sym same) all
 
-  -- no more turns are in flight than there are entries
   pub flights_bound : (limit : ℕ) (es : List (String Y × Site)) → flight_count (known_in limit es) ≤ length es
   flights_bound limit es = rw (counted is_flying limit es) (count-bound (λ (e : String Y × Site). is_flying (said_site e.1)) es)

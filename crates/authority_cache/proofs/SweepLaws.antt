@@ -1,5 +1,5 @@
--- What a sweep leaves of what is known: each state without an answer that is past, and no authority
--- of which nothing is known any more. Cited by the proofs of `sweep.rt`.
+-- A sweep leaves each state without an expired answer, and no authority
+-- of which nothing is known. Used for `sweep.rt`.
 use Rattle.std.proofs.Common.{◌≡◌, ℕ, ◌+◌, ◌-◌, ◌<◌, ◌≤◌, ◌==◌, ◌⊎◌, zero, suc, Bool, true, false, cond, not, if◌then◌else◌, List, [], ◌∷◌, ◌++◌, length, filter, inl, inr, Option, Some, None, IfSome, is_some, unwrap_or, string_bytes, refl, sym, ap, subst, ◌∙◌, true≢false, arith}
 use Rattle.std.specs.Prelude.{All, get_or, set, slice_get, swap_remove, take}
 use Rattle.std.specs.declared.string.String.{String}
@@ -27,7 +27,6 @@ use Rattle.authority_cache.proofs.EndLaws.{covers_all}
 use Rattle.authority_cache.proofs.FoundLaws.{found_at, others_at, said_at, written_at}
 use Rattle.authority_cache.proofs.SiteLaws.{Changes-written, counted, found-said, is_named, names-kept, state-none, state-some}
 
--- more was dropped
 pub part_more : (old between new : Known) (moment count more : ℕ) → SweepsPart old moment count between → SweepsPart between moment more new →
     SweepsPart old moment (count + more) new
 part_more old between new moment count more first later = record {
@@ -41,15 +40,12 @@ part_more old between new moment count more first later = record {
 abbrev left_by : Bool → State → State
 left_by past state = record { standing = if past then None else state.standing; in_flight = state.in_flight }
 
--- a sweep leaves a state whose answer is not past
 swept_young : (moment : ℕ) (state : State) → has_past moment state ≡ false → swept moment state ≡ state
 swept_young moment state young = ap (λ past. left_by past state) young
 
--- and takes the answer away that is
 swept_past : (moment : ℕ) (state : State) → has_past moment state ≡ true → swept moment state ≡ left_by true state
 swept_past moment state past = ap (λ past. left_by past state) past
 
--- an authority's state changed to one of which a sweep leaves the same, and no answer in it is past
 part_changed : (old new : Known) (moment : ℕ) (a : List ℕ) (state : State) → Changes old a state new →
     swept moment state ≡ swept moment (site_of old a) → has_past moment state ≡ false →
     SweepsPart old moment (one_if (has_past moment (site_of old a))) new
@@ -68,7 +64,6 @@ part_changed old new moment a state changes same young = record {
     by b true is = same ∙ ap (λ c. swept moment (site_of old c)) ((bytes_eq-Decides a b).0 is)
     by b false is = refl
 
--- nothing is known of an authority without an answer and a turn
 unknown : (state : State) → false ≡ is_flying state → left_by true state ≡ nothing_known
 unknown state still = by state.in_flight still
   where
@@ -77,7 +72,6 @@ unknown state still = by state.in_flight still
     by (Some f) still = absurd (true≢false (sym still))
 
 module _ {Y : Type 0} where
-  -- distinct keys are of authorities that do not stand twice
   pub apart_from : (es : List (String Y × Site)) → IsDistinct string_eq (keys_of es) → AreApart (said_entries es)
   unfolding IsDistinct
   apart_from [] distinct = tt
@@ -88,7 +82,7 @@ module _ {Y : Type 0} where
       absent [] all = refl
       absent (l ∷ later) all = rw all.0 (absent later all.1)
 
-  -- a whole sweep: parts of it, after which no answer is past
+  -- a whole sweep: parts of it, until no answer has expired
   pub sweeps : (limit moment count : ℕ) (old es : List (String Y × Site)) → SweepsPart (known_in 0 old) moment count (known_in 0 es) →
       ((i : ℕ) (e : String Y × Site) → slice_get es i ≡ Some e → has_past moment (said_site e.1) ≡ false) →
       Sweeps (known_in limit old) moment count (known_in limit es)
@@ -124,18 +118,15 @@ module _ {Y : Type 0} where
           ∙ (count-alike is_young (λ e. test (swept moment (said_site e.1))) (λ e. test (said_site e.1)) (λ e is. ap test (swept_young moment (said_site e.1) (past_not e is))) es all_young
           ∙ sym (counted test limit es))
 
-  -- the value of an entry
   value_at : (es : List (String Y × Site)) (i : ℕ) (e : String Y × Site) → slice_get es i ≡ Some e → slice_get (values_of es) i ≡ Some e.1
   value_at [] i e at = absurd (true≢false (ap is_some (sym at)))
   value_at (f ∷ es) zero e at = ap (λ o. Some (unwrap_or o f).1) at
   value_at (f ∷ es) (suc i) e at = value_at es i e at
 
-  -- the entry at an index is of an authority that is found
   found_of : (es : List (String Y × Site)) (i : ℕ) (e : String Y × Site) → AreApart (said_entries es) → slice_get es i ≡ Some e →
       lookup (is_named (string_bytes e.0)) es ≡ Some e.1
   found_of es i e apart at = found_at (string_bytes e.0) es i (said_site e.1) e.1 apart (said_at es i e at) (value_at es i e at)
 
-  -- an answer that was past was dropped
   part_dropped : (limit moment : ℕ) (es es' : List (String Y × Site)) (i : ℕ) (e : String Y × Site) (w : Site) → AreApart (said_entries es) →
       slice_get es i ≡ Some e → has_past moment (said_site e.1) ≡ true → said_site w ≡ left_by true (said_site e.1) → es' ≡ set_value_at es i w →
       SweepsPart (known_in limit es) moment 1 (known_in limit es')
@@ -150,7 +141,6 @@ module _ {Y : Type 0} where
       subst (λ n. SweepsPart (known_in limit es) moment n (known_in limit es')) (ap one_if (ap (has_past moment) state ∙ past))
       (part_changed (known_in limit es) (known_in limit es') moment a (said_site w) changes same (ap (has_past moment) left))
 
-  -- an authority of which nothing is known any more was taken away
   part_removed : (limit moment : ℕ) (es es' : List (String Y × Site)) (i : ℕ) (e : String Y × Site) → AreApart (said_entries es) →
       slice_get es i ≡ Some e → said_site e.1 ≡ nothing_known → es' ≡ swap_remove es i e →
       ((b : List ℕ) → lookup (is_named b) es' ≡ cond (bytes_eq (string_bytes e.0) b) None (lookup (is_named b) es)) →
@@ -183,7 +173,6 @@ module _ {Y : Type 0} where
             omega (arith, fewer test fails, was);
       }
 
-  -- all are known still where a turn is in flight at the one whose answer was dropped
   known_dropped : (es es' : List (String Y × Site)) (i : ℕ) (e : String Y × Site) (w : Site) → AllKnown es → slice_get es i ≡ Some e →
       is_known (said_site w) ≡ true → es' ≡ set_value_at es i w → AllKnown es'
   known_dropped es es' i e w all at known wrote = record {
@@ -204,7 +193,6 @@ module _ {Y : Type 0} where
           by false other =
               all-at (λ e. is_known (said_site e.1)) es j x all.known (sym (at-written_other es i j w (eqb-false j i other)) ∙ there)
 
-  -- the names of the others are authorities still where one was taken away
   named_removed : (es : List (String Y × Site)) (i : ℕ) (d : String Y × Site) → i < length es → All IsAuthority (names_in es) →
       All IsAuthority (names_in (swap_remove es i d))
   named_removed es i d low all =
@@ -215,7 +203,6 @@ module _ {Y : Type 0} where
       (All-tail IsAuthority (string_bytes x.0) (names_in (swap_remove es i x))
       (All-permutation IsAuthority (names_in es) (names_in (x ∷ swap_remove es i x)) (IsPermutation-map (λ (e : String Y × Site). string_bytes e.0) es (x ∷ swap_remove es i x) moved) all))
 
-  -- and where the one was taken away of which nothing is known
   known_removed : (es es' : List (String Y × Site)) (i : ℕ) (d : String Y × Site) (w : Site) → AllKnown es → i < length es →
       es' ≡ swap_remove (set_value_at es i w) i d → AllKnown es'
   known_removed es es' i d w all low taken = record {
@@ -231,18 +218,15 @@ module _ {Y : Type 0} where
           let was = (at-swapped (set_value_at es i w) i j d x (rw (length-set_value_at es i w) low) there).1 in
           all-at (λ e. is_known (said_site e.1)) es was.0 x all.known (sym (at-written_other es i was.0 w was.1) ∙ was.2)
 
-  -- the others are covered still where one was written
   pub but_written : (es es' : List (String Y × Site)) (i : ℕ) (w : Site) (kept : KeptEnds) → es' ≡ set_value_at es i w → CoversBut i kept es → CoversBut i kept es'
   but_written es es' i w kept wrote others j x other is =
       others j x other (sym (at-written_other es i j w other) ∙ subst (λ es. slice_get es j ≡ Some x) wrote is)
 
-  -- and where one was taken away
   pub but_removed : (es es' : List (String Y × Site)) (i : ℕ) (d : String Y × Site) (kept : KeptEnds) → i < length es → es' ≡ swap_remove es i d →
       CoversBut i kept es → CoversBut i kept es'
   but_removed es es' i d kept low taken others j x other is =
       others j x other ((at-swapped es i j d x low (subst (λ es. slice_get es j ≡ Some x) taken is)).0 other)
 
-  -- all are covered where the one that was written has no answer
   covers_dropped : (es es' : List (String Y × Site)) (i : ℕ) (e : String Y × Site) (w : Site) (kept : KeptEnds) → slice_get es i ≡ Some e →
       (said_site w).standing ≡ None → es' ≡ set_value_at es i w → CoversBut i kept es → Covers kept es'
   covers_dropped es es' i e w kept at none wrote others =
@@ -251,7 +235,7 @@ module _ {Y : Type 0} where
       let gone : (said_site x.1).standing ≡ None = ap (λ o. (said_site (unwrap_or o x).1).standing) (sym here) ∙ none in
       subst (λ (o : Option Answered). IfSome o (λ s. has_end kept (last_moment s, i) ≡ true)) (sym gone) tt)
 
-  -- what is true once an answer that was past was dropped, and a turn is in flight at its authority
+  -- after an expired answer was dropped, with a turn in flight at its authority
   pub dropped : (moment i : ℕ) (es es' : List (String Y × Site)) (kept : KeptEnds) → IsDistinct string_eq (keys_of es) → AllKnown es →
       CoversBut i kept es → i < length es → SaysPastAt moment es i true → DropsAnswer es i true es' →
       SweepsPart (known_in 0 es) moment 1 (known_in 0 es') × AllKnown es' × Covers kept es' × (length es' ≡ length es)
@@ -270,7 +254,6 @@ module _ {Y : Type 0} where
         ap length wrote ∙ length-set_value_at es i w,
       )
 
-  -- the others are covered still once it was dropped
   pub dropped_others : (i : ℕ) (is_fetching : Bool) (es es' : List (String Y × Site)) (kept : KeptEnds) → CoversBut i kept es → i < length es →
       DropsAnswer es i is_fetching es' → (i < length es') × CoversBut i kept es'
   dropped_others i is_fetching es es' kept others low drops =
@@ -280,7 +263,7 @@ module _ {Y : Type 0} where
         but_written es es' i d.1.0 kept d.1.2 others,
       )
 
-  -- what is true once its authority was taken away, at which no turn is in flight
+  -- after the authority of a dropped answer was removed, without a turn in flight
   pub removed : (moment i : ℕ) (es es1 es2 : List (String Y × Site)) → IsDistinct string_eq (keys_of es) → AllKnown es →
       i < length es → SaysPastAt moment es i true → DropsAnswer es i false es1 → Removes es1 i es2 →
       SweepsPart (known_in 0 es) moment 1 (known_in 0 es2) × AllKnown es2 × (length es2 + 1 ≡ length es)
@@ -302,16 +285,14 @@ module _ {Y : Type 0} where
         (let few = length-swapped es1 i (e.0, w) low1 in omega (arith, few, ap length r.0, ap length wrote, length-set_value_at es i w)),
       )
 
-  -- as many turns are in flight after a part of a sweep
+  -- a part of a sweep leaves the number of turns in flight
   pub flights_part : (moment count : ℕ) (es es' : List (String Y × Site)) → SweepsPart (known_in 0 es) moment count (known_in 0 es') →
       flight_count (known_in 0 es') ≡ flight_count (known_in 0 es)
   flights_part moment count es es' part = part.counts is_flying refl
 
-  -- no more answers are past than there are entries
   pub past_bound : (limit moment : ℕ) (es : List (String Y × Site)) → past_count moment (known_in limit es) ≤ length es
   past_bound limit moment es = rw (counted (has_past moment) limit es) (count-bound (λ (e : String Y × Site). has_past moment (said_site e.1)) es)
 
-  -- all are covered where one was written whose answer stays
   pub covers_written : (es : List (String Y × Site)) (i : ℕ) (v w : Site) (kept : KeptEnds) → i < length es → slice_get (values_of es) i ≡ Some v →
       (said_site w).standing ≡ (said_site v).standing → Covers kept es → Covers kept (set_value_at es i w)
   covers_written es i v w kept low value stays covered =
@@ -324,7 +305,6 @@ module _ {Y : Type 0} where
       let is : w ≡ x.1 = ap (λ o. (unwrap_or o x).1) (sym (at-written es i e w there.1) ∙ at) in
       subst (λ (s : Site). IfSome (said_site s).standing (λ s. has_end kept (last_moment s, i) ≡ true)) is here)
 
-  -- all are covered where one was added that has no answer
   pub covers_added : (es : List (String Y × Site)) (e : String Y × Site) (kept : KeptEnds) → (said_site e.1).standing ≡ None → Covers kept es →
       Covers kept (es ++ e ∷ [])
   covers_added es e kept none covered i x at = by (at-push es e x i at)

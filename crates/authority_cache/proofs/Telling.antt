@@ -1,5 +1,5 @@
--- How each change of the cache changes the lists that it tells, and what is counted of both alike.
--- Cited by `changes_tell` and `counts_are_alike` of `laws.rt`, and by crates above.
+-- How each change of the cache changes the lists that agree with it, and that both are counted alike.
+-- Used by `changes_tell` and `counts_are_alike` of `laws.rt`, and by higher crates.
 use Rattle.std.proofs.Common.{◌≡◌, ℕ, ◌+◌, ◌==◌, Bool, true, false, cond, not, nat_lt, ◌&&◌, ◌||◌, List, [], ◌∷◌, ◌++◌, length, filter, map, Option, Some, None, is_some, unwrap_or, option_to_list, inl, inr, refl, sym, ap, subst, ◌∙◌, true≢false, arith}
 use Rattle.std.specs.List.{list_any}
 use Rattle.std.specs.Map.{lookup}
@@ -19,7 +19,6 @@ use Rattle.authority_cache.specs.Laws.{ArriveTells, BeginTells, LimitTells, NewT
 use Rattle.authority_cache.proofs.EntryLaws.{count-cons}
 use Rattle.authority_cache.proofs.SiteLaws.{other_text, same_text}
 
--- a filter after one that keeps all that it passes
 filter-kept : {X : Type 0} (p q : X → Bool) (xs : List X) → ((x : X) → p x ≡ true → q x ≡ true) → filter p (filter q xs) ≡ filter p xs
 filter-kept p q [] keeps = refl
 filter-kept p q (x ∷ xs) keeps = by (filter-kept p q xs keeps) (p x) (q x) refl refl
@@ -31,7 +30,6 @@ filter-kept p q (x ∷ xs) keeps = by (filter-kept p q xs keeps) (p x) (q x) ref
     by rest true false passes kept = absurd (true≢false (sym (keeps x passes) ∙ kept))
     by rest false false passes kept = rest
 
--- a filter after one that drops all that it passes
 filter-dropped : {X : Type 0} (p q : X → Bool) (xs : List X) → ((x : X) → p x ≡ true → q x ≡ false) → filter p (filter q xs) ≡ []
 filter-dropped p q [] drops = refl
 filter-dropped p q (x ∷ xs) drops = by (filter-dropped p q xs drops) (p x) (q x) refl refl
@@ -41,7 +39,6 @@ filter-dropped p q (x ∷ xs) drops = by (filter-dropped p q xs drops) (p x) (q 
     by rest false true passes kept = rw passes rest
     by rest a false passes kept = rest
 
--- two filters, the other way round
 filter-swap : {X : Type 0} (p q : X → Bool) (xs : List X) → filter p (filter q xs) ≡ filter q (filter p xs)
 filter-swap p q [] = refl
 filter-swap p q (x ∷ xs) = by (filter-swap p q xs) (p x) (q x) refl refl
@@ -53,7 +50,6 @@ filter-swap p q (x ∷ xs) = by (filter-swap p q xs) (p x) (q x) refl refl
     by rest true false pe qe = rw qe rest
     by rest false false pe qe = rest
 
--- a filter and its opposite part a list
 filter-both : {X : Type 0} (p : X → Bool) (xs : List X) → length (filter p xs) + length (filter (λ x. not (p x)) xs) ≡ length xs
 filter-both p [] = refl
 filter-both p (x ∷ xs) = by (filter-both p xs) (p x)
@@ -64,7 +60,6 @@ filter-both p (x ∷ xs) = by (filter-both p xs) (p x)
     by rest true = omega arith
     by rest false = omega arith
 
--- one text is not two others
 apart_text : (a b x : List ℕ) → bytes_eq a b ≡ false → bytes_eq x b ≡ true → bytes_eq x a ≡ false
 apart_text a b x apart is = by (bytes_eq x a) refl
   where
@@ -73,7 +68,7 @@ apart_text a b x apart is = by (bytes_eq x a) refl
     by true is_a = absurd (true≢false (sym is ∙ (ap (λ y. bytes_eq y b) ((bytes_eq-Decides x a).0 is_a) ∙ apart)))
 
 module _ {X : Type 0} (authority : X → List ℕ) (test : State → Bool) (fails : test nothing_known ≡ false) where
-  -- as many of a list as of the authorities, where of each authority there are as many
+  -- a list with one element for each passing authority is as long as their count
   parts : (sites : List (List ℕ × State)) (xs : List X) → AreApart sites →
       ((a : List ℕ) → length (filter (λ x. bytes_eq (authority x) a) xs) ≡ one_if (test (unwrap_or (lookup (bytes_eq a) sites) nothing_known))) →
       length xs ≡ length (filter (λ (e : List ℕ × State). test e.1) sites)
@@ -105,18 +100,15 @@ module _ {X : Type 0} (authority : X → List ℕ) (test : State → Bool) (fail
           (λ x own. ap not (apart_text e.0 a (authority x) (other_text a e.0 is) own)))
           ∙ (each a ∙ ap (λ b. one_if (test (unwrap_or (cond b (Some e.1) (lookup (bytes_eq a) sites)) nothing_known))) is)
 
--- a new cache
 pub new : NewTells
 new limit = record { answers_are = λ a. refl; turns_are = λ a. refl }
 
--- a cache with another limit
 pub limit_tells : LimitTells
 limit_tells old changed standing in_flight tells same = record {
   answers_are = λ a. tells.answers_are a ∙ ap (λ sites. answers_in a (unwrap_or (lookup (bytes_eq a) sites) nothing_known)) (sym same);
   turns_are = λ a. tells.turns_are a ∙ ap (λ sites. turns_in a (unwrap_or (lookup (bytes_eq a) sites) nothing_known)) (sym same);
 }
 
--- a begin
 pub begun : BeginTells
 begun old changed standing in_flight a flight tells free changes = record {
   answers_are = λ b. tells.answers_are b ∙ answers b (bytes_eq a b) refl;
@@ -146,7 +138,6 @@ begun old changed standing in_flight a flight tells free changes = record {
         let now = ap (turns_in b) (changes.sites b ∙ ap (λ t. cond t (with_flight flight (site_of old a)) (site_of old b)) is) in
         rw is (append-nil (filter (is_turn_of b) in_flight) ∙ (tells.turns_are b ∙ sym now))
 
--- the turn of a number that is in flight
 turn_of_number : (turn : ℕ) (o : Option Flight) → option_map_or (λ f. f.turn == turn) o false ≡ true →
     (f : Flight) × (o ≡ Some f) × (f.turn ≡ turn)
 turn_of_number turn None is = absurd (true≢false (sym is))
@@ -155,12 +146,10 @@ turn_of_number turn (Some f) is = elim (eqb_tells f.turn turn) [
   | inr d ↦ absurd (true≢false (sym is ∙ d.0))
 ]
 
--- a state by whether an authority is the one that was changed
 state_at : (old changed : Known) (a : List ℕ) (state : State) → Changes old a state changed → (b : List ℕ) (t : Bool) → bytes_eq a b ≡ t →
     site_of changed b ≡ cond t state (site_of old b)
 state_at old changed a state changes b t is = changes.sites b ∙ ap (λ u. cond u state (site_of old b)) is
 
--- an arrival
 pub arrives : ArriveTells
 arrives old changed standing in_flight a turn life says tells flying own changes = record {
   answers_are = λ b. filter-append (is_answer_for b) left added ∙ answers b (bytes_eq a b) refl;
@@ -245,7 +234,6 @@ arrives old changed standing in_flight a turn life says tells flying own changes
         ∙ (others b is (site_of old b).in_flight (tells.turns_are b)
         ∙ sym (ap (turns_in b) (state_at old changed a (arrived turn says life (site_of old a)) changes b false is))))
 
--- a sweep
 pub swept_away : SweepTells
 swept_away old changed standing in_flight moment count tells sweeps = record {
   answers_are = λ a.
@@ -265,7 +253,6 @@ swept_away old changed standing in_flight moment count tells sweeps = record {
         by true = refl
         by false = refl
 
--- one answer or none
 one_answer : (a : List ℕ) (state : State) → length (answers_in a state) ≡ one_if (is_some state.standing)
 one_answer a state = by state.standing
   where
@@ -273,7 +260,6 @@ one_answer a state = by state.standing
     by None = refl
     by (Some s) = refl
 
--- one turn or none
 one_turn : (a : List ℕ) (state : State) → length (turns_in a state) ≡ one_if (is_flying state)
 one_turn a state = by state.in_flight
   where
@@ -281,7 +267,6 @@ one_turn a state = by state.in_flight
     by None = refl
     by (Some f) = refl
 
--- one answer that is past or none
 one_past : (moment : ℕ) (a : List ℕ) (state : State) → length (filter (is_past_answer moment) (answers_in a state)) ≡ one_if (has_past moment state)
 one_past moment a state = by state.standing
   where
@@ -294,7 +279,6 @@ one_past moment a state = by state.standing
     by None = refl
     by (Some s) = one (nat_lt (s.begun + s.life) moment) (answer_for a s)
 
--- a test finds one where its filter is not empty
 pub list_any-filter : {X : Type 0} (p : X → Bool) (xs : List X) → list_any p xs ≡ list_any (λ _. true) (filter p xs)
 list_any-filter p [] = refl
 list_any-filter p (x ∷ xs) = by (list_any-filter p xs) (p x)
@@ -304,11 +288,10 @@ list_any-filter p (x ∷ xs) = by (list_any-filter p xs) (p x)
     by rest true = refl
     by rest false = rest
 
--- a turn alone or none
+-- only a turn, or none
 abbrev is_alone : State → Bool
 is_alone state = not (is_some state.standing) && is_some state.in_flight
 
--- one turn alone or none
 one_alone : (standing : List StandingAnswer) (a : List ℕ) (state : State) → filter (is_answer_for a) standing ≡ answers_in a state →
     length (filter (lacks_answer standing) (turns_in a state)) ≡ one_if (is_alone state)
 one_alone standing a state told = by state.in_flight
@@ -333,7 +316,6 @@ one_alone standing a state told = by state.in_flight
     by None = sym (ap one_if (and_false (is_some state.standing)))
     by (Some f) = rw stands (one (is_some state.standing) (turn_for a f))
 
--- what passes one test passes one of two others, and not both
 count-parts : {X : Type 0} (all first second : X → Bool) → ((x : X) → one_if (all x) ≡ one_if (first x) + one_if (second x)) →
     (xs : List X) → length (filter all xs) ≡ length (filter first xs) + length (filter second xs)
 count-parts all first second split [] = refl
@@ -342,7 +324,6 @@ count-parts all first second split (x ∷ xs) =
     let here = split x in
     omega (arith, count-cons all x xs, count-cons first x xs, count-cons second x xs)
 
--- an authority is known by its answer, or by its turn alone
 known_parts : (state : State) → one_if (is_known state) ≡ one_if (is_some state.standing) + one_if (is_alone state)
 known_parts state = by (is_some state.standing) (is_some state.in_flight)
   where
@@ -350,7 +331,6 @@ known_parts state = by (is_some state.standing) (is_some state.in_flight)
     by true f = omega arith
     by false f = omega arith
 
--- all counts
 pub counts_alike : TellingCountsAlike
 counts_alike k standing in_flight tells apart = record {
   known =

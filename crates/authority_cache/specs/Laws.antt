@@ -1,5 +1,5 @@
--- What each change of the cache is to the lists of a history, and what is counted and read of both alike.
--- The contracts of `laws.rt`.
+-- How each change of the cache changes the lists of a history, and that both count and read alike.
+-- Cited by `laws.rt`.
 use Rattle.std.specs.Prelude.{◌≡◌, ℕ, true, false, not, ◌&&◌, ◌||◌, List, [], ◌∷◌, ◌++◌, length, filter, map}
 use Rattle.std.specs.List.{find, list_any}
 use Rattle.std.specs.Option.{option_map}
@@ -23,8 +23,7 @@ BeginTells =
     → Changes old authority (with_flight flight (site_of old authority)) new
     → TellsCache new standing (in_flight ++ turn_for authority flight ∷ [])
 
--- an arrival takes its turn away, whose number no other authority's turn has, and its answer
--- replaces the authority's
+-- an arrival removes its turn, which no other authority's turn shares, and its answer replaces the authority's
 abbrev pub ArriveTells : Type 0
 ArriveTells = (old new : Known) (standing : List StandingAnswer) (in_flight : List Turn) (authority : List ℕ)
     (turn life : ℕ) (says : Said)
@@ -36,29 +35,29 @@ ArriveTells = (old new : Known) (standing : List StandingAnswer) (in_flight : Li
     ++ map (answered says life) (filter (has_number turn) in_flight))
     (filter (λ t. not (has_number turn t)) in_flight)
 
--- a sweep takes the answers away that are older than their lives
+-- a sweep removes the answers older than their lifetimes
 abbrev pub SweepTells : Type 0
 SweepTells = (old new : Known) (standing : List StandingAnswer) (in_flight : List Turn) (moment count : ℕ)
     → TellsCache old standing in_flight → Sweeps old moment count new
     → TellsCache new (filter (λ s. not (is_past_answer moment s)) standing) in_flight
 
--- a cache with the same sites says the same, whatever its limit
+-- a cache says the same whatever its limit
 abbrev pub LimitTells : Type 0
 LimitTells = (old new : Known) (standing : List StandingAnswer) (in_flight : List Turn)
     → TellsCache old standing in_flight → new.sites ≡ old.sites → TellsCache new standing in_flight
 
--- as many are counted of the cache as of the lists
+-- the cache and the lists have equal counts
 pub record CountsAlike (k : Known) (standing : List StandingAnswer) (in_flight : List Turn) : Type 0 where
   pub known : known_count k ≡ known_by standing in_flight
   pub flights : flight_count k ≡ length in_flight
   pub past : (moment : ℕ) → past_count moment k ≡ length (filter (is_past_answer moment) standing)
 
--- a cache that says what the lists say is counted alike
+-- a cache that agrees with lists is counted alike
 abbrev pub TellingCountsAlike : Type 0
 TellingCountsAlike = (k : Known) (standing : List StandingAnswer) (in_flight : List Turn)
     → TellsCache k standing in_flight → IsApart k → CountsAlike k standing in_flight
 
--- what is read of the cache is what is read of the lists
+-- readers of the cache and of the lists agree
 pub record ReadsAlike (k : Known) (standing : List StandingAnswer) (in_flight : List Turn) : Type 0 where
   pub flying : (authority : List ℕ) → is_flying (site_of k authority) ≡ list_any (is_turn_of authority) in_flight
   pub turns : (authority : List ℕ) (turn : ℕ)
@@ -69,7 +68,7 @@ pub record ReadsAlike (k : Known) (standing : List StandingAnswer) (in_flight : 
       → is_known (site_of k authority)
       ≡ (list_any (is_answer_for authority) standing || list_any (is_turn_of authority) in_flight)
 
--- a cache that says what the lists say is read alike
+-- a cache that agrees with lists is read alike
 abbrev pub TellingReadsAlike : Type 0
 TellingReadsAlike = (k : Known) (standing : List StandingAnswer) (in_flight : List Turn)
     → TellsCache k standing in_flight → ReadsAlike k standing in_flight

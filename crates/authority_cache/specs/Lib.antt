@@ -1,4 +1,4 @@
--- What the contracts of the cache cite.
+-- Definitions for the contracts of the cache.
 -- RFC 9309, sections 2.3.1 and 2.4.
 pub mod Lives
 pub mod Messages

@@ -6,41 +6,41 @@ use Rattle.robots_verdict.specs.declared.answer.Answer.{Answer}
 use Rattle.robots_verdict.specs.declared.said.Said.{Said}
 use Rattle.robots_verdict.specs.declared.said.Said.TheVariants as says
 
--- the greatest life of an answer in seconds
+-- the longest lifetime of an answer in seconds
 abbrev pub greatest_life : ℕ
 greatest_life = 86400
 
--- the least life of rules in seconds
+-- the shortest lifetime of rules in seconds
 abbrev pub least_life : ℕ
 least_life = 60
 
--- the life of an answer where its reply asked for so many seconds: rules have it within bounds
+-- the lifetime of an answer whose reply asked for these seconds: bounded for rules
 abbrev pub life_of : Said → ℕ → ℕ
 life_of (says.Rules text) asked = max least_life (min asked greatest_life)
 life_of (says.Open opening) asked = greatest_life
 life_of (says.Closed closure) asked = greatest_life
 
--- an answer with its life: what it says, how many twins it can still give, its life in seconds
+-- an answer with its lifetime: what it says, how many twins it can still give, and seconds
 pub record Timed : Type 0 where
   pub says : Said
   pub spares : ℕ
   pub life : ℕ
 
--- an answer whose reply asked for so many seconds
+-- an answer whose reply asked for these seconds
 abbrev pub timed : Answer → ℕ → Timed
 timed answer asked = record { says = said answer; spares = spares_of answer; life = life_of (said answer) asked }
 
--- the life is that of its answer
+-- the lifetime is the answer's own
 abbrev pub IsOwnLife : Timed → Type 0
 IsOwnLife t = life_of t.says t.life ≡ t.life
 
--- how many twins are left to give behind one: rules spend a spare for it, and no other answer needs any
+-- the twins left after one: rules spend a spare, other answers none
 abbrev pub spares_left : Said → ℕ → ℕ
 spares_left (says.Rules text) spares = spares - 1
 spares_left (says.Open opening) spares = spares
 spares_left (says.Closed closure) spares = spares
 
--- how many twins a twin can give: of rules none
+-- the twins that a twin can give: none if it has rules
 abbrev pub spares_got : Said → ℕ → ℕ
 spares_got (says.Rules text) spares = 0
 spares_got (says.Open opening) spares = spares

@@ -1,5 +1,5 @@
--- What contracts see of the cache: of each authority the answer that stands, by what it says, and
--- the turn in flight. RFC 9309, sections 2.3.1 and 2.4.
+-- What contracts see of the cache: what each authority's answer says, and its turn in
+-- flight. RFC 9309, sections 2.3.1 and 2.4.
 use Rattle.std.specs.Prelude.{◌≡◌, ℕ, ◌+◌, ◌==◌, Bool, false, ◌||◌, nat_lt, List, [], ◌∷◌, Option, Some, None, is_some, unwrap_or, if◌then◌else◌, length, filter}
 use Rattle.std.specs.Map.{lookup}
 use Rattle.std.specs.Option.{option_map, option_map_or}
@@ -10,7 +10,7 @@ use Rattle.authority_cache.specs.declared.site.Flight.{Flight}
 use Rattle.authority_cache.specs.declared.site.Site.{Site}
 use Rattle.authority_cache.specs.declared.site.CachedAnswer.{CachedAnswer}
 
--- an answer that stands: the turn that brought it, the moment of its begin, its life, what it says
+-- an answer: the turn that brought it, when that began, its lifetime, what it says
 pub record Answered : Type 0 where
   pub turn : ℕ
   pub begun : ℕ
@@ -27,7 +27,7 @@ pub record Known : Type 0 where
   pub limit : ℕ
   pub sites : List (List ℕ × State)
 
--- an answer that stands, by what it says
+-- a kept answer, by what it says
 abbrev pub said_cached : CachedAnswer → Answered
 said_cached s = record { turn = s.turn; begun = s.begun; life = s.life; says = said s.answer }
 
@@ -39,12 +39,12 @@ said_site site = record { standing = option_map said_cached site.standing; in_fl
 abbrev pub nothing_known : State
 nothing_known = record { standing = None; in_flight = None }
 
--- no authority stands twice
+-- no authority is there twice
 abbrev pub AreApart : List (List ℕ × State) → Type 0
 AreApart [] = Unit {0}
 AreApart (e ∷ sites) = (lookup (bytes_eq e.0) sites ≡ None) × AreApart sites
 
--- no authority stands twice in what is known
+-- no authority is known twice
 abbrev pub IsApart : Known → Type 0
 IsApart k = AreApart k.sites
 
@@ -56,7 +56,7 @@ site_of k authority = unwrap_or (lookup (bytes_eq authority) k.sites) nothing_kn
 abbrev pub is_flying : State → Bool
 is_flying site = is_some site.in_flight
 
--- an answer stands or a turn is in flight
+-- an answer or a turn in flight is there
 abbrev pub is_known : State → Bool
 is_known site = is_some site.standing || is_some site.in_flight
 
@@ -64,11 +64,11 @@ is_known site = is_some site.standing || is_some site.in_flight
 abbrev pub has_turn : ℕ → State → Bool
 has_turn turn site = option_map_or (λ flight. flight.turn == turn) site.in_flight false
 
--- the answer is older than its life at this moment
+-- the answer is older than its lifetime at this moment
 abbrev pub is_past : ℕ → Answered → Bool
 is_past moment s = nat_lt (s.begun + s.life) moment
 
--- an answer stands that is older than its life
+-- an answer is there, older than its lifetime
 abbrev pub has_past : ℕ → State → Bool
 has_past moment site = option_map_or (is_past moment) site.standing false
 
@@ -76,7 +76,7 @@ has_past moment site = option_map_or (is_past moment) site.standing false
 abbrev pub with_flight : Flight → State → State
 with_flight flight site = record { standing = site.standing; in_flight = Some flight }
 
--- the answer stands now, with its age counted from the begin of the turn, which is no longer in flight
+-- the answer replaces the turn, from whose begin its age counts
 abbrev pub arrived : ℕ → Said → ℕ → State → State
 arrived turn says life site = record {
   standing =
@@ -84,14 +84,14 @@ arrived turn says life site = record {
   in_flight = None;
 }
 
--- no answer stands any more that is older than its life
+-- an answer older than its lifetime is gone
 abbrev pub swept : ℕ → State → State
 swept moment site = record {
   standing = if has_past moment site then None else site.standing;
   in_flight = site.in_flight;
 }
 
--- how many authorities there are whose state passes the test
+-- how many authorities have a state that passes the test
 abbrev pub count_of : (State → Bool) → Known → ℕ
 count_of test k = length (filter (λ e. test e.1) k.sites)
 
@@ -103,6 +103,6 @@ known_count k = count_of is_known k
 abbrev pub flight_count : Known → ℕ
 flight_count k = count_of is_flying k
 
--- how many answers stand that are older than their lives
+-- how many answers are older than their lifetimes
 abbrev pub past_count : ℕ → Known → ℕ
 past_count moment k = count_of (has_past moment) k

@@ -15,8 +15,8 @@ use path_normal::Authority;
 use robots_verdict::Answer;
 
 impl Cache {
-    /// Ends a turn, and lets its answer stand in place of the authority's earlier one. It takes no
-    /// memory, and frees none of the earlier answer, which `take_replaced` gives.
+    /// Ends a turn; its answer replaces the authority's earlier one. Takes no memory and does not free the
+    /// earlier answer: see `take_replaced`.
     pub fn arrive(
         &mut self,
         authority: &Authority,
@@ -34,8 +34,8 @@ impl Cache {
         Ok(())
     }
 
-    /// The answer that the last arrival replaced, once. An index has megabytes, which are not to be
-    /// freed while others wait for the cache.
+    /// The answer that the last arrival replaced, once. An index has megabytes, not to be freed while
+    /// others wait for the cache.
     pub fn take_replaced(&mut self) -> Option<Answer>
         ensures { self.new ≡ self.old }
     {
@@ -43,7 +43,7 @@ impl Cache {
     }
 }
 
-// Ends a turn at the site of this index, and lets its answer stand. The one that stood is moved out.
+// Ends a turn at the site of this index; the answer that it replaces goes to `replaced`.
 fn close(
     sites: &mut Sites,
     index: usize,

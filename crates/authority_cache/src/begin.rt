@@ -1,4 +1,4 @@
-//! The begin of a turn to fetch an authority's robots.txt.
+//! The begin of a turn to fetch a robots.txt.
 //! RFC 9309, section 2.3.
 ghost use Rattle.std.specs.Prelude.{◌≡◌, ℕ, ◌+◌, ◌*◌, ◌^◌, ◌<◌, ◌≤◌, List, ◌∷◌, ◌++◌, [], None, IfErr, OnErr, OnOk, length};
 ghost use Rattle.std.specs.HashMap.{get_by_text};
@@ -18,7 +18,7 @@ use path_normal::Authority;
 use std::alloc::AllocError;
 
 impl Cache {
-    /// Begins a turn at this moment, in seconds. Room is made for its arrival.
+    /// Begins a turn at this moment, in seconds. Makes room for its arrival.
     pub fn begin(
         &mut self,
         authority: &Authority,
@@ -32,7 +32,7 @@ impl Cache {
         self.begin_at(self.find(authority.text()), authority, turn, moment)
     }
 
-    /// Begins a turn of an authority whose site was found, without a second look-up of its name.
+    /// Begins a turn of an authority already found, without a second look-up.
     pub fn begin_at(
         &mut self,
         found: FoundSite,
@@ -57,7 +57,7 @@ impl Cache {
     }
 }
 
-// Whether a turn may begin: none is in flight, and a site that is new is not one too many.
+// Whether a turn may begin: none is in flight, and there is a place for a new site.
 fn may_begin(sites: &Sites, limit: u64, found: FoundSite) -> Result<(), FlightRefusal>
     requires all { AllKnown sites.now.entries }
     ensures may { (authority : List ℕ) → IsFound (known_in limit sites.now.entries) authority found
@@ -75,8 +75,8 @@ fn may_begin(sites: &Sites, limit: u64, found: FoundSite) -> Result<(), FlightRe
     Ok(())
 }
 
-// Makes room for the end of one turn more than are in flight. Where more than half of the ends say
-// nothing any more, they are kept anew first, so that they stay at most about twice the sites.
+// Makes room for the end of one more turn. If more than half of the ends are obsolete, rebuilds them first,
+// so that they stay at most about twice the sites.
 fn make_room(sites: &Sites, ends: &mut Ends, flights: u64) -> Result<(), AllocError>
     requires covered { Covers ends.old sites.now.entries }
     requires room { HasRoomForEnds ends.old flights × (flights ≤ length sites.now.entries) }
@@ -91,7 +91,6 @@ fn make_room(sites: &Sites, ends: &mut Ends, flights: u64) -> Result<(), AllocEr
     ends.reserve(flights as usize + 1)
 }
 
-// Keeps the ends of the answers that stand, and no others.
 fn renew(sites: &Sites, ends: &mut Ends)
     requires { length sites.now.entries ≤ ends.old.room }
     ensures covered { Covers ends.new sites.now.entries }
@@ -104,7 +103,6 @@ fn renew(sites: &Sites, ends: &mut Ends)
     }
 }
 
-// Begins a turn that may begin.
 fn open(
     sites: &mut Sites,
     found: FoundSite,
@@ -132,7 +130,6 @@ fn open(
     Ok(())
 }
 
-// A site that is new.
 fn add(sites: &mut Sites, authority: &Authority, flight: Flight) -> Result<(), FlightRefusal>
     requires { get_by_text sites.old authority.now ≡ None }
     ensures own { IsAuthority authority.now }

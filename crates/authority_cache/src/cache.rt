@@ -1,4 +1,4 @@
-//! The cache: what is known of each authority, found by its text.
+//! The cache of what is known of each authority, by its text.
 //! RFC 9309, sections 2.3.1 and 2.4.
 ghost use Rattle.std.specs.Prelude.{◌≡◌, []};
 ghost use Rattle.authority_cache.specs.Sites.{IsApart, flight_count, has_turn, is_flying, known_count, site_of};
@@ -12,19 +12,18 @@ use std::alloc::Global;
 use std::hash::RandomState;
 use std::marker::Model;
 
-// By the keys of its hasher no site can choose its bucket.
+// The hasher has random keys, so no site can choose its bucket.
 pub type Sites = IndexMap<String, Site, RandomState>;
 
-/// What is known of authorities, each with the answer that stands and the turn in flight.
+/// What is known of authorities: the answer and the turn in flight of each.
 #[derive(Drop)]
 pub struct Cache {
     pub(crate) limit: u64,
     pub(crate) sites: Sites,
-    // How many turns are in flight.
     pub(crate) flights: u64,
-    // When the answers that stand end, with room for those of the turns in flight.
+    // When the answers end, with room for the turns in flight.
     pub(crate) ends: Ends,
-    // The answer that the last arrival replaced, to be freed by whoever takes it.
+    // The answer that the last arrival replaced, freed by whoever takes it.
     pub(crate) replaced: Option<Answer>,
 }
 
@@ -41,7 +40,7 @@ impl Model for Cache {
 }
 
 impl Cache {
-    /// An empty cache that knows this many authorities at most, with the keys of its hasher.
+    /// An empty cache for this many authorities, with the keys of its hasher.
     pub fn new(alloc: Global, limit: u64, keys: RandomState) -> Cache
         ensures limit { result.limit ≡ limit }
         ensures empty { result.sites ≡ [] }
@@ -55,8 +54,8 @@ impl Cache {
         }
     }
 
-    /// This cache with another limit of authorities. If more are known they stay known, and none is
-    /// added until fewer are. It takes no memory.
+    /// This cache with another limit of authorities. If more are known they stay, and none is added until
+    /// there are fewer. Takes no memory.
     pub fn limited(self, limit: u64) -> Cache
         ensures limit { result.limit ≡ limit }
         ensures sites { result.sites ≡ self.sites }
@@ -73,7 +72,7 @@ impl Cache {
         self.find(authority).is_fetching
     }
 
-    /// Whether the turn of this number is the authority's that is in flight.
+    /// Whether this turn of the authority is in flight.
     pub fn has_turn(&self, authority: &str, turn: TurnNo) -> bool
         ensures { result ≡ has_turn turn (site_of self.now authority.now) }
     {
@@ -83,7 +82,7 @@ impl Cache {
         }
     }
 
-    /// How many authorities are known: they have a standing answer or a turn in flight.
+    /// How many authorities have an answer or a turn in flight.
     pub fn known_count(&self) -> u64
         ensures value { result ≡ known_count self.now }
         ensures apart { IsApart self.now }
@@ -96,7 +95,7 @@ impl Cache {
         ensures value { result ≡ flight_count self.now }
         ensures apart { IsApart self.now }
     {
-        // The map's length says that its keys are apart.
+        // The map's length shows that its keys differ.
         let _ = self.sites.len();
         self.flights
     }

@@ -1,4 +1,4 @@
-//! When answers end: a heap, from which a sweep takes what is past, the first end first.
+//! When answers end: a heap from which a sweep takes what is past, earliest first.
 //! RFC 9309, section 2.4.
 ghost use Rattle.std.specs.Prelude.{◌≡◌, ◌+◌, ◌<◌, ◌≤◌, [], IfNone, IfSome, OnOk, length};
 ghost use Rattle.authority_cache.specs.Ends.{Adds, KeepsEnd, NoneBefore, Takes};
@@ -9,8 +9,8 @@ use std::cmp::Reverse;
 use std::collections::BinaryHeap;
 use std::marker::Model;
 
-// Of each answer that stands the last moment at which it is in force, in seconds, and the index of its
-// site. What is kept of an answer that was replaced, or of a site that has moved, says nothing any more.
+// For each answer the last moment in force, in seconds, and the index of its site. Entries of replaced
+// answers or moved sites are obsolete.
 #[derive(Drop)]
 pub struct Ends {
     heap: BinaryHeap<Reverse<(u64, usize)>>,
@@ -29,7 +29,6 @@ impl Model for Ends {
 }
 
 impl Ends {
-    // No ends.
     pub fn new(alloc: Global) -> Ends
         ensures { result.ends ≡ [] }
     {
@@ -38,14 +37,12 @@ impl Ends {
         }
     }
 
-    // How many are kept.
     pub fn len(&self) -> usize
         ensures { result ≡ length self.now.ends }
     {
         self.heap.len()
     }
 
-    // Makes room for so many more.
     pub fn reserve(&mut self, more: usize) -> Result<(), AllocError>
         ensures ends { self.new.ends ≡ self.old.ends }
         ensures room { self.old.room ≤ self.new.room }
@@ -54,7 +51,7 @@ impl Ends {
         self.heap.reserve(more)
     }
 
-    // Keeps the end of the site's answer. It takes no memory.
+    // Keeps the end of the site's answer. Takes no memory.
     pub fn push(&mut self, last: u64, site: usize)
         requires { length self.old.ends < self.old.room }
         ensures { Adds self.old (last, site) self.new }
@@ -62,7 +59,7 @@ impl Ends {
         let _ = self.heap.push(Reverse((last, site)));
     }
 
-    // Takes an end that lies before this moment, and tells its site, unless there is none.
+    // Takes an end before this moment, if any, and returns its site.
     pub fn pop_before(&mut self, moment: u64) -> Option<usize>
         ensures some { IfSome result (λ site. Takes moment self.old site self.new) }
         ensures none { IfNone result (NoneBefore moment self.old) }
@@ -78,7 +75,7 @@ impl Ends {
         }
     }
 
-    // Keeps no end any more, and the room.
+    // Drops all ends, and keeps the memory.
     pub fn clear(&mut self)
         ensures ends { self.new.ends ≡ [] }
         ensures room { self.new.room ≡ self.old.room }
@@ -87,7 +84,7 @@ impl Ends {
     }
 }
 
-// Keeps the end of the answer of the site at this index, where there is one. It takes no memory.
+// Keeps the end of the answer of the site at this index, if it has one. Takes no memory.
 pub fn keep_end(sites: &Sites, ends: &mut Ends, index: usize)
     requires { length ends.old.ends < ends.old.room }
     ensures { KeepsEnd sites.now.entries index ends.old ends.new }

@@ -1,11 +1,11 @@
-//! Where an authority stands in the cache: found once, for all that a call wants of it.
+//! Finds an authority in the cache once for all of a call.
 //! RFC 9309, sections 2.3.1 and 2.4.
 ghost use Rattle.std.specs.Prelude.{◌≡◌};
 ghost use Rattle.authority_cache.specs.Calls.{IsFound};
 
 use crate::cache::Cache;
 
-/// Where an authority stands in a cache, until the cache changes, and whether a turn is in flight.
+/// The place of an authority, valid until the cache changes, and whether a turn is in flight.
 #[derive(Clone, Copy, Debug, PartialEq, Eq)]
 pub struct FoundSite {
     pub(crate) index: Option<usize>,
@@ -22,7 +22,7 @@ impl FoundSite {
 }
 
 impl Cache {
-    /// Finds an authority. It takes no memory.
+    /// Finds an authority. Takes no memory.
     pub fn find(&self, authority: &str) -> FoundSite
         ensures { IsFound self.now authority.now result }
     {

@@ -1,5 +1,5 @@
-//! The index of an authority's rules: it is made where they are asked often, and verdicts are the same
-//! with it and without. RFC 9309, section 2.2.2.
+//! The index of an authority's rules, made if they are asked often; verdicts don't depend on it.
+//! RFC 9309, section 2.2.2.
 ghost use Rattle.std.specs.Prelude.{◌≡◌};
 
 use crate::cache::{Cache, Sites};
@@ -9,7 +9,7 @@ use std::alloc::Global;
 use std::sync::Arc;
 
 impl Cache {
-    /// Makes an index of the authority's rules, where one pays and memory suffices. What is known of the
+    /// Makes an index of the authority's rules, if it pays and memory suffices. What is known of the
     /// authority stays.
     pub fn make_index(&mut self, authority: &str)
         ensures { self.new ≡ self.old }
@@ -19,8 +19,8 @@ impl Cache {
         }
     }
 
-    /// Lets the authority's rules take the index of a policy that was made while others had the cache,
-    /// where they have the same text and no index. What is known of the authority stays. It takes no memory.
+    /// Gives the authority's rules the index of a policy that was made outside the lock, if the text is the
+    /// same and they have none. What is known of the authority stays. Takes no memory.
     pub fn take_index(&mut self, authority: &str, policy: Arc<Policy>)
         ensures { self.new ≡ self.old }
     {

@@ -1,5 +1,5 @@
-//! What is known of authorities: of each the robots answer that stands, and the turn to fetch its
-//! robots.txt that is in flight (RFC 9309, sections 2.3.1 and 2.4).
+//! What is known of authorities: the robots answer of each, and the turn in flight to fetch its
+//! robots.txt (RFC 9309, sections 2.3.1 and 2.4).
 #![tactic(auto)]
 
 mod arrive;

@@ -8,14 +8,14 @@ use robots_verdict::{Answer, Policy, Said};
 use std::marker::Model;
 use std::sync::Arc;
 
-/// The seconds for which an answer is in force at most: 24 hours.
+/// The longest lifetime of an answer in seconds: 24 hours.
 pub const LIFE: u64 = 86_400;
 
-/// The seconds for which the rules of a robots.txt are in force at least.
+/// The shortest lifetime of rules in seconds.
 pub const LEAST_LIFE: u64 = 60;
 
-/// The seconds for which an answer is in force, where its reply asked for so many: rules from 60
-/// to 86,400, and the other answers 86,400 whatever was asked.
+/// The lifetime of an answer whose reply asked for `asked` seconds: rules from 60 to 86,400, other answers
+/// always 86,400.
 pub fn life_of(answer: &Answer, asked: u64) -> u64
     ensures { result ≡ life_of (said answer.now) asked }
 {
@@ -25,7 +25,7 @@ pub fn life_of(answer: &Answer, asked: u64) -> u64
     }
 }
 
-/// An answer with the seconds for which it is in force.
+/// An answer with its lifetime in seconds.
 #[derive(Drop)]
 pub struct TimedAnswer {
     answer: Answer,
@@ -49,7 +49,7 @@ impl Model for TimedAnswer {
 }
 
 impl TimedAnswer {
-    /// The answer of a reply that asked for a life of so many seconds.
+    /// The answer of a reply that asked for a lifetime of `asked` seconds.
     pub fn new(answer: Answer, asked: u64) -> TimedAnswer
         ensures { result ≡ timed answer asked }
     {
@@ -67,7 +67,7 @@ impl TimedAnswer {
         &self.answer
     }
 
-    /// The seconds for which it is in force.
+    /// Its lifetime in seconds.
     pub fn life(&self) -> u64
         ensures life { result ≡ self.now.life }
         ensures own { IsOwnLife self.now }
@@ -82,7 +82,7 @@ impl TimedAnswer {
         self.answer.spares()
     }
 
-    /// An answer that says the same, with the same life. It takes no memory, but of rules a spare.
+    /// An answer that says the same, with the same lifetime. Takes no memory, but a spare if it has rules.
     pub fn twin(&mut self) -> TimedAnswer
         requires { 0 < self.old.spares }
         ensures twin { result ≡ twin_of self.old }
@@ -95,14 +95,14 @@ impl TimedAnswer {
         }
     }
 
-    /// Takes a policy in place of that of its rules, where it has the same text and no twin was given. What it says stays.
+    /// Replaces its policy by this one, if the text is the same and no twin was given. Its meaning stays.
     pub fn share(&mut self, policy: Arc<Policy>)
         ensures { self.new ≡ self.old }
     {
         self.answer.share(policy);
     }
 
-    /// The answer and its life.
+    /// The answer and its lifetime.
     pub fn into_parts(self) -> (Answer, u64)
         ensures says { said result.0 ≡ self.says }
         ensures spares { spares_of result.0 ≡ self.spares }
@@ -112,7 +112,7 @@ impl TimedAnswer {
         (self.answer, self.life)
     }
 
-    /// What it says, for a history to keep. It takes no memory.
+    /// What it says, for a history to keep. Takes no memory.
     pub fn into_said(self) -> Said
         ensures { result ≡ self.says }
     {

@@ -1,4 +1,4 @@
-//! What stands in the cache, in lists that outlive it.
+//! The contents of the cache, in lists that outlive it.
 //! RFC 9309, sections 2.3.1 and 2.4.
 ghost use Rattle.std.specs.Prelude.{◌≡◌, ◌++◌, IfOk, OnOk};
 ghost use Rattle.path_normal.specs.Authority.{IsAuthority};
@@ -13,7 +13,7 @@ use path_normal::Authority;
 use std::alloc::{AllocError, Global};
 
 impl Cache {
-    /// The answers that stand, in no order. It takes no memory for their texts, but for their names.
+    /// The answers, in no order. Allocates their names, not their texts.
     pub fn standing_answers(&self, alloc: Global) -> Result<Vec<StandingAnswer>, AllocError>
         ensures { IfOk result (λ answers. ListsAnswers self.now answers.items) }
     {
@@ -42,7 +42,6 @@ impl Cache {
     }
 }
 
-// Adds the answer that stands at a site, where one does.
 fn push_answer(
     answers: &mut Vec<StandingAnswer>,
     alloc: Global,
@@ -65,7 +64,6 @@ fn push_answer(
     Ok(())
 }
 
-// Adds the turn that is in flight at a site, where one is.
 fn push_turn(
     turns: &mut Vec<Turn>,
     alloc: Global,

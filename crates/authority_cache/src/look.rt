@@ -1,4 +1,4 @@
-//! A look at the answer that is in force for an authority.
+//! Looks up the answer in force for an authority.
 //! RFC 9309, section 2.4.
 ghost use Rattle.std.specs.Prelude.{◌≡◌};
 ghost use Rattle.std.specs.Option.{option_copied, option_map};
@@ -10,19 +10,19 @@ use crate::find::FoundSite;
 use crate::site::{CachedAnswer, Site};
 use robots_verdict::Answer;
 
-/// What is found of an authority's answer.
+/// The result of looking up an authority's answer.
 #[derive(Clone, Copy)]
 pub enum Look<'a> {
-    /// No answer stands.
+    /// There is no answer.
     Unknown,
-    /// The answer that stands is older than its life.
+    /// The answer is older than its lifetime.
     Expired,
     /// This answer is in force.
     InForce(&'a Answer),
 }
 
 impl Cache {
-    /// The answer that stands for an authority, in force or older than its life. It takes no memory.
+    /// The answer for an authority, in force or expired. Takes no memory.
     pub fn standing(&self, authority: &str) -> Option<&CachedAnswer>
         ensures { option_map said_cached (option_copied result)
             ≡ (site_of self.now authority.now).standing }
@@ -33,14 +33,14 @@ impl Cache {
         }
     }
 
-    /// Looks for an authority's answer at this moment, in seconds. It takes no memory.
+    /// Looks up an authority's answer at this moment, in seconds. Takes no memory.
     pub fn look(&self, authority: &str, moment: u64) -> Look<'_>
         ensures { Looks self.now authority.now moment result }
     {
         self.look_at(self.find(authority), moment)
     }
 
-    /// Looks for the answer of an authority whose site was found, without a second look-up of its name.
+    /// Looks up the answer of an authority already found, without a second look-up.
     pub fn look_at(&self, found: FoundSite, moment: u64) -> Look<'_>
         ensures { LooksAt (state_at self.now found) moment result }
     {
@@ -55,7 +55,6 @@ impl Cache {
 }
 
 impl Site {
-    // Looks for the answer of one authority.
     fn look(&self, moment: u64) -> Look<'_>
         ensures { LooksAt (said_site self.now) moment result }
     {

@@ -1,5 +1,5 @@
-//! Why a call on the cache was refused. Nothing has changed then.
-//! Answered by `begin` and `arrive`; RFC 9309, 2.3, leaves to the crawler how often it fetches.
+//! Why a call on the cache was refused. Nothing has changed.
+//! Returned by `begin` and `arrive`; RFC 9309, 2.3, leaves to the crawler how often it fetches.
 
 use std::alloc::AllocError;
 use std::error::Error;
@@ -10,9 +10,9 @@ use std::fmt;
 pub enum FlightRefusal {
     /// A turn of the authority is in flight.
     InFlight,
-    /// The authority is not known, and as many are as may be.
+    /// The authority is not known, and the cache is full.
     AuthoritiesFull,
-    /// The allocator had no memory.
+    /// Out of memory.
     NoMemory,
 }
 

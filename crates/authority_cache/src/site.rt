@@ -14,18 +14,18 @@ use robots_verdict::Answer;
 pub struct Flight {
     /// The number of the turn.
     pub turn: TurnNo,
-    /// The moment of its begin, in seconds.
+    /// The moment when it began, in seconds.
     pub begun: u64,
 }
 
-/// An answer that stands.
+/// An answer.
 #[derive(Drop)]
 pub struct CachedAnswer {
     /// The turn that brought it.
     pub turn: TurnNo,
-    /// The moment of that turn's begin, in seconds, from which its age counts.
+    /// When that turn began, in seconds; its age counts from then.
     pub begun: u64,
-    /// The greatest age in seconds at which it is in force.
+    /// The greatest age in force, in seconds.
     pub life: u64,
     /// The answer.
     pub answer: Answer,
@@ -34,14 +34,14 @@ pub struct CachedAnswer {
 /// What is known of an authority.
 #[derive(Drop)]
 pub struct Site {
-    /// The answer that stands.
+    /// Its answer.
     pub standing: Option<CachedAnswer>,
-    /// The turn that is in flight.
+    /// Its turn in flight.
     pub in_flight: Option<Flight>,
 }
 
 impl CachedAnswer {
-    /// Whether it is older than its life at this moment.
+    /// Whether it is older than its lifetime at this moment.
     pub fn is_past(&self, moment: u64) -> bool
         ensures { result ≡ is_past moment (said_cached self.now) }
     {
@@ -57,7 +57,7 @@ impl CachedAnswer {
 }
 
 impl Site {
-    /// Whether an answer stands or a turn is in flight.
+    /// Whether it has an answer or a turn in flight.
     pub fn is_known(&self) -> bool
         ensures { result ≡ is_known (said_site self.now) }
     {
@@ -74,7 +74,7 @@ impl Site {
         }
     }
 
-    /// Whether the answer that stands is older than its life.
+    /// Whether the answer is older than its lifetime.
     pub fn has_past(&self, moment: u64) -> bool
         ensures { result ≡ has_past moment (said_site self.now) }
     {
@@ -91,7 +91,7 @@ impl Site {
         self.in_flight = Some(flight);
     }
 
-    /// Ends the turn of that number, and lets its answer stand. The one that stood is moved out.
+    /// Ends that turn; the answer that it replaces goes to `replaced`.
     pub fn arrive(
         &mut self,
         turn: TurnNo,

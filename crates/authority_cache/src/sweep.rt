@@ -1,4 +1,4 @@
-//! The sweep: answers that are older than their lives are dropped.
+//! The sweep drops answers older than their lifetimes.
 //! RFC 9309, section 2.4.
 ghost use Rattle.std.specs.Prelude.{◌≡◌, ℕ, ◌+◌, ◌*◌, ◌^◌, ◌<◌, ◌≤◌, true, length};
 ghost use Rattle.std.specs.HashMap.{IsUnique};
@@ -12,19 +12,18 @@ use crate::cache::{Cache, Sites};
 use crate::ends::{Ends, keep_end};
 
 impl Cache {
-    /// Drops the answers that are older than their lives at this moment, in seconds, and tells how
-    /// many they were. Turns stay in flight. It takes no memory, and doesn't walk over the sites.
+    /// Drops the answers older than their lifetimes at this moment, in seconds, and returns how many. Turns
+    /// stay in flight. Takes no memory, and doesn't walk over the sites.
     pub fn sweep(&mut self, moment: u64) -> u64
         ensures swept { Sweeps self.old moment result self.new }
         ensures apart { IsApart self.old }
     {
-        // The map's length says that its keys are apart.
+        // The map's length shows that its keys differ.
         let _ = self.sites.len();
         drop_past(&mut self.sites, &mut self.ends, moment)
     }
 }
 
-// Drops the answers whose ends lie before this moment, and tells how many they were.
 fn drop_past(sites: &mut Sites, ends: &mut Ends, moment: u64) -> u64
     requires tended { IsTended ends.old sites.old.entries }
     requires few { length sites.old.entries < 2 ^ 63 }
@@ -41,7 +40,6 @@ fn drop_past(sites: &mut Sites, ends: &mut Ends, moment: u64) -> u64
     dropped
 }
 
-// Drops the answer of the site at this index, where it is older than its life, and tells whether it was.
 fn drop_at(sites: &mut Sites, ends: &mut Ends, index: usize, moment: u64) -> bool
     requires known { AllKnown sites.old.entries }
     requires past { CoversPast moment index ends.old sites.old.entries }
@@ -62,7 +60,6 @@ fn drop_at(sites: &mut Sites, ends: &mut Ends, index: usize, moment: u64) -> boo
     true
 }
 
-// Whether an answer that is older than its life stands at this index.
 fn has_past_at(sites: &Sites, index: usize, moment: u64) -> bool
     ensures value { SaysPastAt moment sites.now.entries index result }
     ensures within { result ≡ true → index < length sites.now.entries }
@@ -73,7 +70,7 @@ fn has_past_at(sites: &Sites, index: usize, moment: u64) -> bool
     }
 }
 
-// Drops the answer of the site at this index, and tells whether a turn is in flight there.
+// Drops the answer at this index; returns whether a turn is in flight there.
 fn drop_answer(sites: &mut Sites, index: usize) -> bool
     requires { index < length sites.old.entries }
     ensures drops { DropsAnswer sites.old.entries index result sites.new.entries }
@@ -88,8 +85,7 @@ fn drop_answer(sites: &mut Sites, index: usize) -> bool
     }
 }
 
-// Takes the site at this index away, of which nothing is known any more. The last site comes into its
-// place, and so does its end.
+// Removes a site of which nothing is known. The last site takes its index, and its end follows.
 fn remove(sites: &mut Sites, ends: &mut Ends, index: usize)
     requires within { index < length sites.old.entries }
     requires others { CoversBut index ends.old sites.old.entries }
@@ -102,7 +98,6 @@ fn remove(sites: &mut Sites, ends: &mut Ends, index: usize)
     keep_end(sites, ends, index);
 }
 
-// Takes the site at this index away.
 fn take_site(sites: &mut Sites, index: usize)
     requires { index < length sites.old.entries }
     ensures { Removes sites.old.entries index sites.new.entries }

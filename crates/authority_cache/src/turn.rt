@@ -5,7 +5,7 @@ ghost use Rattle.std.specs.Prelude.{◌≡◌};
 use path_normal::Authority;
 use std::marker::Model;
 
-/// The number of a turn: which begin of its history it is, from 1.
+/// The number of a turn: a count of its history's begins, from 1.
 #[derive(Clone, Copy, Debug, PartialEq, Eq)]
 pub struct TurnNo {
     number: u64,
@@ -37,13 +37,13 @@ impl TurnNo {
     }
 }
 
-/// A turn in flight, as lists of turns have it: that of a history, or of a segment of one.
+/// A turn in flight in the lists of a history or of a segment.
 #[derive(Drop)]
 pub struct Turn {
     /// Whose robots.txt is fetched.
     pub authority: Authority,
     /// The number of the turn.
     pub turn: TurnNo,
-    /// The moment of its begin, in seconds.
+    /// The moment when it began, in seconds.
     pub begun: u64,
 }

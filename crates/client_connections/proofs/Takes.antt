@@ -5,7 +5,6 @@ use Rattle.std.specs.Io.KnownBytes.{Consumes, Keeps}
 use Rattle.std.proofs.KnownBytes.{Consumes-trans, Consumes-kept}
 use Rattle.client_connections.specs.Closing.{TakesAtMost}
 
--- a read of so many octets adds to what was taken
 pub takes_more :
     (before count most : ℕ) (old between new : Option (List ℕ)) → TakesAtMost before old between
     → ((octets : List ℕ) × Consumes between new octets × (length octets ≡ count)) → before + count ≤ most
@@ -14,7 +13,6 @@ takes_more before count most old between new (xs, took, few) (ys, takes, exact) 
     let sum : length (xs ++ ys) ≡ length xs + length ys = length-append xs ys
     in (xs ++ ys, Consumes-trans old between new xs ys took takes, omega arith)
 
--- a read that fails adds nothing
 pub takes_kept :
     (before most : ℕ) (old between new : Option (List ℕ)) → TakesAtMost before old between → Keeps between new
     → before ≤ most → TakesAtMost most old new

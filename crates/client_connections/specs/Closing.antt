@@ -1,20 +1,20 @@
--- What is read from a client that is let go.
--- The contract of `read_out` cites it.
+-- What is read from a closing connection.
+-- Used by `read_out`.
 use Rattle.std.specs.Prelude.{ℕ, ◌≤◌, List, length, Option}
 use Rattle.std.specs.Io.KnownBytes.{Consumes}
 
--- the most seconds that it is read from
+-- the most seconds of reading
 abbrev pub closing_seconds : ℕ
 closing_seconds = 1
 
--- the most octets that are read from it
+-- the most octets of reading
 abbrev pub closing_octets : ℕ
 closing_octets = 65536
 
--- at most so many known octets are taken
+-- at most this many known octets are taken
 abbrev pub TakesAtMost : ℕ → Option (List ℕ) → Option (List ℕ) → Type 0
 TakesAtMost most old new = (octets : List ℕ) × Consumes old new octets × (length octets ≤ most)
 
--- no more octets are taken than may be
+-- no more octets are taken than allowed
 abbrev pub TakesFew : Option (List ℕ) → Option (List ℕ) → Type 0
 TakesFew old new = TakesAtMost closing_octets old new

@@ -1,4 +1,4 @@
--- What contracts say of how clients are accepted, how long they are waited for, and how they are let go.
+-- Definitions for accepting clients, waiting for them, and closing.
 pub mod Accepts
 pub mod Ahead
 pub mod Closing

@@ -8,11 +8,11 @@ ghost use Rattle.client_connections.specs.Accepts.{fault_in, fault_of, passing_f
 use std::io;
 use std::time::Duration;
 
-/// How often in a row no connection is accepted, before the device has failed. With the waits between,
-/// that takes three minutes.
+/// How many accepts in a row may fail before the device counts as failed. With the waits between, that
+/// takes three minutes.
 pub const MAX_ACCEPT_FAULTS: u32 = 900;
 
-// How long descriptors and memory are waited for before the next try.
+// The wait for descriptors and memory before the next try.
 const WANT_MILLISECONDS: u64 = 200;
 
 const EPERM: u32 = 1;
@@ -48,16 +48,16 @@ const EHOSTUNREACH: u32 = 113;
 /// Why no connection was accepted.
 #[derive(Clone, Copy, Debug, PartialEq, Eq)]
 pub enum AcceptFault {
-    /// The connection that came first had failed already, or may not be taken. Another may come.
+    /// The first connection had failed already, or is forbidden. Another may come.
     Client,
-    /// There is no descriptor or no memory for a connection now.
+    /// No descriptor or memory for a connection now.
     Want,
     /// The listener itself fails.
     Device,
 }
 
 impl AcceptFault {
-    /// What an error of the system says.
+    /// The fault of a system error.
     pub fn of(error: &io::Error) -> AcceptFault
         ensures { result ≡ fault_of (raw_os_error error.now) }
     {
@@ -68,8 +68,8 @@ impl AcceptFault {
         }
     }
 
-    /// How long to wait before the next try, where this is so many faults in a row; `None` where the
-    /// device has failed.
+    /// How long to wait before the next try, after this many faults in a row; `None` if the device has
+    /// failed.
     pub fn wait_after(self, faults: u32) -> Option<Duration>
         ensures { option_map as_nanos result ≡ wait_after self faults }
     {

@@ -1,13 +1,13 @@
-//! Whether a client has sent something that was not read yet.
+//! Whether a client has sent unread octets.
 //! Asked by `LinesInTurn`, before each read.
 
 use std::io;
 use std::io::ErrorKind;
 use std::net::TcpStream;
 
-/// A connection that tells whether a read would wait.
+/// A connection that knows whether a read would wait.
 pub trait AtHand {
-    /// Whether a read would end at once: octets are there, or the end is, or a fault.
+    /// Whether a read would return at once: with octets, the end, or a fault.
     fn is_at_hand(&self) -> io::Result<bool>;
 }
 

@@ -1,4 +1,4 @@
-//! A client's connection, whose waiting adds up.
+//! A client's connection, which adds up the time that it waits.
 ghost use Rattle.std.specs.Prelude.{◌≡◌, ◌↔◌, Contains, IsTrue};
 ghost use Rattle.std.specs.Io.{ReadsAtMost, WritesAtMost};
 ghost use Rattle.std.specs.Io.KnownBytes.{ReadConsumes, WriteAppends};
@@ -11,21 +11,20 @@ use std::io::{ErrorKind, Read, Write};
 use std::time::{Duration, Instant};
 use std::{io, time};
 
-// How often a read or a write is tried that a signal interrupts, or that has nothing yet. The tries of
-// the longest patience are 300.
+// How often a read or write is tried that a signal interrupts, or that has nothing yet. The longest
+// patience takes 300 tries.
 const MOST_TRIES: u32 = 1_000;
 
-/// A client's connection, or one side of it. The time that reads and writes wait adds up, on both sides
-/// of a connection alike, and is nothing again once a read has brought an LF. With the patience over,
-/// each read and each write fails. The octets that it has left, and those that were written, are the
-/// connection's.
+/// A client's connection, or one side of it. Both sides add up the time that reads and writes wait, from
+/// zero after each read with an LF. With the patience over, each read and write fails. The unread octets
+/// and the written ones are the connection's.
 #[derive(Drop)]
 pub struct ClientStream<'a, R: time::Clock, S: Waits> {
     pub rt: &'a R,
     pub stream: S,
-    /// How long the client has been waited for. Both sides of a connection share it.
+    /// The time waited for the client, shared by both sides.
     pub waiting: &'a Cell<Waiting>,
-    // What the stream was told last of how long a read and a write may wait.
+    // The stream's current timeouts of reads and writes.
     read_time: Option<Duration>,
     write_time: Option<Duration>,
 }
@@ -44,7 +43,7 @@ impl<'a, R: time::Clock, S: Waits> ClientStream<'a, R, S> {
         }
     }
 
-    // Reads, where the patience is not over, and adds the time that this takes.
+    // Reads unless the patience is over, and adds the time taken.
     fn read_waiting(&mut self, buf: &mut [u8], waiting: &mut Waiting) -> io::Result<usize>
         ensures bound { ReadsAtMost result buf.new }
         ensures bytes { ReadConsumes (S.remaining self.old.stream) (S.remaining self.new.stream)
@@ -71,7 +70,7 @@ impl<'a, R: time::Clock, S: Waits> ClientStream<'a, R, S> {
         Err(io::Error::from(ErrorKind::TimedOut))
     }
 
-    // Writes, where the patience is not over, and adds the time that this takes.
+    // Writes unless the patience is over, and adds the time taken.
     fn write_waiting(&mut self, buf: &[u8], waiting: &mut Waiting) -> io::Result<usize>
         ensures bound { WritesAtMost result buf.now }
         ensures bytes { WriteAppends (S.contents self.old.stream) (S.contents self.new.stream)
@@ -92,7 +91,7 @@ impl<'a, R: time::Clock, S: Waits> ClientStream<'a, R, S> {
         Err(io::Error::from(ErrorKind::TimedOut))
     }
 
-    // Tells the stream how long a read may wait, where it wasn't told the same last.
+    // Sets the timeout of reads, if it changes.
     fn limit_reads(&mut self, time: Duration) -> io::Result<()>
         ensures { self.new.stream ≡ self.old.stream }
     {
@@ -103,7 +102,7 @@ impl<'a, R: time::Clock, S: Waits> ClientStream<'a, R, S> {
         Ok(())
     }
 
-    // Tells the stream how long a write may wait, where it wasn't told the same last.
+    // Sets the timeout of writes, if it changes.
     fn limit_writes(&mut self, time: Duration) -> io::Result<()>
         ensures { self.new.stream ≡ self.old.stream }
     {
@@ -114,7 +113,7 @@ impl<'a, R: time::Clock, S: Waits> ClientStream<'a, R, S> {
         Ok(())
     }
 
-    // How long ago a moment was. A clock that can't be read ends the patience.
+    // The time since a moment. A clock that can't be read ends the patience.
     fn time_since(&self, begun: Instant) -> Duration {
         begun.elapsed(self.rt).unwrap_or(Duration::MAX)
     }
@@ -146,7 +145,7 @@ impl<'a, R: time::Clock, S: Waits> Write for ClientStream<'a, R, S> {
     }
 }
 
-// Whether a try that failed so may be made again: a signal came, or the time of a try was over.
+// Whether to try again: a signal came, or only the try's time is over.
 fn has_nothing_yet(error: &io::Error) -> bool {
     matches!(error.kind(), ErrorKind::Interrupted | ErrorKind::WouldBlock)
 }

@@ -1,6 +1,6 @@
-//! How a connection is let go, so that what was written last still arrives.
-//! RFC 9293, section 3.6.1: a connection that is closed with octets unread is reset, and a reset can
-//! overtake what is on its way.
+//! Closes a connection so that the last octets written still arrive.
+//! RFC 9293, section 3.6.1: closing a connection with unread octets resets it, and a reset can overtake
+//! octets on their way.
 ghost use Rattle.std.specs.Prelude.{◌≡◌, ◌≤◌, IfOk};
 ghost use Rattle.std.specs.Duration.{as_nanos};
 ghost use Rattle.std.specs.Io.KnownBytes.{ConsumesCount};
@@ -13,18 +13,18 @@ use std::net::{Shutdown, TcpStream};
 use std::time::Duration;
 use std::{io, time};
 
-/// The most seconds that a client which is let go is read from.
+/// The most seconds for which a closing connection is read.
 pub const CLOSING_SECONDS: u64 = 1;
 
-/// The most octets that are read from it.
+/// The most octets read from it.
 pub const CLOSING_OCTETS: usize = 65_536;
 
 // The most octets of one read.
 const PIECE: usize = 4_096;
 
-/// A connection on which writing can end alone.
+/// A connection on which writing alone can end.
 pub trait Closes: Waits {
-    /// The client is told that nothing more comes.
+    /// Tells the client that nothing more comes.
     fn end_writes(&self) -> io::Result<()>;
 }
 
@@ -34,13 +34,12 @@ impl Closes for &TcpStream {
     }
 }
 
-/// Lets a client go: says that nothing more comes, takes what the client still sends, for a second at
-/// most and 65,536 octets, and closes.
+/// Ends writing, reads on for at most a second and 65,536 octets, and closes.
 pub fn close<R: time::Clock>(rt: &R, stream: TcpStream) {
     read_out(rt, &mut &stream);
 }
 
-/// Says that nothing more comes, and takes what the client still sends, for a second at most and 65,536 octets.
+/// Ends writing, and reads on for at most a second and 65,536 octets.
 pub fn read_out<R: time::Clock, S: Closes>(rt: &R, stream: &mut S)
     ensures { TakesFew (S.remaining stream.old) (S.remaining stream.new) }
 {
@@ -51,7 +50,7 @@ pub fn read_out<R: time::Clock, S: Closes>(rt: &R, stream: &mut S)
         return;
     };
     let mut left = CLOSING_OCTETS;
-    // A read that a signal interrupts takes no octet.
+    // An interrupted read takes no octet.
     for _ in 0..CLOSING_OCTETS {
         match read_piece(rt, stream, &deadline, left) {
             Ok(count) if 0 < count && count < left => left -= count,
@@ -61,14 +60,14 @@ pub fn read_out<R: time::Clock, S: Closes>(rt: &R, stream: &mut S)
     }
 }
 
-// The time for which a client is read from begins.
+// The time for reading begins.
 fn begin<R: time::Clock>(rt: &R) -> io::Result<Deadline>
     ensures { IfOk result (λ deadline. as_nanos deadline.whole ≡ nanoseconds closing_seconds) }
 {
     Deadline::begin(rt, Duration::from_secs(CLOSING_SECONDS))
 }
 
-// Takes a piece of what the client sends, in the time that is left.
+// Reads a piece within the remaining time.
 fn read_piece<R: time::Clock, S: Closes>(
     rt: &R,
     stream: &mut S,

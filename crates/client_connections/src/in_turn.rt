@@ -1,5 +1,5 @@
-//! A client's lines as they are taken up, and how long the gate fetches for lines that it had sent ahead.
-//! Sessions of a server that bounds that time read and write through it.
+//! A client's lines as they are read, and how long the gate fetches for lines sent ahead.
+//! Used for the sessions of a server that limits that time.
 ghost use Rattle.std.specs.Prelude.{◌≡◌, ◌≢◌, ◌≤◌, ◌<◌, [], Ok, IsErr, length, take, true};
 ghost use Rattle.std.specs.Duration.{as_nanos};
 ghost use Rattle.std.specs.Io.{ReadsAtMost};
@@ -22,19 +22,19 @@ use std::{io, time};
 /// The most seconds of fetches for lines sent ahead that a server may allow.
 pub const AHEAD_SECONDS: u64 = 3_600;
 
-/// How long the gate fetched for lines that a client had sent ahead, since it was last seen to wait: for a reply, with nothing
-/// sent behind its line, or to be read from, with nothing sent at all.
+/// How long the gate fetched for lines that a client had sent ahead, since it last waited: for a reply,
+/// with nothing sent after its line, or with nothing sent at all.
 #[derive(Clone, Copy, Debug, PartialEq, Eq)]
 pub struct FetchedAhead {
     ahead: Waiting,
-    // Since when the gate may fetch for the line that was read last; none, where that has it fetch nothing.
+    // Since when the gate may be fetching for the line read last; none if it fetches nothing for that.
     since: Option<Instant>,
-    // Whether octets were read that are not handed out yet.
+    // Whether octets were read but not returned yet.
     has_more: bool,
 }
 
 impl FetchedAhead {
-    /// Nothing was fetched so far. `most` is how long may be fetched for lines that were sent ahead.
+    /// Nothing was fetched. `most` limits fetching for lines sent ahead.
     pub fn new(most: Duration) -> FetchedAhead {
         FetchedAhead {
             ahead: Waiting::new(most),
@@ -43,7 +43,7 @@ impl FetchedAhead {
         }
     }
 
-    // The client waits: what was fetched counts no more.
+    // The client waits: earlier fetches no longer count.
     fn begun(self, now: Option<Instant>) -> FetchedAhead {
         FetchedAhead {
             ahead: Waiting::new(self.ahead.patience),
@@ -53,21 +53,21 @@ impl FetchedAhead {
     }
 }
 
-/// What the line is of which the first octets were handed out.
+/// The kind of the line whose first octets were returned.
 #[derive(Clone, Copy, Debug, PartialEq, Eq)]
 enum Begun {
-    /// There is none: what comes next begins a line.
+    /// None: a line begins next.
     Nothing,
-    /// One that has the gate fetch nothing.
+    /// A line that makes the gate fetch nothing.
     Plain,
-    /// One for which the gate may fetch.
+    /// A line for which the gate may fetch.
     Fetch,
 }
 
-/// A client's side of a connection that is read. A line for which the gate may fetch is read by itself, so that who answers
-/// lines comes back here behind it. The time up to the next read adds up, where that brings what was at hand before it and
-/// the client was not seen to wait meanwhile; past the limit a read fails. So a client that sends such lines ahead, and may
-/// read no reply, keeps its worker no longer, and one that waits for each reply is never let go.
+/// The read side of a client's connection. A line for which the gate may fetch is returned alone, so the
+/// next read comes after its reply. The time until that read counts if its octets were there before and the
+/// client did not wait meanwhile; past the limit a read fails. So a client that sends such lines ahead, and
+/// may read no reply, can't hold its worker longer, while one that waits for each reply is never cut off.
 #[derive(Drop)]
 pub struct LinesInTurn<'a, R: time::Clock, S: Waits + AtHand> {
     rt: &'a R,
@@ -77,7 +77,7 @@ pub struct LinesInTurn<'a, R: time::Clock, S: Waits + AtHand> {
 }
 
 impl<'a, R: time::Clock, S: Waits + AtHand + Drop> LinesInTurn<'a, R, S> {
-    /// The lines of this stream, none of which was read so far.
+    /// This stream's lines, none read so far.
     pub fn new(
         alloc: Global,
         stream: ClientStream<'a, R, S>,
@@ -91,7 +91,7 @@ impl<'a, R: time::Clock, S: Waits + AtHand + Drop> LinesInTurn<'a, R, S> {
         })
     }
 
-    // Whether something was read and not handed out, or can be read without waiting.
+    // Whether octets were read but not returned, or can be read without waiting.
     fn is_at_hand(&self) -> io::Result<bool>
         ensures { reader_buffer self.now.lines ≢ [] → result ≡ Ok true }
     {
@@ -102,7 +102,7 @@ impl<'a, R: time::Clock, S: Waits + AtHand + Drop> LinesInTurn<'a, R, S> {
         }
     }
 
-    // Hands out what was read and not handed out, or else what a read brings, as far as it goes together.
+    // Returns octets read before, or else what a read brings, as far as they may go together.
     fn hand_out(&mut self, buf: &mut [u8]) -> io::Result<usize>
         ensures bound { ReadsAtMost result buf.new }
         ensures bytes { ReadConsumes (reader_remaining (λ s. S.remaining s.stream) self.old.lines)
@@ -149,8 +149,7 @@ impl<'a, R: time::Clock, S: Waits + AtHand + Drop> Read for LinesInTurn<'a, R, S
     }
 }
 
-/// The side of the same connection that is written. A client that has sent nothing behind the line whose reply is written
-/// is seen to wait for it.
+/// The write side. A client that has sent nothing after the line whose reply is written counts as waiting.
 #[derive(Drop)]
 pub struct RepliesInTurn<'a, R: time::Clock, S: Waits + AtHand> {
     stream: ClientStream<'a, R, S>,
@@ -158,7 +157,7 @@ pub struct RepliesInTurn<'a, R: time::Clock, S: Waits + AtHand> {
 }
 
 impl<'a, R: time::Clock, S: Waits + AtHand> RepliesInTurn<'a, R, S> {
-    /// What is written to this stream.
+    /// The write side of this stream.
     pub fn new(
         stream: ClientStream<'a, R, S>,
         turn: &'a Cell<FetchedAhead>,
@@ -183,7 +182,7 @@ impl<'a, R: time::Clock, S: Waits + AtHand> Write for RepliesInTurn<'a, R, S> {
     }
 }
 
-// How long was fetched for lines that were at hand once the next one is taken up, so long after the one before it.
+// How long was fetched for lines sent ahead when the next one is read, this long after the one before it.
 fn take_turn(ahead: Waiting, at_hand: bool, spent: Duration) -> io::Result<Waiting>
     ensures turn { TakesTurn ahead at_hand (as_nanos spent) result }
     ensures over { at_hand ≡ true → IsOver ahead → IsErr result }
@@ -196,7 +195,7 @@ fn take_turn(ahead: Waiting, at_hand: bool, spent: Duration) -> io::Result<Waiti
     Ok(after)
 }
 
-// How long ago that was. A clock that can't be read now has let all time pass.
+// The time since that. A clock that can't be read now counts as all time.
 fn time_since<R: time::Clock>(rt: &R, since: Option<Instant>) -> Duration {
     match since {
         Some(moment) => moment.elapsed(rt).unwrap_or(Duration::MAX),
@@ -204,7 +203,7 @@ fn time_since<R: time::Clock>(rt: &R, since: Option<Instant>) -> Duration {
     }
 }
 
-// Whether these octets, which begin as that says, may have the gate fetch.
+// Whether these octets, after that beginning, may make the gate fetch.
 fn may_fetch(begun: Begun, octets: &[u8]) -> bool {
     match begun {
         Begun::Nothing => octets.first().is_some_and(|octet| begins_fetch(*octet)),
@@ -213,7 +212,7 @@ fn may_fetch(begun: Begun, octets: &[u8]) -> bool {
     }
 }
 
-// Copies the first of these octets into the buffer, as far as they go together and the buffer has room, and says how many.
+// Copies the leading octets that go together, as far as the buffer has room, and returns how many.
 fn copy_together(octets: &[u8], begun: &mut Begun, buf: &mut [u8]) -> usize
     ensures len { length buf.new ≡ length buf.old }
     ensures fits { result ≤ length octets.now }
@@ -234,7 +233,7 @@ fn copy_together(octets: &[u8], begun: &mut Begun, buf: &mut [u8]) -> usize
     count
 }
 
-// How many of these octets go together, of at most so many.
+// How many leading octets go together, up to a limit.
 fn together_len(octets: &[u8], is_fetch: bool, most: usize) -> usize
     ensures fits { result ≤ length octets.now }
     ensures room { result ≤ most }

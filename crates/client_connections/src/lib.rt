@@ -1,5 +1,4 @@
-//! Clients over TCP, or over a socket that is a file: how they are accepted, how long they are waited for, and how they are
-//! let go.
+//! Clients over TCP or over a socket file: accepting them, waiting for them, and closing their connections.
 //! docs/FORMATS.md has the limits.
 #![tactic(auto)]
 

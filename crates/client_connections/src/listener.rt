@@ -10,11 +10,10 @@ use std::os::fd::OwnedFd;
 use std::os::unix::net::UnixListener;
 use std::{io, thread, time};
 
-/// Where clients of this machine connect: a port of the loopback, or a socket that is a file.
+/// Where clients of this machine connect: a loopback port, or a socket file.
 #[derive(Drop)]
 pub struct Listener(Endpoint);
 
-// What is listened at.
 #[derive(Drop)]
 enum Endpoint {
     Port(TcpListener),
@@ -22,7 +21,7 @@ enum Endpoint {
 }
 
 impl Listener {
-    /// Listens at this port of 127.0.0.1, or for 0 at one that is free.
+    /// Listens at this port of 127.0.0.1, or for 0 at a free one.
     pub fn bind<R: Net<Listener = TcpListener, Stream = TcpStream>>(
         rt: &R,
         port: u16,
@@ -31,14 +30,13 @@ impl Listener {
         Ok(Listener(Endpoint::Port(TcpListener::bind(rt, address)?)))
     }
 
-    /// Listens at a socket that is a file of this path, which its owner alone can open (mode 0600). A socket that a
-    /// server which is gone has left there is replaced; `AddrInUse` where a server still listens, or where the file is no
-    /// socket.
+    /// Listens at a socket file of this path, which only its owner can open (mode 0600). A socket left by a
+    /// dead server is replaced; `AddrInUse` if a server still listens, or if the file is no socket.
     pub fn bind_socket<R: Files + Net>(rt: &R, alloc: Global, path: &str) -> io::Result<Listener> {
         Ok(Listener(Endpoint::File(socket_file::bind(rt, alloc, path)?)))
     }
 
-    /// The port at which it listens. A socket that is a file has none: `Unsupported`.
+    /// The port, or `Unsupported` for a socket file.
     pub fn port(&self) -> io::Result<u16> {
         match &self.0 {
             Endpoint::Port(listener) => Ok(listener.local_addr()?.port()),
@@ -46,8 +44,7 @@ impl Listener {
         }
     }
 
-    /// Takes no client from now on: whoever waits for one is told that the device has failed. It fails where no
-    /// descriptor can be had.
+    /// Stops accepting: waiting accepts end with a device fault. It fails if there is no descriptor.
     pub fn shut(&self) -> io::Result<()> {
         // A shutdown is a call of a descriptor, and wakes each `accept` of it.
         let descriptor = match &self.0 {
@@ -57,14 +54,14 @@ impl Listener {
         TcpStream::from(descriptor).shutdown(Shutdown::Both)
     }
 
-    /// Waits for a client and gives its connection, as `accept_from` does. One over a file has the type of the other:
-    /// reads, writes and limits of time are calls of a descriptor, which are the same for both.
+    /// Waits for a client's connection, as `accept_from` does. A socket file's has the type of the other:
+    /// reads, writes and timeouts are the same calls of a descriptor.
     pub fn accept<R: time::Clock>(&self, rt: &R) -> Result<TcpStream, AcceptFault> {
         accept_from(rt, self)
     }
 }
 
-/// What accepts connections, one at a time.
+/// Accepts connections, one at a time.
 pub trait Accepts {
     type Stream;
 
@@ -79,7 +76,7 @@ impl Accepts for Listener {
         match &self.0 {
             Endpoint::Port(listener) => {
                 let (stream, _) = listener.accept()?;
-                // Replies are written whole, and are not to wait for more.
+                // Replies are written whole, so they need not wait for more.
                 let _ = stream.set_nodelay(true);
                 Ok(stream)
             }
@@ -91,9 +88,8 @@ impl Accepts for Listener {
     }
 }
 
-/// Accepts a connection. One that failed before it was accepted is passed over, and descriptors and
-/// memory are waited for, 899 times in a row at most; the last failure is told then. One of the device is
-/// told at once.
+/// Accepts a connection. It skips ones that failed before, and waits for descriptors and memory, at most
+/// 899 times in a row; then it returns the last failure. A device's fault is returned at once.
 pub fn accept_from<R: time::Clock, L: Accepts>(
     rt: &R,
     listener: &L,

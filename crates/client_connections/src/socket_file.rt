@@ -1,4 +1,4 @@
-//! A socket that is a file, which nobody but its owner can open.
+//! A socket file that only its owner can open.
 //! Made by `Listener::bind_socket`.
 
 use std::alloc::Global;
@@ -9,19 +9,19 @@ use std::os::unix::fs::{DirBuilderExt, FileTypeExt, PermissionsExt};
 use std::os::unix::net::{UnixListener, UnixStream};
 use std::{fs, io};
 
-// Its owner alone reads and writes it.
+// Only its owner reads and writes it.
 const OWNERS_FILE: u32 = 0o600;
 
-// Its owner alone looks into it.
+// Only its owner can enter it.
 const OWNERS_FOLDER: u32 = 0o700;
 
-/// Listens at a socket of this path. It is made in a folder beside it, `PATH.new`, which its owner alone looks into, so
-/// that nobody else can open it before its mode is set; it comes to its path with that.
+/// Listens at a socket of this path. The socket is made in a folder beside it, `PATH.new`, which only its
+/// owner can enter, so nobody else can open it before its mode is set; then it is moved.
 pub(crate) fn bind<R: Files + Net>(rt: &R, alloc: Global, path: &str) -> io::Result<UnixListener> {
     refuse_taken(rt, path)?;
     let folder = format!(in alloc; "{path}.new")?;
     let made = format!(in alloc; "{folder}/socket")?;
-    // (what a server that was killed meanwhile has left is made anew)
+    // (what a server killed meanwhile has left is made anew)
     let _ = fs::remove_file(rt, made.as_str());
     let _ = fs::remove_dir(rt, folder.as_str());
     DirBuilder::new()
@@ -33,7 +33,7 @@ pub(crate) fn bind<R: Files + Net>(rt: &R, alloc: Global, path: &str) -> io::Res
     bound
 }
 
-// Makes a socket that its owner alone can open, and moves it to its path.
+// Makes a socket that only its owner can open, and moves it to its path.
 fn bind_within<R: Files + Net>(rt: &R, made: &str, path: &str) -> io::Result<UnixListener> {
     let listener = UnixListener::bind(rt, made)?;
     fs::set_permissions(rt, made, Permissions::from_mode(OWNERS_FILE))?;
@@ -41,7 +41,7 @@ fn bind_within<R: Files + Net>(rt: &R, made: &str, path: &str) -> io::Result<Uni
     Ok(listener)
 }
 
-// Refuses a path at which a server listens, or a file lies that is no socket.
+// Refuses a path where a server listens, or that is a file but no socket.
 fn refuse_taken<R: Files + Net>(rt: &R, path: &str) -> io::Result<()> {
     match fs::symlink_metadata(rt, path) {
         Err(error) if error.kind() == ErrorKind::NotFound => return Ok(()),

@@ -1,16 +1,16 @@
-//! How many of a client's octets are handed out together: a line for which the gate may fetch is handed out by itself.
+//! How many of a client's octets are returned together: a line that may make the gate fetch is alone.
 //! Asked by `LinesInTurn`.
 ghost use Rattle.std.specs.Prelude.{◌≡◌, ◌↔◌, ◌≢◌, ◌-◌, ◌≤◌, ◌<◌, All, IsTrue, length, take};
 ghost use Rattle.client_connections.specs.Ahead.{BeginsFetch, HasNoFetchBefore};
 
-/// Whether a line that begins so may be one for which the gate fetches: FETCH or REFRESH.
+/// Whether a line with this first octet may make the gate fetch: FETCH or REFRESH.
 pub(crate) fn begins_fetch(octet: u8) -> bool
     ensures { IsTrue result ↔ BeginsFetch octet }
 {
     matches!(octet, b'F' | b'R')
 }
 
-/// How many octets there are up to the first LF, with it; all, where there is none.
+/// The octets up to and with the first LF, or all.
 pub(crate) fn line_len(octets: &[u8]) -> usize
     ensures fits { result ≤ length octets.now }
     ensures some { 0 < length octets.now → 0 < result }
@@ -22,8 +22,8 @@ pub(crate) fn line_len(octets: &[u8]) -> usize
     }
 }
 
-/// How many octets there are up to the first line, behind the one that they begin with, for which the gate may fetch; all,
-/// where there is none.
+/// The octets up to the first line, after the one that they begin with, for which the gate may fetch; or
+/// all.
 pub(crate) fn plain_len(octets: &[u8]) -> usize
     ensures fits { result ≤ length octets.now }
     ensures some { 0 < length octets.now → 0 < result }

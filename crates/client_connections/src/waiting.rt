@@ -1,5 +1,5 @@
 //! How long a client is waited for.
-//! The one place of this limit.
+//! All limits of this are here.
 ghost use Rattle.std.specs.Prelude.{◌≡◌, ◌-◌, MatchResult};
 ghost use Rattle.std.specs.Duration.{as_nanos};
 ghost use Rattle.client_connections.specs.Waiting.{AddsUp, IsNew, IsOver, IsTryTime, nanoseconds};
@@ -8,15 +8,15 @@ use std::io;
 use std::io::ErrorKind;
 use std::time::Duration;
 
-/// The most seconds that reads and writes wait for a client between two ends of lines. A client may
-/// have to think, but it may not hold a worker.
+/// The most seconds that reads and writes wait for a client between two line ends. A client may think, but
+/// not hold a worker.
 pub const PATIENCE_SECONDS: u64 = 300;
 
-// The most seconds that one try of a read or a write waits. So the limit of a try is nearly always the
-// same, and the system is told it once.
+// The most seconds of one try of a read or write. With it, timeouts are nearly always equal, and are set
+// once.
 const TRY_SECONDS: u64 = 1;
 
-/// How long a client has been waited for since it last ended a line, and how long it may be.
+/// The time waited since a client last ended a line, and its limit.
 #[derive(Clone, Copy, Debug, PartialEq, Eq)]
 pub struct Waiting {
     pub waited: Duration,
@@ -24,7 +24,7 @@ pub struct Waiting {
 }
 
 impl Waiting {
-    /// No time was waited so far.
+    /// Nothing was waited.
     pub fn new(patience: Duration) -> Waiting
         ensures { IsNew (as_nanos patience) result }
     {
@@ -34,14 +34,14 @@ impl Waiting {
         }
     }
 
-    /// No time was waited so far, with a patience of whole seconds.
+    /// Nothing waited yet, with a patience in seconds.
     pub fn of_seconds(seconds: u64) -> Waiting
         ensures { IsNew (nanoseconds seconds) result }
     {
         Waiting::new(Duration::from_secs(seconds))
     }
 
-    /// What was waited after so much more.
+    /// This wait, longer by this time.
     pub fn after(self, spent: Duration) -> Waiting
         ensures { AddsUp self (as_nanos spent) result }
     {
@@ -51,7 +51,7 @@ impl Waiting {
         }
     }
 
-    /// How long one try of a read or a write may wait. `TimedOut` where the patience is over.
+    /// How long one try of a read or write may wait; `TimedOut` if the patience is over.
     pub fn try_time(self) -> io::Result<Duration>
         ensures { MatchResult result (IsTryTime self) (λ _. IsOver self) }
     {

@@ -1,4 +1,4 @@
--- Lines that are answered from a state are answered from what is seen of it.
+-- Lines answered from a state are answered from what is seen of it.
 -- Used by `run_lines`, whose state lends a keeper.
 use Rattle.std.proofs.Common.{◌≡◌, ℕ, Bool, List, [], ◌∷◌, ap, ◌∙◌, inl, inr}
 use Rattle.std.specs.Prelude.{Option, Result, Ok, Err}
@@ -12,7 +12,6 @@ module _ {S T N : Type 0} (name : S → N) (view : S → T) (answers : T → Lis
   abbrev pub Lends : S → List ℕ → List ℕ → Bool → S → Type 0
   Lends old line text ended new = (name new ≡ name old) × answers (view old) line text ended (view new)
 
-  -- so are lines
   pub lines_seen : (old : S) (lines : List (List ℕ)) (text : List ℕ) (ended : Bool) (new : S) →
       AnswersLines Lends old lines text ended new → (name new ≡ name old) × AnswersLines answers (view old) lines text ended (view new)
   lines_seen old [] text ended new none = (ap name none.2, (none.0, none.1, ap view none.2))
@@ -31,7 +30,6 @@ module _ {S T N : Type 0} (name : S → N) (view : S → T) (answers : T → Lis
         }),
       )
 
-  -- so is what keeps up with the writes
   kept_seen : (old : S) (lines : List (List ℕ)) (text : List ℕ) (written written_new : Option (List ℕ)) →
       KeepsUp Lends old lines text written written_new → KeepsUp answers (view old) lines text written written_new
   kept_seen old lines text written written_new kept = record {
@@ -59,7 +57,6 @@ module _ {S T N : Type 0} (name : S → N) (view : S → T) (answers : T → Lis
   stops_seen (Err NoMemory) old lines text written written_new stops = tt
   stops_seen (Err Write) old lines text written written_new stops = kept_seen old lines text written written_new stops
 
-  -- so is a session
   pub session_seen : {limit most : ℕ} {old new : S} {input left written written_new : Option (List ℕ)} {result : Result (Unit {0}) SessionFault} →
       Session Lends limit most old new input left written written_new result →
       (name new ≡ name old) × Session answers limit most (view old) (view new) input left written written_new result

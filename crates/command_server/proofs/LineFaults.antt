@@ -1,5 +1,5 @@
--- What a line has that has no fault before its first word.
--- Used by the proofs of `LineWords::of` and of `read_command_among`.
+-- What a line without a fault before its first word has.
+-- Used by `LineWords::of` and `read_command_among`.
 use Rattle.std.proofs.Common.{◌≡◌, ◌⊎◌, sym, subst, ℕ, Bool, true, false, cond, List, Result, Ok, Err, refl, ◌∙◌, inl, inr}
 use Rattle.std.specs.List.{list_any}
 use Rattle.path_normal.specs.Capacity.{Capacity, Enough, Overflows, Refused, IsRead}
@@ -19,19 +19,16 @@ parts true false made value is = (refl, refl, cc)
 parts true true made value is = absurd cc
 parts false empty made value is = absurd cc
 
--- a line of which something is made has the octets of one, and no empty word
 pub made_parts : {T : Type 0} (made : List (List ℕ) → T) (line : List ℕ) (value : T) → made_of_words made line ≡ Ok value →
     (has_line_octets line ≡ true) × (list_any is_empty_word (words_of line) ≡ false) × (made (words_of line) ≡ value)
 made_parts made line value is = parts (has_line_octets line) (list_any is_empty_word (words_of line)) (made (words_of line)) value is
 
--- its words are read by the dialogue
 words_read : (schemes : Schemes) (dialogue : Dialogue) (line : List ℕ) (words : List (List ℕ)) (capacity : Capacity) → line_words_of line ≡ Ok words →
     command_of_among schemes dialogue line capacity ≡ dialogue_words_of schemes dialogue words capacity
 words_read schemes dialogue line words capacity is =
     let found = made_parts (λ (ws : List (List ℕ)). ws) line words is in
     rw (found.0, found.1, found.2) refl
 
--- so what is read of its words is read of the line
 pub read_of_words : (schemes : Schemes) (dialogue : Dialogue) (line : List ℕ) (words : List (List ℕ)) (result : Result Command LineFault) → line_words_of line ≡ Ok words →
     IsRead result (dialogue_words_of schemes dialogue words) → IsRead result (command_of_among schemes dialogue line)
 read_of_words schemes dialogue line words (Ok command) is read = words_read schemes dialogue line words Enough is ∙ read
@@ -43,7 +40,6 @@ read_of_words schemes dialogue line words (Err fault) is (inr (inr refused)) = i
 abbrev pub SpeaksAt : Dialogue → ℕ → Type 0
 SpeaksAt dialogue moment = ((fetches : Bool) × (dialogue ≡ Client moment fetches)) ⊎ (dialogue ≡ Overseer moment)
 
--- reads its words behind that moment
 pub read_at : (schemes : Schemes) (dialogue : Dialogue) (moment : ℕ) (words : List (List ℕ)) (result : Result Command LineFault) → SpeaksAt dialogue moment →
     IsRead result (verb_words_of schemes dialogue moment words) → IsRead result (dialogue_words_of schemes dialogue words)
 read_at schemes dialogue moment words result (inl client) read =

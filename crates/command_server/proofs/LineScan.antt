@@ -1,5 +1,5 @@
--- What one pass over a line finds of its octets and its words.
--- Used by the proof of `word_count`.
+-- What one pass over a line finds of its octets and words.
+-- Used by `word_count`.
 use Rattle.std.proofs.Common.{◌≡◌, ◌+◌, ◌==◌, ◌||◌, ◌&&◌, ℕ, Bool, true, false, cond, List, Ok, Err, drop, subst, ◌≤◌, [], ◌∷◌, length, count_by, refl, sym, ap, ◌∙◌, arith}
 use Rattle.std.specs.List.{list_any, onto_first}
 use Rattle.std.proofs.lemmas.Bool.Decides.{nat_tests}
@@ -11,12 +11,12 @@ use Rattle.command_server.specs.LineWords.{is_word_octet, word_count_of}
 use Rattle.command_server.specs.declared.fault.LineFault.TheVariants as faults
 use Rattle.line_text.specs.Words.{is_empty_word, is_space, words_of}
 
--- the words behind the first
+-- the words after the first
 abbrev pub later : List (List ℕ) → List (List ℕ)
 later [] = []
 later (word ∷ words) = words
 
--- whether an empty word is still to come, where a word begins at the next octet, or goes on there
+-- whether an empty word is to come, if a word begins at the next octet, or goes on there
 abbrev pub meets_empty : Bool → List ℕ → Bool
 meets_empty begins [] = begins
 meets_empty begins (octet ∷ octets) = cond (is_space octet) (begins || meets_empty true octets) (meets_empty false octets)
@@ -41,7 +41,7 @@ meets_all (octet ∷ octets) =
     let parts = meets_all octets in
     meets_step (is_space octet) octet (words_of octets) (meets_empty true octets) (meets_empty false octets) parts.0 parts.1
 
--- what the pass has found where this is the rest of the line
+-- what the pass has found when this is the rest of the line
 pub record HasScanned (line rest : List ℕ) (spaces : ℕ) (begins has_empty : Bool) : Type 0 where
   pub octets : has_line_octets rest ≡ has_line_octets line
   pub empty : (has_empty || meets_empty begins rest) ≡ meets_empty true line
@@ -51,7 +51,6 @@ or_after : (a b c : Bool) → ((a || b) || c) ≡ (a || (b || c))
 or_after true b c = refl
 or_after false b c = refl
 
--- an octet of a word
 pub word_step : (line rest : List ℕ) (octet spaces : ℕ) (begins has_empty : Bool) → is_word_octet octet ≡ true →
     HasScanned line (octet ∷ rest) spaces begins has_empty → HasScanned line rest spaces false has_empty
 word_step line rest octet spaces begins has_empty is scanned =
@@ -65,7 +64,6 @@ word_step line rest octet spaces begins has_empty is scanned =
       counted = omega (arith, same, scanned.counted);
     }
 
--- a space
 pub space_step : (line rest : List ℕ) (octet spaces : ℕ) (begins has_empty : Bool) → (octet == 32) ≡ true →
     HasScanned line (octet ∷ rest) spaces begins has_empty → HasScanned line rest (spaces + 1) true (has_empty || begins)
 space_step line rest octet spaces begins has_empty is scanned =
@@ -80,14 +78,12 @@ space_step line rest octet spaces begins has_empty is scanned =
       counted = omega (arith, more, scanned.counted);
     }
 
--- any other octet
 pub fault_step : (line rest : List ℕ) (octet spaces : ℕ) (begins has_empty : Bool) → is_word_octet octet ≡ false → (octet == 32) ≡ false →
     HasScanned line (octet ∷ rest) spaces begins has_empty → has_line_octets line ≡ false
 fault_step line rest octet spaces begins has_empty no_word no_space scanned =
     let bad : is_line_octet octet ≡ false = grind (arith, nat_tests) in
     sym scanned.octets ∙ ap (λ b. b && has_line_octets rest) bad
 
--- at the end, where no word is empty
 pub all_full : (line : List ℕ) (i spaces : ℕ) (begins has_empty : Bool) → length line ≤ i → (has_empty || begins) ≡ false →
     HasScanned line (drop i line) spaces begins has_empty → Ok (spaces + 1) ≡ word_count_of line
 all_full line i spaces begins has_empty past none scanned =
@@ -99,7 +95,6 @@ all_full line i spaces begins has_empty past none scanned =
     let many : length (words_of line) ≡ spaces + 1 = omega (arith, long, counted) in
     rw (plain, full, many) refl
 
--- and where one is
 pub one_empty : (line : List ℕ) (i spaces : ℕ) (begins has_empty : Bool) → length line ≤ i → (has_empty || begins) ≡ true →
     HasScanned line (drop i line) spaces begins has_empty → Err faults.Words ≡ word_count_of line
 one_empty line i spaces begins has_empty past some scanned =

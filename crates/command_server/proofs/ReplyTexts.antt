@@ -1,5 +1,5 @@
--- The words of replies without a fault stand in twos.
--- Used by the proof of `ReplyWords::next`.
+-- Replies without a fault have an even number of words.
+-- Used by `ReplyWords::next`.
 use Rattle.std.proofs.Common.{◌≡◌, ◌≢◌, ℕ, List, [], ◌∷◌, Option, Some, None, Bor, cond, Bool, true, false, refl, sym, ap, ◌∙◌}
 use Rattle.std.specs.Prelude.{is_none}
 use Rattle.std.specs.Option.{IsSome}
@@ -10,33 +10,27 @@ use Rattle.command_server.specs.declared.fault.LineFault.{LineFault}
 use Rattle.command_server.specs.declared.fault.LineFault.TheVariants as faults
 use Rattle.command_server.specs.declared.reply_words.ReplyHead.{ReplyHead}
 
--- either fault is one
 some_fault : (t : Bool) → cond t (Some faults.Status) (Some faults.Replies) ≢ None
 some_fault true is = none-some faults.Status (sym is)
 some_fault false is = none-some faults.Replies (sym is)
 
--- a word alone has a fault
 pub not_alone : (words : List (List ℕ)) (first : List ℕ) → replies_fault words ≡ None → words ≡ first ∷ [] → ⊥
 not_alone words first clean is = some_fault (is_none (head_written first)) (sym (ap replies_fault is) ∙ clean)
 
--- so a second word follows the first
 pub second_follows : (old mid new : List (List ℕ)) (first : List ℕ) (r : Option (Bor (List ℕ))) →
     replies_fault old ≡ None → old ≡ first ∷ mid → GivesWord mid r new → IsSome r
 second_follows old mid new first (Some word) clean is gives = search
 second_follows old mid new first None clean is gives =
     absurd (not_alone old first clean (is ∙ ap (λ (ws : List (List ℕ)). first ∷ ws) gives.0))
 
--- no fault in either of two means none in both
 first_clean : (one later : Option LineFault) → or_later one later ≡ None → (one ≡ None) × (later ≡ None)
 first_clean (Some fault) later is = absurd (none-some fault (sym is))
 first_clean None later is = (refl, is)
 
--- a reply without a fault has a head
 head_clean : (head : Option ReplyHead) (second : List ℕ) → reply_fault head second ≡ None → IsSome head
 head_clean None second is = absurd (none-some faults.Status (sym is))
 head_clean (Some head) second is = search
 
--- what two words without a fault say
 pub two_clean : (old later : List (List ℕ)) (first second : List ℕ) → replies_fault old ≡ None → old ≡ first ∷ second ∷ later →
     IsSome (head_written first) × (replies_fault later ≡ None)
 two_clean old later first second clean is =

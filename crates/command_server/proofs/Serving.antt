@@ -1,5 +1,5 @@
--- Lemmas on the lines that a session took so far, and on its end.
--- The answers of `run_session` cite them.
+-- The lines that a session took so far, and its end.
+-- Used by `run_session`.
 use Rattle.std.proofs.Common.{◌≡◌, ℕ, ◌+◌, ◌≤◌, Bool, true, false, List, [], ◌∷◌, ◌++◌, None, Some, refl, sym, ap, subst, ◌∙◌, inl, inr, append_assoc, append-nil, length, length-append, take, arith, rules, ◌≢◌}
 use Rattle.std.specs.Prelude.{Option, Result, Ok, Err, map, All, ◌⊎◌}
 use Rattle.std.proofs.lemmas.List.{map-append}
@@ -18,7 +18,7 @@ use Rattle.command_server.specs.Steps.{FailsToReadLine}
 use Rattle.command_server.specs.declared.session_fault.SessionFault.{SessionFault}
 use Rattle.command_server.specs.declared.session_fault.SessionFault.TheVariants.{LongLine, Lines, Read, Write, NoMemory}
 
--- the front of an input is these lines, with a line feed after each
+-- the front of an input is these lines, each with a line feed
 pub record TakesWhole (limit : ℕ) (input behind : Option (List ℕ)) (lines : List (List ℕ)) : Type 0 where
   pub raws : List (List ℕ)
   pub no_line_feed : All HasNoLineFeed raws
@@ -26,7 +26,7 @@ pub record TakesWhole (limit : ℕ) (input behind : Option (List ℕ)) (lines : 
   pub fit : All (λ line. length line ≤ limit) lines
   pub consumed : Consumes input behind (with_line_feeds raws)
 
--- so many lines were taken and answered, none ended the session, and the replies passed to the output
+-- this many lines were taken and answered, none ended the session, and the replies reached the output
 pub record Served {S : Type 0} (answers : S → List ℕ → List ℕ → Bool → S → Type 0) (limit count : ℕ) (old new : S) (input behind written written_new : Option (List ℕ)) (pending : List ℕ) : Type 0 where
   pub lines : List (List ℕ)
   pub text : List ℕ
@@ -35,11 +35,9 @@ pub record Served {S : Type 0} (answers : S → List ℕ → List ℕ → Bool �
   pub answered : AnswersLines answers old lines text false new
   pub passed : Passes written written_new text pending
 
--- a session that goes on hasn't ended
 never : false ≡ true → ⊥
 never e = search rules
 
--- one more line is answered
 pub Answers-more : {S : Type 0} (answers : S → List ℕ → List ℕ → Bool → S → Type 0) (old : S) (lines : List (List ℕ)) (text : List ℕ) (mid : S) (line reply : List ℕ) (ended : Bool) (new : S)
     → AnswersLines answers old lines text false mid → answers mid line reply ended new → AnswersLines answers old (lines ++ line ∷ []) (text ++ reply) ended new
 Answers-more answers old [] text mid line reply true new so_far answered =
@@ -62,13 +60,12 @@ Answers-more {S = S} answers old (first ∷ lines) text mid line reply ended new
       })
     ]
 
--- the raw lines with one more at the end
 pub with_line_feeds-append : (raws : List (List ℕ)) (raw : List ℕ) → with_line_feeds (raws ++ raw ∷ []) ≡ with_line_feeds raws ++ (raw ++ line_feed ∷ [])
 with_line_feeds-append [] raw = append-nil (raw ++ line_feed ∷ [])
 with_line_feeds-append (first ∷ raws) raw =
     ap (λ l. (first ++ line_feed ∷ []) ++ l) (with_line_feeds-append raws raw) ∙ sym (append_assoc (first ++ line_feed ∷ []) (with_line_feeds raws) (raw ++ line_feed ∷ []))
 
--- octets written behind those that are pending are written behind the text
+-- octets written after the pending ones are written after the text
 pub Writes-after : (a b c : Option (List ℕ)) (text pending words : List ℕ) (result : Result (Unit {0}) SessionFault) → Passes a b text pending
     → Writes b c (pending ++ words) result → Writes a c (text ++ words) result
 Writes-after a b c text pending words (Ok _) p w = Passes-written a b c text pending words p w
@@ -78,15 +75,12 @@ Writes-after a b c text pending words (Err Read) p w = Passes-written a b c text
 Writes-after a b c text pending words (Err Write) p w = Passes-cut a b c text pending words p w
 Writes-after a b c text pending words (Err NoMemory) p w = Passes-written a b c text pending words p w
 
--- a list of one element
 All-one : {X : Type 0} (P : X → Type 0) (x : X) → P x → All P (x ∷ [])
 All-one P x h = All-cons P x [] h (All-nil P)
 
--- nothing was taken of what follows
 pub finds_none : (unread : List ℕ) (left : Option (List ℕ)) → FindsPart (prepend_known unread left) unread left
 finds_none unread left = record { part = []; taken = record { no_line_feed = All-nil (λ octet. octet ≢ line_feed); consumed = Consumes-nil (prepend_known unread left) } }
 
--- lines with a line feed are lines of an input
 took_whole : {limit : ℕ} {input behind : Option (List ℕ)} {lines : List (List ℕ)} → TakesWhole limit input behind lines → TakesLines limit input behind lines
 took_whole {input = input} {behind = behind} t = record {
   raws = t.raws;
@@ -98,7 +92,6 @@ took_whole {input = input} {behind = behind} t = record {
   consumed = subst (Consumes input behind) (sym (append-nil (with_line_feeds t.raws))) t.consumed;
 }
 
--- and so they are with one more
 whole_more : {limit : ℕ} {input behind after : Option (List ℕ)} {lines : List (List ℕ)} {line : List ℕ} → TakesWhole limit input behind lines → TakesLine limit behind after line
     → TakesWhole limit input after (lines ++ line ∷ [])
 whole_more {limit} {input} {behind} {after} {lines} {line} t next = record {
@@ -112,12 +105,10 @@ whole_more {limit} {input} {behind} {after} {lines} {line} t next = record {
       (Consumes-trans input behind after (with_line_feeds t.raws) (next.raw ++ line_feed ∷ []) t.consumed next.consumed);
 }
 
--- one more line with a line feed
 pub took_line : {limit : ℕ} {input behind after : Option (List ℕ)} {lines : List (List ℕ)} {line : List ℕ} → TakesWhole limit input behind lines → TakesLine limit behind after line
     → TakesLines limit input after (lines ++ line ∷ [])
 took_line t next = took_whole (whole_more t next)
 
--- one more line, at the end of the input
 pub took_last : {limit : ℕ} {input behind left : Option (List ℕ)} {unread : List ℕ} {lines : List (List ℕ)} {line : List ℕ} → TakesWhole limit input behind lines → TakesLast limit behind unread left line
     → TakesLines limit input (prepend_known unread left) (lines ++ line ∷ [])
 took_last {limit} {input} {behind} {left} {unread} {lines} {line} t last = record {
@@ -134,12 +125,10 @@ took_last {limit} {input} {behind} {left} {unread} {lines} {line} t last = recor
   consumed = Consumes-trans input behind (prepend_known unread left) (with_line_feeds t.raws) line t.consumed last.consumed;
 }
 
--- an empty buffer before an input
 consumes_start : (unread : List ℕ) (left : Option (List ℕ)) → unread ≡ [] → Consumes left (prepend_known unread left) []
 consumes_start unread None e = tt
 consumes_start unread (Some xs) e = ap (λ l. l ++ xs) (sym e)
 
--- before the first line
 pub served_start : {S : Type 0} (answers : S → List ℕ → List ℕ → Bool → S → Type 0) (limit : ℕ) (old : S) (left : Option (List ℕ)) (unread : List ℕ) (written : Option (List ℕ)) (pending : List ℕ)
     → unread ≡ [] → pending ≡ [] → Served answers limit 0 old old left (prepend_known unread left) written written pending
 served_start answers limit old left unread written pending none empty = record {
@@ -157,7 +146,6 @@ served_start answers limit old left unread written pending none empty = record {
   passed = record { front = []; wrote = Appends-nil written; split = sym empty };
 }
 
--- the pending replies were written, or a part of them
 pub served_further : {S : Type 0} {answers : S → List ℕ → List ℕ → Bool → S → Type 0} {limit count : ℕ} {old new : S} {input behind a b c : Option (List ℕ)} {pending left : List ℕ}
     → Served answers limit count old new input behind a b pending → Passes b c pending left → Served answers limit count old new input behind a c left
 served_further {a = a} {b = b} {c = c} {pending = pending} {left = left} s p = record {
@@ -169,7 +157,6 @@ served_further {a = a} {b = b} {c = c} {pending = pending} {left = left} s p = r
   passed = Passes-further a b c s.text pending left s.passed p;
 }
 
--- one more line was answered, and the session goes on
 pub served_line : {S : Type 0} {answers : S → List ℕ → List ℕ → Bool → S → Type 0} {limit count : ℕ} {old mid : S} {input behind after a b c : Option (List ℕ)} {pending left line : List ℕ} (new : S)
     → Served answers limit count old mid input behind a b pending → TakesLine limit behind after line → GivesReply (λ reply. answers mid line reply false new) b c pending left
     → Served answers limit (count + 1) old new input after a c left
@@ -182,7 +169,7 @@ served_line {answers = answers} {old = old} {mid = mid} {a = a} {b = b} {c = c} 
   passed = Passes-push a b c s.text pending replies.reply left s.passed replies.passed;
 }
 
--- the replies to the front of the lines passed to the output, of which a part was still pending when a write failed
+-- the replies to the first lines reached the output, a part of them still pending when a write failed
 keeps_up : {S : Type 0} (answers : S → List ℕ → List ℕ → Bool → S → Type 0) (old mid : S) (front late : List (List ℕ)) (replies rest : List ℕ) (ended : Bool) (a b c : Option (List ℕ)) (pending more : List ℕ)
     → length late ≤ 1 → AnswersLines answers old front replies ended mid → Passes a b replies pending → length pending ≤ output_buffer → AppendsPrefix b c more
     → KeepsUp answers old (front ++ late) (replies ++ rest) a c
@@ -202,7 +189,6 @@ keeps_up answers old mid front late replies rest ended a b c pending more few an
   nearly = omega (arith, bound, ap length passed.split, length-append passed.front pending, length-append passed.front (take cut.0 more));
 }
 
--- the same where all lines were answered
 stops_at_write : {S : Type 0} (answers : S → List ℕ → List ℕ → Bool → S → Type 0) (old new : S) (lines : List (List ℕ)) (text : List ℕ) (ended : Bool) (a b c : Option (List ℕ)) (pending words : List ℕ) (result : Result (Unit {0}) SessionFault)
     → AnswersLines answers old lines text ended new → Passes a b text pending → length pending ≤ output_buffer → Writes b c (pending ++ words) result
     → StopsAtWrite result (KeepsUp answers old lines text a c)
@@ -216,7 +202,6 @@ stops_at_write answers old new lines text ended a b c pending words (Err Write) 
     (subst (λ t. KeepsUp answers old (lines ++ []) t a c) (append-nil text)
     (keeps_up answers old new lines [] text [] ended a b c pending (pending ++ words) (omega arith) answered passed bound wrote))
 
--- the session stops behind the lines taken
 pub stops : {S : Type 0} {answers : S → List ℕ → List ℕ → Bool → S → Type 0} {limit : ℕ} (most count : ℕ) {old new : S} {input behind : Option (List ℕ)} (unread : List ℕ) (left : Option (List ℕ)) {a b : Option (List ℕ)} (c : Option (List ℕ))
     (lines : List (List ℕ)) (text pending : List ℕ) (ended : Bool) (met result : Result (Unit {0}) SessionFault)
     → TakesLines limit input behind lines → length lines ≡ count → count ≤ most → AnswersLines answers old lines text ended new → Passes a b text pending
@@ -238,14 +223,12 @@ stops {answers = answers} {limit = limit} most count {old = old} {new = new} {be
   stops = stops_at_write answers old new lines text ended a b c pending (last_words met) result answered passed bound wrote;
 }
 
--- the session stops with all lines answered
 pub served_stops : {S : Type 0} {answers : S → List ℕ → List ℕ → Bool → S → Type 0} {limit count : ℕ} (most : ℕ) {old new : S} {input behind a b : Option (List ℕ)} {pending : List ℕ} (unread : List ℕ) (left c : Option (List ℕ)) (met result : Result (Unit {0}) SessionFault)
     → Served answers limit count old new input behind a b pending → count ≤ most → Meets limit most count false behind unread left met → ResultsIn met result → Writes b c (pending ++ last_words met) result
     → length pending ≤ output_buffer → Session answers limit most old new input left a c result
 served_stops {answers = answers} {limit = limit} {count = count} most {pending = pending} unread left c met result s within stopped results wrote bound =
     stops most count unread left c s.lines s.text pending false met result (took_whole s.whole) s.count_is within s.answered s.passed stopped results wrote bound
 
--- the session stops behind one more line
 pub line_stops : {S : Type 0} {answers : S → List ℕ → List ℕ → Bool → S → Type 0} {limit count : ℕ} (most : ℕ) {old mid : S} {input behind after a b c : Option (List ℕ)} {pending pending_new line : List ℕ} (new : S) (ended : Bool) (unread : List ℕ) (left d : Option (List ℕ)) (met result : Result (Unit {0}) SessionFault)
     → (s : Served answers limit count old mid input behind a b pending) → TakesLines limit input after (s.lines ++ line ∷ []) → count + 1 ≤ most → GivesReply (λ reply. answers mid line reply ended new) b c pending pending_new
     → Meets limit most (count + 1) ended after unread left met → ResultsIn met result → Writes c d (pending_new ++ last_words met) result → length pending_new ≤ output_buffer
@@ -256,7 +239,6 @@ line_stops {answers = answers} {limit = limit} {count = count} most {old = old} 
     (Answers-more answers old s.lines s.text mid line replies.reply ended new s.answered replies.answered)
     (Passes-push a b c s.text pending replies.reply pending_new s.passed replies.passed) stopped results wrote bound
 
--- a reply that was given while so many writes had failed
 pub given_at : {S : Type 0} (answers : ℕ → S → List ℕ → List ℕ → Bool → S → Type 0) {failed failed_now : ℕ} {old new : S} {line : List ℕ} {ended : Bool} {a b : Option (List ℕ)} {pending left : List ℕ}
     → failed_now ≡ failed → GivesReply (λ reply. answers failed_now old line reply ended new) a b pending left → GivesReply (λ reply. answers failed old line reply ended new) a b pending left
 given_at answers {old = old} {new = new} {line = line} {ended = ended} same given = record {
@@ -265,7 +247,6 @@ given_at answers {old = old} {new = new} {line = line} {ended = ended} same give
   passed = given.passed;
 }
 
--- one that was lost then
 pub lost_at : {S : Type 0} (answers : ℕ → S → List ℕ → List ℕ → Bool → S → Type 0) {failed failed_now : ℕ} {old new : S} {line : List ℕ} {a b : Option (List ℕ)} {pending : List ℕ}
     → failed_now ≡ failed → LosesReply (λ reply ended. answers failed_now old line reply ended new) a b pending → LosesReply (λ reply ended. answers failed old line reply ended new) a b pending
 lost_at answers {old = old} {new = new} {line = line} same lost = record {
@@ -275,7 +256,6 @@ lost_at answers {old = old} {new = new} {line = line} same lost = record {
   cut = lost.cut;
 }
 
--- a write failed while one more line was answered
 pub line_lost : {S : Type 0} {answers : S → List ℕ → List ℕ → Bool → S → Type 0} {limit count : ℕ} (most : ℕ) {old mid : S} {input after behind a b c : Option (List ℕ)} {pending line : List ℕ} (new : S) (unread : List ℕ) (left : Option (List ℕ))
     → (s : Served answers limit count old mid input behind a b pending) → TakesLines limit input after (s.lines ++ line ∷ []) → count + 1 ≤ most → LosesReply (λ reply ended. answers mid line reply ended new) b c pending
     → FindsPart after unread left → length pending ≤ output_buffer → Session answers limit most old new input left a c (Err Write)
@@ -295,13 +275,11 @@ line_lost {answers = answers} {count = count} most {old = old} {mid = mid} {afte
   stops = keeps_up answers old mid s.lines (line ∷ []) s.text lost.reply false a b c pending (pending ++ lost.reply) (omega arith) s.answered s.passed bound lost.cut;
 }
 
--- where the pending octets were written or are all still pending, a part of those now pending is a part of them
 pub still_cut : (a b c : Option (List ℕ)) (pending left : List ℕ) → (Appends a b pending × (left ≡ [])) ⊎ ((b ≡ a) × (left ≡ pending)) → AppendsPrefix b c left → AppendsPrefix a c pending
 still_cut a b c pending left (inl written) cut =
     Passes-cut-all a b c pending left (record { front = pending; wrote = written.0; split = sym (ap (λ l. pending ++ l) written.1 ∙ append-nil pending) }) cut
 still_cut a b c pending left (inr same) cut = subst (λ x. AppendsPrefix x c pending) same.0 (subst (AppendsPrefix b c) same.1 cut)
 
--- the session stops since no further line could be read
 pub fails_stops : {S : Type 0} {answers : S → List ℕ → List ℕ → Bool → S → Type 0} {limit count : ℕ} (most : ℕ) {old new : S} {input behind a b : Option (List ℕ)} {pending : List ℕ} (unread : List ℕ) (left c : Option (List ℕ)) (fault : SessionFault)
     → Served answers limit count old new input behind a b pending → count ≤ most → FailsToReadLine behind unread left pending b c fault → length pending ≤ output_buffer → Session answers limit most old new input left a c (Err fault)
 fails_stops most unread left c LongLine s within f bound = absurd f

@@ -1,5 +1,5 @@
--- The walk over the replies of an arrival, from its begin to its end.
--- Used by the proof of `decide`.
+-- The walk over the replies of an arrival.
+-- Used by `decide`.
 use Rattle.std.proofs.Common.{◌≡◌, ◌≢◌, ◌++◌, ◌∷◌, [], ℕ, List, Some, None, Ok, Err, refl, sym, ap, subst, ◌∙◌, inl, inr, append-nil, append_assoc, length, length-append, ◌+◌, arith}
 use Rattle.path_normal.specs.declared.schemes.Schemes.{Schemes}
 use Rattle.authority_cache.specs.Lives.{Timed}
@@ -19,7 +19,7 @@ abbrev pub HasGone : Schemes → Walk → List RobotsReply → Walk → Type 0
 HasGone schemes first [] walk = walk ≡ first
 HasGone schemes first (reply ∷ replies) walk = StepsOverAmong schemes first (reply ∷ replies) (Go walk)
 
--- the walk over the words that were read goes on, and these words are left
+-- the walk over the words read goes on, with these words left
 pub record IsUnderWay (schemes : Schemes) (authority : List ℕ) (words : List (List ℕ)) (walk : Walk) (left : List (List ℕ)) : Type 0 where
   pub first : Walk
   pub front : List RobotsReply
@@ -29,11 +29,9 @@ pub record IsUnderWay (schemes : Schemes) (authority : List ℕ) (words : List (
   pub all : words ≡ read ++ left
   pub are : AreReplies read front
 
--- nothing was read yet
 pub begin_walk : (schemes : Schemes) (authority : List ℕ) (words : List (List ℕ)) (walk : Walk) → IsBegun authority walk → IsUnderWay schemes authority words walk words
 begin_walk schemes authority words walk begun = record { first = walk; front = []; read = []; begun = begun; gone = refl; all = refl; are = tt }
 
--- one reply more is stepped over
 one_more : (schemes : Schemes) (first walk : Walk) (front : List RobotsReply) (reply : RobotsReply) (step : Step) →
     HasGone schemes first front walk → StepsAmong schemes walk reply step → StepsOverAmong schemes first (front ++ reply ∷ []) step
 one_more schemes first walk [] reply step gone steps = subst (λ (w : Walk). StepsAmong schemes w reply step) gone steps
@@ -46,7 +44,6 @@ gone_over : (schemes : Schemes) (first next : Walk) (front : List RobotsReply) (
 gone_over schemes first next [] reply steps = steps
 gone_over schemes first next (one ∷ front) reply steps = steps
 
--- one reply more is that of two words more
 replies_more : (read : List (List ℕ)) (front : List RobotsReply) (one other : List ℕ) (reply : RobotsReply) →
     AreReplies read front → IsReply one other reply → AreReplies (read ++ one ∷ other ∷ []) (front ++ reply ∷ [])
 replies_more [] [] one other reply are is = (is, tt)
@@ -55,13 +52,11 @@ replies_more (a ∷ []) front one other reply are is = absurd are
 replies_more (a ∷ b ∷ read) [] one other reply are is = absurd are
 replies_more (a ∷ b ∷ read) (r ∷ front) one other reply are is = (are.0, replies_more read front one other reply are.1 is)
 
--- what is read and what is left are all the words
 all_words : (words read left new : List (List ℕ)) (one other : List ℕ) →
     words ≡ read ++ left → left ≡ one ∷ other ∷ new → words ≡ (read ++ one ∷ other ∷ []) ++ new
 all_words words read left new one other all is =
     all ∙ ap (λ (ws : List (List ℕ)). read ++ ws) is ∙ sym (append_assoc read (one ∷ other ∷ []) new)
 
--- the walk goes on
 pub go_on : (schemes : Schemes) (authority : List ℕ) (words left new : List (List ℕ)) (walk next : Walk) (reply : RobotsReply) →
     IsUnderWay schemes authority words walk left → TakesReply left (Some reply) new → StepsAmong schemes walk reply (Go next) →
     IsUnderWay schemes authority words next new
@@ -75,7 +70,6 @@ go_on schemes authority words left new walk next reply way takes steps = record 
   are = replies_more way.read way.front takes.0 takes.1.0 reply way.are takes.1.1.1;
 }
 
--- the replies that were read decide
 decided_so_far : (schemes : Schemes) (authority : List ℕ) (words left new : List (List ℕ)) (walk : Walk) (reply : RobotsReply) (answer : Timed) →
     (way : IsUnderWay schemes authority words walk left) (takes : TakesReply left (Some reply) new) → StepsAmong schemes walk reply (Done answer) →
     IsDecided schemes authority (way.read ++ takes.0 ∷ takes.1.0 ∷ []) answer.says answer.life
@@ -88,7 +82,6 @@ decided_so_far schemes authority words left new walk reply answer way takes step
   ),
 )
 
--- the replies decide, and no word is left
 pub ends_well : (schemes : Schemes) (authority : List ℕ) (words left new : List (List ℕ)) (walk : Walk) (reply : RobotsReply) (answer : Timed) →
     IsUnderWay schemes authority words walk left → TakesReply left (Some reply) new → StepsAmong schemes walk reply (Done answer) → new ≡ [] →
     BringsAmong schemes authority words (Ok answer)
@@ -98,7 +91,6 @@ ends_well schemes authority words left new walk reply answer way takes steps non
     subst (λ (ws : List (List ℕ)). IsDecided schemes authority ws answer.says answer.life) (sym all)
     (decided_so_far schemes authority words left new walk reply answer way takes steps)
 
--- the replies decide, and words are left
 pub ends_early : (schemes : Schemes) (authority : List ℕ) (words left new : List (List ℕ)) (walk : Walk) (reply : RobotsReply) (answer : Timed) →
     IsUnderWay schemes authority words walk left → TakesReply left (Some reply) new → StepsAmong schemes walk reply (Done answer) → new ≢ [] →
     BringsAmong schemes authority words (Err faults.Replies)
@@ -112,13 +104,11 @@ ends_early schemes authority words left new walk reply answer way takes steps mo
   decided = decided_so_far schemes authority words left new walk reply answer way takes steps;
 })
 
--- no reply ends a list of none
 no_last : (way : List RobotsReply) (last : RobotsReply) → [] ≡ way ++ last ∷ [] → ⊥
 no_last way last is =
     let none : length way + 1 ≡ 0 = omega (arith, ap (λ (rs : List RobotsReply). length rs) is, length-append way (last ∷ [])) in
     absurd (omega (arith, none))
 
--- replies that a walk has gone over decide nothing
 undecided : (schemes : Schemes) (authority : List ℕ) (first walk : Walk) (front : List RobotsReply) (says : Said) (life : ℕ) →
     IsBegun authority first → HasGone schemes first front walk → AnswerOfAmong schemes authority front says life → ⊥
 undecided schemes authority first walk [] says life begun gone answer = no_last answer.way answer.last answer.are_all
@@ -126,7 +116,6 @@ undecided schemes authority first walk (one ∷ front) says life begun gone answ
     as_decided schemes authority first (one ∷ front) [] says life (Go walk) begun
     (subst (λ (rs : List RobotsReply). AnswerOfAmong schemes authority rs says life) (sym (append-nil (one ∷ front))) answer) gone refl
 
--- no word is left, and the walk goes on
 pub ends_late : (schemes : Schemes) (authority : List ℕ) (words left new : List (List ℕ)) (walk : Walk) →
     IsUnderWay schemes authority words walk left → TakesReply left None new → BringsAmong schemes authority words (Err faults.Replies)
 ends_late schemes authority words left new walk way none =

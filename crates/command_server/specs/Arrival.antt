@@ -1,6 +1,6 @@
--- What the words behind the turn of an ARRIVE line say: two words a reply, and the answer that the replies
--- decide. RFC 9309, section 2.3.1; docs/FORMATS.md has the words.
--- Cited by the contracts of `reply_words` and `arrival`.
+-- The words after an ARRIVE line's turn, two for each reply, and the answer that the replies decide.
+-- RFC 9309, section 2.3.1; docs/FORMATS.md has the words.
+-- Cited by `reply_words` and `arrival`.
 use Rattle.std.specs.Prelude.{◌≡◌, ◌≢◌, ◌==◌, ◌⊎◌, ℕ, Bool, true, false, List, [], ◌∷◌, ◌++◌, Option, Some, None, Result, Ok, Err, codes, is_none, length, nat_lt, string_bytes, if◌then◌else◌}
 use Rattle.std.specs.Int.{is_in_range}
 use Rattle.std.specs.List.{after_first, before_first, position_or_len}
@@ -24,7 +24,7 @@ use Rattle.command_server.specs.declared.fault.LineFault.TheVariants as faults
 use Rattle.command_server.specs.declared.reply_words.ReplyHead.{ReplyHead}
 use Rattle.command_server.specs.declared.reply_words.ReplyHead.TheVariants as heads
 
--- the status that a word writes: a number of three digits from 100 to 999
+-- a word's status: three digits, 100 to 999
 abbrev pub status_written : List ℕ → Option ℕ
 status_written word =
     if length word == 3
@@ -36,23 +36,23 @@ abbrev pub has_rules : StatusClass → Bool
 has_rules classes.Successful = true
 has_rules _ = false
 
--- the classes of responses whose second word is a text: a body with rules, or a Location
+-- the second word is a text: rules, or a Location
 abbrev pub has_text : StatusClass → Bool
 has_text classes.Successful = true
 has_text classes.Redirect = true
 has_text _ = false
 
--- a status and the seconds for which its rules may be kept, as `200/60`
+-- a status and its rules' seconds, as `200/60`
 abbrev pub lasting_of : List ℕ → List ℕ → Option ReplyHead
 lasting_of status life =
     option_and_then (λ code. if has_rules (class_of code)
     then option_map (λ seconds. heads.Status code (Some seconds)) (number_of life) else None) (status_written status)
 
--- the octet is the one between a status and a life
+-- the octet is `/`
 abbrev pub is_slash : ℕ → Bool
 is_slash octet = octet == slash
 
--- such an octet stands in the word
+-- a `/` is in the word
 abbrev pub has_slash : List ℕ → Bool
 has_slash word = nat_lt (position_or_len is_slash word) (length word)
 
@@ -60,18 +60,18 @@ has_slash word = nat_lt (position_or_len is_slash word) (length word)
 abbrev pub plain_of : List ℕ → Option ReplyHead
 plain_of word = option_map (λ code. heads.Status code None) (status_written word)
 
--- what a word says of a response: its status, and behind a `/` its life
+-- a response by its word: the status, and any lifetime after a `/`
 abbrev pub response_written : List ℕ → Option ReplyHead
 response_written word =
     if has_slash word then lasting_of (before_first is_slash word) (after_first is_slash word) else plain_of word
 
--- what the first word of a reply says
+-- the meaning of a reply's first word
 abbrev pub head_written : List ℕ → Option ReplyHead
 head_written word =
     if bytes_eq word (codes "NET") then Some heads.Network
     else (if bytes_eq word (codes "CODING") then Some heads.Coding else response_written word)
 
--- the word stands for no text
+-- the word means no text
 abbrev pub is_none_word : List ℕ → Bool
 is_none_word word = bytes_eq word (codes "-")
 
@@ -81,37 +81,37 @@ may_have (heads.Status code max_age) word = if has_text (class_of code) then tru
 may_have heads.Coding word = is_none_word word
 may_have heads.Network word = is_none_word word
 
--- the fault of a reply by what its two words say
+-- the fault of a reply's two words
 abbrev pub reply_fault : Option ReplyHead → List ℕ → Option LineFault
 reply_fault None second = Some faults.Status
 reply_fault (Some head) second = if may_have head second then None else Some faults.Replies
 
--- the fault, or that of what follows where there is none
+-- the first of two faults
 abbrev pub or_later : Option LineFault → Option LineFault → Option LineFault
 or_later (Some fault) later = Some fault
 or_later None later = later
 
--- the first fault of the replies, their words read from left to right
+-- the replies' first fault, from left to right
 abbrev pub replies_fault : List (List ℕ) → Option LineFault
 replies_fault [] = None
 replies_fault (first ∷ []) = if is_none (head_written first) then Some faults.Status else Some faults.Replies
 replies_fault (first ∷ second ∷ later) = or_later (reply_fault (head_written first) second) (replies_fault later)
 
--- the words, or the first fault that they have
+-- the words, or their first fault
 abbrev pub unless_fault : Option LineFault → List (List ℕ) → Result (List (List ℕ)) LineFault
 unless_fault (Some fault) words = Err fault
 unless_fault None words = Ok words
 
--- the words of the replies, which are all read before the walk
+-- the replies' words, all read before the walk
 abbrev pub reply_words_of : List (List ℕ) → Result (List (List ℕ)) LineFault
 reply_words_of words = unless_fault (replies_fault words) words
 
--- the Location that a second word is
+-- the second word as a Location
 abbrev pub location_written : StatusClass → List ℕ → Option (List ℕ)
 location_written classes.Redirect word = if is_none_word word then None else Some word
 location_written _ word = None
 
--- the body that a second word writes
+-- the second word as a body
 abbrev pub body_written : StatusClass → List ℕ → List ℕ
 body_written classes.Successful word = if is_none_word word then [] else percent_decode word
 body_written _ word = []
@@ -125,23 +125,23 @@ HasWords heads.Coding word replies.CodingFault = Unit {0}
 HasWords heads.Network word replies.NetworkFault = Unit {0}
 HasWords _ word _ = ⊥
 
--- the reply is that of the two words
+-- the reply of two words
 abbrev pub IsReply : List ℕ → List ℕ → RobotsReply → Type 0
 IsReply first second reply = (head : ReplyHead) × ((head_written first ≡ Some head) × HasWords head second reply)
 
--- the replies are those of the words
+-- the replies of the words
 abbrev pub AreReplies : List (List ℕ) → List RobotsReply → Type 0
 AreReplies [] [] = Unit {0}
 AreReplies (first ∷ second ∷ later) (reply ∷ replies) = IsReply first second reply × AreReplies later replies
 AreReplies _ _ = ⊥
 
--- the next reply is taken from the words, or there is none
+-- the next reply's words are taken, if any
 abbrev pub TakesReply : List (List ℕ) → Option RobotsReply → List (List ℕ) → Type 0
 TakesReply old None new = (old ≡ []) × (new ≡ [])
 TakesReply old (Some reply) new =
     (first : List ℕ) × ((second : List ℕ) × ((old ≡ first ∷ second ∷ new) × IsReply first second reply))
 
--- the replies of the words decide an answer for the authority, of this life, where these schemes are read
+-- the replies decide an answer with this lifetime for the authority, in these schemes
 abbrev pub IsDecided : Schemes → List ℕ → List (List ℕ) → Said → ℕ → Type 0
 IsDecided schemes authority words says life =
     (replies : List RobotsReply) × (AreReplies words replies × AnswerOfAmong schemes authority replies says life)
@@ -152,7 +152,7 @@ EndsBefore schemes authority words =
     (replies : List RobotsReply) × (AreReplies words replies
     × ((says : Said) (life : ℕ) → AnswerOfAmong schemes authority replies says life → ⊥))
 
--- the first of the replies decide, and more words follow
+-- the first replies decide, but more words follow
 pub record GoesOnAfter (schemes : Schemes) (authority : List ℕ) (words : List (List ℕ)) : Type 0 where
   pub read : List (List ℕ)
   pub rest : List (List ℕ)
@@ -162,7 +162,7 @@ pub record GoesOnAfter (schemes : Schemes) (authority : List ℕ) (words : List 
   pub more : rest ≢ []
   pub decided : IsDecided schemes authority read says life
 
--- the answer and its life that the words bring for the authority where these schemes are read, or why they bring none
+-- the answer and lifetime by the words for the authority, in these schemes, or why there is none
 abbrev pub BringsAmong : Schemes → List ℕ → List (List ℕ) → Result Timed LineFault → Type 0
 BringsAmong schemes authority words (Ok brought) = IsDecided schemes authority words brought.says brought.life
 BringsAmong schemes authority words (Err faults.Replies) =
@@ -170,6 +170,6 @@ BringsAmong schemes authority words (Err faults.Replies) =
 BringsAmong schemes authority words (Err faults.Memory) = Unit {0}
 BringsAmong schemes authority words (Err _) = ⊥
 
--- the answer and its life that the words bring where `http` alone is read, or why they bring none
+-- the answer and lifetime by the words for `http`, or why there is none
 abbrev pub Brings : List ℕ → List (List ℕ) → Result Timed LineFault → Type 0
 Brings = BringsAmong Http

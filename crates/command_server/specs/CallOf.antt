@@ -1,5 +1,5 @@
 -- What a command line means: checks 3 to 8 of docs/FORMATS.md, in their order.
--- Each takes the schemes that are read first. Cited by the contracts of `calls` and `command`.
+-- Cited by `calls` and `command`. Schemes are the first argument.
 use Rattle.std.specs.Prelude.{ℕ, Bool, List, [], ◌∷◌, Result, Ok, Err, ok_or, if◌then◌else◌}
 use Rattle.std.specs.Int.{is_in_range}
 use Rattle.std.specs.List.{list_all, list_any}
@@ -25,7 +25,7 @@ use Rattle.line_text.specs.Number.{number_of}
 use Rattle.command_server.specs.Verbs.{row_of, verb_of}
 use Rattle.line_text.specs.Words.{is_count_within, is_empty_word, words_of}
 
--- one word, which is an authority: `STATE <authority>` and `REFRESH <authority>`
+-- an authority alone: `STATE <authority>` and `REFRESH <authority>`
 abbrev pub authority_alone : Schemes → List (List ℕ) → Capacity → Result (List ℕ) LineFault
 authority_alone schemes (authority ∷ []) capacity = authority_word schemes authority capacity
 authority_alone schemes _ capacity = Err faults.Words
@@ -62,7 +62,7 @@ start_of schemes moment (number ∷ token ∷ url ∷ []) capacity =
     read_on (job_words_of schemes (token ∷ url ∷ []) capacity) (λ job. Ok (calls.Start n job.token job.url moment)))
 start_of schemes moment _ capacity = Err faults.Words
 
--- one word, which is a permit's number
+-- a permit's number alone
 abbrev pub permit_alone : List (List ℕ) → Result ℕ LineFault
 permit_alone (number ∷ []) = number_word number
 permit_alone _ = Err faults.Words
@@ -75,7 +75,7 @@ back_of words = read_on (permit_alone words) (λ n. Ok (calls.Back n))
 abbrev pub done_of : List (List ℕ) → Result Call LineFault
 done_of words = read_on (permit_alone words) (λ n. Ok (calls.Finish n))
 
--- one word, which is the URL of a page: `URL <url>`
+-- a page's URL alone: `URL <url>`
 abbrev pub page_alone : Schemes → List (List ℕ) → Capacity → Result (List ℕ) LineFault
 page_alone schemes (url ∷ []) capacity = page_word schemes url capacity
 page_alone schemes _ capacity = Err faults.Words
@@ -84,12 +84,12 @@ page_alone schemes _ capacity = Err faults.Words
 abbrev pub calling : Result Call LineFault → Result Command LineFault
 calling call = read_on call (λ c. Ok (commands.Call c))
 
--- the answer that a call brings has a spare; a line brings none but by the walk
+-- a call's answer has a spare; only the walk brings one
 abbrev pub CanBeMade : Command → Type 0
 CanBeMade (commands.Call call) = HasSpare call
 CanBeMade _ = Unit {0}
 
--- check 8: the words that follow a verb, from left to right; BACK, DONE, SEAL and QUIT use no moment
+-- check 8: a verb's arguments, from left to right; BACK, DONE, SEAL and QUIT use no moment
 abbrev pub arguments_of : Schemes → Verb → ℕ → List (List ℕ) → Capacity → Result Command LineFault
 arguments_of schemes verbs.Begin moment words capacity = calling (begin_of schemes moment words capacity)
 arguments_of schemes verbs.Arrive moment words capacity =
@@ -113,11 +113,11 @@ arguments_of schemes verbs.Why moment words capacity =
     read_on (authority_alone schemes words capacity) (λ authority. Ok (commands.Why authority))
 arguments_of schemes verbs.Quit moment words capacity = Ok commands.Quit
 
--- the verb takes so many words
+-- the verb takes this many arguments
 abbrev pub takes : Verb → List (List ℕ) → Bool
 takes verb words = is_count_within (row_of verb).least (row_of verb).most words
 
--- check 7: the number of words
+-- check 7: the number of arguments
 abbrev pub counted_of : Schemes → Verb → ℕ → List (List ℕ) → Capacity → Result Command LineFault
 counted_of schemes verb moment words capacity =
     if takes verb words then arguments_of schemes verb moment words capacity else Err faults.Words
@@ -128,13 +128,13 @@ verb_words_of schemes dialogue moment [] capacity = Err faults.Verb
 verb_words_of schemes dialogue moment (name ∷ words) capacity =
     read_on (ok_or (verb_of dialogue name) faults.Verb) (λ verb. counted_of schemes verb moment words capacity)
 
--- check 5: the moment, which begins each line of a replay
+-- check 5: the moment of a replay line
 abbrev pub timed_words_of : Schemes → List (List ℕ) → Capacity → Result Command LineFault
 timed_words_of schemes [] capacity = Err faults.Moment
 timed_words_of schemes (first ∷ words) capacity =
     read_on (ok_or (number_of first) faults.Moment) (λ moment. verb_words_of schemes Replay moment words capacity)
 
--- a client's line has none
+-- a client's line has no moment
 abbrev pub dialogue_words_of : Schemes → Dialogue → List (List ℕ) → Capacity → Result Command LineFault
 dialogue_words_of schemes Replay words capacity = timed_words_of schemes words capacity
 dialogue_words_of schemes (Client moment fetches) words capacity =
@@ -151,15 +151,15 @@ full_words_of schemes dialogue words capacity =
 abbrev pub is_line_octet : ℕ → Bool
 is_line_octet octet = is_in_range 32 126 octet
 
--- the line has no other octet
+-- the line has only such octets
 abbrev pub has_line_octets : List ℕ → Bool
 has_line_octets line = list_all is_line_octet line
 
--- the command of a line, or the first fault that it has with some capacity; check 3: its octets
+-- a line's command, or its first fault with some capacity; check 3: its octets
 abbrev pub command_of_among : Schemes → Dialogue → List ℕ → Capacity → Result Command LineFault
 command_of_among schemes dialogue line capacity =
     if has_line_octets line then full_words_of schemes dialogue (words_of line) capacity else Err faults.Chars
 
--- the same where `http` alone is read
+-- a line's command, or its first fault, for `http`
 abbrev pub command_of : Dialogue → List ℕ → Capacity → Result Command LineFault
 command_of = command_of_among Http

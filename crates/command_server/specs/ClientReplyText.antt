@@ -1,5 +1,5 @@
--- The reply to a client's line, by what it is told: docs/FORMATS.md, replies and hops.
--- Cited by the contracts of `told` and of the client's sessions.
+-- The reply to a client's line: docs/FORMATS.md, replies and hops.
+-- Cited by `told` and the client's sessions.
 use Rattle.std.specs.Prelude.{ℕ, List, [], ◌∷◌, ◌++◌, Result, Ok, Err, codes, decimal, length}
 use Rattle.gate_history.specs.declared.outcome.Reason.{Reason}
 use Rattle.gate_core.specs.declared.refusal.BeginRefusal.{BeginRefusal}
@@ -29,7 +29,7 @@ abbrev pub refresh_text : List ℕ → Result Standing BeginRefusal → List ℕ
 refresh_text authority (Ok standing) = arrive_text authority standing (Ok tt)
 refresh_text authority (Err refusal) = begin_text authority (Err refusal)
 
--- the number of a body's octets, these, and a line end
+-- a body's length in octets, the body, and a line end
 abbrev pub body_text : List ℕ → List ℕ
 body_text octets = line_of (codes "BODY" ∷ decimal (length octets) ∷ []) ++ (octets ++ line_feed ∷ [])
 

@@ -1,5 +1,5 @@
--- What a keeper does for the line of a client, and what the client is told of it.
--- The contract of `serve` cites it.
+-- What a keeper does for a client's line, and the reply.
+-- Cited by `serve`.
 use Rattle.std.specs.Prelude.{◌≡◌, ◌⊎◌, ◌||◌, ℕ, Bool, true, false, List, Option, Some, None, Result, Ok, Err}
 use Rattle.path_normal.specs.Capacity.{Enough, Overflows, Refused}
 use Rattle.gate_history.specs.Segment.{Sealed}
@@ -31,12 +31,12 @@ use Rattle.command_server.specs.declared.client_reply.ClientReply.TheVariants as
 use Rattle.command_server.specs.declared.verbs.Speaker.{Speaker}
 use Rattle.command_server.specs.Verbs.{dialogue_of}
 
--- what a refresh is told as; a keeper that fetches nothing does not know the verb
+-- the reply to a refresh: unknown verb if the keeper fetches nothing
 abbrev pub refreshed : List ℕ → Option (Result Standing BeginRefusal) → ClientReply
 refreshed authority (Some result) = replies.Refreshed authority result
 refreshed authority None = replies.Fault faults.Verb
 
--- and a fetch
+-- the reply to a fetch
 abbrev pub fetched : Option (Result Outcome NoMemory) → ClientReply
 fetched (Some (Ok outcome)) = replies.Fetched outcome
 fetched (Some (Err _)) = replies.NoMemory
@@ -47,17 +47,17 @@ abbrev pub is_farewell : ClientReply → Bool
 is_farewell replies.Bye = true
 is_farewell _ = false
 
--- a client's session between two lines: its keeper, and the number of the clock's next reading
+-- a client's session between two lines: its keeper, and the next reading's number
 pub record ClientState (S : Type 0) : Type 0 where
   pub keeper : S
   pub number : ℕ
 
 module _ {S : Type 0} (deals : Deals S) where
-  -- a fault is told, and nothing is done
+  -- the reply is a fault; nothing is done
   abbrev pub TellsFault : S → LineFault → ClientReply → S → Type 0
   TellsFault old fault told new = (told ≡ replies.Fault fault) × (new ≡ old)
 
-  -- a call of a client is the keeper's, and its result is told; the others no client makes
+  -- the keeper makes a client's call, whose result is the reply; clients make no others
   abbrev pub DoesCall : S → Call → ClientReply → S → Type 0
   DoesCall old (calls.Ask token url m) (replies.Asked result) new = deals.asks old token url m result new
   DoesCall old (calls.Start number token url m) (replies.Started named result) new =
@@ -71,7 +71,7 @@ module _ {S : Type 0} (deals : Deals S) where
   DoesCall old (calls.Sweep m) told new = TellsFault old faults.Verb told new
   DoesCall old _ _ new = ⊥
 
-  -- a command is done by the keeper, and what comes of it is told; a line with a fault does nothing
+  -- the keeper does a command, whose result is the reply; a line with a fault does nothing
   abbrev pub DoesCommand : (ℕ → Type 0) → S → Result Command LineFault → ClientReply → S → Type 0
   DoesCommand reads old (Ok (commands.Call call)) told new = DoesCall old call told new
   DoesCommand reads old (Ok (commands.Arrive arrival)) told new = TellsFault old faults.Verb told new
@@ -94,9 +94,9 @@ module _ {S : Type 0} (deals : Deals S) where
   DoesCommand reads old (Ok commands.Quit) told new = deals.ends old new × (told ≡ replies.Bye)
   DoesCommand reads old (Err fault) told new = TellsFault old fault told new
 
-  -- a line is what it means at the clock's reading of this number for who speaks, where the keeper's schemes are read,
-  -- with enough capacity; or, with too little, the fault of the word that needs more. What it fetches reads the clock
-  -- anew, under the next number
+  -- a line does what it means at this reading for its speaker, in the keeper's schemes, with enough capacity; or,
+  -- with too little, gets the fault of the word that needs more. Its fetches read the clock anew, under the next
+  -- number
   abbrev pub DoesRequest : Speaker → (ℕ → ℕ → Type 0) → ℕ → S → List ℕ → ClientReply → S → Type 0
   DoesRequest speaker reads number old line told new =
       (m : ℕ) × (reads number m
@@ -107,8 +107,8 @@ module _ {S : Type 0} (deals : Deals S) where
       ⊎ DoesCommand (reads (next_reading number)) old
       (command_of_among (deals.schemes old) (dialogue_of speaker m (deals.can_fetch old)) line Refused) told new))
 
-  -- what a line of a client is answered: the text of what it is told. The session ends behind a farewell, and behind a
-  -- first line that is turned away. The next line has readings of its own
+  -- the text of the reply to a client's line. The session ends after a farewell, and after a first line that is
+  -- turned away. Each line has its own readings
   abbrev pub AnswersClient : Speaker → FirstLine → (ℕ → ℕ → Type 0) → ClientState S → List ℕ → List ℕ → Bool
       → ClientState S → Type 0
   AnswersClient speaker first reads old line text ended new =
@@ -116,7 +116,7 @@ module _ {S : Type 0} (deals : Deals S) where
       × ((text ≡ client_reply_text told) × (ended ≡ (is_turned_away first old.number line || is_farewell told))
       × (new.number ≡ next_reading (next_reading old.number))))
 
-  -- a session of a client, and its end, which comes whatever the session met
+  -- a session of a client, and its end, whatever the session met
   pub record Serves (speaker : Speaker) (first : FirstLine) (reads : ℕ → ℕ → Type 0) (old new : S)
       (input left written written_new : Option (List ℕ)) (result : Result (Unit {0}) SessionFault) : Type 0 where
     pub last : ClientState S

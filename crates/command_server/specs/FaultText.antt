@@ -1,5 +1,5 @@
--- The reply line of each fault of a command line, in the words of docs/FORMATS.md.
--- Cited by the contracts of `fault` and of the replies.
+-- The reply line of each fault of a command line, from docs/FORMATS.md.
+-- Cited by `fault` and the replies.
 use Rattle.std.specs.Prelude.{ℕ, List, codes}
 use Rattle.crawl_job.specs.declared.hop.Refusal.TheVariants as refusals
 use Rattle.command_server.specs.declared.fault.LineFault.{LineFault}
@@ -25,6 +25,6 @@ fault_words faults.Status = codes "status"
 fault_words faults.Replies = codes "replies"
 fault_words faults.Memory = refusal_word refusals.NoMemory
 
--- the line that answers a fault
+-- the reply to a faulty line
 abbrev pub line_fault_text : LineFault → List ℕ
 line_fault_text fault = error_of (fault_words fault)

@@ -1,5 +1,5 @@
 -- The line of a hop, as docs/FORMATS.md has it.
--- Cited by the contracts of `hop_text`.
+-- Cited by `hop_text`.
 use Rattle.std.specs.Prelude.{ℕ, ◌+◌, Bool, true, false, List, [], ◌∷◌, ◌++◌, codes, decimal}
 use Rattle.gate_history.specs.declared.outcome.Reason.{Reason}
 use Rattle.gate_history.specs.Wording.{reason_words}
@@ -13,17 +13,17 @@ use Rattle.line_text.specs.Pieces.{line_of}
 use Rattle.command_server.specs.RefusalText.{refusal_text}
 use Rattle.command_server.specs.ReplyText.{denial_text}
 
--- whether more of a body came than was taken
+-- whether the body has more octets
 abbrev pub end_word : Bool → List ℕ
 end_word true = codes "cut"
 end_word false = codes "whole"
 
--- a page that was fetched: why that was allowed, its status, and the octets of its body
+-- a fetched page: why allowed, its status, and its body's length
 abbrev pub page_text : Reason → ℕ → ℕ → Bool → List ℕ
 page_text reason status size cut =
     line_of (codes "PAGE" ∷ (reason_words reason ++ (decimal status ∷ decimal size ∷ end_word cut ∷ [])))
 
--- the number of a fault in docs/FORMATS.md's table
+-- a fault's number in docs/FORMATS.md
 abbrev pub fault_word : WireFault → List ℕ
 fault_word wire.EarlyEnd = codes "H1"
 fault_word wire.BadHead = codes "H2"
@@ -58,11 +58,11 @@ hop_text (hops.Fault number fault) = fault_hop_text fault
 hop_text (hops.Refused refusal) = refusal_text refusal
 hop_text (hops.Stop stop) = stop_text stop
 
--- what leads a hop's line, and the number of the hop, each with a space behind it
+-- the lead of a hop's line, and the hop's number, each with a space after it
 abbrev pub lead_text : List ℕ → ℕ → List ℕ
 lead_text lead number = lead ++ (codes " " ++ (decimal number ++ codes " "))
 
--- a line for each hop of a job, numbered from this number on
+-- a line for each hop, numbered from here on
 abbrev pub hops_text : List ℕ → ℕ → List Hop → List ℕ
 hops_text lead number [] = []
 hops_text lead number (hop ∷ hops) = (lead_text lead number ++ hop_text hop) ++ hops_text lead (number + 1) hops

@@ -1,10 +1,10 @@
 -- The reply to INFO: names and numbers in one line. docs/FORMATS.md, replies.
--- Cited by the contracts of `info_text` and `told`.
+-- Cited by `info_text` and `told`.
 use Rattle.std.specs.Prelude.{List, ℕ, ◌++◌, codes, decimal}
 use Rattle.keepers.specs.declared.counts.Counts.{Counts}
 use Rattle.keepers.specs.declared.visits.Visitors.{Visitors}
 
--- the entries, the starts, and the permits that are out
+-- the entries, the starts, and the permits out
 unfoldable pub begin_of_info : Counts → List ℕ
 begin_of_info counts =
     codes "INFO entries " ++ (decimal counts.entries
@@ -19,13 +19,13 @@ end_of_info counts =
     ++ (codes " turns " ++ (decimal counts.turns
     ++ (codes " authorities " ++ (decimal counts.authorities ++ codes " room ")))))
 
--- the room of the history, and the connections of the server
+-- the history's room, and the server's connections
 unfoldable pub visitors_of_info : Counts → Visitors → List ℕ
 visitors_of_info counts visitors =
     decimal counts.room ++ (codes " connections " ++ (decimal visitors.connections
     ++ (codes " clients " ++ (decimal visitors.clients ++ codes "\n"))))
 
--- what stands behind the permits
+-- what follows the permits
 abbrev pub rest_of_info : Counts → Visitors → List ℕ
 rest_of_info counts visitors = end_of_info counts ++ visitors_of_info counts visitors
 

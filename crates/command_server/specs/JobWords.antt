@@ -1,5 +1,5 @@
 -- The job of a line, as docs/FORMATS.md has it.
--- Cited by the contracts of `job_words`.
+-- Cited by `job_words`.
 use Rattle.std.specs.Prelude.{ℕ, List, Result, Err, if◌then◌else◌}
 use Rattle.path_normal.specs.Capacity.{Capacity}
 use Rattle.path_normal.specs.declared.schemes.Schemes.{Schemes}
@@ -10,11 +10,11 @@ use Rattle.command_server.specs.declared.fault.LineFault.{LineFault}
 use Rattle.command_server.specs.declared.fault.LineFault.TheVariants as faults
 use Rattle.command_server.specs.CallOf.{has_line_octets, job_words_of}
 
--- the job of a line where these schemes are read, or its first fault
+-- a line's job in these schemes, or its first fault
 abbrev pub job_of_among : Schemes → List ℕ → Capacity → Result Job LineFault
 job_of_among schemes line capacity =
     if has_line_octets line then job_words_of schemes (words_of line) capacity else Err faults.Chars
 
--- the job of a line where `http` alone is read, or its first fault
+-- a line's job for `http`, or its first fault
 abbrev pub job_of : List ℕ → Capacity → Result Job LineFault
 job_of = job_of_among Http

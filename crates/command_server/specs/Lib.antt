@@ -1,4 +1,4 @@
--- What contracts say of command lines, of their replies and of sessions.
+-- Definitions for the contracts of command lines, replies and sessions.
 pub mod Limits
 pub mod Verbs
 pub mod WhyText

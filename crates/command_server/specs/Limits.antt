@@ -1,4 +1,4 @@
--- The limits of sessions as numbers; the code's constants are these.
+-- The limits of sessions; the code's constants are these.
 use Rattle.std.specs.Prelude.{ℕ}
 
 -- the most lines of a session

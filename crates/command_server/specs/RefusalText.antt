@@ -1,5 +1,5 @@
--- The line of a refusal: what a reply or a hop says where the gate refuses what no robots answer denies.
--- Cited by the contracts of `refusal_text` and of the replies; docs/FORMATS.md has the words.
+-- The line of a refusal: the reply or hop when the gate itself refuses.
+-- Cited by `refusal_text` and the replies; docs/FORMATS.md has the words.
 use Rattle.std.specs.Prelude.{ℕ, List, [], ◌∷◌, codes}
 use Rattle.crawl_job.specs.declared.hop.Refusal.{Refusal}
 use Rattle.crawl_job.specs.declared.hop.Refusal.TheVariants as refusals

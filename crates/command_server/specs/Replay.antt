@@ -1,5 +1,5 @@
--- What a book answers a line: the text of a reply that the line's call may have.
--- The contracts of `replay` and `replay_among` cite it.
+-- A book's answers to lines: texts of replies that the calls may have.
+-- Cited by `replay` and `replay_among`.
 use Rattle.std.specs.Prelude.{◌≡◌, ◌⊎◌, ℕ, Bool, true, false, List, Result, Ok, Err}
 use Rattle.path_normal.specs.Capacity.{Enough, Overflows, Refused}
 use Rattle.path_normal.specs.declared.schemes.Schemes.{Schemes}
@@ -29,33 +29,32 @@ use Rattle.command_server.specs.FaultText.{line_fault_text}
 use Rattle.command_server.specs.SealText.{seal_text}
 use Rattle.command_server.specs.ReplyText.{bye_text, reply_text, state_text}
 
--- the text is that of a reply which the call may have, which tells what the headline says, and which
--- leads to the new gate
+-- the text is a reply that the call may have, says what the headline says, and leads to the new gate
 pub record AnswersCall (old : Gate) (call : Call) (text : List ℕ) (new : Gate) : Type 0 where
   pub reply : Reply
   pub step : Step old call reply new
   pub told : IsTold (history old) call reply
   pub text_is : text ≡ reply_text reply
 
--- the text is that of what is known of the authority, and nothing changes
+-- the text is what is known of the authority; no change
 abbrev pub AnswersState : Gate → List ℕ → ℕ → List ℕ → Gate → Type 0
 AnswersState old authority m text new =
     (state : State) × (IsState (history old) authority (moment_at old m) state
     × ((text ≡ state_text authority state) × Stays old new))
 
--- the answer that the replies decide is brought to the gate, or the text is that of a fault, and nothing changes
+-- the replies' answer is brought to the gate, or the text is a fault and nothing changes
 abbrev pub AnswersBrought : Gate → Arrival → Result Timed LineFault → List ℕ → Gate → Type 0
 AnswersBrought old arrival (Ok brought) text new =
     AnswersCall old (calls.Arrive arrival.authority arrival.turn brought arrival.moment) text new
 AnswersBrought old arrival (Err fault) text new = (text ≡ line_fault_text fault) × Stays old new
 
--- the replies of an arrival bring an answer or a fault where these schemes are read, and the text answers that
+-- the text answers what an arrival's replies bring in these schemes: an answer or a fault
 abbrev pub AnswersArrival : Schemes → Gate → Arrival → List ℕ → Gate → Type 0
 AnswersArrival schemes old arrival text new =
     (brought : Result Timed LineFault) × (BringsAmong schemes arrival.authority arrival.replies brought
     × AnswersBrought old arrival brought text new)
 
--- the text is that of what was sealed
+-- the text of what was sealed
 abbrev pub AnswersSeal : Gate → List ℕ → Gate → Type 0
 AnswersSeal old text new = (result : Result Sealed NoMemory) × (Seals old result new × (text ≡ seal_text result))
 
@@ -63,8 +62,8 @@ AnswersSeal old text new = (result : Result Sealed NoMemory) × (Seals old resul
 abbrev pub AnswersNoVerb : Gate → List ℕ → Bool → Gate → Type 0
 AnswersNoVerb old text ended new = (text ≡ line_fault_text faults.Verb) × (ended ≡ false) × Stays old new
 
--- what a command is answered: a call its reply, QUIT a farewell, which ends the session, a line with a
--- fault that fault; and but for a call nothing changes
+-- the answer to a command: a call's reply, a farewell that ends the session for QUIT, or a fault; only calls change
+-- anything
 abbrev pub AnswersCommand : Schemes → Gate → Result Command LineFault → List ℕ → Bool → Gate → Type 0
 AnswersCommand schemes old (Ok (commands.Call call)) text ended new = AnswersCall old call text new × (ended ≡ false)
 AnswersCommand schemes old (Ok (commands.Arrive arrival)) text ended new =
@@ -80,14 +79,14 @@ AnswersCommand schemes old (Ok (commands.Why authority)) text ended new = Answer
 AnswersCommand schemes old (Ok commands.Quit) text ended new = (text ≡ bye_text) × (ended ≡ true) × Stays old new
 AnswersCommand schemes old (Err fault) text ended new = (text ≡ line_fault_text fault) × (ended ≡ false) × Stays old new
 
--- what a line is answered where these schemes are read: what it means with enough capacity; or, with too little, the
--- fault of the word that needs more, and nothing changes
+-- the answer to a line in these schemes: what it means with enough capacity; or, with too little, the fault of the
+-- word that needs more, and no change
 abbrev pub AnswersLineAmong : Schemes → Gate → List ℕ → List ℕ → Bool → Gate → Type 0
 AnswersLineAmong schemes old line text ended new =
     AnswersCommand schemes old (command_of_among schemes Replay line Enough) text ended new
     ⊎ AnswersCommand schemes old (command_of_among schemes Replay line Overflows) text ended new
     ⊎ AnswersCommand schemes old (command_of_among schemes Replay line Refused) text ended new
 
--- the same where `http` alone is read
+-- the answer to a line for `http`
 abbrev pub AnswersLine : Gate → List ℕ → List ℕ → Bool → Gate → Type 0
 AnswersLine = AnswersLineAmong Http

@@ -1,5 +1,5 @@
--- The reply lines of docs/FORMATS.md: one definition for each call, and one for them all.
--- Cited by the contracts of `reply_text` and of the session.
+-- The reply lines of docs/FORMATS.md: one definition for each call, and one for all.
+-- Cited by `reply_text` and the session.
 use Rattle.std.specs.Prelude.{ℕ, Bool, true, false, List, [], ◌∷◌, Result, Ok, Err, codes, decimal}
 use Rattle.path_normal.specs.PageText.{authority_of}
 use Rattle.authority_cache.specs.declared.refusal.Stale.{Stale}
@@ -23,7 +23,7 @@ use Rattle.crawl_job.specs.declared.hop.Refusal.TheVariants as refusals
 use Rattle.line_text.specs.Pieces.{line_of}
 use Rattle.command_server.specs.RefusalText.{error_of, refusal_text}
 
--- the word of what stands for an authority
+-- the word of an authority's answer in force
 abbrev pub standing_word : Standing → List ℕ
 standing_word standings.Unknown = codes "unknown"
 standing_word standings.Expired = codes "expired"
@@ -36,7 +36,7 @@ abbrev pub fetching_word : Bool → List ℕ
 fetching_word true = codes "fetching"
 fetching_word false = codes "idle"
 
--- the reply to an ask or a start that is denied
+-- the reply to a denied ask or start
 abbrev pub denial_text : Denial → List ℕ
 denial_text d = line_of (codes "NO" ∷ authority_of d.url ∷ cause_words d.cause)
 
@@ -62,7 +62,7 @@ ask_text (Err ask.Busy) = refusal_text refusals.Busy
 ask_text (Err ask.PermitsFull) = refusal_text refusals.PermitsFull
 ask_text (Err ask.NoMemory) = refusal_text refusals.NoMemory
 
--- the reply to a start that is allowed: the number of its permit, and why
+-- the reply to an allowed start: its permit, and why
 abbrev pub go_text : ℕ → Reason → List ℕ
 go_text number reason = line_of (codes "GO" ∷ decimal number ∷ reason_words reason)
 
@@ -92,7 +92,7 @@ abbrev pub state_text : List ℕ → State → List ℕ
 state_text authority state =
     line_of (codes "STATE" ∷ authority ∷ standing_word state.standing ∷ fetching_word state.fetching ∷ [])
 
--- the reply to URL: a page's URL as it is written
+-- the reply to URL: the page's URL as the gate writes it
 abbrev pub url_text : List ℕ → List ℕ
 url_text url = line_of (codes "URL" ∷ url ∷ [])
 

@@ -1,5 +1,5 @@
 -- What the steps of a session leave.
--- The contracts of `Buffers` cite it.
+-- Cited by `Buffers`.
 use Rattle.std.specs.Prelude.{List, ℕ, Option}
 use Rattle.std.specs.Io.KnownBytes.{Appends}
 use Rattle.counted_io.specs.Device.{AppendsPrefix}
@@ -7,7 +7,7 @@ use Rattle.command_server.specs.Input.{FindsPart}
 use Rattle.command_server.specs.declared.session_fault.SessionFault.{SessionFault}
 use Rattle.command_server.specs.declared.session_fault.SessionFault.TheVariants.{LongLine, Lines, Read, Write, NoMemory}
 
--- no line was read, though a part of one may be gone, and the pending replies were written, up to a write fault
+-- no line was read, perhaps a part of one; the pending replies were written, up to a write fault
 abbrev pub FailsToReadLine : (behind : Option (List ℕ)) (unread : List ℕ) (left : Option (List ℕ)) (pending : List ℕ)
     (old new : Option (List ℕ)) → SessionFault → Type 0
 FailsToReadLine behind unread left pending old new LongLine = ⊥

@@ -1,5 +1,5 @@
--- The table of the verbs: the name of each, and the least and the most words that follow it.
--- Cited by the contracts of `verbs` and `command`; docs/FORMATS.md prints the same table.
+-- The table of the verbs: the name of each, and its least and most arguments.
+-- Cited by `verbs` and `command`; docs/FORMATS.md prints the same table.
 use Rattle.std.specs.Prelude.{ℕ, ◌^◌, ◌-◌, Bool, true, false, not, ◌&&◌, List, [], ◌∷◌, Option, codes}
 use Rattle.std.specs.List.{find}
 use Rattle.std.specs.Str.{bytes_eq}
@@ -10,7 +10,7 @@ use Rattle.command_server.specs.declared.verbs.Speaker.TheVariants as speakers
 use Rattle.command_server.specs.declared.verbs.Verb.{Verb}
 use Rattle.command_server.specs.declared.verbs.Verb.TheVariants as verbs
 
--- what the table says of a verb
+-- a row of the table
 pub record Row : Type 0 where
   pub name : List ℕ
   pub least : ℕ
@@ -20,7 +20,7 @@ pub record Row : Type 0 where
 abbrev pub row : List ℕ → ℕ → ℕ → Row
 row name least most = record { name = name; least = least; most = most }
 
--- the most words of a verb that sets no bound
+-- the most arguments of a verb without a bound
 abbrev pub unbounded : ℕ
 unbounded = 2 ^ 64 - 1
 
@@ -54,23 +54,23 @@ abbrev pub is_replay : Dialogue → Bool
 is_replay Replay = true
 is_replay _ = false
 
--- whether a client speaks in it
+-- whether a client speaks
 abbrev pub is_of_client : Dialogue → Bool
 is_of_client (Client moment fetches) = true
 is_of_client _ = false
 
--- whether who speaks in it asks for permits, and starts fetches by them
+-- whether the speaker asks for permits and starts fetches
 abbrev pub has_permits : Dialogue → Bool
 has_permits (Overseer moment) = false
 has_permits _ = true
 
--- whether robots.txt files and pages are fetched in the dialogue
+-- whether robots.txt files and pages are fetched
 abbrev pub has_fetches : Dialogue → Bool
 has_fetches (Client moment fetches) = fetches
 has_fetches _ = false
 
--- whether the dialogue has the verb: a replay brings robots answers, and for a client they are fetched; a client is
--- told how a URL is written, since it may fetch the page itself. An overseer seals, and looks
+-- whether the dialogue has the verb: a replay brings robots answers, for a client they are fetched; a client that
+-- fetches pages itself may ask for a URL's text. An overseer seals, and looks
 abbrev pub is_in : Dialogue → Verb → Bool
 is_in dialogue verbs.Begin = is_replay dialogue
 is_in dialogue verbs.Arrive = is_replay dialogue
@@ -86,11 +86,11 @@ is_in dialogue verbs.Info = not (is_replay dialogue)
 is_in dialogue verbs.Why = not (is_replay dialogue)
 is_in dialogue _ = true
 
--- the dialogue of who speaks to a server, at the moment of a line, where pages are fetched for clients, or are not
+-- a server's dialogue with the speaker at a line's moment; `fetches`: pages are fetched for clients
 abbrev pub dialogue_of : Speaker → (moment : ℕ) → (fetches : Bool) → Dialogue
 dialogue_of speakers.Client moment fetches = Client moment fetches
 dialogue_of speakers.Overseer moment fetches = Overseer moment
 
--- the verb of this name, if the dialogue has one
+-- the dialogue's verb of this name, if any
 abbrev pub verb_of : Dialogue → List ℕ → Option Verb
 verb_of dialogue name = find (λ verb. is_in dialogue verb && bytes_eq (row_of verb).name name) all_verbs

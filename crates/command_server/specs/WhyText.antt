@@ -1,5 +1,5 @@
--- The reply to WHY: the answer that stands for an authority. docs/FORMATS.md, replies.
--- Cited by the contracts of `why_text` and `told`.
+-- The reply to WHY: the answer in force for an authority. docs/FORMATS.md, replies.
+-- Cited by `why_text` and `told`.
 use Rattle.std.specs.Prelude.{List, [], ◌∷◌, ◌++◌, ℕ, Option, Some, None, Result, Ok, Err, codes}
 use Rattle.authority_cache.specs.declared.standing_answer.StandingAnswer.{StandingAnswer}
 use Rattle.counted_io.specs.Lines.{line_feed}
@@ -9,8 +9,8 @@ use Rattle.gate_core.specs.declared.refusal.NoMemory.{NoMemory}
 use Rattle.line_text.specs.Pieces.{line_of}
 use Rattle.command_server.specs.RefusalText.{refusal_text}
 
--- the answer as a base spells it behind the letter of its line: the authority, its turn, the moment of that turn's
--- begin, and what it says
+-- the answer as in a base, after the line's letter: the authority, its turn, the moment when that turn began, and
+-- what it says
 abbrev pub explained_text : StandingAnswer → List ℕ
 explained_text answer = (codes "WHY " ++ answer_words answer) ++ line_feed ∷ []
 

@@ -1,5 +1,5 @@
 //! What answers the lines of a session.
-//! `run_session` hands each line to it.
+//! Used by `run_session`.
 ghost use Rattle.std.specs.Prelude.{◌≡◌, ℕ, List, Bool, IfOk, OnErr};
 ghost use Rattle.counted_io.specs.Device.{failures_after};
 ghost use Rattle.command_server.specs.Answers.{ends_session, GivesReply, LosesReply};
@@ -10,20 +10,20 @@ use std::alloc::Global;
 /// Whether a session goes on after a line.
 #[derive(Clone, Copy, Debug, PartialEq, Eq)]
 pub enum Flow {
-    /// The next line is read.
+    /// The session goes on.
     Goes,
     /// The line was the last one.
     Ends,
 }
 
-/// What answers one line after the other from a state, which is lent to it.
+/// Answers line after line from a state lent to it.
 pub trait Answerer<S> {
-    /// From a state, a line may get this reply, which ends the session or not, and lead to a state. The
-    /// number is that of the writes that had failed by then.
+    /// A line may turn the first state into the second with this reply, which ends the session or not. The
+    /// number counts the failed writes so far.
     ghost answers: { Self → ℕ → S → List ℕ → List ℕ → Bool → S → Type 0 };
 
-    /// Answers a line, which has no line end, with a reply pushed to `output`, and says whether the
-    /// session goes on. After a fault the line has had its effect all the same.
+    /// Answers a line, given without its end: pushes the reply to `output`, and says whether the session
+    /// goes on. After a fault the line has still had its effect.
     fn answer<W: Sink>(
         &self,
         alloc: Global,

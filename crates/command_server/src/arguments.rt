@@ -1,5 +1,5 @@
-//! One word of a command line as a number, a token, a URL or an authority.
-//! Used by `calls`, in the order of the words.
+//! One argument of a command line as a number, a token, a URL or an authority.
+//! Used by `calls`, from left to right.
 ghost use Rattle.std.specs.Prelude.{◌≡◌, Err, IsTrue, None, Ok};
 ghost use Rattle.path_normal.specs.Capacity.{Enough, IsRead, Refused};
 ghost use Rattle.path_normal.specs.PageUrl.{page_url_among};
@@ -44,7 +44,7 @@ pub fn read_page(alloc: Global, schemes: Schemes, word: &str) -> Result<PageUrl,
     Ok(url)
 }
 
-/// Reads the URL of a page of these schemes. Where it has the octets of a page that is known, it is that page.
+/// Reads the URL of a page of these schemes, or returns the known page if it has the same octets.
 pub fn read_known_page(
     alloc: Global,
     schemes: Schemes,
@@ -59,7 +59,7 @@ pub fn read_known_page(
     }
 }
 
-// Whether the word is a page as it is written, of a scheme that is read: such a text reads as that page.
+// Whether the word is the text of the page, in a scheme that is read.
 fn reads_as(schemes: Schemes, word: &str, page: &PageUrl) -> bool
     ensures page { IsTrue result → page_url_among schemes None word.now Enough ≡ Ok page.now }
     ensures refused { IsTrue result

@@ -1,4 +1,4 @@
-//! What an ARRIVE line brings, and the answer that its replies decide (RFC 9309, section 2.3.1).
+//! An ARRIVE line's answer, by its replies (RFC 9309, section 2.3.1).
 //! The walk over the replies is that of robots fetches.
 ghost use Rattle.std.specs.Prelude.{◌≡◌, IfOk};
 ghost use Rattle.command_server.specs.Arrival.{BringsAmong};
@@ -10,7 +10,7 @@ use path_normal::{Authority, Schemes};
 use robots_fetch::{Step, Walk};
 use std::alloc::Global;
 
-/// The replies of the robots fetch of a turn.
+/// The replies to a turn's robots fetch.
 #[derive(Drop)]
 pub struct Arrival<'a> {
     pub authority: Authority,
@@ -20,7 +20,7 @@ pub struct Arrival<'a> {
     pub moment: u64,
 }
 
-/// The answer that the replies decide for the authority where these schemes are read, with its life.
+/// The authority's answer by the replies, with its lifetime, in these schemes.
 pub(crate) fn decide(
     alloc: Global,
     schemes: Schemes,

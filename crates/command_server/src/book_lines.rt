@@ -1,4 +1,4 @@
-//! Replay: the lines of a session, answered by a book.
+//! Replay: a book answers the lines of a session.
 //! `crawlgate replay` runs it over standard input and output.
 ghost use Rattle.std.specs.Prelude.{◌≡◌, OnErr, OnOk};
 ghost use Rattle.counted_io.specs.Device.{failures_after};
@@ -24,7 +24,7 @@ use line_text::MAX_LONG_LINE;
 use path_normal::Schemes;
 use std::alloc::Global;
 
-/// A book is lent, and a line answered by the call that it makes where these schemes are read.
+/// A lent book, which answers lines by their calls in these schemes.
 #[derive(Drop)]
 struct BookLines {
     schemes: Schemes,
@@ -96,9 +96,8 @@ impl Answerer<Book> for BookLines {
 /// The most lines of a session.
 pub const MAX_LINES: u64 = 1000000;
 
-/// Reads lines, makes their calls on the book, and writes their replies, before each read that may
-/// wait and at the end. The book keeps what the lines have done, also after a fault. They name pages
-/// of `http` alone.
+/// Reads lines, makes their calls on the book, and writes their replies, before each read that may wait and
+/// at the end. Even after a fault the book keeps the lines' effects. Only pages of `http` are read.
 pub fn replay<R: Source, W: Sink>(
     alloc: Global,
     reader: &mut R,
@@ -115,7 +114,7 @@ pub fn replay<R: Source, W: Sink>(
     replay_among(alloc, Schemes::Http, reader, writer, book)
 }
 
-/// Replays lines as `replay` does, which name pages of these schemes.
+/// Like `replay`, with pages of these schemes.
 pub fn replay_among<R: Source, W: Sink>(
     alloc: Global,
     schemes: Schemes,
@@ -141,7 +140,6 @@ pub fn replay_among<R: Source, W: Sink>(
     )
 }
 
-// Makes the call, and pushes the text of its reply.
 fn answer_call<W: Sink>(
     book: &mut Book,
     call: Call,
@@ -159,7 +157,6 @@ fn answer_call<W: Sink>(
     reply_pieces(&reply).push(output, sink)
 }
 
-// Seals the book, and pushes what was sealed.
 fn answer_seal<W: Sink>(
     book: &mut Book,
     output: &mut Output,
@@ -175,7 +172,7 @@ fn answer_seal<W: Sink>(
     push_sealed(&sealed, output, sink)
 }
 
-// Brings the answer that the replies decide, and pushes the text of the reply.
+// Brings the answer of the replies.
 fn answer_arrival<W: Sink>(
     book: &mut Book,
     alloc: Global,

@@ -1,5 +1,5 @@
-//! The buffers of a session, and what is done with them for each line.
-//! `run_session` runs on them.
+//! The buffers of a session, and their use for each line.
+//! Used by `run_session`.
 ghost use Rattle.std.specs.Prelude.{◌≡◌, ◌≢◌, ◌≤◌, ◌++◌, [], IfOk, IfErr, OnOk, OnErr, length};
 ghost use Rattle.std.specs.Io.KnownBytes.{prepend_known};
 ghost use Rattle.counted_io.specs.Device.{failures_after};
@@ -19,7 +19,7 @@ use counted_io::{DeviceFault, LineReader, NextLine, Output, ReadLineFault, Sink,
 use line_text::Pieces;
 use std::alloc::{AllocError, Global};
 
-/// The octets read and not yet taken, the line in hand, and the replies not yet written.
+/// The octets not yet taken, the current line, and the replies not yet written.
 #[derive(Drop)]
 pub(crate) struct Buffers {
     reader: LineReader,
@@ -28,7 +28,7 @@ pub(crate) struct Buffers {
 }
 
 impl Buffers {
-    /// Nothing is read yet, and nothing is pending.
+    /// Empty buffers.
     pub(crate) fn new(alloc: Global) -> Result<Buffers, AllocError>
         ensures reader { IfOk result (λ buffers. buffers.reader ≡ []) }
         ensures output { IfOk result (λ buffers. buffers.output ≡ []) }
@@ -40,7 +40,7 @@ impl Buffers {
         })
     }
 
-    /// Takes the next line in hand. The pending replies are written before a read that may wait.
+    /// Takes the next line. Writes the pending replies before a read that may wait.
     pub(crate) fn next<R: Source, W: Sink>(
         &mut self,
         reader: &mut R,
@@ -75,7 +75,7 @@ impl Buffers {
         }
     }
 
-    /// Has the line in hand answered.
+    /// Answers the current line.
     pub(crate) fn answer<W: Sink, S, A: Answerer<S>>(
         &mut self,
         alloc: Global,
@@ -97,7 +97,7 @@ impl Buffers {
         answerer.answer(alloc, state, self.line.as_slice(), &mut self.output, writer)
     }
 
-    /// Writes the pending replies and the last words, and results in `end` if no write fails.
+    /// Writes the pending replies and the last words; returns `end` if no write fails.
     pub(crate) fn close<W: Sink>(
         &mut self,
         writer: &mut W,
@@ -120,7 +120,7 @@ impl Buffers {
     }
 }
 
-// What a session writes behind the replies.
+// What follows the replies.
 fn last_pieces(end: &Result<(), SessionFault>) -> Pieces<'static>
     ensures { pieces_text result ≡ last_words end.now }
 {

@@ -1,4 +1,4 @@
-//! The words that follow each verb, read from left to right into a call.
+//! Reads each verb's arguments, from left to right, into a call.
 //! Used by `command`, once their number is right.
 ghost use Rattle.std.specs.Prelude.{◌≡◌, IfOk, IsTrue};
 ghost use Rattle.gate_core.specs.Calls.{HasSpare};
@@ -21,7 +21,7 @@ use path_normal::{Authority, PageUrl, Schemes};
 use permit_book::PermitNo;
 use std::alloc::Global;
 
-/// Reads the word behind `BEGIN`, `STATE` and `REFRESH`: `<authority>`.
+/// Reads the argument of `BEGIN`, `STATE` and `REFRESH`: `<authority>`.
 pub fn read_authority_alone(
     alloc: Global,
     schemes: Schemes,
@@ -60,7 +60,7 @@ pub fn read_arrive(
     })
 }
 
-/// Reads the words behind `ASK` and `FETCH`: `<token> <url>`.
+/// Reads the arguments of `ASK` and `FETCH`: `<token> <url>`.
 pub fn read_job_words(alloc: Global, schemes: Schemes, words: Words<'_>) -> Result<Job, LineFault>
     requires { IsTrue (takes Verb.Fetch (words_left words)) }
     ensures { IsRead result (job_words_of schemes (words_left words.entry)) }
@@ -73,7 +73,7 @@ pub fn read_job_words(alloc: Global, schemes: Schemes, words: Words<'_>) -> Resu
     Ok(Job { token, url })
 }
 
-/// Reads `START <n> <token> <url>`, whose URL is most often that of the permit.
+/// Reads `START <n> <token> <url>`, usually with the URL of the permit.
 pub fn read_start<P: KnownPages>(
     alloc: Global,
     schemes: Schemes,
@@ -100,7 +100,7 @@ pub fn read_start<P: KnownPages>(
     })
 }
 
-/// Reads the word behind `URL`: `<url>`.
+/// Reads the argument of `URL`: `<url>`.
 pub fn read_page_alone(
     alloc: Global,
     schemes: Schemes,
@@ -115,7 +115,7 @@ pub fn read_page_alone(
     Ok(url)
 }
 
-/// Reads the word behind `BACK` and `DONE`: `<n>`.
+/// Reads the argument of `BACK` and `DONE`: `<n>`.
 pub fn read_permit_alone(words: Words<'_>) -> Result<PermitNo, LineFault>
     requires { IsTrue (takes Verb.Back (words_left words)) }
     ensures { result ≡ permit_alone (words_left words.entry) }

@@ -1,5 +1,5 @@
-//! The lines of a client, answered by a keeper.
-//! `serve` runs a session over them.
+//! A keeper answers the lines of a client.
+//! Used by `serve` for a session.
 ghost use Rattle.std.specs.Prelude.{◌≡◌, ◌||◌};
 ghost use Rattle.command_server.specs.Answers.{ends_session};
 ghost use Rattle.command_server.specs.Clients.{DoesCall, DoesRequest, is_farewell};
@@ -20,16 +20,14 @@ use keepers::Keeper;
 use path_normal::Authority;
 use std::alloc::Global;
 
-/// What a client's session has between two lines: its keeper, which is lent, and the number of the clock's
-/// next reading.
+/// A client's session between two lines: a lent keeper, and the clock's next reading.
 #[derive(Drop)]
 pub(crate) struct Client<'k, K: Keeper> {
     pub(crate) keeper: &'k mut K,
     pub(crate) number: u64,
 }
 
-/// A line is answered by the call that the keeper makes at the moment that the clock tells. The first one may end the
-/// session.
+/// Answers a line by the keeper's call at the clock's moment. The first line may end the session.
 #[derive(Drop)]
 pub(crate) struct ClientLines<'c, C: NumberedClock> {
     pub(crate) speaker: Speaker,
@@ -69,7 +67,7 @@ impl<'k, K: Keeper, C: NumberedClock> Answerer<Client<'k, K>> for ClientLines<'_
     }
 }
 
-// Whether the session goes on behind a line that has the reading of this number, by what it is told.
+// Whether the session goes on after a line with this reading.
 fn flow_behind(first: FirstLine, number: u64, line: &[u8], told: &ClientReply) -> Flow
     ensures { ends_session result ≡ (is_turned_away first number line.now || is_farewell told.now) }
 {
@@ -80,8 +78,7 @@ fn flow_behind(first: FirstLine, number: u64, line: &[u8], told: &ClientReply) -
     }
 }
 
-// Makes the call of a line at the reading of this number, where the keeper's schemes are read. What it
-// fetches has the next number.
+// Makes the call of a line at this reading, in the keeper's schemes. Its fetches have the next number.
 fn told_of<K: Keeper, C: NumberedClock>(
     alloc: Global,
     speaker: Speaker,
@@ -117,7 +114,7 @@ fn told_of<K: Keeper, C: NumberedClock>(
             Some(Err(_)) => ClientReply::NoMemory,
             None => ClientReply::Fault(LineFault::Verb),
         },
-        // The keeper has no part in it.
+        // Needs no keeper.
         Ok(Command::Url(url)) => ClientReply::Written(url),
         Ok(Command::Info) => ClientReply::Counted {
             counts: keeper.counts(),
@@ -137,7 +134,6 @@ fn told_of<K: Keeper, C: NumberedClock>(
     }
 }
 
-// Makes a call of the gate.
 fn told_of_call<K: Keeper>(keeper: &mut K, call: Call) -> ClientReply
     ensures { DoesCall K.deals keeper.old call result keeper.new }
 {

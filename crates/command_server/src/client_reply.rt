@@ -1,4 +1,4 @@
-//! What a client is told of a line, as one value; the reply is its text (docs/FORMATS.md, replies).
+//! The reply to a client's line as one value, whose text is in docs/FORMATS.md, replies.
 ghost use Rattle.std.specs.Prelude.{◌≡◌, ◌∷◌, ◌++◌, []};
 ghost use Rattle.counted_io.specs.Output.{Pushes};
 ghost use Rattle.counted_io.specs.Lines.{line_feed};
@@ -28,13 +28,13 @@ use line_text::{Piece, Pieces};
 use path_normal::{Authority, PageUrl};
 use permit_book::{NotOut, PermitNo};
 
-/// What a client is told.
+/// The reply to a client.
 #[derive(Drop)]
 pub(crate) enum ClientReply {
     /// The line asks for nothing that the session has.
     Fault(LineFault),
     Asked(Result<PermitNo, AskRefusal>),
-    /// Whether the fetch of the permit of this number may begin.
+    /// Whether the fetch of this permit may begin.
     Started {
         number: PermitNo,
         result: Result<Reason, Denial>,
@@ -57,26 +57,26 @@ pub(crate) enum ClientReply {
     },
     Fetched(Outcome),
     Sealed(Result<Segment, NoMemory>),
-    /// How the URL of a page is written.
+    /// The URL of a page as the gate writes it.
     Written(PageUrl),
-    /// How much there is of what the gate keeps, and the connections of the server.
+    /// How much the gate keeps, and the server's connections.
     Counted {
         counts: Counts,
         visitors: Visitors,
     },
-    /// The answer that stands for the authority.
+    /// The answer in force for the authority.
     Explained {
         authority: Authority,
         result: Result<Option<StandingAnswer>, NoMemory>,
     },
-    /// There was no memory to fetch.
+    /// No memory to fetch.
     NoMemory,
     /// The session ends.
     Bye,
 }
 
 impl ClientReply {
-    /// Whether the session goes on behind it.
+    /// Whether the session goes on.
     pub(crate) fn flow(&self) -> Flow
         ensures { ends_session result ≡ is_farewell self.now }
     {
@@ -86,8 +86,8 @@ impl ClientReply {
         }
     }
 
-    /// Pushes the reply. Where the gate fetched for it, all that is pending is written, too: that a client is gone
-    /// is noticed before the gate fetches for it again.
+    /// Pushes the reply. If the gate fetched for it, also writes all that is pending: a lost client shows
+    /// before the gate fetches for it again.
     pub(crate) fn tell<W: Sink>(&self, output: &mut Output, sink: &mut W) -> Result<(), DeviceFault>
         ensures { Pushes (W.written sink.old) (W.written sink.new)
             (W.failures sink.old) (W.failures sink.new) output.old output.new
@@ -100,7 +100,6 @@ impl ClientReply {
         Ok(())
     }
 
-    // Whether the gate fetched for the reply.
     fn was_fetched(&self) -> bool {
         matches!(
             self,
@@ -108,7 +107,6 @@ impl ClientReply {
         )
     }
 
-    // Pushes the reply.
     fn push<W: Sink>(&self, output: &mut Output, sink: &mut W) -> Result<(), DeviceFault>
         ensures { Pushes (W.written sink.old) (W.written sink.new)
             (W.failures sink.old) (W.failures sink.new) output.old output.new
@@ -147,7 +145,6 @@ impl ClientReply {
     }
 }
 
-// The reply to START.
 fn begun_pieces(number: PermitNo, told: &Result<Reason, Denial>) -> Pieces<'_>
     ensures { pieces_text result ≡ spent_text number told.now }
 {
@@ -157,7 +154,6 @@ fn begun_pieces(number: PermitNo, told: &Result<Reason, Denial>) -> Pieces<'_>
     }
 }
 
-// The reply to REFRESH.
 fn refreshed_pieces<'a>(
     authority: &'a Authority,
     told: &Result<Standing, BeginRefusal>,
@@ -170,7 +166,7 @@ fn refreshed_pieces<'a>(
     }
 }
 
-// Pushes the reply to FETCH: the lines of the hops, and the body behind the number of its octets.
+// The lines of the hops, and the body after its length in octets.
 fn push_fetched<W: Sink>(
     outcome: &Outcome,
     output: &mut Output,
@@ -184,7 +180,6 @@ fn push_fetched<W: Sink>(
     push_body(outcome.body.as_slice(), output, sink)
 }
 
-// Pushes the number of a body's octets, and these.
 fn push_body<W: Sink>(body: &[u8], output: &mut Output, sink: &mut W) -> Result<(), DeviceFault>
     ensures { Pushes (W.written sink.old) (W.written sink.new)
         (W.failures sink.old) (W.failures sink.new) output.old output.new
@@ -194,7 +189,6 @@ fn push_body<W: Sink>(body: &[u8], output: &mut Output, sink: &mut W) -> Result<
     push_octets(body, output, sink)
 }
 
-// Pushes octets, and LF behind them.
 fn push_octets<W: Sink>(octets: &[u8], output: &mut Output, sink: &mut W) -> Result<(), DeviceFault>
     ensures { Pushes (W.written sink.old) (W.written sink.new)
         (W.failures sink.old) (W.failures sink.new) output.old output.new

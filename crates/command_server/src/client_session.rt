@@ -1,4 +1,4 @@
-//! `serve`: a session of a client over a keeper.
+//! `serve`: a session of a client with a keeper.
 //! `crawlgate serve` runs one for each connection.
 ghost use Rattle.std.specs.Prelude.{◌≡◌};
 ghost use Rattle.command_server.specs.Clients.{AnswersClient, Serves};
@@ -18,12 +18,12 @@ use counted_io::{Sink, Source};
 use keepers::Keeper;
 use std::alloc::Global;
 
-/// The most octets of a client's line, its end not counted.
+/// The most octets of a client's line, without its end.
 pub const MAX_CLIENT_LINE: usize = 8192;
 
-/// Reads a client's lines, has the keeper make their calls, and writes the replies, before each read that
-/// may wait and at the end. The clock is read anew for each line, and again by what fetches; moments are in
-/// seconds. At QUIT, and once more behind whatever ended the session, all that it has out is given back.
+/// Reads a client's lines, makes their calls on the keeper, and writes the replies, before each read that
+/// may wait and at the end. Reads the clock for each line, and again for fetches; moments are in seconds.
+/// At QUIT, and once more at any end, gives back all that the session has out.
 pub fn serve<R: Source, W: Sink, K: Keeper, C: NumberedClock>(
     alloc: Global,
     reader: &mut R,
@@ -42,7 +42,7 @@ pub fn serve<R: Source, W: Sink, K: Keeper, C: NumberedClock>(
     serve_from(alloc, reader, writer, keeper, clock, FirstLine::Any)
 }
 
-/// Serves a client as `serve` does, but ends the session behind a first line that is turned away.
+/// Like `serve`, but ends the session after a first line that is turned away.
 pub fn serve_from<R: Source, W: Sink, K: Keeper, C: NumberedClock>(
     alloc: Global,
     reader: &mut R,
@@ -61,8 +61,7 @@ pub fn serve_from<R: Source, W: Sink, K: Keeper, C: NumberedClock>(
     serve_lines(alloc, reader, writer, keeper, Speaker::Client, clock, first)
 }
 
-/// Serves an overseer as `serve_from` serves a client: its lines are those of an overseer. What asks for permits
-/// or fetches is no verb of its.
+/// Like `serve_from`, for an overseer: its lines can't ask for permits or fetches.
 pub fn serve_overseer<R: Source, W: Sink, K: Keeper, C: NumberedClock>(
     alloc: Global,
     reader: &mut R,
@@ -90,7 +89,6 @@ pub fn serve_overseer<R: Source, W: Sink, K: Keeper, C: NumberedClock>(
     )
 }
 
-// Serves who speaks to the end of its session.
 fn serve_lines<R: Source, W: Sink, K: Keeper, C: NumberedClock>(
     alloc: Global,
     reader: &mut R,
@@ -118,7 +116,7 @@ fn serve_lines<R: Source, W: Sink, K: Keeper, C: NumberedClock>(
     end
 }
 
-// Has the lines answered. The client's keeper stays the one that is lent.
+// Answers the lines with the lent keeper.
 fn run_lines<'k, R: Source, W: Sink, K: Keeper, C: NumberedClock>(
     alloc: Global,
     reader: &mut R,

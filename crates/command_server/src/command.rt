@@ -22,12 +22,12 @@ use line_text::{Words, number_of};
 use path_normal::{Authority, PageUrl, Schemes};
 use std::alloc::Global;
 
-/// What a command line asks of a session.
+/// What a command line asks for.
 #[derive(Drop)]
 pub enum Command<'a> {
     /// A call of the book.
     Call(Call),
-    /// The call of the book that brings the answer of a robots fetch.
+    /// The book's call that brings the answer of a robots fetch.
     Arrive(Arrival<'a>),
     /// What is known of an authority.
     State { authority: Authority, moment: u64 },
@@ -35,19 +35,19 @@ pub enum Command<'a> {
     Seal,
     /// A robots fetch of an authority.
     Refresh { authority: Authority },
-    /// The fetch of a page, and where redirects lead from it.
+    /// The fetch of a page, and of its redirects.
     Fetch(Job),
-    /// How the URL of a page is written.
+    /// The text of a page's URL.
     Url(PageUrl),
-    /// How much there is of what the gate keeps.
+    /// How much the gate keeps.
     Info,
-    /// The answer that stands for an authority.
+    /// The answer in force for an authority.
     Why { authority: Authority },
     /// The end of the session.
     Quit,
 }
 
-/// Reads a command line of a dialogue, without its line end, where `http` alone is read.
+/// Reads a command line of a dialogue, without its line end; only `http` is read.
 pub fn read_command(
     alloc: Global,
     dialogue: Dialogue,
@@ -59,7 +59,7 @@ pub fn read_command(
     read_command_among(alloc, Schemes::Http, dialogue, line)
 }
 
-/// Reads a command line as `read_command` does, where these schemes are read.
+/// Like `read_command`, with these schemes.
 pub fn read_command_among(
     alloc: Global,
     schemes: Schemes,
@@ -72,7 +72,7 @@ pub fn read_command_among(
     read_command_knowing(alloc, schemes, dialogue, line, &NoPages)
 }
 
-/// Reads a command line as `read_command_among` does, with the pages that are known.
+/// Like `read_command_among`, with the known pages.
 pub(crate) fn read_command_knowing<'a, P: KnownPages>(
     alloc: Global,
     schemes: Schemes,

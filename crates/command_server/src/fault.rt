@@ -1,4 +1,4 @@
-//! Why a command line is no call, and the reply line that says so (docs/FORMATS.md).
+//! Why a command line is no call, and its reply line (docs/FORMATS.md).
 ghost use Rattle.std.specs.Prelude.{◌≡◌};
 ghost use Rattle.command_server.specs.FaultText.{fault_words};
 
@@ -8,28 +8,28 @@ use path_normal::{AuthorityFault, UrlFault};
 use robots_text::TokenFault;
 use std::alloc::AllocError;
 
-/// The first fault of a command line. No call is made for it.
+/// The first fault of a command line, which makes no call.
 #[derive(Clone, Copy, Debug, PartialEq, Eq)]
 pub enum LineFault {
-    /// The line is over the limit, and the session ends.
+    /// The line is longer than the limit, and the session ends.
     Long,
-    /// The line comes after the last that a session takes, and the session ends.
+    /// The line comes after the last one of a session, which ends.
     Lines,
     /// An octet is outside 32 to 126.
     Chars,
-    /// A word is empty, or the verb takes another number of words.
+    /// A word is empty, or the verb takes another number of arguments.
     Words,
     /// The first word is no number.
     Moment,
-    /// The verb is missing, or no verb of the session.
+    /// The verb is missing, or not one of the session's.
     Verb,
-    /// A word is no number below 2 to the 64.
+    /// An argument is no number below 2 to the 64.
     Number,
-    /// A word is no product token.
+    /// An argument is no product token.
     Token,
-    /// A word is no authority.
+    /// An argument is no authority.
     Authority,
-    /// A word is no URL.
+    /// An argument is no URL.
     BadUrl,
     /// A URL has another scheme than http.
     NotHttp,
@@ -37,11 +37,11 @@ pub enum LineFault {
     HasUser,
     /// A URL, or its authority, is too long, or the crate `url` overflowed.
     LongUrl,
-    /// A word is no status that an arrival takes.
+    /// An argument is no status that an arrival takes.
     Status,
     /// The replies of an arrival are not those of one walk.
     Replies,
-    /// A growth of memory was refused.
+    /// Out of memory.
     Memory,
 }
 
@@ -102,7 +102,7 @@ impl From<UrlFault> for LineFault {
 }
 
 impl LineFault {
-    /// The words behind `ERR` in the reply line.
+    /// The words after `ERR` in the reply line.
     pub(crate) fn words(self) -> &'static str
         ensures { result.now ≡ fault_words self }
     {

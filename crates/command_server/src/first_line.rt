@@ -1,23 +1,23 @@
 //! Which first line a session takes.
-//! Named by whoever has a client served over a connection. RFC 9112, section 3, has request lines of HTTP.
+//! Used by all that serve clients over a connection. RFC 9112, section 3, has request lines of HTTP.
 ghost use Rattle.std.specs.Prelude.{◌≡◌};
 ghost use Rattle.command_server.specs.FirstLines.{is_request_line, is_turned_away};
 
 // The octets of ` HTTP/1.1`.
 const VERSION_OCTETS: usize = 9;
 
-/// Which first line a session takes. Whatever it is, it is answered as any other.
+/// Which first line a session takes. It is always answered.
 #[derive(Clone, Copy, Debug, PartialEq, Eq)]
 pub enum FirstLine {
     /// Any line.
     Any,
-    /// Any but a request line of HTTP/1.0 or HTTP/1.1, behind whose reply the session ends: a web page can have a browser
-    /// send such a line to a port of its own machine, with lines behind it that the page has written.
+    /// Any but a request line of HTTP/1.0 or HTTP/1.1, whose reply ends the session: a web page can make a
+    /// browser send such a line to a port of its own machine, followed by lines of the page.
     NoRequest,
 }
 
 impl FirstLine {
-    /// Whether a session ends behind this line, of which the clock's reading has this number.
+    /// Whether a session ends after this line with this reading.
     pub(crate) fn turns_away(self, number: u64, line: &[u8]) -> bool
         ensures { result ≡ is_turned_away self number line.now }
     {
@@ -28,7 +28,7 @@ impl FirstLine {
     }
 }
 
-// Whether a line ends as the request lines of HTTP/1.0 and HTTP/1.1 do.
+// Whether a line ends like an HTTP/1.0 or HTTP/1.1 request line.
 fn is_request_line(line: &[u8]) -> bool
     ensures { result ≡ is_request_line line.now }
 {

@@ -1,4 +1,4 @@
-//! The lines of a job's hops: what FETCH replies of them, and a shift's report (docs/FORMATS.md, hops).
+//! The lines of a job's hops in the reply to FETCH and in a shift's report (docs/FORMATS.md, hops).
 ghost use Rattle.std.specs.Prelude.{◌≡◌, ◌+◌, ◌++◌, ◌^◌, ◌<◌, length};
 ghost use Rattle.counted_io.specs.Output.{Pushes};
 ghost use Rattle.line_text.specs.Pieces.{piece_text, pieces_text};
@@ -9,7 +9,7 @@ use counted_io::{DeviceFault, Output, Sink};
 use crawl_job::Hop;
 use line_text::{Piece, Pieces};
 
-/// Pushes a line for each hop of a job: what leads it, its number from `first` on, and the hop.
+/// Pushes a line for each hop: the lead, its number from `first` on, and the hop.
 pub fn push_hops<W: Sink>(
     lead: Piece<'_>,
     first: u64,
@@ -29,7 +29,6 @@ pub fn push_hops<W: Sink>(
     push_hops(lead, first + 1, later, output, sink)
 }
 
-// Pushes the line of one hop.
 fn push_hop<W: Sink>(
     lead: Piece<'_>,
     number: u64,
@@ -45,7 +44,7 @@ fn push_hop<W: Sink>(
     hop_pieces(hop).push(output, sink)
 }
 
-// What stands before a hop in its line.
+// What precedes a hop in its line.
 fn numbered<'a>(lead: Piece<'a>, number: u64) -> Pieces<'a>
     ensures { pieces_text result ≡ lead_text (piece_text lead.entry) number }
 {

@@ -1,4 +1,4 @@
-//! The text of a hop: what a shift's report says of it behind its numbers (docs/FORMATS.md, hops).
+//! The text of a hop: its part of a shift's report, without the numbers (docs/FORMATS.md, hops).
 ghost use Rattle.std.specs.Prelude.{◌≡◌};
 ghost use Rattle.line_text.specs.Pieces.{pieces_text};
 ghost use Rattle.command_server.specs.HopText.{fault_hop_text, fault_word, hop_text, page_text};
@@ -53,7 +53,6 @@ fn fault_pieces(fault: WireFault) -> Pieces<'static>
     Pieces::two_words("FAULT", Piece::Text(fault_word(fault)))
 }
 
-// The number of a fault.
 fn fault_word(fault: WireFault) -> &'static str
     ensures { result.now ≡ fault_word fault }
 {
@@ -77,7 +76,6 @@ fn stop_pieces(stop: Stop) -> Pieces<'static>
     Pieces::two_words("STOP", Piece::Text(stop_word(stop)))
 }
 
-// Why a redirect is not followed.
 fn stop_word(stop: Stop) -> &'static str
     ensures { result.now ≡ stop_word stop }
 {

@@ -1,5 +1,5 @@
-//! The reply to INFO: how much there is of what the gate keeps (docs/FORMATS.md, replies).
-//! Pushed by `ClientReply`.
+//! The reply to INFO: how much the gate keeps (docs/FORMATS.md, replies).
+//! Used by `ClientReply`.
 ghost use Rattle.std.specs.Prelude.{◌≡◌};
 ghost use Rattle.counted_io.specs.Output.{Pushes};
 ghost use Rattle.line_text.specs.Pieces.{pieces_text};
@@ -24,7 +24,6 @@ pub(crate) fn push_info<W: Sink>(
     push_rest(counts, visitors, output, sink)
 }
 
-// Pushes what stands behind the permits.
 fn push_rest<W: Sink>(
     counts: Counts,
     visitors: Visitors,
@@ -39,7 +38,7 @@ fn push_rest<W: Sink>(
     visitor_pieces(counts, visitors).push(output, sink)
 }
 
-// The entries, the starts, and the permits that are out.
+// The entries, the starts, and the permits out.
 #[tactic(auto, unfolding(crate::specs::InfoText::begin_of_info))]
 fn opening_pieces(counts: Counts) -> Pieces<'static>
     ensures { pieces_text result ≡ begin_of_info counts }
@@ -72,7 +71,7 @@ fn closing_pieces(counts: Counts) -> Pieces<'static>
     ])
 }
 
-// The room of the history, and the connections of the server.
+// The room of the history, and the server's connections.
 #[tactic(auto, unfolding(crate::specs::InfoText::visitors_of_info))]
 fn visitor_pieces(counts: Counts, visitors: Visitors) -> Pieces<'static>
     ensures { pieces_text result ≡ visitors_of_info counts visitors }

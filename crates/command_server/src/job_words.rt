@@ -13,7 +13,7 @@ use line_text::Words;
 use path_normal::Schemes;
 use std::alloc::Global;
 
-/// Reads a line `<token> <url>`, without its line end, with a URL of `http`.
+/// Reads a line `<token> <url>`, without its line end, with an `http` URL.
 pub fn read_job(alloc: Global, line: &[u8]) -> Result<Job, LineFault>
     ensures { IsRead result (job_of line.now) }
 {

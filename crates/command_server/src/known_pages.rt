@@ -1,16 +1,16 @@
-//! The pages of permits, which the lines that start them name once more.
-//! Used by `calls`: a URL that has the octets of such a page is that page, and is not read again.
+//! The pages of permits, which START lines repeat.
+//! Used by `calls`: a URL with the octets of such a page is not read again.
 use keepers::Keeper;
 use path_normal::PageUrl;
 use permit_book::PermitNo;
 
-/// What knows the pages of permits. Whatever page it tells counts only where the words have its octets.
+/// The pages of permits, each used only if the argument has its octets.
 pub(crate) trait KnownPages {
-    /// The URL of the permit of this number, if it is known.
+    /// The URL of this permit, if known.
     fn page_of(&self, number: PermitNo) -> Option<&PageUrl>;
 }
 
-/// No page is known: a replay reads each URL.
+/// No known pages: a replay reads each URL.
 #[derive(Drop)]
 pub(crate) struct NoPages;
 

@@ -1,4 +1,4 @@
-//! Command lines and sessions: what a line asks for, what answers it, and the text of the reply.
+//! Command lines and sessions: the calls of lines, their answers, and the texts of replies.
 //! docs/FORMATS.md has the lines, the replies and the faults.
 #![tactic(auto)]
 

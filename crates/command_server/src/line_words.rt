@@ -1,4 +1,4 @@
-//! The words of a command line: one pass over its octets finds its faults, and how many words there are.
+//! The words of a command line, checked and counted in one pass over its octets.
 //! Used by `command`, which reads the words; docs/FORMATS.md has the order of the checks.
 ghost use Rattle.std.specs.Prelude.{◌≡◌};
 ghost use Rattle.command_server.specs.LineWords.{is_word_octet, line_words_of, word_count_of};
@@ -8,7 +8,7 @@ use crate::fault::LineFault;
 use line_text::Words;
 use std::marker::Model;
 
-/// The words of a line that are still to be read, and how many they are.
+/// The unread words of a line, and their number.
 #[derive(Drop)]
 pub(crate) struct LineWords<'a> {
     words: Words<'a>,
@@ -27,7 +27,7 @@ impl<'a> Model for LineWords<'a> {
 }
 
 impl<'a> LineWords<'a> {
-    /// The words of a line, none of which is empty, or the first fault of its octets and its spaces.
+    /// The words of a line, none empty, or the first fault of its octets and spaces.
     pub(crate) fn of(line: &'a [u8]) -> Result<LineWords<'a>, LineFault>
         ensures { result ≡ line_words_of line.now }
     {
@@ -35,7 +35,7 @@ impl<'a> LineWords<'a> {
             Ok(count) => count,
             Err(fault) => return Err(fault),
         };
-        // Each octet is ASCII, so the line is a text, which isn't looked at once more: that it is UTF-8 is a goal of the proof.
+        // Each octet is ASCII, so the line is UTF-8 and is not checked again: a goal of the proof.
         let text = unsafe { std::str::from_utf8_unchecked(line) };
         Ok(LineWords {
             words: Words::of(text),
@@ -43,7 +43,7 @@ impl<'a> LineWords<'a> {
         })
     }
 
-    /// Takes the next word, if there is one.
+    /// Takes the next word, if any.
     pub(crate) fn next(&mut self) -> Option<&'a str>
         ensures { GivesWord self.old result self.new }
     {
@@ -52,14 +52,14 @@ impl<'a> LineWords<'a> {
         Some(word)
     }
 
-    /// Whether at least so many words are left, and at most so many.
+    /// Whether the number of words left is within these bounds.
     pub(crate) fn count_is_within(&self, least: usize, most: usize) -> bool
         ensures { result ≡ is_count_within least most self.now }
     {
         least <= self.count && self.count <= most
     }
 
-    /// The words that are left, no longer counted.
+    /// The words left, no longer counted.
     pub(crate) fn left(&self) -> Words<'a>
         ensures { words_left result ≡ self.now }
     {
@@ -67,7 +67,6 @@ impl<'a> LineWords<'a> {
     }
 }
 
-// How many words a line has, or the first fault of its octets and its spaces.
 fn word_count(line: &[u8]) -> Result<usize, LineFault>
     ensures { result ≡ word_count_of line.now }
 {

@@ -1,19 +1,19 @@
-//! The clock of a session or of a server: its readings are numbered, so that a contract tells them apart.
-//! Used by `serve`, and by what sees to the gate of a server.
+//! The clock of a session or a server, with numbered readings that contracts can tell apart.
+//! Used by `serve`, and by what maintains a server's gate.
 ghost use Rattle.std.specs.Prelude.{◌≡◌};
 ghost use Rattle.command_server.specs.Readings.{next_reading};
 
 use crawl_workers::Clock;
 
-/// A clock that is told the number of each reading. Code that is generic in it can show of a moment only the
-/// numbers under which it has read it, so it can't use one reading again in the place of a later one.
+/// A clock whose caller numbers each reading. Generic code can prove of a moment only its numbers, so it
+/// can't pass an old reading off as a later one.
 pub trait NumberedClock {
     ghost use Rattle.std.specs.Prelude.{ℕ};
 
-    /// Holds of the number of a reading, and its moment.
+    /// Relates the number of a reading to its moment.
     ghost reads: { Self → ℕ → ℕ → Type 0 };
 
-    /// The moment now, by the reading of this number.
+    /// The moment of the reading with this number.
     fn read(&self, number: u64) -> u64
         ensures { reads self.now number result };
 }
@@ -27,17 +27,17 @@ impl<C: Clock> NumberedClock for C {
     }
 }
 
-/// The number of the reading behind the one of this number.
+/// The number of the next reading.
 pub fn next_reading(number: u64) -> u64
     ensures { result ≡ next_reading number }
 {
     number.saturating_add(1)
 }
 
-/// The clock of a fetch or a refresh, whose readings have one number.
+/// The clock of a fetch or a refresh, whose readings share one number.
 #[derive(Drop)]
 pub struct FetchClock<'c, C: NumberedClock> {
-    /// What is read.
+    /// The clock.
     pub clock: &'c C,
     /// The number of its readings.
     pub number: u64,

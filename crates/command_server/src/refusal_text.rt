@@ -1,4 +1,4 @@
-//! The word of a refusal, and the line that it stands in (docs/FORMATS.md, replies).
+//! The word of a refusal, and its line (docs/FORMATS.md, replies).
 //! Used by the replies, by the hops and by the table of a shift.
 ghost use Rattle.std.specs.Prelude.{◌≡◌};
 ghost use Rattle.line_text.specs.Pieces.{pieces_text};

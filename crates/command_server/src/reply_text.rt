@@ -1,4 +1,4 @@
-//! The reply of each call, spelled as pieces (docs/FORMATS.md, replies).
+//! The reply of each call as pieces (docs/FORMATS.md, replies).
 //! Used by the session, which writes them.
 ghost use Rattle.std.specs.Prelude.{◌≡◌, ◌∷◌};
 ghost use Rattle.gate_history.specs.Wording.{words_in};
@@ -87,7 +87,6 @@ pub(crate) fn ask_pieces(reply: &Result<PermitNo, AskRefusal>) -> Pieces<'_>
     }
 }
 
-// The reply to START.
 fn start_pieces(reply: &Result<Started, Denial>) -> Pieces<'_>
     ensures { pieces_text result ≡ start_text reply.now }
 {
@@ -97,7 +96,7 @@ fn start_pieces(reply: &Result<Started, Denial>) -> Pieces<'_>
     }
 }
 
-/// The reply to a start that is allowed.
+/// The reply to an allowed start.
 pub(crate) fn go_pieces<'a>(number: PermitNo, reason: Reason) -> Pieces<'a>
     ensures { pieces_text result ≡ go_text number reason }
 {
@@ -124,7 +123,6 @@ pub(crate) fn finish_pieces(number: PermitNo, reply: &Result<(), NotOut>) -> Pie
     }
 }
 
-// The reply to SWEEP.
 fn sweep_pieces(reply: &Result<u64, SweepRefusal>) -> Pieces<'static>
     ensures { pieces_text result ≡ sweep_text reply.now }
 {
@@ -176,7 +174,7 @@ pub(crate) fn denial_pieces(denial: &Denial) -> Pieces<'_>
     )
 }
 
-// A line of two words, and those of a reason or a cause.
+// A line of two words, then those of a reason or a cause.
 fn worded<'a>(first: &'a str, second: Piece<'a>, wording: Wording) -> Pieces<'a>
     ensures { pieces_text result
         ≡ line_of (first.now ∷ piece_text second.entry ∷ words_in wording) }

@@ -1,5 +1,5 @@
-//! The words of the replies that an ARRIVE line has: two a reply (docs/FORMATS.md).
-//! Read before any of the replies is walked over.
+//! The words of the replies in an ARRIVE line: two for each reply (docs/FORMATS.md).
+//! Read before the walk over the replies.
 ghost use Rattle.std.specs.Prelude.{◌≡◌, ◌↔◌, [], IfOk, IsTrue};
 ghost use Rattle.command_server.specs.Arrival.{HasWords, head_written};
 ghost use Rattle.command_server.specs.Arrival.{lasting_of, may_have, plain_of, replies_fault, reply_words_of, response_written};
@@ -13,18 +13,18 @@ use robots_fetch::{RobotsReply, StatusClass, class_of};
 use std::alloc::{AllocError, Global};
 use std::marker::Model;
 
-/// What the first word of a reply says.
+/// The meaning of a reply's first word.
 #[derive(Clone, Copy)]
 pub(crate) enum ReplyHead {
-    /// A response of this status, with the seconds for which its rules may be kept.
+    /// A response of this status, whose rules may be kept for these seconds.
     Status { code: u16, max_age: Option<u64> },
-    /// `CODING`: a response in a content coding other than identity.
+    /// `CODING`: a response with a content coding.
     Coding,
     /// `NET`: the connection or the message failed.
     Network,
 }
 
-/// The words of replies, none of which has a fault.
+/// The words of replies without a fault.
 #[derive(Drop)]
 pub struct ReplyWords<'a> {
     words: Words<'a>,
@@ -43,7 +43,7 @@ impl<'a> Model for ReplyWords<'a> {
 }
 
 impl<'a> ReplyWords<'a> {
-    /// The words, or the first fault that they have.
+    /// The words, or their first fault.
     pub(crate) fn of(words: Words<'a>) -> Result<ReplyWords<'a>, LineFault>
         ensures { result ≡ reply_words_of (words_left words.entry) }
     {
@@ -53,7 +53,7 @@ impl<'a> ReplyWords<'a> {
         }
     }
 
-    /// Takes the words of the next reply, if there is one.
+    /// Takes the words of the next reply, if any.
     pub(crate) fn next(&mut self, alloc: Global) -> Result<Option<RobotsReply>, AllocError>
         ensures { IfOk result (λ reply. TakesReply self.old reply self.new) }
     {
@@ -115,7 +115,6 @@ impl ReplyHead {
         }
     }
 
-    // The reply with this second word.
     fn reply(self, alloc: Global, word: &str) -> Result<RobotsReply, AllocError>
         ensures { IfOk result (HasWords self word.now) }
     {
@@ -142,7 +141,6 @@ impl ReplyHead {
     }
 }
 
-// A response: its status, and behind a `/` its life.
 fn response_written(word: &str) -> Option<ReplyHead>
     ensures { result ≡ response_written word.now }
 {
@@ -161,7 +159,7 @@ fn plain_of(word: &str) -> Option<ReplyHead>
     })
 }
 
-// A response whose first word has a life too, as `200/60`.
+// A response with its lifetime, as `200/60`.
 fn lasting_of(status: &str, life: &str) -> Option<ReplyHead>
     ensures { result ≡ lasting_of status.now life.now }
 {

@@ -1,5 +1,4 @@
-//! The reply to SEAL (docs/FORMATS.md, replies): what was sealed, as the text of a segment.
-//! It is written from the segment, of which nothing is copied.
+//! The reply to SEAL (docs/FORMATS.md, replies): a segment's text, written directly from it.
 ghost use Rattle.std.specs.Prelude.{◌≡◌, ◌-◌, ◌^◌, min};
 ghost use Rattle.counted_io.specs.Output.{Pushes};
 ghost use Rattle.command_server.specs.SealText.{handed_text, line_count, lines_before, seal_text, sealed_line};
@@ -13,7 +12,6 @@ use gate_history::{Base, Segment};
 use history_text::push_segment_text;
 use line_text::{Piece, Pieces};
 
-// Pushes the reply.
 pub(crate) fn push_sealed<W: Sink>(
     sealed: &Result<Segment, NoMemory>,
     output: &mut Output,
@@ -29,7 +27,7 @@ pub(crate) fn push_sealed<W: Sink>(
     }
 }
 
-// Pushes the number of the lines, and the lines, where there are entries.
+// The number of lines and the lines, if there are entries.
 fn push_segment<W: Sink>(
     segment: &Segment,
     output: &mut Output,
@@ -46,21 +44,20 @@ fn push_segment<W: Sink>(
     push_segment_text(segment, output, sink)
 }
 
-// The line with a number of lines.
 fn sealed_pieces(count: u64) -> Pieces<'static>
     ensures { pieces_text result ≡ sealed_line count }
 {
     Pieces::two_words("SEALED", Piece::Number(count))
 }
 
-// How many lines the text of a segment has.
+// How many lines a segment's text has.
 fn line_count(segment: &Segment) -> u64
     ensures { result ≡ line_count segment.now }
 {
     lines_before(segment.base()).saturating_add(segment.entries().len() as u64)
 }
 
-// How many of them stand before those of the entries.
+// How many lines precede the entries.
 fn lines_before(base: &Base) -> u64
     ensures { result ≡ min (lines_before base.now) (2 ^ 64 - 1) }
 {

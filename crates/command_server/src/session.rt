@@ -1,5 +1,5 @@
 //! A session: the loop over the lines of a source.
-//! Everything that takes commands line by line calls it.
+//! Used by everything that takes commands line by line.
 ghost use Rattle.std.specs.Prelude.{◌≡◌};
 ghost use Rattle.command_server.specs.Session.{Session, failures_after_reads, failures_after_writes};
 
@@ -9,10 +9,9 @@ use crate::session_fault::SessionFault;
 use counted_io::{NextLine, Sink, Source};
 use std::alloc::Global;
 
-/// Reads lines of at most `limit` octets, has each answered in its turn from the state, and writes the replies,
-/// before each read that may wait and at the end. It stops at the end of the input, at a line that
-/// ends the session, at a line over the limit, behind `most` lines, and at a fault. Each line is answered while
-/// no write of the session has failed.
+/// Reads lines of at most `limit` octets, answers each from the state, and writes the replies, before each
+/// read that may wait and at the end. Stops at the end of the input, at a line that ends the session, at a
+/// line over the limit, after `most` lines, and at a fault. After a failed write no line is answered.
 pub fn run_session<R: Source, W: Sink, S, A: Answerer<S>>(
     alloc: Global,
     reader: &mut R,

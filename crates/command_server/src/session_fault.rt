@@ -1,20 +1,20 @@
-//! Why a session stopped before its input or its last command ended it.
-//! `run_session` reports it.
+//! Why a session stopped early.
+//! Reported by `run_session`.
 use counted_io::DeviceFault;
 use std::alloc::AllocError;
 
-/// Why a session stopped. All lines taken by then have been answered.
+/// Why a session stopped. All lines taken before were answered.
 #[derive(Clone, Copy, Debug, PartialEq, Eq)]
 pub enum SessionFault {
-    /// The next line is over the limit. The session has written `ERR long`.
+    /// The next line is longer than the limit. The session wrote `ERR long`.
     LongLine,
-    /// There are more lines than a session takes. The session has written `ERR lines`.
+    /// The input has more lines than a session takes. The session wrote `ERR lines`.
     Lines,
-    /// A read failed. The replies have been written.
+    /// A read failed. The replies were written.
     Read,
-    /// A write failed. What was written is a part of what was to be written.
+    /// A write failed. Only a part of the replies was written.
     Write,
-    /// There is no memory for the buffers or for a line. The replies have been written.
+    /// No memory for the buffers or a line. The replies were written.
     NoMemory,
 }
 
@@ -35,7 +35,7 @@ impl From<DeviceFault> for SessionFault {
 
     ghost from_gives = { λ _ fault. fault ≡ Write };
 
-    /// Only the writes of a session report a device's fault as it is.
+    /// Only a session's writes report a device's fault unchanged.
     fn from(_: DeviceFault) -> SessionFault {
         SessionFault::Write
     }

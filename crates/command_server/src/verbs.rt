@@ -1,4 +1,4 @@
-//! The table of the verbs: their names, and how many words follow each.
+//! The table of the verbs: their names, and how many arguments each takes.
 //! Used by `command`; docs/FORMATS.md prints the same table.
 ghost use Rattle.std.specs.Prelude.{◌≡◌};
 ghost use Rattle.command_server.specs.Verbs.{dialogue_of, has_permits, is_in, is_of_client, row_of, verb_of};
@@ -41,15 +41,15 @@ const VERBS: [Verb; 15] = [
     Verb::Quit,
 ];
 
-/// Who speaks in a session, and by which verbs.
+/// Who speaks in a session, and which verbs it has.
 #[derive(Clone, Copy, Debug, PartialEq, Eq)]
 pub enum Dialogue {
     /// A list of calls: each line begins with the moment of its call.
     Replay,
-    /// A client, whose line has the moment at which it was taken; and whether robots.txt files and pages are
-    /// fetched for it.
+    /// A client, whose line has the moment at which it was taken; and whether robots.txt files and pages
+    /// are fetched for it.
     Client { moment: u64, fetches: bool },
-    /// An overseer fetches nothing: it seals the history, and looks. A line has its moment as a client's.
+    /// An overseer fetches nothing: it seals the history, and looks. Its lines have moments too.
     Overseer { moment: u64 },
 }
 
@@ -63,7 +63,7 @@ pub enum Speaker {
 }
 
 impl Speaker {
-    /// Its dialogue at the moment of a line, where pages are fetched for clients, or are not.
+    /// Its dialogue at a line's moment; `fetches` says whether pages are fetched for clients.
     pub(crate) fn dialogue(self, moment: u64, fetches: bool) -> Dialogue
         ensures { result ≡ dialogue_of self moment fetches }
     {
@@ -75,7 +75,6 @@ impl Speaker {
 }
 
 impl Dialogue {
-    // Whether a client speaks.
     fn is_of_client(self) -> bool
         ensures { result ≡ is_of_client self }
     {
@@ -85,7 +84,7 @@ impl Dialogue {
         }
     }
 
-    // Whether who speaks fetches pages, or has them fetched.
+    // Whether it fetches pages, or has them fetched.
     fn has_permits(self) -> bool
         ensures { result ≡ has_permits self }
     {
@@ -96,19 +95,19 @@ impl Dialogue {
     }
 }
 
-/// What the table says of a verb.
+/// A row of the table.
 #[derive(Clone, Copy)]
 pub struct VerbRow {
     /// The name, in capitals.
     pub name: &'static str,
-    /// The least number of words that follow it.
+    /// The least number of arguments.
     pub least: usize,
-    /// The most, or the greatest number where there is no bound.
+    /// The most arguments; the largest number means unbounded.
     pub most: usize,
 }
 
 impl Verb {
-    /// The verb of this name, where the dialogue has it.
+    /// The verb of this name, if the dialogue has it.
     pub fn of(dialogue: Dialogue, name: &str) -> Option<Verb>
         ensures { result ≡ verb_of dialogue name.now }
     {

@@ -1,5 +1,6 @@
-//! The reply to WHY: the answer that stands for an authority, as the text of a history has it (docs/FORMATS.md, replies).
-//! Pushed by `ClientReply`. RFC 9309, section 2.4.
+//! The reply to WHY: the answer in force for an authority, as in the text of a history (docs/FORMATS.md,
+//! replies).
+//! Used by `ClientReply`. RFC 9309, section 2.4.
 ghost use Rattle.std.specs.Prelude.{◌≡◌};
 ghost use Rattle.counted_io.specs.Output.{Pushes};
 ghost use Rattle.command_server.specs.WhyText.{explained_text, why_text};
@@ -34,7 +35,6 @@ pub(crate) fn push_why<W: Sink>(
     }
 }
 
-// Pushes the line of an answer.
 fn push_explained<W: Sink>(
     answer: &StandingAnswer,
     output: &mut Output,

@@ -1,4 +1,4 @@
-//! The tests of clients over TCP. The crate has nothing else.
+//! Tests of clients over TCP.
 #![tactic(auto)]
 
 #[cfg(test)]

@@ -1,5 +1,4 @@
-//! Tests of what clauses don't show: the time that clients are waited for, by a clock that is set by hand, and real
-//! connections on the loopback.
+//! Tests beyond the clauses: waits for clients, by a clock set by hand, and real loopback connections.
 
 mod accepts;
 mod loopback;

@@ -1,5 +1,4 @@
--- The lemmas of the proofs.
--- The proof files of this crate cite them, and those of the crates above.
+-- The lemmas of this crate's proofs, also used by the crates above.
 pub mod Taking
 pub mod Writing
 pub mod CallerLemmas

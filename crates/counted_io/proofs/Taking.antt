@@ -1,5 +1,5 @@
--- Lemmas on octets that move from one place to another.
--- The answers of `LineReader`, `FailAt` and `write_all` cite them.
+-- Octets that move from one place to another.
+-- Used by `LineReader`, `FailAt` and `write_all`.
 use Rattle.std.proofs.Common.{◌≡◌, ◌≢◌, length-append, ℕ, suc, ◌+◌, ◌-◌, ◌<◌, ◌≤◌, List, [], ◌∷◌, ◌++◌, None, Some, refl, sym, ap, subst, ◌∙◌, inl, append_assoc, append-nil, length, take, drop, min, take-append-drop, arith, length-drop, drop-cons, true, false}
 use Rattle.std.specs.Prelude.{Option, Contains, slice_range, slice_index, if◌then◌else◌, ◌==◌}
 use Rattle.std.proofs.lemmas.List.{drop-take, drop-drop, length-take, length-take-le}
@@ -11,7 +11,6 @@ use Rattle.counted_io.specs.Lines.{HasNoLineFeed, without_cr, without_end, Moves
 use Rattle.counted_io.specs.declared.line_end.LineEnd.{LineEnd}
 use Rattle.counted_io.specs.declared.line_end.LineEnd.TheVariants as ends
 
--- skipping octets of a range moves its start
 pub range-skip : (xs : List ℕ) (start end count : ℕ) → count ≤ end - start → drop count (slice_range xs start end) ≡ slice_range xs (start + count) end
 range-skip xs start end count h =
     let e : end - start ≡ count + (end - (start + count)) = omega arith in
@@ -19,19 +18,16 @@ range-skip xs start end count h =
     ∙ drop-take count (end - (start + count)) (drop start xs)
     ∙ ap (take (end - (start + count))) (drop-drop count start xs)
 
--- what leaves the buffer is consumed of what it and the source hold together
 pub prepend_known-taken : (left : Option (List ℕ)) (old new part : List ℕ) → old ≡ part ++ new
     → Consumes (prepend_known old left) (prepend_known new left) part
 prepend_known-taken None old new part e = tt
 prepend_known-taken (Some xs) old new part e = ap (λ l. l ++ xs) e ∙ append_assoc part new xs
 
--- the same after a line's front was consumed
 pub taken-more : (all left : Option (List ℕ)) (old new line part : List ℕ) → Consumes all (prepend_known old left) line → old ≡ part ++ new
     → Consumes all (prepend_known new left) (line ++ part)
 taken-more all left old new line part p e =
     Consumes-trans all (prepend_known old left) (prepend_known new left) line part p (prepend_known-taken left old new part e)
 
--- a step that takes nothing keeps what was consumed
 pub taken-still : (a b c : Option (List ℕ)) (line : List ℕ) → Consumes a b line → Consumes b c [] → Consumes a c line
 taken-still a b c line p q = subst (Consumes a c) (append-nil line) (Consumes-trans a b c line [] p q)
 
@@ -57,13 +53,11 @@ moves_too_long-finds end limit all left old new line p clear short m = record {
   consumed = taken-more all left old new line m.part p m.taken;
 }
 
--- a range whose start is moved past some of its octets
 pub range_skipped : (xs now : List ℕ) (start end count : ℕ) → now ≡ slice_range xs start end → count ≤ length now → slice_range xs (start + count) end ≡ drop count now
 range_skipped xs now start end count e h =
     let bound : count ≤ end - start = omega (arith, ap length e, length-take (end - start) (drop start xs)) in
     sym (ap (drop count) e ∙ range-skip xs start end count bound)
 
--- two pieces written one after the other
 pub appends_piece : (a b c : Option (List ℕ)) (bytes : List ℕ) (done n : ℕ) → Appends a b (take done bytes) → Appends b c (take n (drop done bytes))
     → Appends a c (take (done + n) bytes)
 appends_piece a b c bytes done n p q =
@@ -73,7 +67,6 @@ nil_of : (l : List ℕ) → length l ≡ 0 → l ≡ []
 nil_of [] e = refl
 nil_of (x ∷ l) e = absurd (omega arith)
 
--- what a read copied is the front of what was unread
 pub read_front : (bytes unread buffer copied : List ℕ) (at n : ℕ) → unread ≡ drop at bytes → copied ≡ take n unread → n ≤ length unread
     → unread ≡ take n (copied ++ drop n buffer) ++ drop (at + n) bytes
 read_front bytes unread buffer copied at n is copy bound =
@@ -82,7 +75,6 @@ read_front bytes unread buffer copied at n is copy bound =
     let back : drop (at + n) bytes ≡ drop n unread = sym (ap (drop n) is ∙ drop-drop n at bytes) in
     sym (ap (λ l. l ++ drop (at + n) bytes) front ∙ ap (λ l. copied ++ l) back ∙ ap (λ l. l ++ drop n unread) copy ∙ take-append-drop n unread)
 
--- a read that copied nothing into a buffer with room found nothing unread
 pub read_nothing : (bytes unread : List ℕ) (at n per_call room : ℕ) → unread ≡ drop at bytes → n ≡ min (min per_call room) (length unread) → 0 < per_call
     → n ≡ 0 → 0 < room → drop (at + n) bytes ≡ []
 read_nothing bytes unread at n per_call room is count moves none some =
@@ -96,12 +88,10 @@ long_without_cr limit raw h =
       | false ↦ omega arith
     ]
 
--- a line that is longer than the limit and a carriage return is too long
 pub long_without_end : (end : LineEnd) (limit : ℕ) (raw : List ℕ) → limit < length raw - 1 → limit < length (without_end end raw)
 long_without_end ends.Lf limit raw h = omega arith
 long_without_end ends.LfOrCrLf limit raw h = long_without_cr limit raw h
 
--- octets up to a line feed, the line feed, and the rest
 pub line_taken : (old mid new : List ℕ) (count : ℕ) → count < length old → slice_index old count ≡ 10 → mid ≡ drop count old → new ≡ drop 1 mid
     → old ≡ (take count old ++ 10 ∷ []) ++ new
 line_taken old mid new count h feed mid_is new_is =
@@ -110,7 +100,6 @@ line_taken old mid new count h feed mid_is new_is =
     let tail : drop count old ≡ 10 ∷ new = front ∙ ap (λ x. x ∷ drop (suc count) old) feed ∙ ap (λ l. 10 ∷ l) (sym rest) in
     sym (take-append-drop count old) ∙ ap (λ l. take count old ++ l) tail ∙ sym (append_assoc (take count old) (10 ∷ []) new)
 
--- a line that got all that the buffer held
 pub part_taken : (limit : ℕ) (all left : Option (List ℕ)) (old new line added : List ℕ) → Consumes all (prepend_known old left) line → HasNoLineFeed line
     → MovesOpen limit old new line added → Consumes all (prepend_known new left) added × HasNoLineFeed added
 part_taken limit all left old new line added p clear m =
@@ -119,6 +108,5 @@ part_taken limit all left old new line added p clear m =
       subst HasNoLineFeed (sym m.added_is) (All-append (λ octet. octet ≢ 10) line old clear m.no_line_feed),
     )
 
--- octets with no line feed contain none
 pub feed_absurd : (octets : List ℕ) → HasNoLineFeed octets → Contains octets 10 → ⊥
 feed_absurd octets clear found = clear found.0 10 found.1 found.2

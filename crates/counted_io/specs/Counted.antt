@@ -1,5 +1,5 @@
--- What a counted device is made of.
--- The contracts of `Counted` cite it.
+-- The parts of a counted device.
+-- Cited by `Counted`.
 use Rattle.std.specs.Prelude.{ℕ}
 use Rattle.counted_io.specs.declared.counted.Counted.{Counted}
 
@@ -7,6 +7,6 @@ use Rattle.counted_io.specs.declared.counted.Counted.{Counted}
 abbrev pub device_of : {D : Type 0} → Counted D → D
 device_of counted = counted.device
 
--- how many of its calls have failed, modulo 2^64
+-- how many of its calls failed, modulo 2^64
 abbrev pub failures_of : {D : Type 0} → Counted D → ℕ
 failures_of counted = counted.failures

@@ -1,9 +1,9 @@
--- A device in memory as its callers see it: its octets, and when it fails.
--- The contracts of `FailAt` cite it.
+-- A device in memory: its octets, and when it fails.
+-- Cited by `FailAt`.
 use Rattle.std.specs.Prelude.{◌≡◌, ℕ, zero, suc, List, Option, None, Some, Result, IsErr}
 use Rattle.counted_io.specs.declared.fault.DeviceFault.{DeviceFault}
 
--- what a device in memory holds, how many octets it moves a call, and which call fails
+-- its octets, how many it moves a call, and which call fails
 pub record Memory : Type 0 where
   pub bytes : List ℕ
   pub unread : List ℕ
@@ -11,19 +11,19 @@ pub record Memory : Type 0 where
   pub fails_at : Option ℕ
   pub failures : ℕ
 
--- how many calls are left before the one that fails, one call later
+-- the calls left before the failing one, after a call
 abbrev pub one_call_later : Option ℕ → Option ℕ
 one_call_later None = None
 one_call_later (Some zero) = None
 one_call_later (Some (suc calls)) = Some calls
 
--- the chosen call fails, the calls before it are counted, and as many octets move a call as before
+-- the chosen call fails, earlier calls count, and the octets a call stay
 pub record FollowsPlan (old new : Memory) (result : Result ℕ DeviceFault) : Type 0 where
   pub chosen : old.fails_at ≡ Some 0 → IsErr result
   pub later : new.fails_at ≡ one_call_later old.fails_at
   pub per_call : new.per_call ≡ old.per_call
 
--- the device has the same octets, and moves as many a call
+-- the same octets, as many a call
 pub record HasSameBytes (old new : Memory) : Type 0 where
   pub bytes : new.bytes ≡ old.bytes
   pub unread : new.unread ≡ old.unread

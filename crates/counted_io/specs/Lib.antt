@@ -1,5 +1,5 @@
--- The definitions that contracts cite, one concept a file.
--- `KnownBytes` is std's, handed on to the crates above.
+-- The definitions that contracts cite.
+-- `KnownBytes` is std's, for the crates above.
 pub use Rattle.std.specs.Io.KnownBytes
 pub mod Counted
 pub mod Device

@@ -1,5 +1,5 @@
 -- The text of each fault.
--- `Display` of the faults cites it.
+-- Cited by `Display`.
 use Rattle.std.specs.Prelude.{ℕ, List, codes}
 use Rattle.counted_io.specs.declared.next_line.ReadLineFault.{ReadLineFault}
 use Rattle.counted_io.specs.declared.next_line.ReadLineFault.TheVariants.{Read, NoMemory}

@@ -1,5 +1,5 @@
 -- What octets given to a buffer before a sink become.
--- The contracts of `Output`, and of all that writes through it, cite it.
+-- Cited by `Output` and its users.
 use Rattle.std.specs.Prelude.{◌≡◌, ℕ, List, ◌++◌, Option, Result, OnOk, OnErr}
 use Rattle.std.specs.Io.KnownBytes.{Appends}
 use Rattle.counted_io.specs.Device.{failures_after, AppendsPrefix}
@@ -10,8 +10,7 @@ pub record Passes (old new : Option (List ℕ)) (octets pending : List ℕ) : Ty
   pub wrote : Appends old new front
   pub split : octets ≡ front ++ pending
 
--- what a call that pushes octets behind those that are pending does: it passes them on, or a write
--- fails in it and a prefix of them all was written
+-- a push: the octets pass on after the pending ones, or a write fails after a prefix of all
 pub record Pushes
     {T E : Type 0} (written written' : Option (List ℕ)) (failures failures' : ℕ)
     (pending pending' octets : List ℕ) (result : Result T E) : Type 0 where

@@ -1,5 +1,5 @@
 //! A std reader or writer with a count of its failures.
-//! Programs read and write files, sockets and standard streams through it.
+//! Used for files, sockets and standard streams.
 ghost use Rattle.std.specs.Prelude.{◌≡◌};
 ghost use Rattle.counted_io.specs.Counted.{device_of, failures_of};
 ghost use Rattle.counted_io.specs.Device.{one_more};
@@ -9,7 +9,7 @@ use crate::sink::Sink;
 use crate::source::Source;
 use std::io::{Read, Write};
 
-/// A reader or a writer of std. The octets that it holds or has left are those that std knows of it.
+/// A std reader or writer. Its octets, held or left, are those that std knows of it.
 #[derive(Drop)]
 pub struct Counted<D> {
     device: D,
@@ -17,7 +17,7 @@ pub struct Counted<D> {
 }
 
 impl<D> Counted<D> {
-    /// No call has failed yet.
+    /// A device without failures so far.
     pub fn new(device: D) -> Counted<D>
         ensures device { device_of result ≡ device }
         ensures failures { failures_of result ≡ 0 }
@@ -28,7 +28,7 @@ impl<D> Counted<D> {
         }
     }
 
-    /// How many calls have failed, modulo 2^64.
+    /// How many calls failed, modulo 2^64.
     pub fn failures(&self) -> u64
         ensures { result ≡ failures_of self.now }
     {
@@ -42,7 +42,6 @@ impl<D> Counted<D> {
         self.device
     }
 
-    // Counts a failure.
     fn fault(&mut self) -> DeviceFault
         ensures same { device_of self.new ≡ device_of self.old }
         ensures count { failures_of self.new ≡ one_more (failures_of self.old) }
@@ -70,7 +69,7 @@ impl<W: Write> Sink for Counted<W> {
 
     ghost failures = { failures_of };
 
-    /// A write that takes nothing of a piece that isn't empty is a failure too.
+    /// A write that takes nothing of a nonempty piece is a failure too.
     fn write(&mut self, bytes: &[u8]) -> Result<usize, DeviceFault> {
         match self.device.write(bytes) {
             Ok(count) if count > 0 || bytes.is_empty() => Ok(count),

@@ -1,5 +1,5 @@
 //! A device in memory that moves few octets a call and fails at a chosen call.
-//! Tests and rows put it in the place of a file, a socket or a stream.
+//! Tests use it instead of a file, a socket or a stream.
 ghost use Rattle.std.specs.Prelude.{◌≡◌, ◌<◌, ◌≤◌, ◌↔◌, length, min, Some, IsErr, IfOk};
 ghost use Rattle.std.specs.Io.KnownBytes.{ReadConsumes, WriteAppends};
 ghost use Rattle.counted_io.specs.Device.{failures_after, one_more};
@@ -10,7 +10,7 @@ use crate::sink::Sink;
 use crate::source::Source;
 use std::marker::Model;
 
-/// Octets in memory, read from their front and written at their end.
+/// Octets in memory, read from the front and written at the end.
 #[derive(Drop)]
 pub struct FailAt {
     bytes: Vec<u8>,
@@ -38,8 +38,8 @@ impl Model for FailAt {
 }
 
 impl FailAt {
-    /// Moves at most `per_call` octets a call. `fails_at` counts the calls before the one that fails,
-    /// so `Some(0)` fails the first call; no other call of a read fails.
+    /// Moves at most `per_call` octets a call. `fails_at` counts the calls before the failing one, so
+    /// `Some(0)` fails the first; no other read fails.
     pub fn new(bytes: Vec<u8>, per_call: usize, fails_at: Option<u64>) -> FailAt
         requires { 0 < per_call }
         ensures unread { result.unread ≡ bytes.items }
@@ -57,28 +57,27 @@ impl FailAt {
         }
     }
 
-    /// All octets: those given at the start, then those written.
+    /// All octets: those given, then those written.
     pub fn bytes(&self) -> &[u8]
         ensures { result.now ≡ self.now.bytes }
     {
         self.bytes.as_slice()
     }
 
-    /// The octets that no read has given yet.
+    /// The octets not yet read.
     pub fn unread(&self) -> &[u8]
         ensures { result.now ≡ self.now.unread }
     {
         &self.bytes.as_slice()[self.at..]
     }
 
-    /// How many calls have failed, modulo 2^64.
+    /// How many calls failed, modulo 2^64.
     pub fn failures(&self) -> u64
         ensures { result ≡ self.now.failures }
     {
         self.failures
     }
 
-    // Counts a failure.
     fn fault(&mut self) -> DeviceFault
         ensures same { HasSameBytes self.old self.new }
         ensures fails_at { self.new.fails_at ≡ self.old.fails_at }
@@ -88,7 +87,6 @@ impl FailAt {
         DeviceFault
     }
 
-    // Fails if this is the chosen call.
     fn begin_call(&mut self) -> Result<(), DeviceFault>
         ensures chosen { IsErr result ↔ (self.old.fails_at ≡ Some 0) }
         ensures later { self.new.fails_at ≡ one_call_later self.old.fails_at }
@@ -138,7 +136,7 @@ impl Sink for FailAt {
 
     ghost failures = { λ s. s.failures };
 
-    /// It fails at the chosen call, and where there is no memory for the octets.
+    /// Fails at the chosen call, and if memory runs out.
     fn write(&mut self, bytes: &[u8]) -> Result<usize, DeviceFault>
         ensures bound { IfOk result (λ n. n ≤ length bytes.now) }
         ensures takes { IfOk result (λ n. 0 < length bytes.now → 0 < n) }

@@ -1,9 +1,9 @@
 //! The one fault of a device.
-//! Every `Source` and `Sink` reports it.
+//! Reported by every `Source` and `Sink`.
 use std::error::Error;
 use std::fmt;
 
-/// A read or a write failed. The device says no more, and its count of failures rose by one.
+/// A read or a write failed, and the count of failures rose by one. The device says no more.
 #[derive(Clone, Copy, Debug, PartialEq, Eq)]
 pub struct DeviceFault;
 

@@ -1,5 +1,5 @@
 //! Readers and writers that count their failures, and lines read from them.
-//! Every crate that reads or writes stands on this one.
+//! Used by every crate that reads or writes.
 #![tactic(auto)]
 
 mod counted;

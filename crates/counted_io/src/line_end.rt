@@ -1,5 +1,5 @@
 //! What ends a line.
-//! `LineReader` is told it with each line.
+//! Passed to `LineReader` with each line.
 ghost use Rattle.std.specs.Prelude.{◌≡◌};
 ghost use Rattle.counted_io.specs.Lines.{without_cr, without_end};
 
@@ -12,7 +12,7 @@ pub enum LineEnd {
     LfOrCrLf,
 }
 
-/// Drops the octets before the LF that belong to the line's end.
+/// Drops what precedes the LF in the line's end.
 pub(crate) fn drop_end(end: LineEnd, line: &mut Vec<u8>)
     ensures { line.new.items ≡ without_end end line.old.items }
 {
@@ -22,7 +22,6 @@ pub(crate) fn drop_end(end: LineEnd, line: &mut Vec<u8>)
     }
 }
 
-// Drops one carriage return at the end.
 fn drop_carriage_return(line: &mut Vec<u8>)
     ensures { line.new.items ≡ without_cr line.old.items }
 {

@@ -1,13 +1,12 @@
-//! The part of a line that one buffer holds.
-//! `LineReader` puts lines together from such parts.
+//! The part of a line in one buffer, from which `LineReader` builds lines.
 ghost use Rattle.counted_io.specs.Lines.{IsPart};
 
 use memchr::memchr;
 
-/// Where a line stands after a part was added to it.
+/// The state of a line after a part was added.
 #[derive(Clone, Copy, PartialEq, Eq)]
 pub(crate) enum LinePart {
-    /// More of the line follows in the source, or its end.
+    /// More of the line, or its end, follows in the source.
     Open,
     /// The line is whole.
     Whole,
@@ -15,7 +14,7 @@ pub(crate) enum LinePart {
     TooLong,
 }
 
-/// How many octets stand before the first line feed, or all.
+/// The number of octets before the first line feed, or of all.
 pub(crate) fn part_len(octets: &[u8]) -> usize
     ensures { IsPart octets.now result }
 {

@@ -1,5 +1,5 @@
 //! Lines of a source, read through a buffer.
-//! Everything that takes commands or records line by line reads with it.
+//! Used by everything that takes commands or records line by line.
 ghost use Rattle.std.specs.Prelude.{◌≡◌, ◌<◌, ◌≤◌, ◌+◌, ◌↔◌, [], length, drop, Contains, IsTrue, IfOk, OnOk, OnErr, MatchBool, vec_len};
 ghost use Rattle.std.specs.Io.KnownBytes.{Consumes, IsAtEnd, prepend_known};
 ghost use Rattle.counted_io.specs.Device.{failures_after};
@@ -14,10 +14,10 @@ use crate::source::Source;
 use std::alloc::{AllocError, Global};
 use std::marker::Model;
 
-/// How many octets one read of the source asks for at most.
+/// The most octets of one read of the source.
 pub const LINE_BUFFER: usize = 65536;
 
-/// The octets read from a source and not yet handed out. The source is passed to each call.
+/// The octets read and not yet taken. The source is passed to each call.
 #[derive(Drop)]
 pub struct LineReader {
     buffer: Vec<u8>,
@@ -38,7 +38,7 @@ impl Model for LineReader {
 }
 
 impl LineReader {
-    /// An empty buffer of `LINE_BUFFER` octets, which is all the memory that a reader takes.
+    /// An empty buffer of `LINE_BUFFER` octets, a reader's only memory.
     pub fn new(alloc: Global) -> Result<LineReader, AllocError>
         ensures { IfOk result (λ reader. reader ≡ []) }
     {
@@ -51,7 +51,7 @@ impl LineReader {
         })
     }
 
-    /// Whether a whole line lies in the buffer, so that `next_line` reads no source.
+    /// Whether the buffer has a whole line, so that `next_line` reads no source.
     pub fn has_line(&self) -> bool
         ensures { IsTrue result ↔ Contains self.now 10 }
     {
@@ -59,7 +59,7 @@ impl LineReader {
         part_len(pending) < pending.len()
     }
 
-    /// `next_line_to` where a line ends with LF or CR LF.
+    /// `next_line_to` for lines that end with LF or CR LF.
     pub fn next_line<S: Source>(
         &mut self,
         source: &mut S,
@@ -78,11 +78,10 @@ impl LineReader {
         self.next_line_to(source, LineEnd::LfOrCrLf, limit, line)
     }
 
-    /// Puts the next line into `line`, in the place of what it held, without what ends it. A last
-    /// line needs no end, and keeps a CR at its end. It reads the source, at most `LINE_BUFFER`
-    /// octets a read, only while no LF is in the buffer, and stops once the line is longer than
-    /// `limit` octets. `line` then has a part of it, of at most `limit + 1` octets; after a fault
-    /// `line` has what was taken.
+    /// Replaces `line` by the next line, without its end. A last line needs no end, and keeps a CR at its
+    /// end. While the buffer has no LF, reads the source, at most `LINE_BUFFER` octets a read, until the
+    /// line is longer than `limit` octets; `line` is then a part of at most `limit + 1` octets. After a
+    /// fault it is what was taken.
     pub fn next_line_to<S: Source>(
         &mut self,
         source: &mut S,
@@ -118,7 +117,6 @@ impl LineReader {
         }
     }
 
-    // The octets that the buffer holds.
     fn pending(&self) -> &[u8]
         ensures value { result.now ≡ self.now }
         ensures len { length result.now ≤ LINE_BUFFER }
@@ -133,7 +131,6 @@ impl LineReader {
         self.start += count;
     }
 
-    // One read of the source into the empty buffer.
     fn refill<S: Source>(&mut self, source: &mut S) -> Result<(), DeviceFault>
         requires { self.old ≡ [] }
         ensures kept { Consumes (prepend_known self.old (S.left source.old))
@@ -147,7 +144,7 @@ impl LineReader {
         Ok(())
     }
 
-    // Whether an octet is left: it reads the source only where the buffer is empty.
+    // Whether an octet is left: reads the source only if the buffer is empty.
     fn has_more<S: Source>(&mut self, source: &mut S) -> Result<bool, DeviceFault>
         ensures kept { Consumes (prepend_known self.old (S.left source.old))
             (prepend_known self.new (S.left source.new)) [] }
@@ -163,7 +160,6 @@ impl LineReader {
         Ok(!self.pending().is_empty())
     }
 
-    // Moves the octets up to a line feed, or all, from the buffer to the end of the line.
     fn move_part(
         &mut self,
         end: LineEnd,

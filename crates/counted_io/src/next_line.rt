@@ -1,5 +1,5 @@
-//! What a read of one line gives, and why it may fail.
-//! `LineReader::next_line` answers with them.
+//! The result of reading one line, and why it may fail.
+//! Returned by `LineReader::next_line`.
 use crate::fault::DeviceFault;
 use std::alloc::AllocError;
 use std::error::Error;
@@ -8,9 +8,9 @@ use std::fmt;
 /// What `LineReader::next_line` found.
 #[derive(Clone, Copy, Debug, PartialEq, Eq)]
 pub enum NextLine {
-    /// A line that a line end follows.
+    /// A line with a line end.
     Line,
-    /// The last line, which has no line end and isn't empty. Nothing is left.
+    /// The last line, not empty, without a line end. Nothing is left.
     Last,
     /// Nothing is left, and the line is empty.
     End,
@@ -18,12 +18,12 @@ pub enum NextLine {
     TooLong,
 }
 
-/// Why no line was read, or no input to its end. The octets consumed by then are lost.
+/// Why no line was read, or no input to its end. The octets consumed are lost.
 #[derive(Clone, Copy, Debug, PartialEq, Eq)]
 pub enum ReadLineFault {
     /// The source failed.
     Read,
-    /// There is no memory for the line.
+    /// No memory for the line.
     NoMemory,
 }
 

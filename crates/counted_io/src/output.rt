@@ -1,5 +1,5 @@
 //! A buffer before a sink.
-//! Everything that writes many short texts writes through it.
+//! Used by everything that writes many short texts.
 ghost use Rattle.std.specs.Prelude.{◌≡◌, ◌↔◌, ◌<◌, ◌≤◌, ◌+◌, ◌-◌, ◌++◌, [], length, IfOk, IsTrue, OnOk, OnErr};
 ghost use Rattle.std.specs.Io.KnownBytes.{Appends};
 ghost use Rattle.counted_io.specs.Device.{failures_after, AppendsPrefix};
@@ -11,11 +11,11 @@ use crate::sink::{Sink, write_all};
 use std::alloc::{AllocError, Global};
 use std::marker::Model;
 
-/// How many octets an output holds at most before it writes them.
+/// The most octets that an output holds before it writes them.
 pub const OUTPUT_BUFFER: usize = 65536;
 
 /// The octets not yet written. The sink is passed to each call.
-/// After a fault none are pending, so none is written twice: those that were not written are lost.
+/// After a fault none are pending: the unwritten ones are lost, so none is written twice.
 #[derive(Drop)]
 pub struct Output {
     buffer: Vec<u8>,
@@ -34,7 +34,7 @@ impl Model for Output {
 }
 
 impl Output {
-    /// An empty buffer of `OUTPUT_BUFFER` octets, which is all the memory that an output takes.
+    /// An empty buffer of `OUTPUT_BUFFER` octets, an output's only memory.
     pub fn new(alloc: Global) -> Result<Output, AllocError>
         ensures empty { IfOk result (λ output. output ≡ []) }
         ensures size { OUTPUT_BUFFER ≡ output_buffer }
@@ -44,8 +44,8 @@ impl Output {
         Ok(Output { buffer, len: 0 })
     }
 
-    /// Adds octets behind those that are pending. Where they don't fit, the pending ones are written
-    /// first, and a piece that is larger than the buffer is then written straight.
+    /// Appends octets to the pending ones. If they don't fit, the pending ones are written first; a piece
+    /// larger than the buffer is then written directly.
     pub fn push<W: Sink>(&mut self, sink: &mut W, bytes: &[u8]) -> Result<(), DeviceFault>
         ensures ok { OnOk result (Passes (W.written sink.old) (W.written sink.new)
             (self.old ++ bytes.now) self.new) }
@@ -92,7 +92,6 @@ impl Output {
         write_all(sink, &self.buffer.as_slice()[..len])
     }
 
-    // How many more octets the buffer can hold.
     fn room(&self) -> usize
         ensures room { result ≡ OUTPUT_BUFFER - length self.now }
         ensures bound { length self.now ≤ OUTPUT_BUFFER }

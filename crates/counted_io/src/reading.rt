@@ -1,5 +1,5 @@
 //! A source read to its end, in large pieces.
-//! The readers of robots texts use it.
+//! Used by the readers of robots texts.
 ghost use Rattle.std.specs.Prelude.{◌≡◌, ◌<◌, IfOk, OnOk, OnErr, length};
 ghost use Rattle.counted_io.specs.Reads.{ReadsFront, ReadsLost, ReadsMore, ReadsTo, failures_after_reads};
 
@@ -7,11 +7,10 @@ use crate::next_line::ReadLineFault;
 use crate::source::Source;
 use std::alloc::Global;
 
-// How many octets one read asks for at most.
+// The most octets of one read.
 const READ_SIZE: usize = 65536;
 
-/// Reads a source to its end, but no more than so many octets. What was read before a fault is
-/// lost.
+/// Reads a source to its end, at most this many octets. After a fault, what was read is lost.
 pub fn read_to<R: Source>(
     alloc: Global,
     reader: &mut R,
@@ -37,7 +36,6 @@ pub fn read_to<R: Source>(
     Ok(body)
 }
 
-// Reads once, and adds what it gives to the body.
 fn read_more<R: Source>(
     reader: &mut R,
     piece: &mut [u8],

@@ -1,4 +1,4 @@
--- Where an auditor stands, and where each line that may come there leads it.
+-- Where each line that may come leads an auditor.
 -- Used by the calls of the auditor.
 use Rattle.std.proofs.Common.{◌≡◌, ◌≢◌, ℕ, ◌+◌, ◌<◌, Bool, true, false, codes, cond, List, [], ◌∷◌, ◌++◌, Some, None, Ok, Err, inl, inr, refl, sym, ap, subst, ◌∙◌, arith, append_assoc}
 use Rattle.std.specs.Prelude.{Option, Result}
@@ -34,7 +34,6 @@ use Rattle.crawl_audit.proofs.CountedLines.{entry_counted, in_base, IsUncounted,
 use Rattle.crawl_audit.proofs.NextSaying.{risen_alike}
 use Rattle.crawl_audit.proofs.Spelling.{one_entry}
 
--- an entry that a text can spell has a life that its answer may have
 pub lawful : (version : Version) (e : Entry) → IsEntry version e → HasLife Two e
 lawful version (Begun _ _ _) is = tt
 lawful One (Arrived _ _ _ (says.Rules text) life) is = ap (life_of (says.Rules text)) is.life ∙ sym is.life
@@ -49,9 +48,9 @@ lawful version (Returned _) is = tt
 lawful version (Finished _) is = tt
 lawful version (Swept _ _) is = tt
 
--- ---- where the auditor stands
+-- ---- the auditor's place
 
--- it stands there still where the reader and the counts of all texts changed alone
+-- only the reader and the counts of all texts changed, so the place is the same
 pub stands_still : (a a' : Auditor) (place : Place) → a'.stage ≡ a.stage → a'.open_state ≡ a.open_state → a'.version ≡ a.version → a'.count ≡ a.count → StandsAt a place → StandsAt a' place
 stands_still a a' start stage open_state version count s = (stage ∙ s.0, entries s.1)
   where
@@ -80,7 +79,6 @@ stands_still a a' (inside (Some h) lines) stage open_state version count s =
 
 -- ---- entries
 
--- an entry that may come was entered
 pub enters_one : (a a' : Auditor) (v : Version) (rising : Bool) (h : History) (n : ℕ) (line : List ℕ) (e : Entry) → AreEntries a v rising h n → IsEntry a.version e → line ≡ entry_line a.version e →
     MayCome a.open_state.numbers.rising h e → EntersAll a.open_state.numbers.rising (h ▸ e) a'.open_state → a.count < most_entries → a.open_state.entries < greatest_number → a'.stage ≡ stages.Entries → a'.version ≡ a.version → a'.count ≡ a.count + 1 →
     (a.events < most_lines → a'.events ≡ a.events + 1) → (a.starts < most_lines → a'.starts ≡ cond (is_start e) (a.starts + 1) a.starts) → EntersOne v rising h n line a a'
@@ -114,7 +112,6 @@ enters_one a a' v rising h n line e are is spelled may enters room counted stage
       };
     }
 
--- the line of an entry that may not come is that of none that may
 pub other_entry : (a : Auditor) (v : Version) (rising : Bool) (h : History) (n : ℕ) (line : List ℕ) (d : Entry) → AreEntries a v rising h n → IsEntry a.version d → line ≡ entry_line a.version d →
     (MayCome a.open_state.numbers.rising h d → ⊥) → (next : Place) → TakesEntry v rising h n line next → ⊥
 other_entry a v rising h n line d are is spelled unfit next takes =
@@ -124,7 +121,6 @@ other_entry a v rising h n line d are is spelled unfit next takes =
 
 -- ---- heads
 
--- a line that is that of no entry is not counted
 pub counts_none : (a a' : Auditor) (line : List ℕ) → IsUncounted line → a'.events ≡ a.events → a'.starts ≡ a.starts → CountsLine a line a'
 counts_none a a' line is events starts = record {
   events = λ few. events ∙ ap (λ b. cond b (a.events + 1) a.events) (sym is.entry);
@@ -132,7 +128,6 @@ counts_none a a' line is events starts = record {
 }
 
 module _ (a a' : Auditor) (line : List ℕ) (open_state : a'.open_state ≡ a.open_state) (events : a'.events ≡ a.events) (starts : a'.starts ≡ a.starts) where
-  -- the head of version 2
   pub takes_two : AreEntries a One false (from empty_base) 0 → line ≡ codes "V 2" → a'.stage ≡ stages.Entries → a'.version ≡ Two → a'.count ≡ a.count → GoesTo start line a a'
   takes_two are is stage version count = record {
     next = among Two false (from empty_base) 0;
@@ -153,7 +148,6 @@ module _ (a a' : Auditor) (line : List ℕ) (open_state : a'.open_state ≡ a.op
   third : line ≡ codes "V 3" → CountsLine a line a'
   third is = counts_none a a' line (subst IsUncounted (sym is) (record { entry = refl; start = refl })) events starts
 
-  -- that of version 3, where it is the first line
   pub takes_three : (first : FirstBase) → line ≡ codes "V 3" → a'.stage ≡ stages.First first → Reads first a.open_state (codes "V 3" ∷ []) → GoesTo start line a a'
   takes_three first is stage reads = record {
     next = inside None (codes "V 3" ∷ []);
@@ -162,7 +156,6 @@ module _ (a a' : Auditor) (line : List ℕ) (open_state : a'.open_state ≡ a.op
     counts = third is;
   }
 
-  -- and where it begins a further text
   pub takes_further : (v : Version) (rising : Bool) (h : History) (n : ℕ) (next : NextBase) → AreEntries a v rising h n → line ≡ codes "V 3" → a'.stage ≡ stages.Further next → Expects next h (codes "V 3" ∷ []) →
       GoesTo (among v rising h n) line a a'
   takes_further v rising h n next are is stage expects = record {
@@ -172,7 +165,6 @@ module _ (a a' : Auditor) (line : List ℕ) (open_state : a'.open_state ≡ a.op
     counts = third is;
   }
 
--- a first line that is no head is that of an entry, or leads nowhere
 pub moves_start : (a a' : Auditor) (line : List ℕ) (r : Result (Unit {0}) UnreadLine) → line ≢ codes "V 2" → line ≢ codes "V 3" → EntersLine One false (from empty_base) 0 line a r a' → Moves start line a r a'
 moves_start a a' line (Ok u) two three enters = record { next = enters.next; steps = inr (inr enters.takes); stands = enters.stands; counts = enters.counts }
 moves_start a a' line (Err unread.NotOne) two three enters = none
@@ -183,7 +175,6 @@ moves_start a a' line (Err unread.NotOne) two three enters = none
     none next (inr (inr takes)) = enters next takes
 moves_start a a' line (Err unread.NoMemory) two three enters = tt
 
--- and so is a line where entries may come
 pub moves_among : (v : Version) (rising : Bool) (h : History) (n : ℕ) (a a' : Auditor) (line : List ℕ) (r : Result (Unit {0}) UnreadLine) → line ≢ codes "V 3" → EntersLine v rising h n line a r a' → Moves (among v rising h n) line a r a'
 moves_among v rising h n a a' line (Ok u) three enters = record { next = enters.next; steps = inr enters.takes; stands = enters.stands; counts = enters.counts }
 moves_among v rising h n a a' line (Err unread.NotOne) three enters = none
@@ -195,7 +186,6 @@ moves_among v rising h n a a' line (Err unread.NoMemory) three enters = tt
 
 -- ---- bases
 
--- entries may come behind a base that was read
 pub base_ends : (after : Option History) (lines : List (List ℕ)) (line : List ℕ) (b : Base) (a a' : Auditor) → IsBaseFor after b → base_lines b ≡ lines ++ line ∷ [] → TellsAll a'.open_state (from b) → IsBase b → a'.open_state.numbers.rising ≡ true →
     a'.version ≡ Two → a'.stage ≡ stages.Entries → a'.count ≡ 0 → a'.events ≡ a.events → a'.starts ≡ a.starts → GoesTo (inside after lines) line a a'
 base_ends after lines line b a a' is lines_are tells base rising version stage count events starts = record {
@@ -205,14 +195,12 @@ base_ends after lines line b a a' is lines_are tells base rising version stage c
   counts = counts_none a a' line (in_base b lines [] line lines_are) events starts;
 }
 
--- a line of a base is not counted
 pub in_taken : (after : Option History) (lines : List (List ℕ)) (line : List ℕ) (next : Place) → TakesLine after lines line next → IsUncounted line
 in_taken after lines line next takes =
     in_base takes.base lines (takes.following ∷ takes.later) line (takes.lines_are ∙ append_assoc lines (line ∷ []) (takes.following ∷ takes.later))
 
 -- ---- steps
 
--- where entries may come, the place is among them
 pub step_entries : (a a' : Auditor) (line : List ℕ) (r : Result (Unit {0}) UnreadLine) → a.stage ≡ stages.Entries → ((v : Version) (rising : Bool) (h : History) (n : ℕ) → AreEntries a v rising h n → Moves (among v rising h n) line a r a') →
     (place : Place) → StandsAt a place → Moves place line a r a'
 step_entries a a' line r stage go start s = absurd (clash (sym stage ∙ s.0))
@@ -249,7 +237,6 @@ module _ (a : Auditor) (first : FirstBase) (stage : a.stage ≡ stages.First fir
       clash : (next : NextBase) → stages.First first ≡ stages.Further next → ⊥
       clash next e = cc
 
-  -- one line of it more
   pub first_goes_on : (a' : Auditor) (line : List ℕ) (first' : FirstBase) → a'.stage ≡ stages.First first' → a'.events ≡ a.events → a'.starts ≡ a.starts →
       ((lines : List (List ℕ)) → Reads first a.open_state lines → TakesBaseLine lines line (Ok false) first' a'.open_state) → (place : Place) → StandsAt a place → GoesTo place line a a'
   first_goes_on a' line first' stage' events starts takes =
@@ -263,7 +250,6 @@ module _ (a : Auditor) (first : FirstBase) (stage : a.stage ≡ stages.First fir
         counts = counts_none a a' line (in_taken None lines line _ on.1) events starts;
       })
 
-  -- its last line
   pub first_ends : (a' : Auditor) (line : List ℕ) (first' : FirstBase) → a'.stage ≡ stages.Entries → a'.version ≡ Two → a'.count ≡ 0 → a'.events ≡ a.events → a'.starts ≡ a.starts →
       ((lines : List (List ℕ)) → Reads first a.open_state lines → TakesBaseLine lines line (Ok true) first' a'.open_state) → (place : Place) → StandsAt a place → GoesTo place line a a'
   first_ends a' line first' stage' version count events starts takes =
@@ -273,7 +259,6 @@ module _ (a : Auditor) (first : FirstBase) (stage : a.stage ≡ stages.First fir
       let text = read.is_base in
       base_ends None lines line read.base a a' read.is_base read.lines_are read.tells text.base read.rising version stage' count events starts)
 
-  -- a line that does not go on
   pub first_stops : (a' : Auditor) (line : List ℕ) (first' : FirstBase) (open_state' : OpenState) (u : UnreadLine) → ((lines : List (List ℕ)) → Reads first a.open_state lines → TakesBaseLine lines line (Err u) first' open_state') →
       (place : Place) → StandsAt a place → Moves place line a (Err u) a'
   first_stops a' line first' open_state' unread.NotOne takes = in_first (λ place. (next : Place) → Steps place line next → ⊥) (λ lines reads. takes lines reads)
@@ -299,7 +284,6 @@ module _ (a : Auditor) (next : NextBase) (stage : a.stage ≡ stages.Further nex
       same : (n : NextBase) → stages.Further n ≡ stages.Further next → n ≡ next
       same n e = cc
 
-  -- one line of it more
   pub further_goes_on : (a' : Auditor) (line : List ℕ) (next' : NextBase) → a'.stage ≡ stages.Further next' → a'.open_state ≡ a.open_state → a'.events ≡ a.events → a'.starts ≡ a.starts →
       ((h : History) (lines : List (List ℕ)) → Expects next h lines → TakesNextLine h lines line Taken next') → (place : Place) → StandsAt a place → GoesTo place line a a'
   further_goes_on a' line next' stage' open_state events starts takes =
@@ -313,7 +297,6 @@ module _ (a : Auditor) (next : NextBase) (stage : a.stage ≡ stages.Further nex
         counts = counts_none a a' line (in_taken (Some h) lines line _ on.1) events starts;
       })
 
-  -- its last line
   pub further_ends : (a' : Auditor) (line : List ℕ) (next' : NextBase) → a'.stage ≡ stages.Entries → a'.open_state ≡ with_numbers a.open_state (risen a.open_state.numbers) → a'.version ≡ Two → a'.count ≡ 0 → a'.events ≡ a.events → a'.starts ≡ a.starts →
       ((h : History) (lines : List (List ℕ)) → Expects next h lines → TakesNextLine h lines line Last next') → (place : Place) → StandsAt a place → GoesTo place line a a'
   further_ends a' line next' stage' open_state version count events starts takes =
@@ -324,7 +307,6 @@ module _ (a : Auditor) (next : NextBase) (stage : a.stage ≡ stages.Further nex
       base_ends (Some h) lines line whole.base a a' (whole.is_base, whole.says) whole.lines_are
       (subst (λ (l : OpenState). TellsAll l (from whole.base)) (sym open_state) (risen_alike a.open_state h whole.base whole.says tells)) text.base (ap (λ l. l.numbers.rising) open_state) version stage' count events starts)
 
-  -- another line
   pub further_stops : (line : List ℕ) (next' : NextBase) → ((h : History) (lines : List (List ℕ)) → Expects next h lines → TakesNextLine h lines line Other next') →
       (place : Place) → StandsAt a place → (there : Place) → Steps place line there → ⊥
   further_stops line next' takes =

@@ -1,4 +1,4 @@
--- What one more line does to what was read so far, and why a line is bad.
+-- What one more line does to what was read, and why a line is bad.
 -- Used by the calls of the auditor and by `audit`.
 use Rattle.std.proofs.Common.{◌≡◌, ◌≢◌, ℕ, ◌+◌, ◌<◌, ◌≤◌, ◌==◌, Bool, true, false, cond, All, List, [], ◌∷◌, ◌++◌, Some, None, Ok, Err, filter, length, inl, inr, refl, sym, ap, subst, ◌∙◌, arith, append_assoc, append-nil, length-append, get_or}
 use Rattle.std.specs.Prelude.{Option}
@@ -42,7 +42,6 @@ counted_more test lines line = ap length (filter-append test lines (line ∷ [])
     by true = refl
     by false = omega arith
 
--- no more lines are counted than there are
 few_counted : (test : List ℕ → Bool) (lines : List (List ℕ)) → length (filter test lines) ≤ length lines
 few_counted test [] = omega arith
 few_counted test (l ∷ ls) = by (test l) (few_counted test ls)
@@ -51,7 +50,6 @@ few_counted test (l ∷ ls) = by (test l) (few_counted test ls)
     by true rest = omega (arith, rest)
     by false rest = omega (arith, rest)
 
--- a line that leads somewhere was taken
 pub holds_more : (schemes : Schemes) (a a' a'' : Auditor) (lines : List (List ℕ)) (place : Place) (line : List ℕ) → Holds schemes a lines place → (goes : GoesTo place line a a') → length lines < most_lines → IsAmong schemes line →
     a''.schemes ≡ a.schemes → a''.stage ≡ a'.stage → a''.open_state ≡ a'.open_state → a''.version ≡ a'.version → a''.count ≡ a'.count → a''.events ≡ a'.events → a''.starts ≡ a'.starts → a''.lines ≡ a.lines + 1 →
     Holds schemes a'' (lines ++ line ∷ []) goes.next
@@ -71,7 +69,6 @@ holds_more schemes a a' a'' lines place line holds goes room among same stage op
           ∙ ap (λ n. cond (is_start_line line) (n + 1) n) holds.starts_are ∙ sym (counted_more is_start_line lines line);
     }
 
--- what was read is the same where the reader and its line changed alone
 pub moved : (schemes : Schemes) (a a' : Auditor) (lines : List (List ℕ)) (place : Place) → a'.schemes ≡ a.schemes → a'.stage ≡ a.stage → a'.open_state ≡ a.open_state → a'.version ≡ a.version → a'.count ≡ a.count → a'.lines ≡ a.lines → a'.events ≡ a.events → a'.starts ≡ a.starts →
     Holds schemes a lines place → Holds schemes a' lines place
 moved schemes a a' lines place same stage open_state version count taken events starts holds = record {
@@ -85,7 +82,7 @@ moved schemes a a' lines place same stage open_state version count taken events 
   starts_are = starts ∙ holds.starts_are;
 }
 
--- ---- where line feeds stand
+-- ---- the places of line feeds
 
 feedless : (line : List ℕ) → HasNoLineFeed line → HasNoFeed line
 feedless line none = λ k d within. unequal _ (none k d within)
@@ -93,7 +90,7 @@ feedless line none = λ k d within. unequal _ (none k d within)
     unequal : (o : ℕ) → (o ≡ 10 → ⊥) → (o == 10) ≡ false
     unequal o apart = grind (arith, nat_tests)
 
--- a line feed does not stand in octets that have none
+-- a line feed is not among octets without one
 beyond : (raw l x r : List ℕ) → HasNoLineFeed raw → raw ++ x ≡ l ++ 10 ∷ r → length l < length raw → ⊥
 beyond [] l x r none is short = omega arith
 beyond (o ∷ raw) [] x r none is short = All-head (λ octet. octet ≢ 10) o raw none (ap (λ k. get_or k 0 0) is)
@@ -106,9 +103,8 @@ line_then line after = append_assoc line (10 ∷ []) after
 
 -- ---- bad lines
 
--- the text is known, and these lines are its front
+-- the text is known, and begins with these lines
 module _ (schemes : Schemes) (a : Auditor) (lines : List (List ℕ)) (place : Place) (holds : Holds schemes a lines place) (text : List ℕ) where
-  -- a line with which a right text may go on leads somewhere
   front_steps : (next : List ℕ) → IsFront (lines ++ next ∷ []) → (p : Place) × Steps place next p
   front_steps next is =
       let run = fronts_are_read (lines ++ next ∷ []) is in
@@ -120,7 +116,6 @@ module _ (schemes : Schemes) (a : Auditor) (lines : List (List ℕ)) (place : Pl
   front_feedless : (next : List ℕ) → IsFront (lines ++ next ∷ []) → HasNoFeed next
   front_feedless next is = let good = All-head IsGoodLine next [] (all_behind IsGoodLine lines (next ∷ []) (good_begins (lines ++ next ∷ []) is)) in good.feedless
 
-  -- what stands behind the lines so far does not begin with a line with which a right text may go on
   bad_at : (behind : List ℕ) → text ≡ lines_text lines ++ behind → (number : ℕ) → number ≡ a.lines + 1 → (behind ≡ [] → MayEnd place → ⊥) →
       ((next after : List ℕ) → length next ≤ line_limit → behind ≡ next ++ 10 ∷ after → IsAmong schemes next → IsFront (lines ++ next ∷ []) → ⊥) → IsChainBadAt schemes text number
   bad_at behind is number count ends bad = record {
@@ -136,7 +131,6 @@ module _ (schemes : Schemes) (a : Auditor) (lines : List (List ℕ)) (place : Pl
     bad = λ next after short then among is_front. bad next after short (then ∙ line_then next after) among is_front;
   }
 
-  -- a whole line
   pub bad_line : (raw rest : List ℕ) → text ≡ lines_text lines ++ (raw ++ 10 ∷ rest) → HasNoLineFeed raw → (number : ℕ) → number ≡ a.lines + 1 → LeadsNowhere schemes lines place raw → IsChainBadAt schemes text number
   bad_line raw rest is none number count nowhere =
       bad_at (raw ++ 10 ∷ rest) is number count (λ empty. absurd (not_empty raw rest (sym empty)))
@@ -146,27 +140,23 @@ module _ (schemes : Schemes) (a : Auditor) (lines : List (List ℕ)) (place : Pl
       let few = is_front.few in
       nowhere (omega (arith, few, length-append lines (next ∷ []))) (subst (IsAmong schemes) (sym same) among) step.0 (subst (λ (l : List ℕ). Steps place l step.0) (sym same) step.1))
 
-  -- which stands behind the lines
   pub bad_line_behind : (raw rest : List ℕ) (is : text ≡ lines_text lines ++ (raw ++ 10 ∷ rest)) (none : HasNoLineFeed raw) (number : ℕ) (count : number ≡ a.lines + 1) (nowhere : LeadsNowhere schemes lines place raw) →
       (let bad : IsChainBadAt schemes text number = bad_line raw rest is none number count nowhere in bad.behind ≡ raw ++ 10 ∷ rest)
   unfolding bad_line bad_at
   bad_line_behind raw rest is none number count nowhere = refl
 
-  -- octets without a line feed that are too long, or all that there is
   pub bad_part : (raw rest : List ℕ) → text ≡ lines_text lines ++ (raw ++ rest) → HasNoLineFeed raw → 0 < length raw → (number : ℕ) → number ≡ a.lines + 1 →
       ((l r : List ℕ) → length l ≤ line_limit → raw ++ rest ≡ l ++ 10 ∷ r → length l < length raw) → IsChainBadAt schemes text number
   bad_part raw rest is none some number count long =
       bad_at (raw ++ rest) is number count (λ empty. absurd (omega (arith, some, ap length empty, length-append raw rest)))
       (λ next after short then among is_front. beyond raw next rest after none then (long next after short then))
 
-  -- which stand behind the lines
   pub bad_part_behind : (raw rest : List ℕ) (is : text ≡ lines_text lines ++ (raw ++ rest)) (none : HasNoLineFeed raw) (some : 0 < length raw) (number : ℕ) (count : number ≡ a.lines + 1)
       (long : (l r : List ℕ) → length l ≤ line_limit → raw ++ rest ≡ l ++ 10 ∷ r → length l < length raw) →
       (let bad : IsChainBadAt schemes text number = bad_part raw rest is none some number count long in bad.behind ≡ raw ++ rest)
   unfolding bad_part bad_at
   bad_part_behind raw rest is none some number count long = refl
 
-  -- nothing, where a base is not whole
   pub bad_end : text ≡ lines_text lines → (MayEnd place → ⊥) → (number : ℕ) → number ≡ a.lines + 1 → IsChainBadAt schemes text number
   bad_end is ends number count =
       bad_at [] (is ∙ sym (append-nil (lines_text lines))) number count (λ empty. ends) (λ next after short then among is_front. not_empty next after then)
@@ -177,19 +167,16 @@ pub split_known : (text : List ℕ) (behind : Option (List ℕ)) (front : List �
 split_known text None front c = absurd c
 split_known text (Some rest) front c = (rest, refl, c)
 
--- the text by what was taken of it, twice
 pub split_twice : (input behind after : Option (List ℕ)) (text front more : List ℕ) → input ≡ Some text → Consumes input behind front → Consumes behind after more → (rest : List ℕ) × (after ≡ Some rest) × (text ≡ front ++ (more ++ rest))
 split_twice input behind after text front more is first then =
     let one = split_known text behind front (subst (λ (i : Option (List ℕ)). Consumes i behind front) is first) in
     let two = split_known one.0 after more (subst (λ (b : Option (List ℕ)). Consumes b after more) one.1 then) in
     (two.0, two.1, one.2 ∙ ap (λ k. front ++ k) two.2)
 
--- the text of lines and one more
 pub text_more : (lines : List (List ℕ)) (line : List ℕ) → lines_text (lines ++ line ∷ []) ≡ lines_text lines ++ (line ++ 10 ∷ [])
 text_more lines line = flat_map-append ended lines (line ∷ []) ∙ ap (λ t. lines_text lines ++ t) (append-nil (ended line))
 
 module _ (schemes : Schemes) (a : Auditor) (input behind : Option (List ℕ)) (heard : Heard schemes a input behind) where
-  -- a whole line does not go on
   pub line_fault : (line : List ℕ) (after : Option (List ℕ)) (fault : AuditFault) (a' : Auditor) → TakesLineTo Lf line_limit behind after line → AddsLine schemes heard.lines heard.place line (Err fault) a' →
       (text : List ℕ) → input ≡ Some text → IsFault schemes text fault
   line_fault line after (BadLine number) a' t b text is =
@@ -200,7 +187,6 @@ module _ (schemes : Schemes) (a : Auditor) (input behind : Option (List ℕ)) (h
   line_fault line after Read a' t b text is = tt
   line_fault line after NoMemory a' t b text is = tt
 
-  -- a last line has no end
   pub last_fault : (line pending : List ℕ) (left : Option (List ℕ)) (number : ℕ) → number ≡ a.lines + 1 → TakesLast line_limit behind pending left line → (text : List ℕ) → input ≡ Some text → IsChainBadAt schemes text number
   last_fault line pending left number count t text is =
       let s = split_twice input behind (prepend_known pending left) text (lines_text heard.lines) line is heard.taken t.consumed in
@@ -209,14 +195,12 @@ module _ (schemes : Schemes) (a : Auditor) (input behind : Option (List ℕ)) (h
       bad_part schemes a heard.lines heard.place heard.holds text line s.0 s.2 t.no_line_feed t.some number count
       (λ l r short same. omega (arith, ap length same, ap length none, length-append line s.0, length-append l (10 ∷ r)))
 
-  -- octets that are too long for a line
   pub long_fault : (pending : List ℕ) (left : Option (List ℕ)) (number : ℕ) → number ≡ a.lines + 1 → FindsTooLongTo Lf line_limit behind pending left → (text : List ℕ) → input ≡ Some text → IsChainBadAt schemes text number
   long_fault pending left number count t text is =
       let s = split_twice input behind (prepend_known pending left) text (lines_text heard.lines) t.raw is heard.taken t.consumed in
       let over : line_limit < length t.raw = elim t.too_long [ inl h ↦ h | inr h ↦ h.0 ] in
       bad_part schemes a heard.lines heard.place heard.holds text t.raw s.0 s.2 t.no_line_feed (omega arith) number count (λ l r short same. omega arith)
 
-  -- nothing more was there
   pub ended_at : (line pending : List ℕ) (left : Option (List ℕ)) → FindsEnd behind pending left line → Consumes input (prepend_known pending left) (lines_text heard.lines) × IsAtEnd (prepend_known pending left)
   ended_at line pending left f = (
     subst (Consumes input (prepend_known pending left)) (append-nil (lines_text heard.lines))
@@ -224,7 +208,6 @@ module _ (schemes : Schemes) (a : Auditor) (input behind : Option (List ℕ)) (h
     prepend_known-end (prepend_known pending left) left pending (Keeps-refl (prepend_known pending left)) f.drained.empty f.drained.at_end,
   )
 
-  -- but a base is not whole
   pub end_fault : (line pending : List ℕ) (left : Option (List ℕ)) (number : ℕ) → number ≡ a.lines + 1 → FindsEnd behind pending left line → (MayEnd heard.place → ⊥) → (text : List ℕ) → input ≡ Some text → IsChainBadAt schemes text number
   end_fault line pending left number count f ends text is =
       let at = ended_at line pending left f in
@@ -232,7 +215,6 @@ module _ (schemes : Schemes) (a : Auditor) (input behind : Option (List ℕ)) (h
       let none : s.0 ≡ [] = subst IsAtEnd s.1 at.1 in
       bad_end schemes a heard.lines heard.place heard.holds text (s.2 ∙ ap (λ k. lines_text heard.lines ++ k) none ∙ append-nil (lines_text heard.lines)) ends number count
 
-  -- and texts are whole
   pub end_heard : (line pending : List ℕ) (left : Option (List ℕ)) (a' : Auditor) → Holds schemes a' heard.lines heard.place → FindsEnd behind pending left line → MayEnd heard.place → HeardAll schemes a' input (prepend_known pending left)
   end_heard line pending left a' holds f ends =
       let at = ended_at line pending left f in
@@ -242,7 +224,6 @@ module _ (schemes : Schemes) (a : Auditor) (input behind : Option (List ℕ)) (h
         at_end = at.1;
       }
 
-  -- one more line was taken
   pub line_heard : (line : List ℕ) (after : Option (List ℕ)) (a' : Auditor) → TakesLineTo Lf line_limit behind after line → AddsLine schemes heard.lines heard.place line (Ok tt) a' → Heard schemes a' input after × (a'.lines ≡ a.lines + 1)
   line_heard line after a' t b =
       let holds = b.1 in
@@ -260,7 +241,6 @@ module _ (schemes : Schemes) (a : Auditor) (input behind : Option (List ℕ)) (h
   pub few_heard : a.lines ≤ most_lines
   few_heard = let holds = heard.holds in omega (arith, holds.lines_are, holds.few)
 
--- all was taken
 pub all_audited : (schemes : Schemes) (a : Auditor) (input behind : Option (List ℕ)) → HeardAll schemes a input behind → (audited : Audited) → audited.events ≡ a.events → audited.starts ≡ a.starts → (text : List ℕ) → input ≡ Some text → IsChainAudited schemes text audited
 all_audited schemes a input behind all audited events starts text is =
     let heard = all.heard in
@@ -282,7 +262,6 @@ all_audited schemes a input behind all audited events starts text is =
       starts_are = starts ∙ holds.starts_are ∙ ap (λ ls. length (filter is_start_line ls)) (sym lines) ∙ starts_of_chain first later;
     }
 
--- before the first line
 pub heard_start : (schemes : Schemes) (a : Auditor) (left : Option (List ℕ)) (pending : List ℕ) → a.schemes ≡ schemes → pending ≡ [] → a.stage ≡ stages.Start → a.version ≡ One → a.count ≡ 0 → TellsAll a.open_state (from empty_base) → a.open_state.numbers.rising ≡ false →
     a.events ≡ 0 → a.starts ≡ 0 → a.lines ≡ 0 → IsLegal (from empty_base) → Heard schemes a left (prepend_known pending left)
 heard_start schemes a left pending same none stage version count tells any events starts lines legal = record {

@@ -1,4 +1,4 @@
--- What an entry's fields are read as is the entry.
+-- The fields of an entry are read back as that entry.
 -- Used by the laws of the spelling and by the reader of lines.
 use Rattle.std.proofs.Common.{◌≡◌, ◌≢◌, ◌<◌, ◌^◌, ℕ, All, Bool, true, false, List, [], ◌∷◌, ◌++◌, Some, Ok, Err, length, decimal, sym, ap, ◌∙◌, refl, arith, rules, codes}
 use Rattle.std.specs.Prelude.{None, Result, cond, ◌==◌}
@@ -35,7 +35,6 @@ use Rattle.crawl_audit.proofs.NamedEntries.{authority_named, body_named, page_na
 own : IsNumeralModel (λ ds. list_all is_ascii_digit ds ≡ true) (digits_value 10)
 own = numerals_by_value _ (search rules)
 
--- a number in decimal digits
 pub number_back : (n : ℕ) → IsNumber n → number_of (decimal n) ≡ Some n
 number_back n small =
     let digits : list_all is_ascii_digit (decimal n) ≡ true = digits_decimal own n small in
@@ -47,11 +46,9 @@ number_back n small =
     let both : is_number (decimal n) ≡ true = rw (numeral, fits) refl in
     ap (λ b. cond b (Some (digits_value 10 (decimal n))) None) both ∙ ap Some value
 
--- the URL of a page
 pub page_back : (page : List ℕ) → IsPage page → page_named page ≡ Some page
 page_back page is = ap result_ok is.own
 
--- an authority
 pub authority_back : (authority : List ℕ) → IsAuthority authority → authority_named authority ≡ Some authority
 authority_back authority is = by (list_any is_delimiter (written_host HttpAndHttps authority)) refl
   where
@@ -75,7 +72,6 @@ authority_back authority is = by (list_any is_delimiter (written_host HttpAndHtt
 not_percent : (octet : ℕ) → is_unreserved octet ≡ true → octet ≢ 37
 not_percent octet is e = absurd (true≢false (sym is ∙ ap is_unreserved e))
 
--- the octets of a body, escaped
 decode_body : (text : List ℕ) → All (λ octet. octet < 256) text → percent_decode (escaped_body text) ≡ text
 decode_body [] small = percent_decode-nil
 decode_body (octet ∷ text) small = by (decode_body text (All-tail (λ o. o < 256) octet text small)) (is_unreserved octet) refl
@@ -87,7 +83,6 @@ decode_body (octet ∷ text) small = by (decode_body text (All-tail (λ o. o < 2
 one_hyphen : percent_decode (codes "%2D") ≡ codes "-"
 one_hyphen = percent_decode_escape 37 50 68 [] refl (omega arith) (omega arith) ∙ ap (λ l. 45 ∷ l) percent_decode-nil
 
--- a body
 pub body_back : (text : List ℕ) → IsBody text → body_named (body_word text) ≡ text
 body_back text is = empty (length text == 0) refl
   where

@@ -1,4 +1,4 @@
--- Which line may come behind the first lines of a base: the end, or that of a row that may stand there.
+-- Which line may follow the first lines of a base: the end, or that of a row that may come there.
 -- Used by `FirstLines`.
 use Rattle.std.proofs.Common.{◌≡◌, ℕ, All, List, [], ◌∷◌, ◌++◌, ◌⊎◌, inl, inr, flat_map, map, refl, sym, ap, subst, ◌∙◌, append_assoc, codes}
 use Rattle.std.proofs.lemmas.List.Elements.{All-append, All-cons, All-head, All-nil, All-tail}
@@ -46,13 +46,12 @@ all_open b is =
     (All-append IsOpenRow (map Unspent b.unspent) _ (each_open IsPermitRow Unspent (λ p row. row) b.unspent f.unspent)
     (each_open IsPermitRow Running (λ p row. row) b.running f.running))))
 
--- the lines of a base by its rows
 pub lines_by_rows : (b : Base) → base_lines b ≡ codes "V 3" ∷ numbers_line b ∷ (map row_line (rows_of b) ++ codes "E" ∷ [])
 lines_by_rows b = ap (λ l. codes "V 3" ∷ numbers_line b ∷ (l ++ codes "E" ∷ [])) (open_rows b)
 
 -- ---- rows before a line
 
--- the first rows are these, and their line and those behind it are the line and the rest
+-- these are the first rows, and the line and the rest are theirs
 record Begins (xs ys : List OpenRow) (line : List ℕ) (rest : List (List ℕ)) : Type 0 where
   later : List OpenRow
   rows_are : xs ≡ ys ++ later
@@ -74,14 +73,13 @@ all_behind (x ∷ xs) ys all = all_behind xs ys (All-tail IsOpenRow x (xs ++ ys)
 
 -- ---- what may come
 
--- the line is that of a row that may stand behind those of the base
+-- the line is that of a row that may follow those of the base
 pub record IsRowBehind (b : Base) (line : List ℕ) : Type 0 where
   pub row : OpenRow
   pub open_row : IsOpenRow row
   pub line_is : line ≡ row_line row
   pub stands : MayStand b row
 
--- a base that begins with the lines of another one and one line more
 pub base_front : (b c : Base) (line : List ℕ) (rest : List (List ℕ)) → IsTextBase b → IsTextBase c →
     base_lines c ≡ (codes "V 3" ∷ numbers_line b ∷ map row_line (rows_of b)) ++ line ∷ rest → (line ≡ codes "E") ⊎ IsRowBehind b line
 base_front b c line rest is is' same = by begins.later refl

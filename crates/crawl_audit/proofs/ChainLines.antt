@@ -1,4 +1,4 @@
--- The lines of a chain end at their line feeds and are short enough, so a chain's text is bad at no line.
+-- The lines of a chain end at their line feeds and are short enough, so no line of a chain's text is bad.
 -- Used by `laws`.
 use Rattle.std.proofs.Common.{◌≡◌, ℕ, ◌<◌, ◌≤◌, ◌==◌, All, Bool, false, cond, List, [], ◌∷◌, ◌++◌, length, decimal, flat_map, map, inl, inr, refl, sym, ap, subst, ◌∙◌, arith, append-nil, append_assoc, length-append, codes}
 use Rattle.std.proofs.lemmas.Bool.Decides.{nat_tests}
@@ -90,7 +90,6 @@ good_numbers b is = record {
   );
 }
 
--- the words of the code
 good_three : (a b c : ℕ) → (a == 10) ≡ false → (b == 10) ≡ false → (c == 10) ≡ false → IsGoodLine (a ∷ b ∷ c ∷ [])
 good_three a b c p q r = record {
   feedless = All-cons (λ o. (o == 10) ≡ false) a (b ∷ c ∷ []) p (All-cons (λ o. (o == 10) ≡ false) b (c ∷ []) q (All-cons (λ o. (o == 10) ≡ false) c [] r (All-nil (λ o. (o == 10) ≡ false))));
@@ -156,7 +155,6 @@ good_later h (t ∷ later) all =
 good_chain : (first : Text) (later : List Text) → IsChain first later → All IsGoodLine (chain_lines first later)
 good_chain first later chain = All-append IsGoodLine (text_lines first) (flat_map text_lines later) (good_text first chain.begins) (good_later (text_history first) later chain.goes_on)
 
--- a front of good lines is one of good lines
 good_front : (front rest : List (List ℕ)) → All IsGoodLine (front ++ rest) → All IsGoodLine front
 good_front [] rest all = All-nil IsGoodLine
 good_front (line ∷ front) rest all =
@@ -169,9 +167,9 @@ good_begins lines is = elim is.begins [
       (All-cons IsGoodLine (codes "V 3") [] (good_three 86 32 51 refl refl refl) (All-nil IsGoodLine)))
 ]
 
--- ---- what stands behind a front of lines
+-- ---- what follows a prefix of lines
 
--- the line behind a front of lines, and those behind it
+-- the next line after a prefix of lines, and the rest
 record NextLine (lines front : List (List ℕ)) (behind : List ℕ) : Type 0 where
   next : List ℕ
   rest : List (List ℕ)
@@ -198,7 +196,6 @@ next_line (line ∷ lines) (f ∷ front) behind all all' same some =
       good = n.good;
     }
 
--- texts that are the same are of the same lines
 same_lines : (lines front : List (List ℕ)) → All IsGoodLine lines → All IsGoodLine front → lines_text lines ≡ lines_text front → lines ≡ front
 same_lines [] [] all all' same = refl
 same_lines [] (f ∷ front) all all' same = absurd (not_empty f (lines_text front) (same ∙ append_assoc f (10 ∷ []) (lines_text front)))
@@ -211,12 +208,10 @@ same_lines (line ∷ lines) (f ∷ front) all all' same =
     let rest = same_lines lines front (All-tail IsGoodLine line lines all) (All-tail IsGoodLine f front all') cut.1 in
     λ i. cut.0 i ∷ rest i
 
--- what is true of all lines is true of those behind a front
 pub all_after : (P : List ℕ → Type 0) (front rest : List (List ℕ)) → All P (front ++ rest) → All P rest
 all_after P [] rest all = all
 all_after P (line ∷ front) rest all = all_after P front rest (All-tail P line (front ++ rest) all)
 
--- the text of a chain that names what is read is bad at no line
 pub right_chain : RightChainIsNeverBad
 right_chain schemes first later line chain few among bad = by bad.behind refl
   where

@@ -1,5 +1,5 @@
--- The lines of entries are told from those of heads and bases by their letters, so a chain's entries are counted
--- by its lines. Used by the calls of the auditor and by `audit`.
+-- The first letter of a line tells entries from heads and bases, so a chain's entries are counted by its lines.
+-- Used by the calls of the auditor and by `audit`.
 use Rattle.std.proofs.Common.{◌≡◌, ◌==◌, ℕ, ◌+◌, All, Bool, true, false, cond, List, [], ◌∷◌, ◌++◌, codes, filter, flat_map, length, map, refl, ap, subst, ◌∙◌, arith, length-append}
 use Rattle.std.proofs.lemmas.List.Elements.{All-append, All-cons, All-head, All-nil, All-tail, filter-append}
 use Rattle.gate_history.specs.declared.entry.Entry.{Entry}
@@ -66,12 +66,10 @@ base_uncounted b =
     (none_in running_line (λ p. uncounted refl refl) b.running)))))
     (All-cons IsUncounted (codes "E") [] (uncounted refl refl) (All-nil IsUncounted))))
 
--- what all of two lists are, all of the second are
 pub all_behind : {X : Type 0} (P : X → Type 0) (xs ys : List X) → All P (xs ++ ys) → All P ys
 all_behind P [] ys all = all
 all_behind P (x ∷ xs) ys all = all_behind P xs ys (All-tail P x (xs ++ ys) all)
 
--- a line of a base is that of no entry
 pub in_base : (b : Base) (before after : List (List ℕ)) (line : List ℕ) → base_lines b ≡ before ++ line ∷ after → IsUncounted line
 in_base b before after line is = All-head IsUncounted line after (all_behind IsUncounted before (line ∷ after) (subst (All IsUncounted) is (base_uncounted b)))
 
@@ -86,7 +84,7 @@ heads_uncounted t = by (t.base.entries == 0)
     by true = version t.version
     by false = base_uncounted t.base
 
--- ---- a test of lines that is one of entries
+-- ---- a test of lines that agrees with one of entries
 
 module _ (test : List ℕ → Bool) (of_entry : Entry → Bool) (own : (v : Version) (e : Entry) → test (entry_line v e) ≡ of_entry e) (none : (line : List ℕ) → IsUncounted line → test line ≡ false) where
   none_of : (ls : List (List ℕ)) → All IsUncounted ls → length (filter test ls) ≡ 0
@@ -104,7 +102,6 @@ module _ (test : List ℕ → Bool) (of_entry : Entry → Bool) (own : (v : Vers
       by true rest = omega (arith, rest)
       by false rest = rest
 
-  -- of two lists, as many as of both
   parts : {X : Type 0} (p : X → Bool) (xs ys : List X) → length (filter p (xs ++ ys)) ≡ length (filter p xs) + length (filter p ys)
   parts p xs ys = ap length (filter-append p xs ys) ∙ length-append (filter p xs) (filter p ys)
 
@@ -127,10 +124,8 @@ all_kept : {X : Type 0} (xs : List X) → length (filter (λ _. true) xs) ≡ le
 all_kept [] = refl
 all_kept (x ∷ xs) = omega (arith, all_kept xs)
 
--- the entries of a chain are counted by its lines
 pub entries_of_chain : (first : Text) (later : List Text) → length (filter is_entry_line (chain_lines first later)) ≡ length (chain_entries first later)
 entries_of_chain first later = of_chain is_entry_line (λ _. true) entry_counted (λ l u. u.entry) first later ∙ all_kept (chain_entries first later)
 
--- and so are its starts
 pub starts_of_chain : (first : Text) (later : List Text) → length (filter is_start_line (chain_lines first later)) ≡ starts_in (chain_entries first later)
 starts_of_chain first later = of_chain is_start_line is_start start_counted (λ l u. u.start) first later

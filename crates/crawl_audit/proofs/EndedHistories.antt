@@ -1,5 +1,5 @@
--- What a base left open, in turn ended: each end is legal behind those before it, and nothing is out behind them all.
--- Cited by the calls of `recovering`.
+-- What a base left open is ended in turn: each end is legal after those before it, and nothing is open at last.
+-- Used by `recovering`.
 use Rattle.std.proofs.Common.{◌≡◌, ℕ, ◌+◌, ◌≤◌, ◌==◌, Bool, true, false, cond, not, ◌&&◌, ◌||◌, max, List, [], ◌∷◌, ◌++◌, filter, length, map, refl, sym, ap, ◌∙◌, arith, true≢false}
 use Rattle.std.specs.List.{list_any}
 use Rattle.std.specs.Str.{bytes_eq}
@@ -20,15 +20,14 @@ use Rattle.crawl_audit.proofs.OneOrder.{same_text}
 
 -- ---- lists with the same elements
 
--- as many of the one list pass each test as of the other
+-- as many of both lists pass each test
 abbrev pub Same : {X : Type 0} → List X → List X → Type 0
 Same {X} xs ys = (test : X → Bool) → length (filter test xs) ≡ length (filter test ys)
 
--- of each key there is one at most
+-- each key occurs at most once
 abbrev pub Once : {X : Type 0} → (X → ℕ) → List X → Type 0
 Once key xs = (n : ℕ) → length (filter (λ x. key x == n) xs) ≤ 1
 
--- where none passes, the list is empty
 pub none_left : {X : Type 0} (ys : List X) → ((test : X → Bool) → length (filter test ys) ≡ 0) → ys ≡ []
 none_left [] none = refl
 none_left (y ∷ ys) none = absurd (omega (arith, none (λ _. true)))
@@ -59,7 +58,6 @@ count_others p q (x ∷ xs) none = by (q x) none (count_others p q xs)
         both true = omega (arith, rest none)
         both false = rest none
 
--- a test that finds none
 none_passes : {X : Type 0} (p : X → Bool) (xs : List X) → list_any p xs ≡ false → length (filter p xs) ≡ 0
 none_passes p [] none = refl
 none_passes p (x ∷ xs) none = by (p x) none (none_passes p xs)
@@ -69,7 +67,6 @@ none_passes p (x ∷ xs) none = by (p x) none (none_passes p xs)
     by false none rest = rest none
 
 module _ {X : Type 0} (key : X → ℕ) (x : X) (xs ys : List X) (same : Same (x ∷ xs) ys) where
-  -- what stands in the one list is found in the other
   found : (p : X → Bool) → p x ≡ true → list_any p ys ≡ true
   found p passes = by (list_any p ys) refl
     where
@@ -79,7 +76,7 @@ module _ {X : Type 0} (key : X → ℕ) (x : X) (xs ys : List X) (same : Same (x
           let one : one_if (p x) ≡ 1 = ap one_if passes in
           absurd (omega (arith, same p, none_passes p ys is, count-cons p x xs, one))
 
-  -- without it, as many of the rest pass each test
+  -- without the pair, equally many of the rest pass each test
   same_rest : Once key (x ∷ xs) → Same xs (filter (λ y. not (key y == key x)) ys)
   same_rest once = λ p.
       let q : X → Bool = λ y. key y == key x in
@@ -162,7 +159,7 @@ answers moment (t ∷ ts) h late same once =
 
 -- ---- all of a base
 
--- nothing is out after the history
+-- nothing is outstanding after the history
 pub record IsIdle (h : History) : Type 0 where
   pub permits : unspent h ≡ []
   pub runs : running h ≡ []

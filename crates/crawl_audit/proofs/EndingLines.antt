@@ -1,5 +1,5 @@
--- Lines that end what is out, one after the other, behind those that an auditor read.
--- Cited by the calls of `ending`.
+-- Lines that end what is open, taken after those that an auditor read.
+-- Used by `ending`.
 use Rattle.std.proofs.Common.{◌≡◌, ℕ, ◌+◌, ◌<◌, ◌≤◌, Bool, true, false, true≢false, codes, All, List, [], ◌∷◌, ◌++◌, Ok, Err, drop, get_or, inl, inr, length, map, take, refl, sym, ap, subst, ◌∙◌, arith, append_assoc, append-nil, length-append}
 use Rattle.std.specs.Prelude.{Result}
 use Rattle.std.proofs.lemmas.List.{drop_more, length-map, map-append, take-append-drop, take_more}
@@ -37,7 +37,6 @@ use Rattle.crawl_audit.proofs.Stepping.{one_run, run_front}
 
 -- ---- the entries
 
--- one more end was pushed
 pub ends_more : {X : Type 0} (f : X → Entry) (ps : List X) (i : ℕ) (d : X) → i < length ps → (olds news more : List Record) (r : Record) → more ≡ news ++ r ∷ [] → entry_of r ≡ f (get_or ps i d) →
     map entry_of news ≡ map entry_of olds ++ map f (take i ps) → map entry_of more ≡ map entry_of olds ++ map f (take (i + 1) ps)
 ends_more f ps i d within olds news more r pushed is so_far =
@@ -45,7 +44,6 @@ ends_more f ps i d within olds news more r pushed is so_far =
     ∙ append_assoc (map entry_of olds) (map f (take i ps)) (entry_of r ∷ [])
     ∙ ap (λ es. map entry_of olds ++ es) (ap (λ e. map f (take i ps) ++ e ∷ []) is ∙ sym (ap (map f) (take_more ps i d within) ∙ map-append f (take i ps) (get_or ps i d ∷ [])))
 
--- each of them ends something
 all_give : (ps : List GrantedPermit) → All IsEnding (map give_back ps)
 all_give [] = All-nil IsEnding
 all_give (p ∷ ps) = All-cons IsEnding (give_back p) (map give_back ps) tt (all_give ps)
@@ -98,7 +96,6 @@ module _ (schemes : Schemes) (lines : List (List ℕ)) (version : Version) (risi
   leads next (inr takes) =
       takes.next_is ∙ ap (λ d. among version rising (h ▸ d) (count + 1)) (one_entry version takes.entry e takes.spelled spelled (sym takes.line_is))
 
-  -- the line was taken
   pub took_one : AddsLine schemes lines (among version rising h count) (entry_line version e) (Ok tt) a' →
       Holds schemes a' (lines ++ entry_line version e ∷ []) (among version rising (h ▸ e) (count + 1))
   took_one adds =
@@ -109,7 +106,6 @@ module _ (schemes : Schemes) (lines : List (List ℕ)) (version : Version) (risi
       let step = subst (λ (q : Place). Steps (among version rising h count) (entry_line version e) q) (sym last.1.1) last.1.0 in
       subst (λ (q : Place). Holds schemes a' (lines ++ entry_line version e ∷ []) q) (leads adds.0 step) adds.1
 
-  -- it was not
   pub refused_one : (number : ℕ) → AddsLine schemes lines (among version rising h count) (entry_line version e) (Err (BadLine number)) a' →
       (number ≡ length lines + 1) × (MayFollow h e → HaveRoom schemes (length lines) count (entry_count h) (entry_line version e ∷ []) → ⊥)
   refused_one number adds = (
@@ -129,25 +125,21 @@ module _ (schemes : Schemes) (lines : List (List ℕ)) (version : Version) (risi
 
 -- ---- several lines
 
--- the entry of a record, those before it and those behind it
 pub parts : (ends : List Record) (i : ℕ) (d : Record) → i < length ends →
     map entry_of ends ≡ map entry_of (take i ends) ++ entry_of (get_or ends i d) ∷ map entry_of (drop (i + 1) ends)
 parts ends i d within =
     ap (map entry_of) (sym (take-append-drop i ends) ∙ ap (λ rest. take i ends ++ rest) (drop_more ends i d within))
     ∙ map-append entry_of (take i ends) (get_or ends i d ∷ drop (i + 1) ends)
 
--- and those up to it
 pub front_more : (ends : List Record) (i : ℕ) (d : Record) → i < length ends →
     map entry_of (take (i + 1) ends) ≡ map entry_of (take i ends) ++ entry_of (get_or ends i d) ∷ []
 front_more ends i d within = ap (map entry_of) (take_more ends i d within) ∙ map-append entry_of (take i ends) (get_or ends i d ∷ [])
 
--- where each is legal, so is one behind those before it
 follows_at : (h : History) (ds : List Entry) (e : Entry) (later : List Entry) → AllFollow h (ds ++ e ∷ later) → MayFollow (followed_by h ds) e
 follows_at h [] e later all = all.0
 follows_at h (d ∷ ds) e later all = follows_at (h ▸ d) ds e later all.1
 
 module _ (schemes : Schemes) (lines : List (List ℕ)) (version : Version) (rising : Bool) (h : History) (count : ℕ) (ds : List Entry) where
-  -- nothing was taken
   pub takes_none : (a : Auditor) → Holds schemes a lines (among version rising h count) → TakesEnds schemes lines version rising h count [] [] a
   takes_none a holds = record {
     holds = subst (λ (n : ℕ). Holds schemes a (lines ++ []) (among version rising h n)) (let same : count ≡ count + 0 = omega arith in same)
@@ -155,7 +147,6 @@ module _ (schemes : Schemes) (lines : List (List ℕ)) (version : Version) (risi
     text_is = refl;
   }
 
-  -- one line more was taken
   pub takes_more : (e : Entry) (text more : List ℕ) (a a' : Auditor) → TakesEnds schemes lines version rising h count ds text a →
       Holds schemes a' ((lines ++ lines_of version ds) ++ entry_line version e ∷ []) (among version rising (followed_by h ds ▸ e) (count + length ds + 1)) → more ≡ text ++ ended (entry_line version e) →
       TakesEnds schemes lines version rising h count (ds ++ e ∷ []) more a'
@@ -172,7 +163,6 @@ module _ (schemes : Schemes) (lines : List (List ℕ)) (version : Version) (risi
             ∙ ap (λ t. lines_text (lines_of version ds) ++ t) (append-nil (ended line)));
       }
 
-  -- one line was not taken
   pub refuses_at : (e : Entry) (later : List Entry) (number : ℕ) → number ≡ length (lines ++ lines_of version ds) + 1 →
       (MayFollow (followed_by h ds) e → HaveRoom schemes (length (lines ++ lines_of version ds)) (count + length ds) (entry_count (followed_by h ds)) (entry_line version e ∷ []) → ⊥) →
       RefusesEnds schemes lines version h count (ds ++ e ∷ later) number
@@ -200,7 +190,6 @@ module _ (schemes : Schemes) (lines : List (List ℕ)) (version : Version) (risi
             });
       }
 
--- a fault at one line is one of them all
 pub refuses_one : (schemes : Schemes) (lines : List (List ℕ)) (version : Version) (rising : Bool) (h : History) (count : ℕ) (ds : List Entry) (e : Entry) (later : List Entry) (fault : RecoverFault) (a : Auditor) →
     EndsOne schemes (lines ++ lines_of version ds) version rising (followed_by h ds) (count + length ds) e (Err fault) a → EndsAll schemes lines version rising h count (ds ++ e ∷ later) (Err fault) a
 refuses_one schemes lines version rising h count ds e later (faults.NoRoom number) a stops = refuses_at schemes lines version rising h count ds e later number stops.0 stops.1

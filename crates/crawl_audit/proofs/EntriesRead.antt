@@ -1,4 +1,4 @@
--- What a reader names of the words of an entry's line, or of those of an answer, is that entry or that answer.
+-- The words of an entry's line, or of an answer, are read back as that entry or answer.
 -- Used by the readers of `read`.
 use Rattle.std.proofs.Common.{◌≡◌, ◌≢◌, ℕ, get_or, List, ◌∷◌, Some, Ok, Err, sym, ap, ◌∙◌, subst, arith, codes, decimal}
 use Rattle.std.specs.Prelude.{Option, Result, IfOk, unwrap_or}
@@ -26,36 +26,30 @@ use Rattle.crawl_audit.proofs.Back.{authority_back, body_back, number_back}
 use Rattle.crawl_audit.proofs.NamedEntries.{Lasting, NamesAnswer, NamesEntry, answer_named, authority_named, body_named, entry_behind}
 use Rattle.crawl_audit.proofs.Spelling.{answer_back, behind_back, entry_words}
 
--- nothing was read, for the same reason
 pub refused : {A B : Type 0} (unread : UnreadLine) (is_right : A → Type 0) (is_right' : B → Type 0) → IsRead (Err unread) is_right → IsRead (Err unread) is_right'
 refused NotOne is_right is_right' is = absurd is
 refused NoMemory is_right is_right' is = tt
 
--- words that begin with two octets are not the same
 pub other_word : (m n : ℕ) (x y : List ℕ) (xs ys : List (List ℕ)) → m ≢ n → (m ∷ x) ∷ xs ≡ (n ∷ y) ∷ ys → ⊥
 other_word m n x y xs ys apart same = apart (ap (λ ws. get_or (head_word ws) 0 0) same)
 
 -- ---- entries
 
--- an entry that words name was read
 entry_given : (result : Result Record UnreadLine) (named : Option Entry) (e : Entry) → NamesEntry result named → named ≡ Some e → IsRead result (λ found. entry_of found ≡ e)
 entry_given (Ok found) named e is same = ap (λ o. unwrap_or o e) (sym is ∙ same)
 entry_given (Err NotOne) named e is same = none-some e (sym is ∙ same)
 entry_given (Err NoMemory) named e is same = tt
 
--- of words behind a letter
 pub entry_read : (version : Version) (letter : List ℕ) (words : List (List ℕ)) (result : Result Record UnreadLine) → NamesEntry result (entry_behind version letter words) → ReadsEntry version (letter ∷ words) result
 entry_read version letter words result named e is spelled =
     entry_given result (entry_behind version letter words) e named
     (ap (λ l. entry_behind version (head_word l) (tail_words l)) (spelled ∙ entry_words version e is) ∙ behind_back version e is)
 
--- the entry that words behind a letter name is the one of their line
 pub entry_is : (version : Version) (letter : List ℕ) (words : List (List ℕ)) (d : Entry) → entry_behind version letter words ≡ Some d → (e : Entry) → IsEntry version e → letter ∷ words ≡ words_of (entry_line version e) → d ≡ e
 entry_is version letter words d named e is spelled =
     ap (λ o. unwrap_or o d)
     (sym named ∙ ap (λ l. entry_behind version (head_word l) (tail_words l)) (spelled ∙ entry_words version e is) ∙ behind_back version e is)
 
--- what was read of a line is the entry of that line
 pub same_entry : (version : Version) (line : List ℕ) (d e : Entry) → d ≡ e → (HasLife version d × (line ≡ entry_line version d) → ⊥) → IsEntry version e → line ≡ entry_line version e → ⊥
 same_entry version line d e which other is same =
     other (subst (λ (x : Entry). HasLife version x × (line ≡ entry_line version x)) (sym which) (is.life, same))
@@ -72,12 +66,10 @@ answer_given (Ok pair) named says life is same =
 answer_given (Err NotOne) named says life is same = none-some (lasting says life) (sym is ∙ same)
 answer_given (Err NoMemory) named says life is same = tt
 
--- an answer that words name was read
 pub answer_read : (version : Version) (words : List (List ℕ)) (result : Result (Answer × ℕ) UnreadLine) → NamesAnswer result (answer_named version words) → ReadsAnswer version words result
 answer_read version words result named says life body lasts spelled =
     answer_given result (answer_named version words) says life named (ap (answer_named version) spelled ∙ answer_back version says life body lasts)
 
--- rules that words name in version 1, with their life
 pub rules_of_one : (words : List (List ℕ)) (text : List ℕ) (life : ℕ) (answer : Answer) → said answer ≡ says.Rules text → life ≡ greatest_life → ((body : List ℕ) → IsBody body → head_word words ≡ body_word body → text ≡ body) →
     (s : Said) (l : ℕ) → IsSaid s → IsLife One s l → codes "R" ∷ words ≡ answer_fields One s l → (said answer ≡ s) × (life ≡ l)
 rules_of_one words text life answer is lasts reads (says.Rules body) l of_body lives spelled =
@@ -85,7 +77,6 @@ rules_of_one words text life answer is lasts reads (says.Rules body) l of_body l
 rules_of_one words text life answer is lasts reads (says.Open opening) l of_body lives spelled = absurd (other_word 82 79 _ _ _ _ (λ e. omega arith) spelled)
 rules_of_one words text life answer is lasts reads (says.Closed closure) l of_body lives spelled = absurd (other_word 82 67 _ _ _ _ (λ e. omega arith) spelled)
 
--- rules that words name in version 2, with their life
 pub rules_of_two : (words : List (List ℕ)) (text : List ℕ) (life : ℕ) (answer : Answer) → said answer ≡ says.Rules text → number_of (head_word words) ≡ Some life → ((body : List ℕ) → IsBody body → head_word (tail_words words) ≡ body_word body → text ≡ body) →
     (s : Said) (l : ℕ) → IsSaid s → IsLife Two s l → codes "R" ∷ words ≡ answer_fields Two s l → (said answer ≡ s) × (life ≡ l)
 rules_of_two words text life answer is lasts reads (says.Rules body) l of_body lives spelled =
@@ -96,14 +87,12 @@ rules_of_two words text life answer is lasts reads (says.Rules body) l of_body l
 rules_of_two words text life answer is lasts reads (says.Open opening) l of_body lives spelled = absurd (other_word 82 79 _ _ _ _ (λ e. omega arith) spelled)
 rules_of_two words text life answer is lasts reads (says.Closed closure) l of_body lives spelled = absurd (other_word 82 67 _ _ _ _ (λ e. omega arith) spelled)
 
--- a body that a word writes is the one whose word it is
 pub body_read : (word : List ℕ) (result : Result (List ℕ) AllocError) → IfOk result (λ text. text ≡ body_named word) → (body : List ℕ) → IsBody body → word ≡ body_word body → IfOk result (λ text. text ≡ body)
 body_read word (Ok text) named body is spelled = named ∙ ap body_named spelled ∙ body_back body is
 body_read word (Err error) named body is spelled = tt
 
 -- ---- arrivals
 
--- what holds of each arrival whose words these are holds of each entry whose words they are
 arrival_alone : (version : Version) (words : List (List ℕ)) (P : Entry → Type 0) →
     ((moment : ℕ) (authority : List ℕ) (turn : ℕ) (s : Said) (life : ℕ) → IsEntry version (Arrived moment authority turn s life) → words ≡ entry_fields version (Arrived moment authority turn s life) → P (Arrived moment authority turn s life)) →
     (e : Entry) → IsEntry version e → codes "A" ∷ words ≡ words_of (entry_line version e) → P e
@@ -124,13 +113,11 @@ arrival_alone version words P of e is spelled = by e is (spelled ∙ entry_words
 abbrev pub behind_three : List (List ℕ) → List (List ℕ)
 behind_three words = tail_words (tail_words (tail_words words))
 
--- where its answer was not read, the entry was not, for the same reason
 pub arrival_refused : (version : Version) (words : List (List ℕ)) (unread : UnreadLine) → ReadsAnswer version (behind_three words) (Err unread) → ReadsEntry version (codes "A" ∷ words) (Err unread)
 arrival_refused version words unread reads =
     arrival_alone version words (λ e. IsRead (Err unread) (λ found. entry_of found ≡ e))
     (λ moment authority turn s life is whole. refused unread _ _ (reads s life is.fields.3 is.life (ap behind_three whole)))
 
--- where its words name its fields, and its answer was read, the arrival is the one of its line
 pub arrival_is : (version : Version) (words : List (List ℕ)) (moment : ℕ) (authority : List ℕ) (turn : ℕ) (answer : Answer) (life : ℕ) →
     number_of (head_word words) ≡ Some moment → authority_named (head_word (tail_words words)) ≡ Some authority → number_of (head_word (tail_words (tail_words words))) ≡ Some turn →
     ReadsAnswer version (behind_three words) (Ok (answer, life)) →

@@ -1,5 +1,5 @@
--- The lines of the base of a first text, one after the other: which one may come, and what is read with it.
--- Used by the calls of `first_base` that take a line.
+-- The lines of a first text's base in turn: which may come, and what is read with it.
+-- Used by `first_base` that take a line.
 use Rattle.std.proofs.Common.{◌≡◌, ◌≢◌, ℕ, ◌+◌, ◌<◌, ◌≤◌, false, List, [], ◌∷◌, ◌++◌, ◌⊎◌, inl, inr, map, refl, sym, ap, subst, ◌∙◌, true≢false, append_assoc, arith, codes, Err, Ok}
 use Rattle.std.specs.Prelude.{None, Some}
 use Rattle.std.proofs.lemmas.List.Elements.{All-nil}
@@ -27,7 +27,6 @@ use Rattle.crawl_audit.proofs.RowSpelling.{same_numbers}
 
 -- ---- rows
 
--- the numbers of a base with a row more are spelled as before
 same_line : (b : Base) (row : OpenRow) → numbers_line (with_row b row) ≡ numbers_line b
 same_line b (Answered s) = refl
 same_line b (InFlight t) = refl
@@ -42,7 +41,6 @@ module _ (first : FirstBase) (open_state : OpenState) (lines : List (List ℕ)) 
   abbrev front : List (List ℕ)
   front = codes "V 3" ∷ numbers_line base ∷ map row_line (rows_of base)
 
-  -- a line that may come is the end, or that of a row that may stand
   rows_step : (next : Place) → Steps (inside None lines) line next → (line ≡ codes "E") ⊎ IsRowBehind base line
   rows_step next (inl takes) =
       base_front base takes.base line (takes.following ∷ takes.later) reads.says.is_base takes.is_base
@@ -50,7 +48,6 @@ module _ (first : FirstBase) (open_state : OpenState) (lines : List (List ℕ)) 
   rows_step next (inr ends) =
       base_front base ends.base line [] reads.says.is_base ends.is_base (ends.lines_are ∙ ap (λ l. l ++ line ∷ []) reads.lines_are)
 
-  -- no other line may come
   none_comes : line ≢ codes "E" → (IsRowBehind base line → ⊥) → (next : Place) → Steps (inside None lines) line next → ⊥
   none_comes no_end no_row next steps = elim (rows_step next steps) [ inl end ↦ no_end end | inr row ↦ no_row row ]
 
@@ -58,12 +55,10 @@ module _ (first : FirstBase) (open_state : OpenState) (lines : List (List ℕ)) 
   row_unread first' open_state' NotOne no_end none = none_comes no_end (λ row. none refl row.row row.open_row row.line_is)
   row_unread first' open_state' NoMemory no_end none = tt
 
-  -- the line of a row that may not stand
   pub row_refused : (row : OpenRow) → line ≢ codes "E" → IsOpenRow row → line ≡ row_line row → (MayStand base row → ⊥) → (next : Place) → Steps (inside None lines) line next → ⊥
   row_refused row no_end fields is refused =
       none_comes no_end (λ behind. refused (subst (MayStand base) (one_row behind.row row behind.open_row fields (sym behind.line_is ∙ is)) behind.stands))
 
-  -- a row that may stand was taken
   pub row_taken : (first' : FirstBase) (open_state' : OpenState) (row : OpenRow) → line ≡ row_line row → MayStand base row → SaysBase first' open_state' (with_row base row) → TakesBaseLine lines line (Ok false) first' open_state'
   row_taken first' open_state' row is may says =
       let numbers = sym (same_line base row) in
@@ -81,7 +76,6 @@ module _ (first : FirstBase) (open_state : OpenState) (lines : List (List ℕ)) 
         },
       )
 
-  -- the end was taken
   pub end_taken : line ≡ codes "E" → HasRead (lines ++ line ∷ []) open_state
   end_taken is =
       let all = reads.says in

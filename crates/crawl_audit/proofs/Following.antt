@@ -1,4 +1,4 @@
--- What each entry does to a open_state that says what the history does, and why an entry is not legal.
+-- What each entry does to an open_state that agrees with a history, and why an entry is not legal.
 -- Used by the calls of the open_state.
 use Rattle.std.proofs.Common.{◌≡◌, ℕ, ◌+◌, ◌<◌, ◌≤◌, Bool, true, false, max, List, refl, sym, ap, subst, ◌∙◌, arith, Ok, Err}
 use Rattle.std.specs.Prelude.{◌||◌, Option, Result, Some, None, is_err, is_some}
@@ -46,7 +46,6 @@ on_time : (moment now clock : ℕ) → clock ≡ now → clock ≤ moment → mo
 on_time moment now clock same fit = omega arith
 
 module _ (l : OpenState) (h : History) (t : Tells l h) where
-  -- an entry that may come was entered
   comes : (e : Entry) (l' : OpenState) → MayFollow h e → (l.numbers.rising ≡ true → Rises h e) → Tells l' (h ▸ e) → l'.numbers.rising ≡ l.numbers.rising → MayCome l.numbers.rising h e × Enters l.numbers.rising (h ▸ e) l'
   comes e l' fit rises tells same = (record { fit = fit; rises = rises }, record { tells = tells; still = same })
 
@@ -118,7 +117,6 @@ module _ (l : OpenState) (h : History) (t : Tells l h) where
         numbers_tell = granted_tells l.numbers numbers h n t.numbers_tell moment fetch new grants;
       }) grants.rising
 
-  -- a fetch that is denied is not allowed
   pub not_allowed : (token url : List ℕ) (moment : ℕ) (outcome : Result Reason Cause) → Decides h token url moment outcome → is_err outcome ≡ true →
       ((reason : Reason) × Decides h token url moment (Ok reason)) → ⊥
   not_allowed token url moment (Err cause) decided is allowed = clash (decides_once h token url moment (Err cause) (Ok allowed.0) decided allowed.1)
@@ -145,7 +143,6 @@ module _ (l : OpenState) (h : History) (t : Tells l h) where
 
   -- ---- permits
 
-  -- what stands of a number stands of its one permit
   stands_of : (n : ℕ) (token url : List ℕ) → stands h n token url ≡ list_any (λ p. is_fetch_of token url (fetch_of p)) (unspent_under n (phases_of l.numbers n))
   stands_of n token url = list_any-both (is_numbered n) (λ p. is_fetch_of token url (fetch_of p)) (unspent h) ∙ ap (list_any (λ p. is_fetch_of token url (fetch_of p))) (t.numbers_tell.unspent_are n)
 
@@ -266,7 +263,6 @@ module _ (l : OpenState) (h : History) (t : Tells l h) where
       running_one (Some (Unspent fetch)) is = absurd (true≢false (sym is))
       running_one (Some (Running fetch)) is = (fetch, refl)
 
--- the open_state whose rules may have an index more tells the same
 pub told : (l : OpenState) (known : Known) (h : History) → known ≡ l.cache → Tells l h → Tells (record l { cache = known }) h
 told l known h same t = subst (λ (k : Known). Tells (record l { cache = k }) h) (sym same) t
 

@@ -48,7 +48,7 @@ pub grow_last : (first : Text) (later : List Text) (e : Entry) → last_text (gr
 grow_last first [] e = refl
 grow_last first (t ∷ later) e = grow_last t later e
 
--- an entry that may stand at the end of a text
+-- an entry that may end a text
 pub record HasRoomFor (t : Text) (e : Entry) : Type 0 where
   pub spelled : IsEntry t.version e
   pub fit : MayFollow (text_history t) e
@@ -113,7 +113,6 @@ pub snoc_all : (first : Text) (later : List Text) (t : Text) → AllGoOn (text_h
 snoc_all first [] t all on = (on, tt)
 snoc_all first (u ∷ later) t all on = (all.0, snoc_all u later t all.1 on)
 
--- the base of no entry
 pub empty_is_base : IsBase empty_base
 empty_is_base = record {
   permits = record {

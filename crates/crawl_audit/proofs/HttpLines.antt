@@ -1,4 +1,4 @@
--- Which lines name `https`: those of entries and of rows that do, and no other line of a chain.
+-- Only the lines of entries and rows that name `https` do.
 -- Used by `laws`.
 use Rattle.std.proofs.Common.{◌≡◌, ◌≢◌, ℕ, ◌==◌, All, Bool, true, false, cond, List, [], ◌∷◌, ◌++◌, Some, length, decimal, drop, refl, sym, ap, ◌∙◌, subst, arith, codes}
 use Rattle.std.specs.Prelude.{◌||◌, None}
@@ -52,7 +52,6 @@ IsPlain word = is_https word ≡ false
 abbrev IsNoSlash : ℕ → Type 0
 IsNoSlash octet = octet ≢ 47
 
--- a word without `/` is plain
 plain_word : (word : List ℕ) → All IsNoSlash word → IsPlain word
 plain_word word none = by (is_https word) refl
   where
@@ -63,13 +62,11 @@ plain_word word none = by (is_https word) refl
         all : All IsNoSlash (codes "https://" ++ drop 8 word)
         all = subst (All IsNoSlash) ((starts_is Decides-eqb word (codes "https://") _ refl).0 begins) none
 
--- a number in decimal digits
 pub plain_decimal : (n : ℕ) → IsNumber n → IsPlain (decimal n)
 plain_decimal n small =
     plain_word (decimal n) (All-from_get_or IsNoSlash (decimal n) 0
     (λ i within e. let digit = digit_at (decimal n) i (decimal_is_IsNumeral n small).0.1 within in omega (arith, digit, e)))
 
--- a token
 no_slash_token : (octet : ℕ) → is_token_octet octet ≡ true → IsNoSlash octet
 no_slash_token octet is e = grind (arith, nat_tests)
 
@@ -86,7 +83,6 @@ plain_token token own = by (is_token token) refl
     by true is = plain_word token (no_slashes token (grind (arith, nat_tests)))
     by false is = absurd (none-some token (sym (ap (λ t. cond t (Some (lower_case token)) None) is) ∙ own))
 
--- the word of a body
 no_slash_unreserved : (octet : ℕ) → is_unreserved octet ≡ true → IsNoSlash octet
 no_slash_unreserved octet is e = grind (arith, nat_tests)
 
@@ -115,7 +111,6 @@ plain_body text = empty (length text == 0)
     empty true = refl
     empty false = single (bytes_eq text (codes "-"))
 
--- the words of the code
 plain_opening : (opening : Opening) → IsPlain (opening_word opening)
 plain_opening openings.Unavailable = refl
 plain_opening openings.TooManyRedirects = refl
@@ -134,11 +129,9 @@ plain_closure closures.Other = refl
 abbrev pub names_any : List (List ℕ) → Bool
 names_any words = list_any is_https words
 
--- a plain word before others
 pub passed : (word : List ℕ) (words : List (List ℕ)) → IsPlain word → names_any (word ∷ words) ≡ names_any words
 passed word words is = ap (λ b. b || names_any words) is
 
--- a word before others that are plain
 found : (word : List ℕ) (words : List (List ℕ)) → names_any words ≡ false → names_any (word ∷ words) ≡ is_https word
 found word words none = ap (λ b. is_https word || b) none ∙ or-false (is_https word)
 
@@ -195,7 +188,6 @@ fields_name version (Returned number) is = one (decimal number) (plain_decimal n
 fields_name version (Finished number) is = one (decimal number) (plain_decimal number is.fields)
 fields_name version (Swept moment count) is = two (decimal moment) (decimal count) (plain_decimal moment is.fields.0) (plain_decimal count is.fields.1)
 
--- the line of an entry names `https` where the entry does
 pub entry_names : (version : Version) (e : Entry) → IsEntry version e → names_https (entry_line version e) ≡ is_https_entry e
 entry_names version e is = ap names_any (entry_words version e is) ∙ fields_name version e is
 
@@ -228,6 +220,5 @@ row_fields_name (Running p) is =
     let fetch = is.fetch in
     passed (decimal p.number) (p.token ∷ p.url ∷ []) (plain_decimal p.number is.number) ∙ passed p.token (p.url ∷ []) (plain_token p.token fetch.token) ∙ found p.url [] refl
 
--- the line of a row names `https` where the row does
 pub row_names : (r : OpenRow) → IsOpenRow r → names_https (row_line r) ≡ is_https_row r
 row_names r is = ap names_any (row_words r is) ∙ row_fields_name r is

@@ -1,4 +1,4 @@
--- The lines of a chain name `http` alone exactly where its entries and its bases do, so its text is bad at no line.
+-- A chain's lines name only `http` exactly if its entries and bases do, so its text is bad at no line.
 -- Used by `laws`.
 use Rattle.std.proofs.Common.{◌≡◌, ℕ, ◌==◌, All, Bool, true, false, cond, List, [], ◌∷◌, ◌++◌, decimal, flat_map, map, inl, inr, refl, sym, ap, subst, ◌∙◌, arith, codes}
 use Rattle.std.specs.Prelude.{◌↔◌}
@@ -41,14 +41,12 @@ all_before [] rest all = All-nil (IsAmong Http)
 all_before (line ∷ front) rest all =
     All-cons (IsAmong Http) line front (All-head (IsAmong Http) line (front ++ rest) all) (all_before front rest (All-tail (IsAmong Http) line (front ++ rest) all))
 
--- what is said of two lists of lines is said of both
 joined : {A B : Type 0} (front rest : List (List ℕ)) → A ↔ AreHttp front → B ↔ AreHttp rest → A × B ↔ AreHttp (front ++ rest)
 joined front rest f g = (
   λ both. All-append (IsAmong Http) front rest (f.0 both.0) (g.0 both.1),
   λ all. (f.1 (all_before front rest all), g.1 (all_after (IsAmong Http) front rest all)),
 )
 
--- lines that name no site
 nothing : (lines : List (List ℕ)) → AreHttp lines → Unit {0} ↔ AreHttp lines
 nothing lines all = (λ u. all, λ lines. tt)
 
@@ -56,7 +54,6 @@ nothing lines all = (λ u. all, λ lines. tt)
 abbrev Fails : {X : Type 0} → (X → Bool) → X → Type 0
 Fails test x = test x ≡ false
 
--- lines of things, of which a test says whether they name `https`
 mapped : {X : Type 0} (P : X → Type 0) (line : X → List ℕ) (test : X → Bool) → ((x : X) → P x → names_https (line x) ≡ test x) → (xs : List X) → All P xs → All (Fails test) xs ↔ AreHttp (map line xs)
 mapped P line test same [] all = (λ fails. All-nil (IsAmong Http), λ lines. All-nil (Fails test))
 mapped P line test same (x ∷ xs) all =
@@ -68,7 +65,7 @@ mapped P line test same (x ∷ xs) all =
 
 -- ---- the lines of a base
 
--- an answer with a life that it may have, and a grant that a slot may have
+-- an answer with a possible life, and a possible slot grant
 record IsWholeAnswer (s : StandingAnswer) : Type 0 where
   row : IsAnswerRow s
   life : has_its_life s ≡ true
@@ -168,6 +165,5 @@ http_chain_names first later chain =
     let lines = joined (text_lines first) (flat_map text_lines later) (text_names first chain.begins) (later_names (text_history first) later chain.goes_on) in
     (λ http. lines.0 (http.first_text, http.later_texts), λ all. let parts = lines.1 all in record { first_text = parts.0; later_texts = parts.1 })
 
--- the text of such a chain is bad at no line
 pub http_chain_right : HttpChainIsNeverBad
 http_chain_right first later line chain few http = right_chain Http first later line chain few ((http_chain_names first later chain).0 http)

@@ -1,5 +1,5 @@
--- The lists of what the tables of numbers have say of each number and of each slot what the tables do.
--- Cited by the lists of `listing.rt`.
+-- The lists made from the tables of numbers agree with them on each number and slot.
+-- Used by the lists of `listing.rt`.
 use Rattle.std.proofs.Common.{◌≡◌, ℕ, ◌+◌, ◌≤◌, ◌==◌, Bool, false, List, [], ◌∷◌, ◌++◌, filter, length, take, inl, inr, refl, sym, ap, subst, ◌∙◌, append_assoc, append-nil}
 use Rattle.std.specs.Prelude.{Option, Some, None, slice_get}
 use Rattle.std.specs.List.{AllByRecursion, IsDistinct}
@@ -20,32 +20,28 @@ abbrev pub all_of : {V X : Type 0} → (ℕ → Option V → List X) → List (�
 all_of has [] = []
 all_of has (e ∷ es) = has e.0 (Some e.1) ++ all_of has es
 
--- what is listed of a key is its own, and of no value nothing is
+-- what is listed of a key is its own; no value, nothing listed
 pub record AreOwn {V X : Type 0} (has : ℕ → Option V → List X) (is_of : ℕ → X → Bool) : Type 0 where
   pub own : (n : ℕ) (v : V) → filter (is_of n) (has n (Some v)) ≡ has n (Some v)
   pub others : (n m : ℕ) (v : V) → (m == n) ≡ false → filter (is_of n) (has m (Some v)) ≡ []
   pub none : (n : ℕ) → has n None ≡ []
 
 module _ {V X : Type 0} (has : ℕ → Option V → List X) where
-  -- with one entry more
   all_more : (es : List (ℕ × V)) (e : ℕ × V) → all_of has (es ++ e ∷ []) ≡ all_of has es ++ has e.0 (Some e.1)
   all_more [] e = append-nil (has e.0 (Some e.1))
   all_more (f ∷ es) e =
       ap (λ ys. has f.0 (Some f.1) ++ ys) (all_more es e) ∙ sym (append_assoc (has f.0 (Some f.1)) (all_of has es) (has e.0 (Some e.1)))
 
-  -- a list of what the entries so far have, with what the next one has
   pub listed_more : (es : List (ℕ × V)) (i : ℕ) (e : ℕ × V) (old new : List X) → Some e ≡ slice_get es i → old ≡ all_of has (take i es) → new ≡ old ++ has e.0 (Some e.1) →
       new ≡ all_of has (take (i + 1) es)
   listed_more es i e old new at so_far more =
       more ∙ ap (λ xs. xs ++ has e.0 (Some e.1)) so_far ∙ sym (all_more (take i es) e)
       ∙ sym (ap (all_of has) (take_more es i e (slice_get_within es i e (sym at)) ∙ ap (λ (x : ℕ × V). take i es ++ x ∷ []) (get_or_from_slice_get es i e e (sym at))))
 
-  -- a key that is equal to none is not found
   absent : (n : ℕ) (es : List (ℕ × V)) → AllByRecursion (λ other. (n == other) ≡ false) (keys_of es) → lookup (λ other. n == other) es ≡ None
   absent n [] apart = refl
   absent n (e ∷ es) apart = rw apart.0 (absent n es apart.1)
 
-  -- of each key there is what is found under it
   of_key : (is_of : ℕ → X → Bool) → AreOwn has is_of → (n : ℕ) (es : List (ℕ × V)) → IsDistinct (λ (one other : ℕ). one == other) (keys_of es) →
       filter (is_of n) (all_of has es) ≡ has n (lookup (λ other. n == other) es)
   unfolding IsDistinct
@@ -64,12 +60,10 @@ module _ {V X : Type 0} (has : ℕ → Option V → List X) where
       turned : (n ≡ e.0 → ⊥) → (e.0 == n) ≡ false
       turned apart = elim (eqb_tells e.0 n) [ inl same ↦ absurd (apart (sym same.1)) | inr other ↦ other.0 ]
 
-  -- so there is in a list of what all entries have
   pub listed : (is_of : ℕ → X → Bool) → AreOwn has is_of → (es : List (ℕ × V)) → IsDistinct (λ (one other : ℕ). one == other) (keys_of es) → (i : ℕ) (found : List X) → length es ≤ i →
       found ≡ all_of has (take i es) → (n : ℕ) → filter (is_of n) found ≡ has n (lookup (λ other. n == other) es)
   listed is_of are es apart i found whole is n = ap (filter (is_of n)) (is ∙ ap (all_of has) (take_all i es whole)) ∙ of_key is_of are n es apart
 
--- the unspent permits are so
 pub unspent_own : AreOwn unspent_under is_numbered
 unspent_own = record { own = own; others = others; none = λ n. refl }
   where
@@ -81,7 +75,6 @@ unspent_own = record { own = own; others = others; none = λ n. refl }
     others n m (Unspent fetch) apart = rw apart refl
     others n m (Running fetch) apart = refl
 
--- and the running ones
 pub running_own : AreOwn running_under is_numbered
 running_own = record { own = own; others = others; none = λ n. refl }
   where
@@ -93,7 +86,6 @@ running_own = record { own = own; others = others; none = λ n. refl }
     others n m (Unspent fetch) apart = refl
     others n m (Running fetch) apart = rw apart refl
 
--- and the grants
 pub grants_own : AreOwn grants_under is_in
 grants_own = record {
   own = λ slot last. rw (same_number slot) refl;

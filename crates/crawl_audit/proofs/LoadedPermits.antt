@@ -1,5 +1,5 @@
--- A row with a permit or with a slot's greatest generation was loaded into the open_state, which says then what the
--- base with it does. Used by the calls of `first_base` that load such a row.
+-- A row with a permit or a slot's greatest generation was loaded, so the open_state agrees with the base that has it.
+-- Used by `first_base` that load such a row.
 use Rattle.std.proofs.Common.{◌≡◌, ◌≢◌, ℕ, true, false, cond, not, [], ◌∷◌, ◌++◌, inl, inr, length, filter, refl, sym, ap, subst, ◌∙◌, true≢false, append-nil, arith}
 use Rattle.std.specs.Prelude.{Option, Some, None, unwrap_or}
 use Rattle.std.proofs.lemmas.Bool.Decides.{eqb_tells}
@@ -41,7 +41,6 @@ module _ (first first' : FirstBase) (open_state : OpenState) (numbers : Numbers)
 
   -- ---- a slot's greatest generation
 
-  -- nothing is out of a number where no permit is listed
   nothing_out : (o : Option Phase) (number : ℕ) → [] ≡ unspent_under number o → [] ≡ running_under number o → o ≡ None
   nothing_out None number us ys = refl
   nothing_out (Some (phases.Unspent fetch)) number us ys = absurd (omega (arith, ap length us))
@@ -105,9 +104,8 @@ module _ (first first' : FirstBase) (open_state : OpenState) (numbers : Numbers)
         })
         (sets.rising ∙ says.rising) last (λ turn. used turn ∙ says.turns_are turn)
 
-  -- ---- a permit that is out
+  -- ---- an outstanding permit
 
-  -- one number is out that was not, and the lists say so
   put_tells : (b' : Base) (number : ℕ) (phase : Option Phase) → Puts open_state.numbers number phase numbers → is_covered b.grants number ≡ true →
       filter (is_numbered number) b'.unspent ≡ unspent_under number phase → ((m : ℕ) → m ≢ number → filter (is_numbered m) b'.unspent ≡ filter (is_numbered m) b.unspent) →
       filter (is_numbered number) b'.running ≡ running_under number phase → ((m : ℕ) → m ≢ number → filter (is_numbered m) b'.running ≡ filter (is_numbered m) b.running) →
@@ -196,7 +194,6 @@ module _ (first first' : FirstBase) (open_state : OpenState) (numbers : Numbers)
         })
         (puts.rising ∙ says.rising) last (λ turn. used turn ∙ says.turns_are turn)
 
-  -- however it is out
   pub permit_loaded : (number : ℕ) (phase : Phase) → Puts open_state.numbers number (Some phase) numbers → first'.last ≡ Some (key_of (permit_row number phase)) → ((turn : ℕ) → is_used first' turn ≡ is_used first turn) →
       IsOpenRow (permit_row number phase) → MayStand b (permit_row number phase) → SaysBase first' (with_numbers open_state numbers) (with_row b (permit_row number phase))
   permit_loaded number (phases.Unspent fetch) = unspent_loaded number fetch

@@ -1,5 +1,5 @@
--- A row that may stand was loaded into the open_state, which says then what the base with it does.
--- Used by the calls of `first_base` that load a row.
+-- A row that may come was loaded, so the open_state agrees with the base that has it.
+-- Used by `first_base` that load a row.
 use Rattle.std.proofs.Common.{◌≡◌, ℕ, ◌+◌, ◌<◌, ◌==◌, All, Bool, true, false, cond, not, List, [], ◌∷◌, ◌++◌, length, filter, map, refl, sym, ap, subst, ◌∙◌, arith}
 use Rattle.std.specs.Prelude.{◌||◌, nat_lt, Some}
 use Rattle.std.proofs.lemmas.Bool.Decides.{nat_tests}
@@ -28,7 +28,7 @@ use Rattle.crawl_audit.proofs.RowKinds.{FromKind, rows_by_kinds}
 use Rattle.crawl_audit.proofs.RowOrder.{last_push, others_none}
 use Rattle.crawl_audit.proofs.StandingRows.{no_turns}
 
--- ---- what is known of the base with the row
+-- ---- the base with the row
 
 module _ (first first' : FirstBase) (open_state open_state' : OpenState) (b : Base) (row : OpenRow) (says : SaysBase first open_state b) (fields : IsOpenRow row) (may : MayStand b row) where
   pub loaded : TellsAll open_state' (from (with_row b row)) → open_state'.numbers.rising ≡ true → first'.last ≡ Some (key_of row) →
@@ -42,7 +42,6 @@ module _ (first first' : FirstBase) (open_state open_state' : OpenState) (b : Ba
     turns_are = turns;
   }
 
--- the row comes by its kind
 pub by_kind : (b : Base) (row : OpenRow) → MayStand b row → FromKind 0 (rows_of b ++ row ∷ [])
 by_kind b row may = subst (FromKind 0) may.behind (rows_by_kinds (with_row b row))
 
@@ -80,7 +79,6 @@ module _ (first first' : FirstBase) (open_state open_state' : OpenState) (b : Ba
 
 -- ---- answers
 
--- where none passes a test, all are left without those that pass
 all_kept : {X : Type 0} (test : X → Bool) (xs : List X) → length (filter test xs) ≡ 0 → filter (λ x. not (test x)) xs ≡ xs
 all_kept test [] none = refl
 all_kept test (x ∷ xs) none = by (test x) none (all_kept test xs)

@@ -1,5 +1,5 @@
--- What the words of a line name, one after the other. More is named than the one spelling of each entry.
--- Used to show that the readers of `read` read each entry back from its line.
+-- What the words of a line name. It accepts more than the one canonical line of each entry.
+-- Used to show that `read` reads each entry back from its line.
 use Rattle.std.proofs.Common.{◌≡◌, ℕ, List, [], Some, Ok, Err, codes}
 use Rattle.std.specs.Prelude.{Option, None, Result, if◌then◌else◌}
 use Rattle.std.specs.Option.{option_map}
@@ -105,7 +105,7 @@ answer_named version words =
     else (if bytes_eq word (codes "C") then option_map (λ closure. lasting_a_day (says.Closed closure)) (closure_named (head_word (tail_words words)))
     else None))
 
--- the entries that words behind each letter write
+-- the entries for the words behind each letter
 abbrev pub begun_named : List (List ℕ) → Option Entry
 begun_named words =
     and_then (number_of (head_word words)) (λ moment.
@@ -163,7 +163,7 @@ swept_named words =
     and_then (number_of (head_word (tail_words words))) (λ count.
     Some (Swept moment count)))
 
--- the entry that the words behind this letter write
+-- the entry for the words behind this letter
 abbrev pub entry_behind : Version → List ℕ → List (List ℕ) → Option Entry
 entry_behind version letter words =
     if bytes_eq letter (codes "B") then begun_named words
@@ -181,13 +181,13 @@ entry_behind version letter words =
 abbrev pub entry_named : Version → List ℕ → Option Entry
 entry_named version line = entry_behind version (head_word (words_of line)) (tail_words (words_of line))
 
--- the result is the entry that words name, or says that they name none, or that memory was refused
+-- the result is the named entry, or says that there is none, or that memory was refused
 abbrev pub NamesEntry : Result Record UnreadLine → Option Entry → Type 0
 NamesEntry (Ok found) named = named ≡ Some (entry_of found)
 NamesEntry (Err NotOne) named = named ≡ None
 NamesEntry (Err NoMemory) named = Unit {0}
 
--- the same of an answer and its life
+-- like `NamesEntry`, for an answer and its life
 abbrev pub NamesAnswer : Result (Answer × ℕ) UnreadLine → Option Lasting → Type 0
 NamesAnswer (Ok pair) named = named ≡ Some (record { says = said pair.0; life = pair.1 })
 NamesAnswer (Err NotOne) named = named ≡ None

@@ -1,5 +1,5 @@
--- What the words of a base's line name, one after the other. More is named than the one spelling of each row.
--- Used to show that the readers of `read_base` read each row, and the numbers of a base, back from its line.
+-- What the words of a base's line name. It accepts more than the one canonical line of each row.
+-- Used to show that `read_base` reads each row, and a base's numbers, back from its line.
 use Rattle.std.proofs.Common.{◌≡◌, ℕ, List, Some, Ok, Err, codes}
 use Rattle.std.specs.Prelude.{Option, None, Result, if◌then◌else◌}
 use Rattle.std.specs.Option.{option_map}
@@ -19,7 +19,7 @@ use Rattle.crawl_audit.specs.OpenRows.{OpenRow, Answered, InFlight, Greatest, Un
 use Rattle.crawl_audit.specs.Reading.{head_word, tail_words}
 use Rattle.crawl_audit.proofs.NamedEntries.{and_then, answer_named, authority_named, page_named}
 
--- the things that words behind each letter write
+-- the rows for the words behind each letter
 abbrev pub answered_named : List (List ℕ) → Option OpenRow
 answered_named words =
     and_then (authority_named (head_word words)) (λ authority.
@@ -49,7 +49,7 @@ permit_named words =
     and_then (page_named (head_word (tail_words (tail_words words)))) (λ url.
     Some (record { number = number; token = token; url = url }))))
 
--- the thing that the words behind this letter write
+-- the row for the words behind this letter
 abbrev pub row_behind : List ℕ → List (List ℕ) → Option OpenRow
 row_behind letter words =
     if bytes_eq letter (codes "H") then answered_named words
@@ -63,13 +63,13 @@ row_behind letter words =
 abbrev pub row_named : List ℕ → Option OpenRow
 row_named line = row_behind (head_word (words_of line)) (tail_words (words_of line))
 
--- the result is the thing that was to be read, or says that none was, or that memory was refused
+-- the result is the named row, or says that there is none, or that memory was refused
 abbrev pub NamesRow : Result BaseRow UnreadLine → Option OpenRow → Type 0
 NamesRow (Ok found) expected = expected ≡ Some (row_of found)
 NamesRow (Err NotOne) expected = expected ≡ None
 NamesRow (Err NoMemory) expected = Unit {0}
 
--- the same of a permit's number and fetch
+-- like `NamesRow`, for a permit's number and fetch
 abbrev pub NamesPermit : Result (ℕ × Fetch) UnreadLine → Option GrantedPermit → Type 0
 NamesPermit (Ok pair) expected = expected ≡ Some (permit_for pair.0 pair.1)
 NamesPermit (Err NotOne) expected = expected ≡ None

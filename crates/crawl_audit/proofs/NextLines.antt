@@ -1,5 +1,5 @@
--- The lines of the base that must come: which stands at a place, and what a line leads to.
--- Cited by `NextBase::is_line_at` and `take`.
+-- Which line of the next base is at a place, and where a line leads.
+-- Used by `NextBase::is_line_at` and `take`.
 use Rattle.std.proofs.Common.{◌≡◌, ℕ, ◌-◌, ◌<◌, ◌≤◌, zero, suc, Bool, List, [], ◌∷◌, ◌++◌, codes, length, map, refl, sym, ap, subst, ◌∙◌, arith}
 use Rattle.std.specs.Prelude.{◌↔◌, IsTrue, Option, Some, None, slice_get, unwrap_or}
 use Rattle.std.proofs.lemmas.List.{length-map}
@@ -10,12 +10,10 @@ use Rattle.crawl_audit.proofs.RowSpelling.{open_apart}
 
 -- ---- a list at a place
 
--- behind the first
 pub get_tail : {X : Type 0} (x : X) (xs : List X) (k : ℕ) → 0 < k → slice_get (x ∷ xs) k ≡ slice_get xs (k - 1)
 get_tail x xs zero some = absurd (omega arith)
 get_tail x xs (suc k) some = let e : k ≡ suc k - 1 = omega arith in ap (slice_get xs) e
 
--- in the first of two lists, and in the second
 get_in : {X : Type 0} (xs ys : List X) (k : ℕ) → k < length xs → slice_get (xs ++ ys) k ≡ slice_get xs k
 get_in [] ys k within = absurd (omega arith)
 get_in (x ∷ xs) ys zero within = refl
@@ -26,7 +24,6 @@ get_behind [] ys k low = let e : k ≡ k - 0 = omega arith in ap (slice_get ys) 
 get_behind (x ∷ xs) ys zero low = absurd (omega arith)
 get_behind (x ∷ xs) ys (suc k) low = get_behind xs ys k (omega arith) ∙ (let e : k - length xs ≡ suc k - length (x ∷ xs) = omega arith in ap (slice_get ys) e)
 
--- the same of the lines of rows
 pub in_rows : {X : Type 0} (f : X → List ℕ) (xs : List X) (ys : List (List ℕ)) (k : ℕ) → k < length xs → slice_get (map f xs ++ ys) k ≡ slice_get (map f xs) k
 in_rows f xs ys k within = get_in (map f xs) ys k (let long = length-map xs f in omega arith)
 
@@ -55,7 +52,6 @@ from_turns b = map turn_line b.in_flight ++ from_grants b
 abbrev pub from_answers : Base → List (List ℕ)
 from_answers b = map answer_line b.standing ++ from_turns b
 
--- what stands at a place, by the place behind the rows before it
 pub at_answers : (b : Base) (k : ℕ) → 0 < k → slice_get (lines_behind b) k ≡ slice_get (from_answers b) (k - 1)
 at_answers b k some = get_tail (numbers_line b) (open_lines b ++ last_line) k some ∙ ap (λ ls. slice_get ls (k - 1)) (open_apart b last_line)
 
@@ -87,9 +83,8 @@ at_last b k n m i j q some n_is n_low m_is m_low i_is i_low j_is j_low q_is q_lo
     at_runs b k n m i j some n_is n_low m_is m_low i_is i_low j_is j_low ∙ behind_rows running_line b.running last_line (k - 1 - n - m - i - j) (omega arith)
     ∙ ap (λ x. slice_get last_line (k - 1 - n - m - i - j - x)) (sym q_is)
 
--- ---- whether a line is that at a place
+-- ---- whether a line is the one at a place
 
--- where the place is one of these rows
 pub in_list : {X : Type 0} (f : X → List ℕ) (xs items : List X) (ys whole : List (List ℕ)) (k j : ℕ) (line : List ℕ) (result : Bool) →
     xs ≡ items → slice_get whole k ≡ slice_get (map f items ++ ys) j → j < length items →
     (IsTrue result ↔ (slice_get (map f xs) j ≡ Some line)) → IsTrue result ↔ (slice_get whole k ≡ Some line)
@@ -97,7 +92,6 @@ in_list f xs items ys whole k j line result same there within told =
     subst (λ (o : Option (List ℕ)). IsTrue result ↔ (o ≡ Some line)) (sym (there ∙ in_rows f items ys j within))
     (subst (λ zs. IsTrue result ↔ (slice_get (map f zs) j ≡ Some line)) same told)
 
--- where it is behind all of them
 pub at_end : (whole : List (List ℕ)) (k j : ℕ) (line text : List ℕ) (result : Bool) → slice_get whole k ≡ slice_get last_line j → j ≡ 0 → text ≡ codes "E" →
     (IsTrue result ↔ (line ≡ text)) → IsTrue result ↔ (slice_get whole k ≡ Some line)
 at_end whole k j line text result there none is told =
@@ -106,7 +100,6 @@ at_end whole k j line text result there none is told =
       λ same. told.1 (ap (λ o. unwrap_or o text) (sym same ∙ here) ∙ sym is),
     )
 
--- and where it is past the end
 pub past_end : (whole : List (List ℕ)) (k j : ℕ) (line : List ℕ) → slice_get whole k ≡ slice_get last_line j → 0 < j → slice_get whole k ≡ Some line → ⊥
 past_end whole k zero line there some is = absurd (omega arith)
 past_end whole k (suc j) line there some is = clash (sym there ∙ is)

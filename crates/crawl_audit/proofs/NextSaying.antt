@@ -1,5 +1,5 @@
--- The base that is made of what the tables have is that of a text, and says what the history does.
--- Cited by `OpenState::next_base`, and where a further text's base was read.
+-- The base made from the tables may be that of a text, and agrees with the history.
+-- Used by `OpenState::next_base`, and where a further text's base was read.
 use Rattle.std.proofs.Common.{◌≡◌, ℕ, ◌<◌, All, true, true≢false, List, [], ◌∷◌, codes, filter, inl, inr, refl, sym, subst, ◌∙◌, arith}
 use Rattle.std.specs.Prelude.{Option, Some, None}
 use Rattle.std.proofs.lemmas.Bool.Decides.{eqb_tells}
@@ -26,9 +26,8 @@ use Rattle.crawl_audit.specs.NextBase.{Expects, IsNextOf, TellsLeft, base_in, li
 use Rattle.crawl_audit.specs.Tables.{Lasts, Tells, TellsAll, TellsNumbers, grants_under}
 use Rattle.crawl_audit.proofs.OneOrder.{Among, among_filter}
 
--- ---- tables that tell
+-- ---- tables that agree with a history
 
--- where grants rise, tables say what a base does that says what the history does of which they tell
 pub tells_alike : (l : OpenState) (h : History) (b : Base) → SaysAs (from b) h → Tells l h → l.numbers.rising ≡ true → Tells l (from b)
 tells_alike l h b says tells rising =
     let cache = tells.cache_tells in
@@ -51,7 +50,6 @@ tells_alike l h b says tells rising =
       };
     }
 
--- so do they of the counts
 pub all_alike : (l : OpenState) (h : History) (b : Base) → SaysAs (from b) h → TellsAll l h → l.numbers.rising ≡ true → TellsAll l (from b)
 all_alike l h b says all rising = record {
   tells = tells_alike l h b says all.tells rising;
@@ -60,7 +58,6 @@ all_alike l h b says all rising = record {
   few = all.few;
 }
 
--- and so they do once grants must rise
 pub risen_alike : (l : OpenState) (h : History) (b : Base) → SaysAs (from b) h → TellsAll l h → TellsAll (with_numbers l (risen l.numbers)) (from b)
 risen_alike l h b says all = all_alike (with_numbers l (risen l.numbers)) h b says risen_all refl
   where
@@ -93,12 +90,10 @@ risen_alike l h b says all = all_alike (with_numbers l (risen l.numbers)) h b sa
 
 -- ---- slots and generations
 
--- of whatever stands in a list
 all_among : {X : Type 0} (P : X → Type 0) (xs : List X) → ((x : X) → Among x xs → P x) → All P xs
 all_among P [] each = All-nil P
 all_among P (x ∷ xs) each = All-cons P x xs (each x (inl refl)) (all_among P xs (λ y there. each y (inr there)))
 
--- grants that a table has are such as it has
 pub grants_fit : (lasts : Lasts) (gs : List SlotGrant) → ((slot : ℕ) → filter (is_in slot) gs ≡ grants_under slot (lasts slot)) →
     ((slot generation : ℕ) → lasts slot ≡ Some generation → IsSlotGrant (record { slot = slot; generation = generation })) → All IsSlotGrant gs
 grants_fit lasts gs are fit =
@@ -113,7 +108,6 @@ grants_fit lasts gs are fit =
 
 module _ (l : OpenState) (left : LeftOpen) (numbers : BaseNumbers) (lists : TellsLeft l left)
     (begun : numbers.begins ≡ l.begins) (moment : numbers.moment ≡ l.clock) (entries : numbers.entries ≡ l.entries) (started : numbers.started ≡ l.started) where
-  -- lists of what the tables have say what the history does
   pub left_says : (h : History) → TellsAll l h → SaysAs (from (base_with left numbers)) h
   left_says h all = record {
     answers = keys_say.answers left.standing.items (standing h) (λ a. lists.answers a ∙ sym (cache.answers_are a));
@@ -141,13 +135,11 @@ module _ (l : OpenState) (left : LeftOpen) (numbers : BaseNumbers) (lists : Tell
       same : SaySame is_in left.grants.items (grants h)
       same = keys_say.grants left.grants.items (grants h) (λ slot. lists.slots slot ∙ sym (table.grants_are slot))
 
-  -- so does the base in order
   next_says : (next : NextBase) → IsNextOf left numbers next → (h : History) → IsLegal h → TellsAll l h → SaysAs (from (base_in next)) h
   next_says next is h legal all =
       let says = left_says h all in
       says_on (from (base_in next)) (from (base_with left numbers)) h (reordering_says (base_with left numbers) (base_in next) (says_base (base_with left numbers) h legal says) is.same) says
 
-  -- and where something was entered it is that of a text
   next_text : (next : NextBase) → IsNextOf left numbers next → (h : History) → IsLegal h → TellsAll l h → 0 < entry_count h → IsTextBase (base_in next)
   next_text next is h legal all some =
       let says = next_says next is h legal all in
@@ -160,7 +152,6 @@ module _ (l : OpenState) (left : LeftOpen) (numbers : BaseNumbers) (lists : Tell
         some = let same = says.entries in omega arith;
       }
 
-  -- its lines are expected behind the first one
   pub next_expects : (next : NextBase) → IsNextOf left numbers next → (h : History) → IsLegal h → TellsAll l h → Expects next h (codes "V 3" ∷ [])
   next_expects next is h legal all = elim (eqb_tells next.numbers.entries 0) [
     | inl none ↦ inr (record { none = none.1; entries = sym says.entries ∙ none.1; lines_are = refl })

@@ -1,5 +1,5 @@
--- What a line leads to behind the first lines of the base that must come.
--- Cited by `NextBase::take`.
+-- Where a line leads behind the first lines of the next base.
+-- Used by `NextBase::take`.
 use Rattle.std.proofs.Common.{◌≡◌, ℕ, ◌+◌, ◌-◌, ◌≤◌, ◌⊎◌, List, [], ◌∷◌, ◌++◌, codes, length, map, inl, inr, refl, sym, ap, subst, ◌∙◌, append_assoc, append-nil, arith}
 use Rattle.std.specs.Prelude.{Some, None, slice_get}
 use Rattle.std.proofs.lemmas.List.{length-append, length-map}
@@ -15,7 +15,6 @@ use Rattle.crawl_audit.specs.Steps.{EndsBase, Place, TakesLine, inside}
 use Rattle.crawl_audit.proofs.NextLines.{get_behind, get_tail}
 use Rattle.crawl_audit.proofs.OneOrder.{one_next_base}
 
--- how many lines a base has behind `V 3`
 many : (next : NextBase) → length (lines_behind (base_in next)) ≡ row_count next.left + 2
 many next =
     let b : Base = base_in next in
@@ -37,7 +36,6 @@ many next =
       length-map b.running running_line,
     )
 
--- the line at the place behind some lines is the first of the rest
 at_seam : (b : Base) (lines rest : List (List ℕ)) (taken : ℕ) → base_lines b ≡ lines ++ rest → length lines ≡ taken + 1 → slice_get (lines_behind b) taken ≡ slice_get rest 0
 at_seam b lines rest taken are long =
     (let e : taken ≡ taken + 1 - 1 = omega arith in ap (slice_get (lines_behind b)) e)
@@ -46,7 +44,6 @@ at_seam b lines rest taken are long =
     ∙ get_behind lines rest (taken + 1) (omega arith)
     ∙ (let e : taken + 1 - length lines ≡ 0 = omega arith in ap (slice_get rest) e)
 
--- the first of a list that has one
 first_is : (rest : List (List ℕ)) (line : List ℕ) → slice_get rest 0 ≡ Some line → (later : List (List ℕ)) × (rest ≡ line ∷ later)
 first_is [] line is = absurd (clash is)
   where
@@ -57,7 +54,6 @@ first_is (x ∷ later) line is = (later, let same : x ≡ line = cc in ap (λ l.
 -- ---- the line that must come
 
 module _ (next : NextBase) (h : History) (lines : List (List ℕ)) (line : List ℕ) (is : Awaits next h lines) (here : slice_get (lines_behind (base_in next)) next.taken ≡ Some line) where
-  -- it is the first of the rest
   behind : (later : List (List ℕ)) × (base_lines (base_in next) ≡ (lines ++ line ∷ []) ++ later)
   behind =
       let first = first_is is.rest line (sym (at_seam (base_in next) lines is.rest next.taken is.lines_are is.taken) ∙ here) in
@@ -73,7 +69,6 @@ module _ (next : NextBase) (h : History) (lines : List (List ℕ)) (line : List 
       let first : length (base_lines (base_in next)) ≡ length (lines_behind (base_in next)) + 1 = omega arith in
       omega (arith, length-append (lines ++ line ∷ []) behind.0, longer, many next)
 
-  -- the last one
   pub last_line : next.taken + 1 ≡ next.count → IsWholeBase h (lines ++ line ∷ [])
   last_line last = by behind.0 behind.1 counted
     where
@@ -81,11 +76,10 @@ module _ (next : NextBase) (h : History) (lines : List (List ℕ)) (line : List 
       by [] are all = record { base = base_in next; is_base = is.base; says = is.says; lines_are = are ∙ append-nil (lines ++ line ∷ []) }
       by (l ∷ later) are all = absurd (omega arith)
 
-  -- the base that must come, with one line more read
+  -- the next base, with one more line read
   abbrev read_on : NextBase
   read_on = record { left = next.left; numbers = next.numbers; count = next.count; taken = next.taken + 1 }
 
-  -- and one of several
   pub more_line : (next.taken + 1 ≡ next.count → ⊥) → Expects read_on h (lines ++ line ∷ []) × TakesLine (Some h) lines line (inside (Some h) (lines ++ line ∷ []))
   more_line more = by behind.0 behind.1 counted
     where
@@ -97,20 +91,18 @@ module _ (next : NextBase) (h : History) (lines : List (List ℕ)) (line : List 
         record { base = base_in next; is_base = (is.base, is.says); following = l; later = later; lines_are = are; next_is = refl },
       )
 
--- where something was entered, a base is awaited
 pub awaited : (next : NextBase) (h : History) (lines : List (List ℕ)) → Expects next h lines → (next.numbers.entries ≡ 0 → ⊥) → Awaits next h lines
 awaited next h lines (inl is) some = is
 awaited next h lines (inr none) some = absurd (some none.none)
 
 -- ---- another line
 
--- nothing was entered, or all lines were read, or another line must come
+-- nothing was entered, or all lines were read, or another line is expected
 abbrev pub Stops : NextBase → List ℕ → Type 0
 Stops next line =
     (next.numbers.entries ≡ 0) ⊎ ((next.count ≤ next.taken) ⊎ (slice_get (lines_behind (base_in next)) next.taken ≡ Some line → ⊥))
 
 module _ (next : NextBase) (h : History) (lines : List (List ℕ)) (line : List ℕ) where
-  -- a base of which it is the next line is the one that is awaited
   only_here : Awaits next h lines → (b : Base) (more : List (List ℕ)) → IsTextBase b → SaysAs (from b) h → base_lines b ≡ lines ++ line ∷ more → slice_get (lines_behind (base_in next)) next.taken ≡ Some line
   only_here is b more text says are =
       let own = is.base in
@@ -127,7 +119,6 @@ module _ (next : NextBase) (h : History) (lines : List (List ℕ)) (line : List 
       clash e = cc
   not_another (inl is) (inr (inr differs)) b more text says are = differs (only_here is b more text says are)
 
-  -- so it is refused
   pub other_line : Expects next h lines → Stops next line → (place : Place) → (TakesLine (Some h) lines line place → ⊥) × (EndsBase (Some h) lines line place → ⊥)
   other_line expects stops place = (
     λ takes. not_another expects stops takes.base (takes.following ∷ takes.later) takes.is_base.0 takes.is_base.1

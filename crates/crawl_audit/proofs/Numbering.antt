@@ -1,4 +1,4 @@
--- How each entry changes what the tables of numbers have to say.
+-- How each entry changes the tables of numbers.
 -- Used by the calls of the open_state.
 use Rattle.std.proofs.Common.{◌≡◌, ◌≢◌, ℕ, ◌==◌, Bool, true, false, cond, max, not, List, [], ◌∷◌, ◌++◌, filter, inl, inr, refl, sym, ap, subst, ◌∙◌, true≢false, append-nil, arith}
 use Rattle.std.specs.Prelude.{◌||◌, ◌&&◌, nat_le, nat_lt, Option, Some, None, unwrap_or}
@@ -23,9 +23,8 @@ use Rattle.crawl_audit.specs.declared.numbers.Phase.TheVariants.{Unspent, Runnin
 use Rattle.gate_history.specs.Grants.{IsSlotGrant}
 use Rattle.crawl_audit.specs.Tables.{Grants, grants_under, greatest_with, is_above, is_new, is_noted, lasts_of, phases_of, Puts, running_under, TellsNumbers, unspent_under}
 
--- ---- what is known of a slot
+-- ---- a slot
 
--- the greatest generation of a slot is that of its grants
 of_slot : (xs : List SlotGrant) (slot : ℕ) → greatest_of xs slot ≡ greatest_of (filter (is_in slot) xs) slot
 of_slot [] slot = refl
 of_slot (x ∷ xs) slot = by (is_in slot x) refl (of_slot xs slot)
@@ -35,7 +34,6 @@ of_slot (x ∷ xs) slot = by (is_in slot x) refl (of_slot xs slot)
     by true is rest = ap (max (generation_in slot x)) rest
     by false is rest = let none : generation_in slot x ≡ 0 = rw is refl in omega arith
 
--- the one grant of a slot
 greatest_one : (slot last : ℕ) → greatest_of (grants_under slot (Some last)) slot ≡ last
 greatest_one slot last = rw (same_number slot) (omega arith)
 
@@ -53,7 +51,6 @@ not_less a b = by (nat_lt b a) refl
     by true is = grind (arith, nat_tests)
     by false is = grind (arith, nat_tests)
 
--- a number is covered where it is not above the greatest generation of its slot
 pub covered_is : (gs : List SlotGrant) (n : ℕ) (last : Option ℕ) → filter (is_in (slot_of n)) gs ≡ grants_under (slot_of n) last → is_covered gs n ≡ not (is_above (generation_of n) last)
 covered_is gs n None is =
     let none : list_any (is_in (slot_of n)) gs ≡ false = list_any-filter (is_in (slot_of n)) gs ∙ ap (list_any (λ _. true)) is in
@@ -65,7 +62,6 @@ covered_is gs n (Some last) is =
 unequal : (n m : ℕ) → m ≢ n → (n == m) ≡ false
 unequal n m apart = elim (eqb_tells n m) [ inl e ↦ absurd (apart (sym e.1)) | inr d ↦ d.0 ]
 
--- the grants of each slot after one more
 granted_slots : (gs : List SlotGrant) (n slot : ℕ) (last : ℕ → Option ℕ) → ((s : ℕ) → filter (is_in s) gs ≡ grants_under s (last s)) →
     filter (is_in slot) (with_grant n gs) ≡ grants_under slot (cond (slot_of n == slot) (Some (greatest_with (generation_of n) (last (slot_of n)))) (last slot))
 granted_slots gs n slot last are = elim (eqb_tells (slot_of n) slot) [
@@ -95,7 +91,6 @@ granted_slots gs n slot last are = elim (eqb_tells (slot_of n) slot) [
 
 -- ---- what the tables say
 
--- an entry that grants, spends and ends nothing changes nothing
 pub still : (numbers : Numbers) (h h' : History) → unspent h' ≡ unspent h → running h' ≡ running h → grants h' ≡ grants h → ((n : ℕ) → was_granted h' n ≡ was_granted h n) → TellsNumbers numbers h → TellsNumbers numbers h'
 still numbers h h' permits runs slots granted t = record {
   unspent_are = λ n. ap (filter (is_numbered n)) permits ∙ t.unspent_are n;
@@ -113,7 +108,6 @@ none_some x o some none = clash (sym some ∙ none)
     clash : Some x ≡ None → ⊥
     clash e = cc
 
--- one number, which was out, is out otherwise
 step : (p p' : Numbers) (h h' : History) (n : ℕ) (y : Phase) (x : Option Phase) → TellsNumbers p h → phases_of p n ≡ Some y → Puts p n x p' →
     filter (is_numbered n) (unspent h') ≡ unspent_under n x → ((m : ℕ) → m ≢ n → filter (is_numbered m) (unspent h') ≡ filter (is_numbered m) (unspent h)) →
     filter (is_numbered n) (running h') ≡ running_under n x → ((m : ℕ) → m ≢ n → filter (is_numbered m) (running h') ≡ filter (is_numbered m) (running h)) →
@@ -152,12 +146,10 @@ step p p' h h' n y x tells was puts own others runs others_run slots granted = r
     above_before : (m : ℕ) → is_above (generation_of m) (lasts_of p' (slot_of m)) ≡ true → is_above (generation_of m) (lasts_of p (slot_of m)) ≡ true
     above_before m above = ap (is_above (generation_of m)) (sym (lasts (slot_of m))) ∙ above
 
--- a generation that was granted is not above the greatest
 not_above_own : (k : ℕ) (o : Option ℕ) → is_above k (Some (greatest_with k o)) ≡ false
 not_above_own k None = grind (arith, nat_tests)
 not_above_own k (Some last) = grind (arith, nat_tests)
 
--- what is above the greater of two is above the other
 above_less : (g k : ℕ) (o : Option ℕ) → is_above g (Some (greatest_with k o)) ≡ true → is_above g o ≡ true
 above_less g k None above = refl
 above_less g k (Some last) above = grind (arith, nat_tests)
@@ -167,7 +159,6 @@ or_parts true b is = absurd (true≢false is)
 or_parts false b is = is
 
 module _ (p p' : Numbers) (h : History) (n : ℕ) (tells : TellsNumbers p h) where
-  -- nothing is out under a new number
   pub new_free : is_new p n ≡ true → phases_of p n ≡ None
   new_free new = by p.rising refl new
     where
@@ -179,7 +170,6 @@ module _ (p p' : Numbers) (h : History) (n : ℕ) (tells : TellsNumbers p h) whe
           unnot true e = sym e
           unnot false e = refl
 
-  -- a number was granted that is new
   pub granted_tells : (moment : ℕ) (fetch : Fetch) → is_new p n ≡ true → Grants p n fetch p' → TellsNumbers p' (h ▸ Granted moment n fetch)
   granted_tells moment fetch new keeps = record {
     unspent_are = λ m. elim (eqb_tells n m) [
@@ -230,7 +220,6 @@ module _ (p p' : Numbers) (h : History) (n : ℕ) (tells : TellsNumbers p h) whe
       ]
       before m false is above = above
 
-  -- an unspent permit was spent by a start
   pub started_tells : (moment : ℕ) (reason : Reason) (fetch : Fetch) → phases_of p n ≡ Some (Unspent fetch) → Puts p n (Some (Running fetch)) p' → TellsNumbers p' (h ▸ Started moment n reason)
   started_tells moment reason fetch some puts =
       let permits : filter (is_numbered n) (unspent h) ≡ permit_for n fetch ∷ [] = tells.unspent_are n ∙ ap (unspent_under n) some in
@@ -240,21 +229,18 @@ module _ (p p' : Numbers) (h : History) (n : ℕ) (tells : TellsNumbers p h) whe
       (λ m apart. ap (λ added. filter (is_numbered m) (running h ++ added)) permits ∙ numbered-added (running h) (permit_for n fetch) m apart)
       refl (λ m. refl)
 
-  -- a start was denied
   pub start_denied_tells : (moment : ℕ) (cause : Cause) (fetch : Fetch) → phases_of p n ≡ Some (Unspent fetch) → Puts p n None p' → TellsNumbers p' (h ▸ StartDenied moment n cause)
   start_denied_tells moment cause fetch some puts =
       step p p' h (h ▸ StartDenied moment n cause) n (Unspent fetch) None tells some puts
       (numbered-gone (unspent h) n) (λ m apart. numbered-without (unspent h) n m apart)
       (tells.running_are n ∙ ap (running_under n) some) (λ m apart. refl) refl (λ m. refl)
 
-  -- an unspent permit was given back
   pub returned_tells : (fetch : Fetch) → phases_of p n ≡ Some (Unspent fetch) → Puts p n None p' → TellsNumbers p' (h ▸ Returned n)
   returned_tells fetch some puts =
       step p p' h (h ▸ Returned n) n (Unspent fetch) None tells some puts
       (numbered-gone (unspent h) n) (λ m apart. numbered-without (unspent h) n m apart)
       (tells.running_are n ∙ ap (running_under n) some) (λ m apart. refl) refl (λ m. refl)
 
-  -- a fetch that ran has ended
   pub finished_tells : (fetch : Fetch) → phases_of p n ≡ Some (Running fetch) → Puts p n None p' → TellsNumbers p' (h ▸ Finished n)
   finished_tells fetch some puts =
       step p p' h (h ▸ Finished n) n (Running fetch) None tells some puts
@@ -266,7 +252,6 @@ module _ (p p' : Numbers) (h : History) (n : ℕ) (tells : TellsNumbers p h) whe
   slot_covered : is_covered (grants h) n ≡ not (is_above (generation_of n) (lasts_of p (slot_of n)))
   slot_covered = covered_is (grants h) n (lasts_of p (slot_of n)) (tells.grants_are (slot_of n))
 
-  -- a new number was never granted
   pub new_ungranted : is_new p n ≡ true → was_granted h n ≡ false
   new_ungranted new = by p.rising refl new
     where
@@ -282,11 +267,9 @@ module _ (p p' : Numbers) (h : History) (n : ℕ) (tells : TellsNumbers p h) whe
           unnot true e = sym e
           unnot false e = refl
 
-  -- where grants rise, it is not covered
   pub new_rises : is_new p n ≡ true → p.rising ≡ true → is_covered (grants h) n ≡ false
   new_rises new rising = slot_covered ∙ ap not (sym (ap (λ b. cond b (is_above (generation_of n) (lasts_of p (slot_of n))) (not (is_noted p n))) rising) ∙ new)
 
-  -- another number was granted, or is covered where grants rise
   pub old_refused : is_new p n ≡ false → was_granted h n ≡ false → (p.rising ≡ true → is_covered (grants h) n ≡ false) → ⊥
   old_refused old never rises = by p.rising refl old
     where

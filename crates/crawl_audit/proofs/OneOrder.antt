@@ -1,4 +1,4 @@
--- Lists in one order that say the same are the same, and so are bases in order.
+-- Sorted lists with the same elements are equal, and so are bases in order.
 -- Used by `laws`.
 use Rattle.std.proofs.Common.{◌≡◌, ℕ, ◌+◌, ◌<◌, ◌≤◌, ◌==◌, ◌⊎◌, zero, suc, Bool, true, false, cond, List, [], ◌∷◌, length, filter, get_or, inl, inr, refl, sym, ap, subst, ◌∙◌, true≢false, arith}
 use Rattle.std.specs.Prelude.{nat_lt}
@@ -25,9 +25,9 @@ use Rattle.gate_history.specs.Grants.{is_in}
 use Rattle.gate_history.specs.Order.{AnswersRise, GrantsRise, PermitsRise, TurnsRise}
 use Rattle.crawl_audit.specs.Laws.{OneNextBase}
 
--- ---- what stands in a list
+-- ---- elements of a list
 
--- z stands in the list
+-- z is in the list
 abbrev pub Among : {X : Type 0} → X → List X → Type 0
 Among z [] = ⊥
 Among z (x ∷ xs) = (z ≡ x) ⊎ Among z xs
@@ -52,13 +52,11 @@ module _ {X : Type 0} (p : X → Bool) (z : X) where
       by true (inr m) rest = inr (rest m)
       by false m rest = inr (rest m)
 
--- where it stands
 among_at : {X : Type 0} (z : X) (xs : List X) → Among z xs → (d : X) → (i : ℕ) × (i < length xs) × (get_or xs i d ≡ z)
 among_at z [] there d = absurd there
 among_at z (x ∷ xs) (inl e) d = (zero, omega arith, sym e)
 among_at z (x ∷ xs) (inr m) d = let at = among_at z xs m d in let within = at.1 in (suc at.0, omega arith, at.2)
 
--- two of which a list has one at most are one
 one_of : {X : Type 0} (z w : X) (xs : List X) → length xs ≤ 1 → Among z xs → Among w xs → z ≡ w
 one_of z w [] few there also = absurd there
 one_of z w (x ∷ []) few (inl e) (inl f) = e ∙ sym f
@@ -79,7 +77,6 @@ module _ {X : Type 0} (lt : X → X → Bool) (o : IsStrictWeakOrder lt) where
       by true is = absurd (true≢false (sym is ∙ o.one_way x x is))
       by false is = is
 
-  -- none is less than the first
   least : (x z : X) (xs : List X) → IsSortedBy lt (x ∷ xs) → Among z (x ∷ xs) → lt z x ≡ false
   least x z xs sorted (inl e) = ap (λ y. lt y x) e ∙ irreflexive x
   least x z xs sorted (inr m) =
@@ -91,7 +88,7 @@ module _ {X : Type 0} (lt : X → X → Bool) (o : IsStrictWeakOrder lt) where
   behind x xs sorted k d from within =
       sorted_far lt o (x ∷ xs) sorted (suc k) (suc (k + 1)) d (omega arith) (omega arith)
 
-  -- lists in order are the same where of each key they have the same, and where what ties is the same
+  -- sorted lists with the same elements of each key are equal, if ties are
   one_order : {K : Type 0} (is_of : K → X → Bool) (key : X → K) → ((x : X) → is_of (key x) x ≡ true) → (xs ys : List X) → IsSortedBy lt xs → IsSortedBy lt ys →
       ((z w : X) → Among z xs → Among w xs → lt z w ≡ false → lt w z ≡ false → z ≡ w) → ((k : K) → filter (is_of k) xs ≡ filter (is_of k) ys) → xs ≡ ys
   one_order is_of key own [] [] sx sy unique same = refl
@@ -162,7 +159,6 @@ one_grants xs ys sx sy few same =
     one_order _ (ranks_by nat_cmp_total (λ (g : SlotGrant). g.slot)) is_in (λ g. g.slot) (λ g. same_number g.slot) xs ys sx sy
     (λ z w there here p q. once (is_in z.slot) xs z w (few z.slot) (same_number z.slot) (ap (λ n. n == z.slot) (sym (nat_tie z.slot w.slot p q)) ∙ same_number z.slot) there here) same
 
--- a base in order is the only one that says what a history does
 pub one_next_base : OneNextBase
 one_next_base h a b base order order' says says' =
     let permits = base.permits in

@@ -1,4 +1,4 @@
--- A line of a base is that of one thing at most, and no such line is one of the others that a base has.
+-- A line of a base is that of at most one thing, and no other line of a base.
 -- Used where the base of a text is read.
 use Rattle.std.proofs.Common.{◌≡◌, ◌≢◌, ℕ, List, [], ◌∷◌, ◌++◌, get_or, map, sym, ap, ◌∙◌, refl, arith, codes}
 use Rattle.std.specs.Prelude.{unwrap_or}
@@ -10,11 +10,9 @@ use Rattle.crawl_audit.proofs.NamedRows.{row_named}
 use Rattle.crawl_audit.proofs.RowReading.{line_of_fields, row_back, row_letter}
 use Rattle.crawl_audit.proofs.RowSpelling.{same_numbers}
 
--- a line is that of one thing
 pub one_row : (r s : OpenRow) → IsOpenRow r → IsOpenRow s → row_line r ≡ row_line s → r ≡ s
 one_row r s is is' same = ap (λ o. unwrap_or o r) (sym (row_back r is) ∙ ap row_named same ∙ row_back s is')
 
--- a line of numbers has one number in each place
 pub one_numbers : (a b : Base) → HasNumbers a → HasNumbers b → numbers_line a ≡ numbers_line b → (a.entries ≡ b.entries) × (a.started ≡ b.started) × (a.begins ≡ b.begins) × (a.moment ≡ b.moment)
 one_numbers a b is is' same =
     let numbers = same_numbers a b is is' same in
@@ -22,7 +20,6 @@ one_numbers a b is is' same =
 
 -- ---- the line of a thing is no other line of a base
 
--- a line that begins with a letter of no thing
 not_of_row : (line : List ℕ) (r : OpenRow) → row_letter r ≢ get_or line 0 0 → row_line r ≢ line
 not_of_row line r apart same = apart (ap (λ l. get_or l 0 0) (sym (line_of_fields r) ∙ same))
 
@@ -48,7 +45,6 @@ row_is_not_head r = not_of_row (codes "V 3") r (by r)
 
 -- ---- what a base left open, as lines
 
--- things of one kind and those behind them
 rows_then : {X : Type 0} (row : X → OpenRow) (line : X → List ℕ) → ((x : X) → line x ≡ row_line (row x)) → (xs : List X) (rows : List OpenRow) (lines : List (List ℕ)) →
     lines ≡ map row_line rows → map line xs ++ lines ≡ map row_line (map row xs ++ rows)
 rows_then row line is [] rows lines same = same
@@ -56,7 +52,6 @@ rows_then row line is (x ∷ xs) rows lines same =
     let rest = rows_then row line is xs rows lines same in
     λ i. is x i ∷ rest i
 
--- things of one kind
 rows_alone : {X : Type 0} (row : X → OpenRow) (line : X → List ℕ) → ((x : X) → line x ≡ row_line (row x)) → (xs : List X) → map line xs ≡ map row_line (map row xs)
 rows_alone row line is [] = refl
 rows_alone row line is (x ∷ xs) =

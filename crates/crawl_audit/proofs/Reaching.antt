@@ -1,4 +1,4 @@
--- What is read line by line is a front of a chain's lines, and a whole chain's where a text ends there.
+-- What is read line by line is a prefix of a chain's lines, and a whole chain where a text ends.
 -- Used by `laws`.
 use Rattle.std.proofs.Common.{◌≡◌, ℕ, ◌+◌, ◌≤◌, ◌==◌, ◌⊎◌, Bool, true, false, cond, List, [], ◌∷◌, ◌++◌, length, inl, inr, refl, sym, ap, subst, ◌∙◌, arith, append-nil, append_assoc, length-append, codes}
 use Rattle.std.specs.Prelude.{Option, Some, None}
@@ -46,7 +46,7 @@ based_lines b is =
     let test : (b.entries == 0) ≡ false = grind (arith, nat_tests) in
     ap (λ t. cond t (codes "V 2" ∷ []) (base_lines b) ++ []) test ∙ append-nil (base_lines b)
 
--- a base with one entry, for the line by which such a text begins
+-- a base with one entry, for a text that begins with such a line
 abbrev one_sealed : Base
 one_sealed = record { standing = []; in_flight = []; unspent = []; running = []; grants = []; begins = 0; moment = 0; entries = 1; started = 0 }
 
@@ -124,7 +124,6 @@ Reached start lines = lines ≡ []
 Reached (among v r h n) lines = AmongReached v r h n lines
 Reached (inside after ls) lines = InsideReached after ls lines
 
--- one more entry was read
 entry_reached : (v : Version) (r : Bool) (h : History) (n : ℕ) (lines : List (List ℕ)) (line : List ℕ) (q : Place) → AmongReached v r h n lines → TakesEntry v r h n line q → Reached q (lines ++ line ∷ [])
 entry_reached v r h n lines line q a takes =
     let e = takes.entry in
@@ -171,7 +170,6 @@ plain_reached v lines same = record {
   last = record { version = refl; history = refl; count = refl; rising = inl (refl, refl) };
 }
 
--- a base was read to its end
 base_reached : (after : Option History) (ls : List (List ℕ)) (line : List ℕ) (lines : List (List ℕ)) (b : Base) → IsBaseFor after b → base_lines b ≡ ls ++ line ∷ [] → InsideReached after ls lines → AmongReached Two true (from b) 0 (lines ++ line ∷ [])
 base_reached None ls line lines b is whole a = record {
   first = plain Two b;
@@ -226,7 +224,7 @@ run_reached p q lines [] a runs = subst (λ (x : Place). Reached x (lines ++ [])
 run_reached p q lines (l ∷ ls) a runs =
     subst (Reached q) (append_assoc lines (l ∷ []) ls) (run_reached runs.0 q (lines ++ l ∷ []) ls (step_reached p l runs.0 lines a runs.1.0) runs.1.1)
 
--- ---- what was read is a front
+-- ---- what was read is a prefix
 
 -- the lines of a base behind its first
 abbrev behind : Base → List (List ℕ)

@@ -1,5 +1,5 @@
--- The base that is made of what tables have behind the whole lines of a text, and behind those that end what it left
--- open. Cited by the calls of `recovering`.
+-- The base made from the tables behind a text's whole lines, and behind those that end what was left open.
+-- Used by `recovering`.
 use Rattle.std.proofs.Common.{◌≡◌, ℕ, ◌+◌, ◌<◌, ◌≤◌, All, List, [], ◌∷◌, ◌++◌, Some, Err, filter, length, map, refl, sym, ap, subst, ◌∙◌, arith}
 use Rattle.std.specs.Prelude.{Bool, Option}
 use Rattle.path_normal.specs.declared.schemes.Schemes.{Schemes}
@@ -33,7 +33,7 @@ use Rattle.crawl_audit.proofs.EndedHistories.{IsIdle, ended, none_left}
 use Rattle.crawl_audit.proofs.EndingLines.{all_end}
 use Rattle.crawl_audit.proofs.NextSaying.{grants_fit, left_says}
 
--- ---- a base that is made of what the tables have
+-- ---- the base made from the tables
 
 module _ (l : OpenState) (left : LeftOpen) (numbers : BaseNumbers) (lists : TellsLeft l left)
     (begun : numbers.begins ≡ l.begins) (moment : numbers.moment ≡ l.clock) (entries : numbers.entries ≡ l.entries) (started : numbers.started ≡ l.started) where
@@ -50,7 +50,7 @@ module _ (l : OpenState) (left : LeftOpen) (numbers : BaseNumbers) (lists : Tell
       let table = all.tells.numbers_tell in
       grants_fit _ left.grants.items lists.slots table.slots_fit
 
--- ---- what it says where nothing is out
+-- ---- a base with nothing outstanding
 
 idle_base : (base : Base) (h : History) (cache : OpenState) → IsBase base → SaysAs (from base) h → IsIdle h → TellsAll cache h → CanGoOn base cache.cache
 idle_base base h l is says idle all =
@@ -72,13 +72,12 @@ idle_base base h l is says idle all =
 
 -- ---- behind the whole lines
 
--- a place where entries may come is among those of a text
 at_entries : (P : Place → Type 0) → ((version : Version) (rising : Bool) (h : History) (count : ℕ) → P (among version rising h count)) → (place : Place) → HasBegun place → P place
 at_entries P go start begun = absurd begun
 at_entries P go (among version rising h count) begun = go version rising h count
 at_entries P go (inside after lines) begun = absurd begun
 
--- a history that the open_state tells
+-- a history that the open_state agrees with
 abbrev pub Known : OpenState → Type 0
 Known l = (h : History) × (IsLegal h × TellsAll l h)
 
@@ -87,7 +86,7 @@ known_before schemes a lines place begun =
     at_entries (λ place. Holds schemes a lines place → Known a.open_state)
     (λ version rising h count holds. let stands = holds.stands in let entries = stands.1 in (h, (entries.legal, entries.tells))) place begun
 
--- the auditor took the lines that end what the base left open
+-- the auditor took the lines that end the base
 abbrev pub Took : Auditor → Base → List ℕ → Auditor → Type 0
 Took a left text a' =
     (schemes : Schemes) (lines : List (List ℕ)) (version : Version) (rising : Bool) (h : History) (count : ℕ) → Holds schemes a lines (among version rising h count)
@@ -103,7 +102,7 @@ known_after schemes a lines place begun left text a' took =
     let entries = stands.1 in
     (followed_by h (ends_of left), (entries.legal, entries.tells))) place begun
 
--- the base says what each history does that the open_state tells, in order
+-- the base describes, in order, each history that the open_state agrees with
 pub record IsBaseOf (l : OpenState) (base : Base) : Type 0 where
   pub says : (h : History) → IsLegal h → TellsAll l h → SaysAs (from base) h
   pub is_base : IsBase base
@@ -130,7 +129,6 @@ module _ (schemes : Schemes) (input : Option (List ℕ)) (w : WholeLines) (cut :
         says = left_of.says h entries.legal entries.tells;
       }
 
-  -- the lines that end it were taken
   pub results : (a' : Auditor) (found : Recovered) → Took w.auditor left found.ending.items a' → IsBaseOf a'.open_state found.base → found.cache ≡ a'.open_state.cache → found.whole ≡ w.octets →
       found.begun.items ≡ map (λ (t : Turn). t.authority) left.in_flight → Results schemes input found
   results a' found took base_of cached octets sites =
@@ -164,7 +162,6 @@ module _ (schemes : Schemes) (input : Option (List ℕ)) (w : WholeLines) (cut :
         },
       )) cut.place begun cut.holds
 
-  -- they were not
   pub refuses : (a' : Auditor) (fault : RecoverFault) →
       ((schemes : Schemes) (lines : List (List ℕ)) (version : Version) (rising : Bool) (h : History) (count : ℕ) → Holds schemes w.auditor lines (among version rising h count) → All IsEnding (ends_of left) →
       EndsAll schemes lines version rising h count (ends_of left) (Err fault) a') → Recovers schemes input (Err fault)

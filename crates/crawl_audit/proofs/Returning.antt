@@ -65,7 +65,6 @@ body_length text is = empty (length text == 0)
     empty true = omega arith
     empty false = single (bytes_eq text (codes "-"))
 
--- a field behind a space, and those behind it
 pub more : (field : List ℕ) (fields : List (List ℕ)) → length (spaced_fields (field ∷ fields)) ≡ 1 + length field + length (spaced_fields fields)
 more field fields = omega (arith, length-append (32 ∷ field) (spaced_fields fields))
 

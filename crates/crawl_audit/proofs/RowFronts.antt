@@ -1,4 +1,4 @@
--- A front of the rows of a base that a text can have is the rows of such a base.
+-- A prefix of the rows of a base is again the rows of a base.
 -- Used by `BaseFront`.
 use Rattle.std.proofs.Common.{◌≡◌, ℕ, ◌+◌, ◌≤◌, All, Bool, true, List, [], ◌∷◌, ◌++◌, length, filter, flat_map, sym, ap, subst, ◌∙◌, arith, append-nil, length-append}
 use Rattle.std.specs.Cmp.Lexicographic.{slice_cmp}
@@ -26,7 +26,7 @@ use Rattle.crawl_audit.proofs.RowKinds.{FromKind, answers_at, based_on, grants_a
 
 -- ---- fronts of lists
 
--- one list is a front of the other
+-- one list is a prefix of the other
 record IsFrontOf {X : Type 0} (front whole : List X) : Type 0 where
   rest : List X
   is : whole ≡ front ++ rest
@@ -134,7 +134,6 @@ module _ (b : Base) (xs ys : List OpenRow) (kinds : FromKind 0 (xs ++ ys)) where
     grants = sorted cut.grants whole.grants (part grants_at) grant_before o.grants;
   }
 
-  -- a base that left less open
   pub text_base_cut : IsTextBase whole → IsTextBase cut
   text_base_cut is =
       let base = is.base in

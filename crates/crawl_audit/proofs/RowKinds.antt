@@ -1,4 +1,4 @@
--- The rows of a base stand by kinds: rows that do are those of one base, and so is each front of them.
+-- The rows of a base are sorted by kind; sorted rows are those of one base, and so are their prefixes.
 -- Used by `RowFronts`, `StandingRows` and `LoadedRows`.
 use Rattle.std.proofs.Common.{◌≡◌, ℕ, ◌<◌, ◌≤◌, List, [], ◌∷◌, ◌++◌, flat_map, map, refl, sym, ap, subst, ◌∙◌, arith, append-nil}
 use Rattle.std.proofs.lemmas.List.Concat.{flat_map-append}
@@ -16,7 +16,7 @@ use Rattle.crawl_audit.specs.OpenRows.{OpenRow, Answered, InFlight, Greatest, Un
 abbrev pub kind : OpenRow → ℕ
 kind row = kind_place (key_of row)
 
--- the rows stand by kinds, from this one on
+-- the rows are sorted by kinds, from this one on
 abbrev pub FromKind : ℕ → List OpenRow → Type 0
 FromKind k [] = Unit {0}
 FromKind k (row ∷ rows) = (k ≤ kind row) × FromKind (kind row) rows
@@ -33,7 +33,6 @@ kinds_rest : (k : ℕ) (xs ys : List OpenRow) → FromKind k (xs ++ ys) → From
 kinds_rest k [] ys from = from
 kinds_rest k (x ∷ xs) ys from = let first = from.0 in lower k (kind x) (omega arith) ys (kinds_rest (kind x) xs ys from.1)
 
--- rows of one kind before others
 of_kind : {X : Type 0} (f : X → OpenRow) (j k : ℕ) → ((x : X) → kind (f x) ≡ k) → j ≤ k → (xs : List X) (rest : List OpenRow) → FromKind k rest → FromKind j (map f xs ++ rest)
 of_kind f j k same at_most [] rest from = lower j k at_most rest from
 of_kind f j k same at_most (x ∷ xs) rest from =
@@ -70,7 +69,7 @@ abbrev pub running_at : OpenRow → List GrantedPermit
 running_at (Running p) = p ∷ []
 running_at _ = []
 
--- the base with the numbers of this one, which left these rows open
+-- the base with this one's numbers, and these rows
 abbrev pub based_on : Base → List OpenRow → Base
 based_on b rows = left_as (flat_map answers_at rows) (flat_map turns_at rows) (flat_map grants_at rows) (flat_map unspent_at rows) (flat_map running_at rows) b
 
@@ -124,7 +123,6 @@ running_are b =
     by_parts running_at b [] [] [] [] b.running (other_map Answered running_at (λ s. refl) b.standing) (other_map InFlight running_at (λ t. refl) b.in_flight)
     (other_map Greatest running_at (λ g. refl) b.grants) (other_map Unspent running_at (λ p. refl) b.unspent) (own_map Running running_at (λ p. refl) b.running)
 
--- a base is that of its rows
 pub based_back : (b : Base) → based_on b (rows_of b) ≡ b
 based_back b =
     let p = answers_are b in
@@ -173,9 +171,8 @@ based_push b row = all row
         left r _ _ _ _ _ (same answers_at r b.standing (answers_are b) refl) (same turns_at r b.in_flight (turns_are b) refl) (same grants_at r b.grants (grants_are b) refl)
         (same unspent_at r b.unspent (unspent_are b) refl) (more running_at b r b.running (running_are b))
 
--- ---- rows by kinds are those of their base
+-- ---- rows sorted by kinds are those of their base
 
--- rows from a kind on have nothing of one before it
 pub none_from : {X : Type 0} (g : OpenRow → List X) (j k : ℕ) → j ≤ k → ((row : OpenRow) → j ≤ kind row → g row ≡ []) → (rows : List OpenRow) → FromKind k rows → flat_map g rows ≡ []
 none_from g j k at_most none [] from = refl
 none_from g j k at_most none (row ∷ rows) from =
@@ -250,11 +247,9 @@ rows_back b k (Running p ∷ rows) from =
     let without : rows_of is ≡ behind = λ i. map Answered (a i) ++ (map InFlight (v i) ++ (map Greatest (l i) ++ (map Unspent (u i) ++ behind))) in
     with_it ∙ ap (λ m. Running p ∷ m) (sym without ∙ rows_back b 5 rows from.1)
 
--- a row that comes by its kind stands behind the rows of the base
 pub stands_behind : (b : Base) (row : OpenRow) → FromKind 0 (rows_of b ++ row ∷ []) → rows_of (with_row b row) ≡ rows_of b ++ row ∷ []
 stands_behind b row from = ap rows_of (sym (based_push b row)) ∙ rows_back b 0 (rows_of b ++ row ∷ []) from
 
--- where a permit is left, all grants are
 pub grants_before : (k : ℕ) (xs ys : List OpenRow) (number : ℕ) → FromKind k (xs ++ ys) → 0 < times_out (flat_map unspent_at xs) (flat_map running_at xs) number → flat_map grants_at ys ≡ []
 grants_before k [] ys number from some = absurd (omega arith)
 grants_before k (Answered s ∷ xs) ys number from some = grants_before 1 xs ys number from.1 some

@@ -43,14 +43,12 @@ once_push is_of xs y once none k = by (is_of k y) refl
     by true is = omega (arith, count-push (is_of k) xs y, ap one_if is, ap length (none k is))
     by false is = omega (arith, count-push (is_of k) xs y, ap one_if is, once k)
 
--- where one of those with one more passes, and that one does, none of the others does
 pub others_none : {X : Type 0} (test : X → Bool) (xs : List X) (y : X) → length (filter test (xs ++ y ∷ [])) ≤ 1 → test y ≡ true → length (filter test xs) ≡ 0
 others_none test xs y once own = omega (arith, count-push test xs y, ap one_if own)
 
 -- ---- lists in order
 
 module _ {X : Type 0} (lt : X → X → Bool) (o : IsStrictWeakOrder lt) where
-  -- all are less than what is greater than the last
   all_less : (xs : List X) (z y : X) → IsSortedBy lt (xs ++ z ∷ []) → lt z y ≡ true → All (λ x. lt x y ≡ true) (xs ++ z ∷ [])
   all_less xs z y up below =
       let w = xs ++ z ∷ [] in
@@ -64,12 +62,10 @@ module _ {X : Type 0} (lt : X → X → Bool) (o : IsStrictWeakOrder lt) where
       by x true is far = is
       by x false is far = absurd (true≢false (sym below ∙ o.chain z x y far is))
 
-  -- so the list with it is in order
   pub push_sorted : (xs : List X) (y : X) → IsSortedBy lt xs → All (λ x. lt x y ≡ true) xs → IsSortedBy lt (xs ++ y ∷ [])
   push_sorted xs y up less =
       IsSortedBy-push lt xs y up (λ d some. o.one_way _ _ (All-get_or (λ x. lt x y ≡ true) xs (length xs - 1) d (omega arith) less))
 
-  -- none of the lesser ones passes a test of what is no less
   pub none_like : (test : X → Bool) (y : X) → ((x : X) → test x ≡ true → lt x y ≡ false) → (xs : List X) → All (λ x. lt x y ≡ true) xs → filter test xs ≡ []
   none_like test y tied [] less = refl
   none_like test y tied (x ∷ xs) less = by (test x) refl (none_like test y tied xs (All-tail (λ x. lt x y ≡ true) x xs less))
@@ -78,7 +74,7 @@ module _ {X : Type 0} (lt : X → X → Bool) (o : IsStrictWeakOrder lt) where
       by true is rest = absurd (true≢false (sym (All-head (λ x. lt x y ≡ true) x xs less) ∙ tied x is))
       by false is rest = rest
 
-  -- the last but one is less than the last, where no other one passes a test as the last does
+  -- the last but one is less than the last, if no other passes its test
   pub strict : (test : X → Bool) (front : List X) (z y : X) → IsSortedBy lt ((front ++ z ∷ []) ++ y ∷ []) → length (filter test ((front ++ z ∷ []) ++ y ∷ [])) ≤ 1 → test y ≡ true →
       (lt z y ≡ false → lt y z ≡ false → test z ≡ true) → lt z y ≡ true
   strict test front z y up once own tied = by (lt z y) refl
@@ -112,13 +108,12 @@ last_map : {X : Type 0} (f : X → OpenRow) (line : LastLine) (front : List X) (
 last_map f line [] z = refl
 last_map f line (x ∷ front) z = last_map f (key_of (f x)) front z
 
--- a row behind the line and behind each of the rows is behind the last one
 pub behind_all : {X : Type 0} (f : X → OpenRow) (row : OpenRow) → ((x : X) → is_behind (key_of (f x)) row ≡ true) → (line : LastLine) → is_behind line row ≡ true → (xs : List X) →
     is_behind (last_from line (map f xs)) row ≡ true
 behind_all f row each line first [] = first
 behind_all f row each line first (x ∷ xs) = behind_all f row each (key_of (f x)) (each x) xs
 
--- rows of one kind behind a line
+-- rows of one kind after a line
 module _ {X : Type 0} (lt : X → X → Bool) (o : IsStrictWeakOrder lt) (f : X → OpenRow) (line : LastLine)
     (own : (z y : X) → is_behind (key_of (f z)) (f y) ≡ lt z y) (first : (y : X) → is_behind line (f y) ≡ true) where
   pub less_behind : (xs : List X) (y : X) → IsSortedBy lt xs → is_behind (last_from line (map f xs)) (f y) ≡ true → All (λ x. lt x y ≡ true) xs
@@ -136,12 +131,11 @@ module _ {X : Type 0} (lt : X → X → Bool) (o : IsStrictWeakOrder lt) (f : X 
         ∙ strict lt o test e.front e.last y (subst (λ l. IsSortedBy lt (l ++ y ∷ [])) e.is up) (subst (λ l. length (filter test (l ++ y ∷ [])) ≤ 1) e.is once) passes (tied e.last)
   ]
 
--- ---- rows by kinds with one row more
+-- ---- rows by kinds with one more row
 
 less_at_most : (a b : ℕ) → nat_lt a b ≡ true → a ≤ b
 less_at_most a b is = grind (arith, nat_tests)
 
--- a row behind a line is of no earlier kind
 pub behind_kind : (line : LastLine) (row : OpenRow) → is_behind line row ≡ true → kind_place line ≤ kind row
 behind_kind (lasts.Answered a) (Answered s) is = omega arith
 behind_kind (lasts.InFlight n) (InFlight t) is = omega arith
@@ -154,7 +148,6 @@ pub kinds_push : (line : LastLine) (rows : List OpenRow) (row : OpenRow) → Fro
 kinds_push line [] row from at_most = (at_most, tt)
 kinds_push line (x ∷ rows) row from at_most = (from.0, kinds_push (key_of x) rows row from.1 at_most)
 
--- the row is of no earlier kind than those before it
 up_to : (k : ℕ) (rows : List OpenRow) (row : OpenRow) → FromKind k (rows ++ row ∷ []) → k ≤ kind row
 up_to k [] row from = from.0
 up_to k (x ∷ rows) row from = let first = from.0 in let rest = up_to (kind x) rows row from.1 in omega arith

@@ -1,4 +1,4 @@
--- What the line of a thing that a base left open is read as is the thing; and so of a base's numbers.
+-- The line of a thing left open, or of a base's numbers, is read back as that.
 -- Used by `OneRow` and by the reader of such lines.
 use Rattle.std.proofs.Common.{◌≡◌, ℕ, All, true, List, [], ◌∷◌, ◌++◌, Some, decimal, sym, ap, ◌∙◌, subst, refl, arith, codes}
 use Rattle.std.specs.Prelude.{◌==◌}
@@ -82,7 +82,6 @@ behind_back (Running p) is =
     let fetch = is.fetch in
     rw (number_back p.number is.number, fetch.token, page_back p.url fetch.url) refl
 
--- the words of its line
 pub row_words : (r : OpenRow) → IsOpenRow r → words_of (row_line r) ≡ (row_letter r ∷ []) ∷ row_fields r
 row_words r is =
     ap words_of (line_of_fields r) ∙ words_of_fields (row_letter r ∷ []) (row_fields r) (shown_letter (row_letter r) (letter_shown r)) (fields_shown r is)
@@ -90,11 +89,9 @@ row_words r is =
 pub row_back : (r : OpenRow) → IsOpenRow r → row_named (row_line r) ≡ Some r
 row_back r is = ap (λ words. row_behind (head_word words) (tail_words words)) (row_words r is) ∙ behind_back r is
 
--- its line is a text
 pub utf8_row : (r : OpenRow) → IsOpenRow r → IsUtf8 (row_line r)
 utf8_row r is = subst IsUtf8 (sym (line_of_fields r)) (row_utf8 (row_letter r) (row_fields r) (letter_shown r) (fields_shown r is))
 
--- what it must be besides its fields
 pub in_range : (r : OpenRow) → IsOpenRow r → IsInRange r
 in_range (Answered s) is = is.1
 in_range (InFlight t) is = _
@@ -111,7 +108,6 @@ numbers_of b = record { begins = b.begins; moment = b.moment; entries = b.entrie
 abbrev pub line_of_numbers : Numbers → List ℕ
 line_of_numbers n = codes "T" ++ spaced_fields (decimal n.entries ∷ decimal n.started ∷ decimal n.begins ∷ decimal n.moment ∷ [])
 
--- the words of its line
 pub number_words : (b : Base) → HasNumbers b → words_of (numbers_line b) ≡ codes "T" ∷ decimal b.entries ∷ decimal b.started ∷ decimal b.begins ∷ decimal b.moment ∷ []
 number_words b is =
     words_of_fields (codes "T") (decimal b.entries ∷ decimal b.started ∷ decimal b.begins ∷ decimal b.moment ∷ []) (shown_letter 84 (omega arith, omega arith)) (shown_numbers b is)

@@ -1,4 +1,4 @@
--- A line of a base is the spelling of one thing at most, and the lines of a base are those of one base.
+-- A line of a base is that of at most one thing, and its lines are those of one base.
 -- Used by the laws of chains.
 use Rattle.std.proofs.Common.{◌≡◌, ◌≢◌, ℕ, ◌<◌, ◌==◌, All, true, false, List, [], ◌∷◌, ◌++◌, get_or, map, decimal, sym, ap, ◌∙◌, refl, arith, append_assoc, codes}
 use Rattle.std.specs.Prelude.{unwrap_or}
@@ -33,21 +33,17 @@ use Rattle.crawl_audit.proofs.Spelling.{answer_back, HasNoFeed, IsLineOctet, lin
 pub shown_letter : (letter : ℕ) → IsShownOctet letter → IsShown (letter ∷ [])
 shown_letter letter is = All-cons IsShownOctet letter [] is (All-nil IsShownOctet)
 
--- lines of one letter that are the same have the same fields
 same_fields : (letter : ℕ) (xs ys : List (List ℕ)) → IsShownOctet letter → All IsShown xs → All IsShown ys → letter ∷ spaced_fields xs ≡ letter ∷ spaced_fields ys → xs ≡ ys
 same_fields letter xs ys is shown shown' same =
     ap tail_words (sym (words_of_fields (letter ∷ []) xs (shown_letter letter is) shown) ∙ ap words_of same ∙ words_of_fields (letter ∷ []) ys (shown_letter letter is) shown')
 
--- the octets of such a line
 row_octets : (letter : ℕ) (fields : List (List ℕ)) → IsShownOctet letter → All IsShown fields → All IsLineOctet (letter ∷ spaced_fields fields)
 row_octets letter fields is shown = All-cons IsLineOctet letter (spaced_fields fields) (omega (arith, is), is.1) (line_fields fields shown)
 
--- such a line has no line feed
 pub row_feedless : (letter : ℕ) (fields : List (List ℕ)) → IsShownOctet letter → All IsShown fields → HasNoFeed (letter ∷ spaced_fields fields)
 row_feedless letter fields is shown =
     weaker IsLineOctet (λ octet. (octet == 10) ≡ false) (λ octet h. grind (arith, nat_tests)) (letter ∷ spaced_fields fields) (row_octets letter fields is shown)
 
--- such a line is a text
 pub row_utf8 : (letter : ℕ) (fields : List (List ℕ)) → IsShownOctet letter → All IsShown fields → IsUtf8 (letter ∷ spaced_fields fields)
 row_utf8 letter fields is shown =
     let line = letter ∷ spaced_fields fields in
@@ -58,7 +54,7 @@ same_decimal m n small small' same = ap (λ o. unwrap_or o m) (sym (number_back 
 
 -- ---- the fields of each kind
 
--- an answer whose life is one that it may have
+-- an answer with a possible life
 pub record IsLivedRow (s : StandingAnswer) : Type 0 where
   pub row : IsAnswerRow s
   pub life : life_of s.says s.life ≡ s.life
@@ -84,7 +80,7 @@ shown_numbers b is =
     All-cons IsShown (decimal b.entries) (decimal b.started ∷ decimal b.begins ∷ decimal b.moment ∷ []) (shown_decimal b.entries is.entries)
     (three (decimal b.started) (decimal b.begins) (decimal b.moment) (shown_decimal b.started is.started) (shown_decimal b.begins is.begins) (shown_decimal b.moment is.moment))
 
--- ---- each line is that of one thing
+-- ---- each line is that of one row
 
 one_answer : (s t : StandingAnswer) → IsLivedRow s → IsLivedRow t → answer_line s ≡ answer_line t → s ≡ t
 one_answer s t is is' same =
@@ -163,7 +159,6 @@ split_rows f letter led P inj (x ∷ xs) (y ∷ ys) r r' all all' none none' sam
     let rest = split_rows f letter led P inj xs ys r r' (All-tail P x xs all) (All-tail P y ys all') none none' (ap tail_words same) in
     (λ i. first i ∷ rest.0 i, rest.1)
 
--- the lives of answers
 pub lived : (ss : List StandingAnswer) → All IsAnswerRow ss → list_all has_its_life ss ≡ true → All IsLivedRow ss
 lived [] rows lives = All-nil IsLivedRow
 lived (s ∷ ss) rows lives =
@@ -175,7 +170,7 @@ lived (s ∷ ss) rows lives =
 
 -- ---- the lines of a base
 
--- a base whose lines are of its own
+-- a base whose lines differ from each other
 pub record IsSpelledBase (b : Base) : Type 0 where
   pub fields : HasBaseFields b
   pub lives : list_all has_its_life b.standing ≡ true
@@ -183,7 +178,6 @@ pub record IsSpelledBase (b : Base) : Type 0 where
 pub open_apart : (b : Base) (end : List (List ℕ)) → open_lines b ++ end ≡ map answer_line b.standing ++ (map turn_line b.in_flight ++ (map grant_line b.grants ++ (map unspent_line b.unspent ++ (map running_line b.running ++ end))))
 open_apart b end = simp append_assoc
 
--- the lines of a base before others are those of one base
 pub one_base : (a b : Base) (r r' : List (List ℕ)) → IsSpelledBase a → IsSpelledBase b → base_lines a ++ r ≡ base_lines b ++ r' → (a ≡ b) × (r ≡ r')
 one_base a b r r' is is' same =
     let f = is.fields in

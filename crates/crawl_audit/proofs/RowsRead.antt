@@ -1,4 +1,4 @@
--- What a reader names of the words of a base's line is the row of that line, or the numbers of that base.
+-- The words of a base's line are read back as its row, or as the base's numbers.
 -- Used by the readers of `read_base`.
 use Rattle.std.proofs.Common.{◌≡◌, ◌≢◌, ℕ, List, [], ◌∷◌, Some, Ok, Err, sym, ap, ◌∙◌, subst, refl, arith, codes, decimal}
 use Rattle.std.specs.Prelude.{Option, None, Result, unwrap_or}
@@ -35,25 +35,21 @@ row_given (Ok found) named r is same = ap (λ o. unwrap_or o r) (sym is ∙ same
 row_given (Err NotOne) named r is same = none-some r (sym is ∙ same)
 row_given (Err NoMemory) named r is same = tt
 
--- a row that words behind a letter name was read
 pub row_read : (letter : List ℕ) (words : List (List ℕ)) (result : Result BaseRow UnreadLine) → NamesRow result (row_behind letter words) → ReadsRow (letter ∷ words) result
 row_read letter words result named r is spelled =
     row_given result (row_behind letter words) r named
     (ap (λ l. row_behind (head_word l) (tail_words l)) (spelled ∙ row_words r is) ∙ behind_back r is)
 
--- the row that words behind a letter name is the one of their line
 pub row_is : (letter : List ℕ) (words : List (List ℕ)) (d : OpenRow) → row_behind letter words ≡ Some d → (r : OpenRow) → IsOpenRow r → letter ∷ words ≡ words_of (row_line r) → d ≡ r
 row_is letter words d named r is spelled =
     ap (λ o. unwrap_or o d)
     (sym named ∙ ap (λ l. row_behind (head_word l) (tail_words l)) (spelled ∙ row_words r is) ∙ behind_back r is)
 
--- what was read of a line is the row of that line
 pub same_row : (line : List ℕ) (d r : OpenRow) → d ≡ r → (IsInRange d × (line ≡ row_line d) → ⊥) → IsOpenRow r → line ≡ row_line r → ⊥
 same_row line d r which other is same = other (subst (λ (x : OpenRow). IsInRange x × (line ≡ row_line x)) (sym which) (in_range r is, same))
 
--- ---- answers that stand
+-- ---- answers
 
--- what holds of each such row whose words these are holds of each row whose words they are
 standing_alone : (words : List (List ℕ)) (P : OpenRow → Type 0) → ((s : StandingAnswer) → IsOpenRow (Answered s) → words ≡ row_fields (Answered s) → P (Answered s)) →
     (r : OpenRow) → IsOpenRow r → codes "H" ∷ words ≡ words_of (row_line r) → P r
 standing_alone words P of r is spelled = by r is (spelled ∙ row_words r is)
@@ -65,13 +61,11 @@ standing_alone words P of r is spelled = by r is (spelled ∙ row_words r is)
     by (Unspent _) is whole = absurd (other_word 72 85 _ _ _ _ (λ e. omega arith) whole)
     by (Running _) is whole = absurd (other_word 72 89 _ _ _ _ (λ e. omega arith) whole)
 
--- where its answer was not read, the row was not, for the same reason
 pub standing_refused : (words : List (List ℕ)) (unread : UnreadLine) → ReadsAnswer Two (behind_three words) (Err unread) → ReadsRow (codes "H" ∷ words) (Err unread)
 standing_refused words unread reads =
     standing_alone words (λ r. IsRead (Err unread) (λ found. row_of found ≡ r))
     (λ s is whole. refused unread _ _ (reads s.says s.life is.0.says (lived_row s is).life (ap behind_three whole)))
 
--- where its words name its fields, and its answer was read, the row is the one of its line
 pub standing_is : (words : List (List ℕ)) (authority : List ℕ) (turn begun : ℕ) (answer : Answer) (life : ℕ) →
     authority_named (head_word words) ≡ Some authority → number_of (head_word (tail_words words)) ≡ Some turn → number_of (head_word (tail_words (tail_words words))) ≡ Some begun →
     ReadsAnswer Two (behind_three words) (Ok (answer, life)) →
@@ -94,7 +88,6 @@ permit_back p is =
     let fetch = is.fetch in
     rw (number_back p.number is.number, fetch.token, page_back p.url fetch.url) refl
 
--- a permit that words name was read
 pub permit_read : (words : List (List ℕ)) (result : Result (ℕ × Fetch) UnreadLine) → NamesPermit result (permit_named words) →
     (p : GrantedPermit) → IsPermitRow p → words ≡ decimal p.number ∷ p.token ∷ p.url ∷ [] → IsRead result (λ pair. permit_for pair.0 pair.1 ≡ p)
 permit_read words result named p is spelled = by result named
@@ -112,7 +105,6 @@ abbrev pub ReadsPermit : List (List ℕ) → Result (ℕ × Fetch) UnreadLine �
 ReadsPermit words result =
     (p : GrantedPermit) → IsPermitRow p → words ≡ decimal p.number ∷ p.token ∷ p.url ∷ [] → IsRead result (λ pair. permit_for pair.0 pair.1 ≡ p)
 
--- what holds of each permit whose words these are holds of each row whose words they are
 unspent_alone : (words : List (List ℕ)) (P : OpenRow → Type 0) → ((p : GrantedPermit) → IsPermitRow p → words ≡ decimal p.number ∷ p.token ∷ p.url ∷ [] → P (Unspent p)) →
     (r : OpenRow) → IsOpenRow r → codes "U" ∷ words ≡ words_of (row_line r) → P r
 unspent_alone words P of r is spelled = by r is (spelled ∙ row_words r is)
@@ -135,7 +127,6 @@ running_alone words P of r is spelled = by r is (spelled ∙ row_words r is)
     by (Unspent _) is whole = absurd (other_word 89 85 _ _ _ _ (λ e. omega arith) whole)
     by (Running p) is whole = of p is (ap tail_words whole)
 
--- where the permit was not read, the row was not, for the same reason
 pub unspent_refused : (words : List (List ℕ)) (unread : UnreadLine) → ReadsPermit words (Err unread) → ReadsRow (codes "U" ∷ words) (Err unread)
 unspent_refused words unread reads =
     unspent_alone words (λ r. IsRead (Err unread) (λ found. row_of found ≡ r)) (λ p is whole. refused unread _ _ (reads p is whole))
@@ -144,7 +135,6 @@ pub running_refused : (words : List (List ℕ)) (unread : UnreadLine) → ReadsP
 running_refused words unread reads =
     running_alone words (λ r. IsRead (Err unread) (λ found. row_of found ≡ r)) (λ p is whole. refused unread _ _ (reads p is whole))
 
--- a permit that was read is that of its line
 pub unspent_is : (words : List (List ℕ)) (number : ℕ) (fetch : Fetch) → ReadsPermit words (Ok (number, fetch)) →
     (r : OpenRow) → IsOpenRow r → codes "U" ∷ words ≡ words_of (row_line r) → Unspent (permit_for number fetch) ≡ r
 unspent_is words number fetch reads =
@@ -157,12 +147,10 @@ running_is words number fetch reads =
 
 -- ---- the numbers of a base
 
--- numbers that a text names are those whose line it is
 pub numbers_read : (text : List ℕ) (result : Option Numbers) → result ≡ numbers_named text →
     (n : Numbers) → HasNumbers (numbered n) → text ≡ numbers_line (numbered n) → result ≡ Some n
 numbers_read text result named n has spelled = named ∙ ap numbers_named spelled ∙ numbers_back (numbered n) has
 
--- so of the words behind the letter
 pub numbers_behind_read : (words : List (List ℕ)) (result : Option Numbers) → result ≡ numbers_behind words →
     (n : Numbers) → HasNumbers (numbered n) → codes "T" ∷ words ≡ words_of (numbers_line (numbered n)) → result ≡ Some n
 numbers_behind_read words result named n has spelled =
@@ -172,7 +160,7 @@ numbers_behind_read words result named n has spelled =
     back : numbers_behind (decimal n.entries ∷ decimal n.started ∷ decimal n.begins ∷ decimal n.moment ∷ []) ≡ Some n
     back = rw (number_back n.entries has.entries, number_back n.started has.started, number_back n.begins has.begins, number_back n.moment has.moment) refl
 
--- the numbers of the base whose line it is were read
+-- the numbers of the base with this line were read
 abbrev pub ReadsNumbers : List ℕ → Option Numbers → Type 0
 ReadsNumbers text result = (n : Numbers) → HasNumbers (numbered n) → text ≡ numbers_line (numbered n) → result ≡ Some n
 
@@ -180,11 +168,9 @@ its_numbers : (text : List ℕ) (result : Option Numbers) (b : Base) → ReadsNu
 its_numbers text result b reads has spelled =
     reads (numbers_of b) (record { entries = has.entries; started = has.started; begins = has.begins; moment = has.moment }) spelled
 
--- a line of which no numbers were read is that of no base
 pub none_numbers : (line text : List ℕ) (result : Option Numbers) (b : Base) → text ≡ line → ReadsNumbers text result → result ≡ None → HasNumbers b → line ≡ numbers_line b → ⊥
 none_numbers line text result b whole reads none has same = none-some (numbers_of b) (sym none ∙ its_numbers text result b reads has (whole ∙ same))
 
--- nor is one whose numbers have another spelling
 pub other_numbers : (line text : List ℕ) (result : Option Numbers) (n : Numbers) (b : Base) → text ≡ line → ReadsNumbers text result → result ≡ Some n → line ≢ line_of_numbers n → HasNumbers b → line ≡ numbers_line b → ⊥
 other_numbers line text result n b whole reads found other has same =
     let which : n ≡ numbers_of b = ap (λ o. unwrap_or o n) (sym found ∙ its_numbers text result b reads has (whole ∙ same)) in

@@ -1,5 +1,4 @@
--- Each field of an entry is ASCII and has no space nor control: so its line is cut at its spaces into
--- its fields, and ends at its line feed.
+-- Fields of an entry are ASCII without spaces and controls, so its line splits at spaces and ends at its line feed.
 -- Used by the laws of the spelling and by the reader of lines.
 use Rattle.std.proofs.Common.{◌≡◌, ◌<◌, ℕ, All, Bool, true, false, List, [], ◌∷◌, ◌++◌, Some, length, decimal, sym, ap, ◌∙◌, refl, arith, append-nil, codes}
 use Rattle.std.specs.Prelude.{◌==◌, Bool, cond, None}
@@ -39,7 +38,6 @@ spaceless [] shown = All-nil (λ octet. is_space octet ≡ false)
 spaceless (octet ∷ field) shown =
     All-cons (λ o. is_space o ≡ false) octet field (no_space octet (All-head IsShownOctet octet field shown)) (spaceless field (All-tail IsShownOctet octet field shown))
 
--- the words of fields, each but the first behind a space
 pub words_of_fields : (first : List ℕ) (fields : List (List ℕ)) → IsShown first → All IsShown fields → words_of (first ++ spaced_fields fields) ≡ first ∷ fields
 words_of_fields first [] shown all =
     ap words_of (append-nil first) ∙ slice_split_none is_space first (spaceless first shown)
@@ -47,21 +45,17 @@ words_of_fields first (field ∷ fields) shown all =
     slice_split_at is_space first 32 (field ++ spaced_fields fields) (spaceless first shown) refl
     ∙ ap (λ ws. first ∷ ws) (words_of_fields field fields (All-head IsShown field fields all) (All-tail IsShown field fields all))
 
--- what holds of one thing holds of another that it entails
 pub weaker : (P Q : ℕ → Type 0) → ((octet : ℕ) → P octet → Q octet) → (field : List ℕ) → All P field → All Q field
 weaker P Q gives field all = λ k d within. gives _ (all k d within)
 
--- ASCII above the space
 shown_text : (text : List ℕ) → IsAscii text → All (λ octet. 32 < octet) text → IsShown text
 shown_text text ascii visible = All-from_get_or IsShownOctet text 0 (λ i within. (visible i 0 within, ascii i))
 
--- a number in decimal digits
 pub shown_decimal : (n : ℕ) → IsNumber n → IsShown (decimal n)
 shown_decimal n small =
     All-from_get_or IsShownOctet (decimal n) 0
     (λ i within. let digit = digit_at (decimal n) i (decimal_is_IsNumeral n small).0.1 within in (omega (arith, digit), omega (arith, digit)))
 
--- octets that pass a test of shown ones
 shown_by : (test : ℕ → Bool) → ((octet : ℕ) → test octet ≡ true → IsShownOctet octet) → (text : List ℕ) → list_all test text ≡ true → IsShown text
 shown_by test gives [] all = All-nil IsShownOctet
 shown_by test gives (octet ∷ text) all =
@@ -71,7 +65,6 @@ shown_by test gives (octet ∷ text) all =
 shown_token_octet : (octet : ℕ) → is_token_octet octet ≡ true → IsShownOctet octet
 shown_token_octet octet is = (grind (arith, nat_tests), grind (arith, nat_tests))
 
--- a token
 pub shown_token : (token : List ℕ) → token_of token ≡ Some token → IsShown token
 shown_token token own = by (is_token token) refl
   where
@@ -79,7 +72,6 @@ shown_token token own = by (is_token token) refl
     by true is = shown_by is_token_octet shown_token_octet token (grind (arith, nat_tests))
     by false is = absurd (none-some token (sym (ap (λ t. cond t (Some (lower_case token)) None) is) ∙ own))
 
--- an authority and a URL
 pub shown_authority : (authority : List ℕ) → IsAuthority authority → IsShown authority
 shown_authority authority is = shown_text authority is.ascii is.visible
 
@@ -103,7 +95,6 @@ shown_octets : (text : List ℕ) → IsShown (escaped_body text)
 shown_octets [] = All-nil IsShownOctet
 shown_octets (octet ∷ text) = All-append IsShownOctet (body_octet octet) (escaped_body text) (shown_octet octet) (shown_octets text)
 
--- the word of a body
 pub shown_body : (text : List ℕ) → IsShown (body_word text)
 shown_body text = empty (length text == 0)
   where

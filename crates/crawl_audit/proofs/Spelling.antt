@@ -1,4 +1,4 @@
--- A line is the spelling of one entry at most, and a text that of one history.
+-- A line is at most one entry, and a text at most one history.
 -- Used by `laws` and by the reader of lines.
 use Rattle.std.proofs.Common.{◌≡◌, ◌<◌, ℕ, All, Bool, true, false, List, [], ◌∷◌, ◌++◌, Some, decimal, sym, ap, ◌∙◌, refl, arith, codes, append_assoc}
 use Rattle.std.specs.Prelude.{◌&&◌, ◌==◌, nat_lt, unwrap_or}
@@ -39,7 +39,6 @@ use Rattle.crawl_audit.proofs.Shown.{IsShown, IsShownOctet, shown_authority, sho
 is_shown : ℕ → Bool
 is_shown octet = nat_lt 32 octet && nat_lt octet 128
 
--- a word of the code
 shown_word : (word : List ℕ) → list_all is_shown word ≡ true → IsShown word
 unfolding is_shown
 shown_word [] is = All-nil IsShownOctet
@@ -122,7 +121,7 @@ shown_fields version (Finished number) is = one (decimal number) (shown_decimal 
 shown_fields version (Swept moment count) is =
     two (decimal moment) (decimal count) (shown_decimal moment is.fields.0) (shown_decimal count is.fields.1)
 
--- ---- what is read of an entry's line is the entry
+-- ---- an entry's line is read back as the entry
 
 reason_back : (reason : Reason) → IsReason reason → next_reason (reason_words reason) ≡ Some reason
 reason_back reasons.Open is = refl
@@ -158,7 +157,6 @@ answer_back Two (says.Open openings.TooManyRedirects) life body is = ap (λ n. S
 answer_back One (says.Closed closure) life body is = closed_back One closure life (sym is)
 answer_back Two (says.Closed closure) life body is = closed_back Two closure life is
 
--- the entry behind its letter
 pub behind_back : (version : Version) (e : Entry) → IsEntry version e → entry_behind version (letter_of e) (entry_fields version e) ≡ Some e
 behind_back version (Begun moment authority turn) is =
     rw (number_back moment is.fields.0, authority_back authority is.fields.1, number_back turn is.fields.2) refl
@@ -176,7 +174,6 @@ behind_back version (Returned number) is = rw (number_back number is.fields) ref
 behind_back version (Finished number) is = rw (number_back number is.fields) refl
 behind_back version (Swept moment count) is = rw (number_back moment is.fields.0, number_back count is.fields.1) refl
 
--- the words of its line
 pub entry_words : (version : Version) (e : Entry) → IsEntry version e → words_of (entry_line version e) ≡ letter_of e ∷ entry_fields version e
 entry_words version e is = words_of_fields (letter_of e) (entry_fields version e) (shown_letter e) (shown_fields version e is)
 
@@ -185,14 +182,13 @@ entry_back version e is =
     ap (λ words. entry_behind version (head_word words) (tail_words words)) (entry_words version e is)
     ∙ behind_back version e is
 
--- a line is that of one entry
 pub one_entry : (version : Version) (d e : Entry) → IsEntry version d → IsEntry version e → entry_line version d ≡ entry_line version e → d ≡ e
 one_entry version d e is is' same =
     ap (λ o. unwrap_or o d) (sym (entry_back version d is) ∙ ap (entry_named version) same ∙ entry_back version e is')
 
 -- ---- lines end at their line feeds
 
--- an octet that may stand in a line
+-- an octet that a line may have
 abbrev pub IsLineOctet : ℕ → Type 0
 IsLineOctet octet = (31 < octet) × (octet < 128)
 
@@ -209,7 +205,6 @@ pub line_octets : (version : Version) (e : Entry) → IsEntry version e → All 
 line_octets version e is =
     All-append IsLineOctet (letter_of e) (spaced_fields (entry_fields version e)) (line_field (letter_of e) (shown_letter e)) (line_fields (entry_fields version e) (shown_fields version e is))
 
--- the line is a text
 pub utf8_line : (version : Version) (e : Entry) → IsEntry version e → IsUtf8 (entry_line version e)
 utf8_line version e is =
     IsUtf8-from_ascii (entry_line version e) (IsAscii-from_all (entry_line version e) (weaker IsLineOctet (λ octet. octet < 128) (λ octet h. h.1) (entry_line version e) (line_octets version e is)))
@@ -221,14 +216,12 @@ HasNoFeed line = All (λ octet. (octet == 10) ≡ false) line
 pub no_feed : (version : Version) (e : Entry) → IsEntry version e → HasNoFeed (entry_line version e)
 no_feed version e is = weaker IsLineOctet (λ octet. (octet == 10) ≡ false) (λ octet h. grind (arith, nat_tests)) (entry_line version e) (line_octets version e is)
 
--- two texts that begin with a line and its end begin with the same one
 pub cut_lines : (l l' r r' : List ℕ) → HasNoFeed l → HasNoFeed l' → l ++ 10 ∷ r ≡ l' ++ 10 ∷ r' → (l ≡ l') × (r ≡ r')
 cut_lines l l' r r' none none' e =
     let first : l ≡ l' = ap head_word (sym (slice_split_at (λ o. o == 10) l 10 r none refl) ∙ ap (slice_split (λ o. o == 10)) e ∙ slice_split_at (λ o. o == 10) l' 10 r' none' refl) in
     let rest : 10 ∷ r ≡ 10 ∷ r' = append_cancel_left l (10 ∷ r) (10 ∷ r') (e ∙ ap (λ k. k ++ 10 ∷ r') (sym first)) in
     (first, cc)
 
--- the text of an entry and what stands behind it
 pub text_then : (version : Version) (e : Entry) (behind : List ℕ) → entry_text version e ++ behind ≡ entry_line version e ++ 10 ∷ behind
 text_then version e behind = append_assoc (entry_line version e) line_end behind
 
@@ -249,7 +242,6 @@ lines_once version (d ∷ ds) (e ∷ es) all all' same =
     let rest = lines_once version ds es (All-tail (IsEntry version) d ds all) (All-tail (IsEntry version) e es all') cut.1 in
     λ i. first i ∷ rest i
 
--- a text is that of one history
 pub one_history : (version : Version) (ds es : List Entry) → All (IsEntry version) ds → All (IsEntry version) es → spell version ds ≡ spell version es → ds ≡ es
 one_history version ds es all all' same =
     lines_once version ds es all all' (append_cancel_left (version_line version) (entry_lines version ds) (entry_lines version es) same)

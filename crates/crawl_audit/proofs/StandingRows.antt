@@ -1,4 +1,4 @@
--- When a row may stand behind those of a base: where it comes behind the last of them, and fits to what was read.
+-- A row may follow those of a base if it sorts after the last and is consistent with them.
 -- Used by `may_stand` of `first_base`.
 use Rattle.std.proofs.Common.{◌≡◌, ℕ, ◌≤◌, ◌==◌, Bool, true, false, cond, not, ◌&&◌, List, [], ◌∷◌, ◌++◌, length, filter, map, refl, sym, ap, subst, ◌∙◌, true≢false, arith}
 use Rattle.std.specs.Prelude.{nat_le, nat_lt, Option, Some, None, is_some, option_to_list}
@@ -177,7 +177,6 @@ module _ (b : Base) where
 
 -- ---- the tests that a row passes
 
--- a flight, and the turns that there are of it
 flight_none : (authority : List ℕ) (o : Option Flight) (xs : List Turn) → xs ≡ option_to_list (option_map (turn_for authority) o) → is_some o ≡ false → xs ≡ []
 flight_none authority None xs are none = are
 flight_none authority (Some flight) xs are none = absurd (true≢false none)
@@ -186,7 +185,6 @@ none_flight : (authority : List ℕ) (o : Option Flight) (xs : List Turn) → xs
 none_flight authority None xs are none = refl
 none_flight authority (Some flight) xs are none = absurd (omega (arith, ap length are))
 
--- what is out of a number, and the permits that there are of it
 none_out : (number : ℕ) (o : Option Phase) (us ys : List GrantedPermit) → us ≡ unspent_under number o → ys ≡ running_under number o → length us ≡ 0 → length ys ≡ 0 → is_some o ≡ false
 none_out number None us ys are are' none none' = refl
 none_out number (Some (phases.Unspent fetch)) us ys are are' none none' = absurd (omega (arith, ap length are))
@@ -209,7 +207,7 @@ module _ (first : FirstBase) (open_state : OpenState) (b : Base) (says : SaysBas
   turn_unused : (turn : ℕ) → times_turned b.standing b.in_flight turn ≡ 0 → not (is_used first turn) ≡ true
   turn_unused turn none = ap not (says.turns_are turn ∙ tests_none (times_turned b.standing b.in_flight turn) none)
 
-  -- the turn is new, and may have begun so
+  -- the turn is new, and may have begun at this moment
   record BeganSo (turn begun : ℕ) : Type 0 where
     unused : times_turned b.standing b.in_flight turn ≡ 0
     counted : turn ≤ b.begins
@@ -298,11 +296,10 @@ module _ (first : FirstBase) (open_state : OpenState) (b : Base) (says : SaysBas
       (out_none p.number (phases_of open_state.numbers p.number) (filter (is_numbered p.number) b.unspent) (n.unspent_are p.number) (unnot (is_some (phases_of open_state.numbers p.number)) parts.1))
       (sym (granted_is p.number) ∙ parts.0)
 
-  -- a row that passes them may stand
   pub stands_from : (row : OpenRow) → IsOpenRow row → is_behind last row ≡ true → fits first open_state row ≡ true → MayStand b row
   stands_from row fields behind fit = record { behind = stands_behind b row (kinds row behind); base = passes row fields behind fit }
 
-  -- ---- a row that may stand passes them
+  -- ---- a possible row passes them
 
   its_kinds : (row : OpenRow) → MayStand b row → FromKind 0 (rows_of b ++ row ∷ [])
   its_kinds row may = subst (FromKind 0) may.behind (rows_by_kinds (with_row b row))

@@ -26,7 +26,6 @@ use Rattle.crawl_audit.proofs.Spelling.{one_entry}
 
 -- ---- one step
 
--- no entry's line begins with a V
 not_led_v : (version : Version) (e : Entry) → get_or (entry_line version e) 0 0 ≢ 86
 not_led_v version (Begun _ _ _) is = omega arith
 not_led_v version (Arrived _ _ _ _ _) is = omega arith
@@ -48,7 +47,6 @@ text_base : (after : Option History) (b : Base) → IsBaseFor after b → IsText
 text_base None b is = is
 text_base (Some h) b is = is.0
 
--- an entry's line is no head
 entry_no_head : (version : Version) (rising : Bool) (h : History) (count : ℕ) (head line : List ℕ) (there p q : Place) → get_or head 0 0 ≡ 86 → IsHead head line there p → TakesEntry version rising h count line q → ⊥
 entry_no_head version rising h count head line there p q led is takes = not_led_v version takes.entry (ap (λ l. get_or l 0 0) (sym takes.line_is ∙ is.line_is) ∙ led)
 
@@ -63,7 +61,6 @@ one_head head line there p q a b = a.next_is ∙ sym b.next_is
 more_than_nothing : (l : List ℕ) (later : List (List ℕ)) → l ∷ later ≡ [] → ⊥
 more_than_nothing l later e = omega (arith, ap length e)
 
--- a base's lines go on behind those of no other base
 not_both : (after : Option History) (lines : List (List ℕ)) (line : List ℕ) (p q : Place) → TakesLine after lines line p → EndsBase after lines line q → ⊥
 not_both after lines line p q a b =
     let both = one_base a.base b.base [] (a.following ∷ a.later) (spelled_base a.base (text_base after a.base a.is_base)) (spelled_base b.base (text_base after b.base b.is_base))
@@ -101,7 +98,6 @@ pub runs_then : (p q r : Place) (xs ys : List (List ℕ)) → Runs p xs q → Ru
 runs_then p q r [] ys one two = subst (λ (x : Place). Runs x ys r) one two
 runs_then p q r (x ∷ xs) ys one two = (one.0, (one.1.0, runs_then one.0 q r xs ys one.1.1 two))
 
--- a run of a front
 pub run_front : (p r : Place) (xs ys : List (List ℕ)) → Runs p (xs ++ ys) r → (q : Place) × (Runs p xs q × Runs q ys r)
 run_front p r [] ys runs = (p, (refl, runs))
 run_front p r (x ∷ xs) ys runs = let rest = run_front runs.0 r xs ys runs.1.1 in (rest.0, ((runs.0, (runs.1.0, rest.1.0)), rest.1.1))
@@ -148,7 +144,7 @@ run_rest : (after : Option History) (b : Base) → IsBaseFor after b → (later 
 run_rest after b is [] same = absurd (omega (arith, ap length same))
 run_rest after b is (x ∷ xs) same = run_inside after b is (codes "V 3" ∷ []) x xs (sym same)
 
--- where a text ends that leads to this history
+-- the end of a text that leads to this history
 record AmongAt (p : Place) (h : History) : Type 0 where
   version : Version
   rising : Bool
@@ -158,7 +154,6 @@ record AmongAt (p : Place) (h : History) : Type 0 where
 abbrev IsAtEnd : Place → History → Type 0
 IsAtEnd p h = ((p ≡ start) × (entry_count h ≡ 0)) ⊎ AmongAt p h
 
--- the lines of a text behind a base
 base_head : (t : Text) → FollowsBase t → head_lines t ≡ base_lines t.base
 base_head t is =
     let base = is.base in
@@ -166,7 +161,6 @@ base_head t is =
     let test : (t.base.entries == 0) ≡ false = grind (arith, nat_tests) in
     ap (λ b. cond b (version_lines t.version) (base_lines t.base)) test
 
--- the entries behind a base
 run_behind : (t : Text) → IsText t → FollowsBase t → Runs (among Two true (from t.base) 0) (map (entry_line t.version) t.entries) (among Two true (text_history t) (0 + length t.entries))
 run_behind t is base =
     subst (λ (v : Version). Runs (among Two true (from t.base) 0) (map (entry_line v) t.entries) (among Two true (text_history t) (0 + length t.entries))) (sym base.version)
@@ -181,7 +175,6 @@ run_based after p t is base for_it step =
     (inside after (codes "V 3" ∷ []), (step, run_rest after t.base for_it (numbers_line t.base ∷ (open_lines t.base ++ codes "E" ∷ [])) refl))
     (run_behind t is base))
 
--- a text of version 1 or 2
 as_start : (line : List ℕ) (q : Place) → TakesEntry One false (from empty_base) 0 line q → Steps start line q
 as_start line q takes = inr (inr takes)
 
@@ -231,7 +224,6 @@ run_first t is = elim is.follows [
   )
 ]
 
--- the line by which one more text begins
 step_again : (p : Place) (h : History) → AmongAt p h → Steps p (codes "V 3") (inside (Some h) (codes "V 3" ∷ []))
 step_again p h at = subst (λ (x : Place). Steps x (codes "V 3") (inside (Some h) (codes "V 3" ∷ []))) (sym at.is) (inl (record { line_is = refl; next_is = refl }))
 
@@ -254,7 +246,6 @@ run_later h (t ∷ later) p at all = elim at [
     nothing : entry_count h ≡ 0 → ⊥
     nothing none = let text = base.base in let some = text.some in let says = on.says in let same = says.entries in omega arith
 
--- the lines of a chain
 run_chain : (first : Text) (later : List Text) → IsChain first later → (q : Place) × ((k : History) × (Runs start (chain_lines first later) q × IsAtEnd q k))
 run_chain first later chain =
     let one = run_first first chain.begins in
@@ -280,7 +271,6 @@ fronts_are_read lines is =
     again : (q : Place) → lines ≡ chain_lines is.first is.later ++ codes "V 3" ∷ [] → Steps ends.0 (codes "V 3") q → (p : Place) × Runs start lines p
     again q more step = (q, subst (λ (ls : List (List ℕ)). Runs start ls q) (sym more) (runs_then start ends.0 q (chain_lines is.first is.later) (codes "V 3" ∷ []) ends.1.1.0 (q, (step, refl))))
 
--- a text may end where the lines of a chain end
 may_end : (p : Place) (h : History) → IsAtEnd p h → MayEnd p
 may_end p h (inl none) = subst MayEnd (sym none.0) tt
 may_end p h (inr at) = subst MayEnd (sym at.is) tt

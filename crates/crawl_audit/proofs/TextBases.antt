@@ -42,7 +42,6 @@ grants_ordered = ranks_by nat_cmp_total (λ (g : SlotGrant). g.slot)
 number_is : (n m : ℕ) → (n == m) ≡ true → n ≡ m
 number_is n m is = elim (eqb_tells n m) [ inl e ↦ e.1 | inr d ↦ absurd (true≢false (sym is ∙ d.0)) ]
 
--- of two that have one key none is less
 same_answer : (a : List ℕ) (x y : StandingAnswer) → is_answer_for a x ≡ true → is_answer_for a y ≡ true → answer_before x y ≡ false
 same_answer a x y is own =
     let e = (bytes_eq-Decides x.authority a).0 is in
@@ -61,7 +60,6 @@ same_grant : (n : ℕ) (x y : SlotGrant) → is_in n x ≡ true → is_in n y �
 same_grant n x y is own =
     ap (λ k. grant_before (record x { slot = k }) y) (number_is x.slot n is ∙ sym (number_is y.slot n own)) ∙ irreflexive grant_before grants_ordered y
 
--- where all are less, none has the key
 pub no_permit : (y : GrantedPermit) (xs : List GrantedPermit) → All (λ x. permit_before x y ≡ true) xs → (n : ℕ) → is_numbered n y ≡ true → filter (is_numbered n) xs ≡ []
 no_permit y xs less n own = none_like permit_before permits_ordered (is_numbered n) y (λ x is. same_permit n x y is own) xs less
 
@@ -85,7 +83,7 @@ module _ (b : Base) (is : IsTextBase b) where
   numbers_kept : (b' : Base) → b'.entries ≡ b.entries → b'.started ≡ b.started → b'.begins ≡ b.begins → b'.moment ≡ b.moment → HasNumbers b'
   numbers_kept b' e s g m = let f = is.fields in counted_as b b' e s g m f.numbers
 
-  -- ---- an answer that stands
+  -- ---- an answer
 
   pub with_answer : (s : StandingAnswer) → IsOpenRow (Answered s) → All (λ x. answer_before x s ≡ true) b.standing → times_turned b.standing b.in_flight s.turn ≡ 0 →
       s.turn ≤ b.begins → nat_le s.begun b.moment ≡ true → IsTextBase (with_row b (Answered s))
@@ -229,7 +227,7 @@ module _ (b : Base) (is : IsTextBase b) where
         some = is.some;
       }
 
-  -- ---- a permit that is out
+  -- ---- an outstanding permit
 
   pub with_unspent : (y : GrantedPermit) → IsPermitRow y → All (λ x. permit_before x y ≡ true) b.unspent → b.running ≡ [] → is_covered b.grants y.number ≡ true → IsTextBase (with_row b (Unspent y))
   with_unspent y row less none covered =

@@ -1,4 +1,4 @@
--- What one more line does to the whole lines that were read of a text, and why such a line is bad.
+-- What one more line does to the whole lines read of a text, and why such a line is bad.
 -- Used by `WholeLines::take`.
 use Rattle.std.proofs.Common.{◌≡◌, ℕ, ◌+◌, ◌*◌, ◌<◌, ◌≤◌, List, [], ◌∷◌, ◌++◌, Some, Ok, Err, inl, inr, length, refl, sym, ap, subst, ◌∙◌, arith, append_assoc, append-nil, length-append}
 use Rattle.std.specs.Prelude.{All, Contains, Option}
@@ -19,24 +19,20 @@ use Rattle.history_text.specs.SpellBase.{lines_text}
 use Rattle.crawl_audit.specs.Steps.{Place}
 use Rattle.crawl_audit.proofs.Auditing.{bad_line, bad_line_behind, bad_part, bad_part_behind, ended_at, split_known, split_twice, text_more}
 
--- one more whole line is in the text
 longer : (lines : List (List ℕ)) (line : List ℕ) → length (lines_text (lines ++ line ∷ [])) ≡ length (lines_text lines) + length line + 1
 longer lines line =
     omega (arith, ap length (text_more lines line), length-append (lines_text lines) (line ++ 10 ∷ []), length-append line (10 ∷ []))
 
--- a line that ends has a line feed
 has_feed : (raw rest : List ℕ) → Contains (raw ++ 10 ∷ rest) 10
 has_feed raw rest = Contains-append_right raw (10 ∷ rest) 10 (0, omega (arith), refl)
 
 module _ (schemes : Schemes) (w : WholeLines) (input behind : Option (List ℕ)) (whole : HeardWhole schemes w input behind) where
-  -- so many octets can be counted
   pub few_octets : w.octets ≤ 209715300000000
   few_octets =
       let heard = whole.heard in
       let holds = heard.holds in
       omega (arith, whole.octets_are, whole.bound, holds.few)
 
-  -- a whole line was taken
   pub whole_line : (line : List ℕ) (after : Option (List ℕ)) (w' : WholeLines) → TakesLineTo Lf line_limit behind after line →
       (let heard = whole.heard in AddsLine schemes heard.lines heard.place line (Ok tt) w'.auditor) → w'.octets ≡ w.octets + length line + 1 →
       HeardWhole schemes w' input after × (w'.auditor.lines ≡ w.auditor.lines + 1)
@@ -60,7 +56,6 @@ module _ (schemes : Schemes) (w : WholeLines) (input behind : Option (List ℕ))
       )
 
   module _ (w' : WholeLines) (holds : let heard = whole.heard in Holds schemes w'.auditor heard.lines heard.place) (octets : w'.octets ≡ w.octets) where
-    -- the last line is torn
     pub torn_line : (line pending : List ℕ) (left : Option (List ℕ)) → TakesLast line_limit behind pending left line → HeardCut schemes w' input
     torn_line line pending left t =
         let heard = whole.heard in
@@ -80,7 +75,6 @@ module _ (schemes : Schemes) (w : WholeLines) (input behind : Option (List ℕ))
           octets_are = octets ∙ whole.octets_are;
         }
 
-    -- no line is left
     pub no_line : (line pending : List ℕ) (left : Option (List ℕ)) → FindsEnd behind pending left line → HeardCut schemes w' input
     no_line line pending left f =
         let heard = whole.heard in
@@ -100,7 +94,6 @@ module _ (schemes : Schemes) (w : WholeLines) (input behind : Option (List ℕ))
           octets_are = octets ∙ whole.octets_are;
         }
 
-  -- a whole line does not go on
   pub fault_line : (line : List ℕ) (after : Option (List ℕ)) (fault : AuditFault) (a' : Auditor) → TakesLineTo Lf line_limit behind after line →
       (let heard = whole.heard in AddsLine schemes heard.lines heard.place line (Err fault) a') → (text : List ℕ) → input ≡ Some text → IsWholeFault schemes text fault
   fault_line line after (BadLine number) a' t b text is =
@@ -117,7 +110,6 @@ module _ (schemes : Schemes) (w : WholeLines) (input behind : Option (List ℕ))
   fault_line line after Read a' t b text is = tt
   fault_line line after NoMemory a' t b text is = tt
 
-  -- octets that are too long for a line
   pub fault_long : (pending : List ℕ) (left : Option (List ℕ)) (number : ℕ) → number ≡ w.auditor.lines + 1 → FindsTooLongTo Lf line_limit behind pending left → (text : List ℕ) → input ≡ Some text → IsBadWhole schemes text number
   fault_long pending left number count t text is =
       let heard = whole.heard in

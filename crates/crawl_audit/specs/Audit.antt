@@ -1,5 +1,5 @@
--- What an audit says of texts: that they spell a chain, or which line continues none; and where an auditor stands
--- behind the lines that it read. docs/FORMATS.md has the causes; legality is that of `gate_history`.
+-- What an audit says of texts: they are a chain, or a line continues none; and the auditor's state behind the lines
+-- read. docs/FORMATS.md has the causes; `gate_history` defines legality.
 use Rattle.std.specs.Prelude.{◌≡◌, ℕ, ◌+◌, ◌<◌, ◌≤◌, ◌==◌, All, Bool, true, false, List, [], ◌∷◌, ◌++◌, Option, Some, None, Result, Ok, Err, codes, filter, if◌then◌else◌, length}
 use Rattle.std.specs.List.{list_any}
 use Rattle.std.specs.Io.KnownBytes.{Consumes, IsAtEnd}
@@ -26,7 +26,7 @@ use Rattle.history_text.specs.SpellBase.{lines_text}
 use Rattle.crawl_audit.specs.Steps.{among, inside, MayEnd, Place, Runs, start, Steps, TakesEntry}
 use Rattle.crawl_audit.specs.Tables.{TellsAll}
 
--- what a fault says of a text of which these schemes are read
+-- the meaning of a fault of a text
 abbrev pub IsFault : Schemes → List ℕ → AuditFault → Type 0
 IsFault schemes text (BadLine line) = IsChainBadAt schemes text line
 IsFault schemes text Read = Unit {0}
@@ -34,24 +34,24 @@ IsFault schemes text NoMemory = Unit {0}
 
 -- ---- the lines that are counted
 
--- the line begins as those of entries do
+-- the first letter is an entry's
 abbrev pub is_entry_line : List ℕ → Bool
 is_entry_line [] = false
 is_entry_line (letter ∷ rest) = list_any (λ kind. kind == letter) (codes "BAGNSDKFW")
 
--- the line begins as those of started fetches do
+-- the first letter is a started fetch's
 abbrev pub is_start_line : List ℕ → Bool
 is_start_line [] = false
 is_start_line (letter ∷ rest) = letter == 83
 
--- the counts of entries and of starts have the line, where they are not too great
+-- the counts of entries and starts include the line, unless they are too great
 pub record CountsLine (old : Auditor) (line : List ℕ) (new : Auditor) : Type 0 where
   pub events : old.events < most_lines → new.events ≡ (if is_entry_line line then old.events + 1 else old.events)
   pub starts : old.starts < most_lines → new.starts ≡ (if is_start_line line then old.starts + 1 else old.starts)
 
--- ---- where the auditor stands
+-- ---- the auditor's place
 
--- the open_state says what the history does, behind so many entries of a text
+-- `count` entries of a text were read, and the open_state agrees with the history
 pub record AreEntries (a : Auditor) (version : Version) (rising : Bool) (h : History) (count : ℕ) : Type 0 where
   pub version_is : a.version ≡ version
   pub rising_is : a.open_state.numbers.rising ≡ rising
@@ -59,13 +59,13 @@ pub record AreEntries (a : Auditor) (version : Version) (rising : Bool) (h : His
   pub tells : TellsAll a.open_state h
   pub legal : IsLegal h
 
--- a base of a first text is being read, of which these are the first lines
+-- these lines of a first text's base were read
 pub record IsInFirst (a : Auditor) (lines : List (List ℕ)) : Type 0 where
   pub first : FirstBase
   pub stage : a.stage ≡ stages.First first
   pub reads : Reads first a.open_state lines
 
--- the base of a text that goes on from the history is
+-- these lines of the base that continues the history were read
 pub record IsInFurther (a : Auditor) (h : History) (lines : List (List ℕ)) : Type 0 where
   pub next : NextBase
   pub stage : a.stage ≡ stages.Further next
@@ -73,7 +73,7 @@ pub record IsInFurther (a : Auditor) (h : History) (lines : List (List ℕ)) : T
   pub tells : TellsAll a.open_state h
   pub legal : IsLegal h
 
--- the auditor stands there
+-- the auditor is at this place
 abbrev pub StandsAt : Auditor → Place → Type 0
 StandsAt a start = (a.stage ≡ stages.Start) × AreEntries a One false (from empty_base) 0
 StandsAt a (among version rising h count) = (a.stage ≡ stages.Entries) × AreEntries a version rising h count
@@ -82,7 +82,7 @@ StandsAt a (inside (Some h) lines) = IsInFurther a h lines
 
 -- ---- what a line does
 
--- entries may come behind a base, and none have
+-- a base was read: entries may come
 pub record BeginsEntries (old new : Auditor) : Type 0 where
   pub version : new.version ≡ Two
   pub stage : new.stage ≡ stages.Entries
@@ -94,20 +94,20 @@ pub record BeginsEntries (old new : Auditor) : Type 0 where
   pub events : new.events ≡ old.events
   pub starts : new.starts ≡ old.starts
 
--- the line led to a place, where the auditor stands now
+-- the line led to a place, where the auditor is now
 pub record GoesTo (place : Place) (line : List ℕ) (old new : Auditor) : Type 0 where
   pub next : Place
   pub steps : Steps place line next
   pub stands : StandsAt new next
   pub counts : CountsLine old line new
 
--- the line led somewhere, or it leads nowhere, or memory was refused
+-- the line led somewhere, or nowhere, or memory was refused
 abbrev pub Moves : Place → List ℕ → Auditor → Result (Unit {0}) UnreadLine → Auditor → Type 0
 Moves place line old (Ok _) new = GoesTo place line old new
 Moves place line old (Err unread.NotOne) new = (next : Place) → Steps place line next → ⊥
 Moves place line old (Err unread.NoMemory) new = Unit {0}
 
--- the line was that of an entry
+-- the line was an entry's
 pub record EntersOne (version : Version) (rising : Bool) (h : History) (count : ℕ) (line : List ℕ)
     (old new : Auditor) : Type 0 where
   pub next : Place
@@ -115,7 +115,7 @@ pub record EntersOne (version : Version) (rising : Bool) (h : History) (count : 
   pub stands : StandsAt new next
   pub counts : CountsLine old line new
 
--- the line was that of an entry that may come, or it is not one, or memory was refused
+-- a legal entry's line, or another, or memory was refused
 abbrev pub EntersLine : Version → Bool → History → ℕ → List ℕ → Auditor → Result (Unit {0}) UnreadLine → Auditor
     → Type 0
 EntersLine version rising h count line old (Ok _) new = EntersOne version rising h count line old new
@@ -123,7 +123,7 @@ EntersLine version rising h count line old (Err unread.NotOne) new =
     (next : Place) → TakesEntry version rising h count line next → ⊥
 EntersLine version rising h count line old (Err unread.NoMemory) new = Unit {0}
 
--- these lines were read, and led to the place; they name the schemes alone that are read
+-- these lines, of the schemes read, led to the place
 pub record Holds (schemes : Schemes) (a : Auditor) (lines : List (List ℕ)) (place : Place) : Type 0 where
   pub schemes_are : a.schemes ≡ schemes
   pub runs : Runs start lines place
@@ -134,19 +134,19 @@ pub record Holds (schemes : Schemes) (a : Auditor) (lines : List (List ℕ)) (pl
   pub events_are : a.events ≡ length (filter is_entry_line lines)
   pub starts_are : a.starts ≡ length (filter is_start_line lines)
 
--- no line of a right text that names these schemes alone is this one, behind these
+-- in no valid text of these schemes does this line follow these
 abbrev pub LeadsNowhere : Schemes → List (List ℕ) → Place → List ℕ → Type 0
 LeadsNowhere schemes lines place line =
     length lines < most_lines → IsAmong schemes line → (next : Place) → Steps place line next → ⊥
 
--- one more line was read, or it does not continue those so far
+-- one more line was read, or it does not continue the others
 abbrev pub AddsLine : Schemes → List (List ℕ) → Place → List ℕ → Result (Unit {0}) AuditFault → Auditor → Type 0
 AddsLine schemes lines place line (Ok _) new = (next : Place) × Holds schemes new (lines ++ line ∷ []) next
 AddsLine schemes lines place line (Err (BadLine number)) new =
     (number ≡ length lines + 1) × LeadsNowhere schemes lines place line
 AddsLine schemes lines place line (Err _) new = Unit {0}
 
--- the lines so far were the front of the input
+-- the lines so far were a prefix of the input
 pub record Heard (schemes : Schemes) (a : Auditor) (input behind : Option (List ℕ)) : Type 0 where
   pub lines : List (List ℕ)
   pub place : Place
@@ -159,13 +159,13 @@ pub record HeardAll (schemes : Schemes) (a : Auditor) (input behind : Option (Li
   pub ends : MayEnd heard.place
   pub at_end : IsAtEnd behind
 
--- a step of an audit took a line, or found the end, or a fault
+-- a step took a line, or found the end, or a fault
 abbrev pub TakesStep : Schemes → Option (List ℕ) → Auditor → Result Bool AuditFault → Auditor → Option (List ℕ) → Type 0
 TakesStep schemes input old (Ok true) new behind = Heard schemes new input behind × (new.lines ≡ old.lines + 1)
 TakesStep schemes input old (Ok false) new behind = HeardAll schemes new input behind
 TakesStep schemes input old (Err fault) new behind = (text : List ℕ) → input ≡ Some text → IsFault schemes text fault
 
--- the source's count of failures after an audit: it rises exactly where a read failed
+-- the source's failures after an audit: one more exactly if a read failed
 abbrev pub failures_after_audit : {T : Type 0} → ℕ → Result T AuditFault → ℕ
 failures_after_audit failures (Ok _) = failures
 failures_after_audit failures (Err Read) = one_more failures

@@ -1,5 +1,5 @@
--- What an audit of texts one after the other says of them: that they spell a chain, or which line continues none.
--- docs/FORMATS.md has the texts.
+-- What an audit says of texts in sequence: they are a chain, or a line continues none.
+-- See docs/FORMATS.md.
 use Rattle.std.specs.Prelude.{◌≡◌, ◌≢◌, ℕ, ◌+◌, ◌≤◌, All, Bool, false, List, [], ◌∷◌, ◌++◌, length}
 use Rattle.std.specs.List.{list_any}
 use Rattle.path_normal.specs.declared.schemes.Schemes.{Schemes}
@@ -11,16 +11,16 @@ use Rattle.history_text.specs.Texts.{Text}
 use Rattle.crawl_audit.specs.Chains.{chain_entries, chain_lines, chain_text, IsChain, IsFront, most_lines, starts_in, line_limit}
 use Rattle.history_text.specs.SpellBase.{ended, lines_text}
 
--- a word of the line begins with `https://`
+-- a word begins with `https://`
 abbrev pub names_https : List ℕ → Bool
 names_https line = list_any is_https (words_of line)
 
--- the line names pages and sites of these schemes alone
+-- the line names only pages and sites of these schemes
 abbrev pub IsAmong : Schemes → List ℕ → Type 0
 IsAmong Http line = names_https line ≡ false
 IsAmong HttpAndHttps line = Unit {0}
 
--- the text is that of a chain of not too many lines, which name these schemes alone, with these counts of its entries
+-- the text is a chain of these schemes, with not too many lines and these counts of entries
 pub record IsChainAudited (schemes : Schemes) (text : List ℕ) (audited : Audited) : Type 0 where
   pub first : Text
   pub later : List Text
@@ -31,9 +31,8 @@ pub record IsChainAudited (schemes : Schemes) (text : List ℕ) (audited : Audit
   pub events_are : audited.events ≡ length (chain_entries first later)
   pub starts_are : audited.starts ≡ starts_in (chain_entries first later)
 
--- a right text may begin with the lines before this one, which name these schemes alone, but what stands behind them
--- does not begin with a line that does so too and with which a right text may go on; where nothing stands there, the
--- lines are not those of a whole chain
+-- a valid text of these schemes may begin with the lines before this one, but none continues with a line that begins
+-- here; if nothing follows, the lines are no whole chain
 pub record IsChainBadAt (schemes : Schemes) (text : List ℕ) (line : ℕ) : Type 0 where
   pub front : List (List ℕ)
   pub before : IsFront front

@@ -1,5 +1,5 @@
--- What ends all that a base left open: each permit is given back, each fetch ends, and each turn in flight ends without
--- an answer from the network. RFC 9309, section 2.3.1.4; the contracts of `ending.rt`.
+-- What ends all that a base left open: permits returned, fetches ended, and turns ended without an answer from the
+-- network. RFC 9309, section 2.3.1.4; the contracts of `ending.rt`.
 use Rattle.std.specs.Prelude.{◌≡◌, ℕ, ◌+◌, ◌<◌, ◌≤◌, All, Bool, List, [], ◌∷◌, ◌++◌, Result, Ok, Err, Vec, length, map}
 use Rattle.std.specs.declared.alloc.Global.{Global}
 use Rattle.permit_book.specs.declared.granted_permit.GrantedPermit.{GrantedPermit}
@@ -27,38 +27,38 @@ use Rattle.crawl_audit.specs.Steps.{Place, among, inside, start}
 
 -- ---- the entries
 
--- a permit that no start has spent is given back
+-- an unused permit is given back
 abbrev pub give_back : GrantedPermit → Entry
 give_back p = Returned p.number
 
--- a fetch that runs ends
+-- a running fetch ends
 abbrev pub finish : GrantedPermit → Entry
 finish p = Finished p.number
 
--- a turn in flight ends at this moment, without an answer from the network
+-- a turn ends at this moment, without an answer from the network
 abbrev pub unanswered : ℕ → Turn → Entry
 unanswered moment t = Arrived moment t.authority t.turn (says.Closed closures.Network) greatest_life
 
--- what ends all that the base left open, at the greatest moment
+-- ends all that the base left open, at the greatest moment
 abbrev pub ends_of : Base → List Entry
 ends_of b = map give_back b.unspent ++ (map finish b.running ++ map (unanswered b.moment) b.in_flight)
 
--- ---- where they come
+-- ---- their places
 
--- entries may come at this place, and there are lines before it
+-- some line was read, and entries may come
 abbrev pub HasBegun : Place → Type 0
 HasBegun start = ⊥
 HasBegun (among version rising h count) = Unit {0}
 HasBegun (inside after lines) = ⊥
 
--- an entry that ends something, whose life each version has
+-- an entry that ends something, possible in each version
 abbrev pub IsEnding : Entry → Type 0
 IsEnding (Arrived moment authority turn says life) = (life ≡ greatest_life) × (life_of says life ≡ life)
 IsEnding (Returned number) = Unit {0}
 IsEnding (Finished number) = Unit {0}
 IsEnding _ = ⊥
 
--- each entry is legal after the history and those before it
+-- each entry is legal after those before it
 abbrev pub AllFollow : History → List Entry → Type 0
 AllFollow h [] = Unit {0}
 AllFollow h (e ∷ later) = MayFollow h e × AllFollow (h ▸ e) later
@@ -67,16 +67,14 @@ AllFollow h (e ∷ later) = MayFollow h e × AllFollow (h ▸ e) later
 abbrev pub lines_of : Version → List Entry → List (List ℕ)
 lines_of version entries = map (entry_line version) entries
 
--- there is room for these lines behind so many lines, so many entries of a text, and so many of all texts; and they
--- name the schemes alone that are read
+-- there is room for these lines and entries, of the text and of all texts; they name only the schemes read
 pub record HaveRoom (schemes : Schemes) (lines count entries : ℕ) (more : List (List ℕ)) : Type 0 where
   pub lines_fit : lines + length more ≤ most_lines
   pub text_fits : count + length more ≤ most_entries
   pub entries_fit : entries + length more ≤ greatest_number
   pub among : All (IsAmong schemes) more
 
--- the auditor took the line of the entry behind those that it read; or there is no room for it, or it is not legal; or
--- memory was refused
+-- the auditor took the entry's line; or there is no room, or it is not legal; or memory was refused
 abbrev pub EndsOne : Schemes → List (List ℕ) → Version → Bool → History → ℕ → Entry → Result (Unit {0}) RecoverFault
     → Auditor → Type 0
 EndsOne schemes lines version rising h count e (Ok _) new =
@@ -89,21 +87,21 @@ EndsOne schemes lines version rising h count e (Err (BadLine _)) new = ⊥
 EndsOne schemes lines version rising h count e (Err (NoEntries _)) new = ⊥
 EndsOne schemes lines version rising h count e (Err Read) new = ⊥
 
--- the auditor took the lines of these entries behind those that it read, and this is their text
+-- the auditor took the lines of these entries, and this is their text
 pub record TakesEnds (schemes : Schemes) (lines : List (List ℕ)) (version : Version) (rising : Bool) (h : History)
     (count : ℕ) (es : List Entry) (text : List ℕ) (new : Auditor) : Type 0 where
   pub holds : Holds schemes new (lines ++ lines_of version es)
       (among version rising (followed_by h es) (count + length es))
   pub text_is : text ≡ lines_text (lines_of version es)
 
--- one of these lines has this number, and there is no room for them all, or they are not legal
+-- one of these lines has this number, and they lack room or are not legal
 pub record RefusesEnds (schemes : Schemes) (lines : List (List ℕ)) (version : Version) (h : History) (count : ℕ)
     (es : List Entry) (number : ℕ) : Type 0 where
   pub above : length lines < number
   pub within : number ≤ length lines + length es
   pub lacks : AllFollow h es → HaveRoom schemes (length lines) count (entry_count h) (lines_of version es) → ⊥
 
--- it took them; or there is no room; or memory was refused
+-- all were taken, or there is no room, or memory was refused
 abbrev pub EndsAll : Schemes → List (List ℕ) → Version → Bool → History → ℕ → List Entry
     → Result (Vec ℕ Global) RecoverFault → Auditor → Type 0
 EndsAll schemes lines version rising h count es (Ok text) new =

@@ -1,5 +1,5 @@
--- The base of a first text while it is read line by line: how far it came, what its reader and the open_state say of
--- what was read, and which line may come next. docs/FORMATS.md has the lines as a table.
+-- The base of a first text while it is read: how far, what its reader and the open_state say, and which line may come
+-- next. See docs/FORMATS.md.
 use Rattle.std.specs.Prelude.{◌≡◌, ℕ, ◌==◌, ◌⊎◌, Bool, true, false, ◌&&◌, nat_le, nat_lt, not, All, List, [], ◌∷◌, ◌++◌, Some, None, OnOk, Result, Ok, Err, codes, is_some, map}
 use Rattle.std.specs.declared.alloc.AllocError.{AllocError}
 use Rattle.std.specs.Cmp.Lexicographic.{slice_cmp}
@@ -36,16 +36,16 @@ key_of (Greatest g) = lasts.Greatest g.slot
 key_of (Unspent p) = lasts.Unspent p.number
 key_of (Running p) = lasts.Running p.number
 
--- the last line behind this one and the lines of these rows
+-- the last line after this one and these rows
 abbrev pub last_from : LastLine → List OpenRow → LastLine
 last_from last [] = last
 last_from last (row ∷ rows) = last_from (key_of row) rows
 
--- that of a base with these rows
+-- the last line of a base with these rows
 abbrev pub last_of : List OpenRow → LastLine
 last_of = last_from lasts.Numbers
 
--- the place of a line's kind among the kinds
+-- the rank of a line's kind
 abbrev pub kind_place : LastLine → ℕ
 kind_place lasts.Numbers = 0
 kind_place (lasts.Answered _) = 1
@@ -54,7 +54,7 @@ kind_place (lasts.Greatest _) = 3
 kind_place (lasts.Unspent _) = 4
 kind_place (lasts.Running _) = 5
 
--- the row comes behind a line: it is of a later kind, or of the same with a greater key
+-- the row sorts after the line: by kind, then by key
 abbrev pub is_behind : LastLine → OpenRow → Bool
 is_behind (lasts.Answered authority) (Answered s) = is_lt (slice_cmp nat_cmp authority s.authority)
 is_behind (lasts.InFlight turn) (InFlight t) = nat_lt turn t.turn
@@ -69,16 +69,16 @@ is_behind last row = nat_lt (kind_place last) (kind_place (key_of row))
 abbrev pub is_used : FirstBase → ℕ → Bool
 is_used first turn = is_some (get (λ one other. one == other) first.turns turn)
 
--- the number's slot had a grant of its generation or of a later one
+-- the slot had a grant of this generation or later
 abbrev pub is_granted : Numbers → ℕ → Bool
 is_granted numbers number = not (is_above (generation_of number) (lasts_of numbers (slot_of number)))
 
--- the turn was not read yet, and there may be one of this number that began at this moment
+-- the turn was not read yet and could have begun at this moment
 abbrev pub may_have_begun : FirstBase → OpenState → ℕ → ℕ → Bool
 may_have_begun first open_state turn begun =
     not (is_used first turn) && (nat_le turn open_state.begins && nat_le begun open_state.clock)
 
--- the row fits to what was read, wherever it comes
+-- the row is consistent with what was read, in any order
 abbrev pub fits : FirstBase → OpenState → OpenRow → Bool
 fits first open_state (Answered s) = may_have_begun first open_state s.turn s.begun
 fits first open_state (InFlight t) =
@@ -88,7 +88,7 @@ fits first open_state (Unspent p) = is_granted open_state.numbers p.number
 fits first open_state (Running p) =
     is_granted open_state.numbers p.number && not (is_some (phases_of open_state.numbers p.number))
 
--- the reader and the open_state say what the base does
+-- the reader and the open_state agree with the base
 pub record SaysBase (first : FirstBase) (open_state : OpenState) (b : Base) : Type 0 where
   pub is_base : IsTextBase b
   pub rows : All IsOpenRow (rows_of b)
@@ -97,7 +97,7 @@ pub record SaysBase (first : FirstBase) (open_state : OpenState) (b : Base) : Ty
   pub last_is : first.last ≡ Some (last_of (rows_of b))
   pub turns_are : (turn : ℕ) → is_used first turn ≡ nat_lt 0 (times_turned b.standing b.in_flight turn)
 
--- a row with an answer, and one with a turn
+-- a row with an answer
 abbrev pub answered_row : List ℕ → ℕ → ℕ → Timed → OpenRow
 answered_row authority turn begun answer =
     Answered (record { authority = authority; turn = turn; begun = begun; life = answer.life; says = answer.says })
@@ -105,24 +105,24 @@ answered_row authority turn begun answer =
 abbrev pub turn_row : List ℕ → ℕ → ℕ → OpenRow
 turn_row authority turn begun = InFlight (record { authority = authority; turn = turn; begun = begun })
 
--- a row with a permit that is out so
+-- a row with a permit in this phase
 abbrev pub permit_row : ℕ → Phase → OpenRow
 permit_row number (phases.Unspent fetch) = Unspent (permit_for number fetch)
 permit_row number (phases.Running fetch) = Running (permit_for number fetch)
 
--- a row that may stand was loaded, so they say what the base with it does
+-- a possible next row was loaded: they agree with the base that has it
 abbrev pub Loads : Base → OpenRow → Result (Unit {0}) AllocError → FirstBase → OpenState → Type 0
 Loads b row result first open_state =
     IsOpenRow row → MayStand b row → OnOk result (SaysBase first open_state (with_row b row))
 
--- the first line was read, and nothing was before
+-- only the first line was read
 pub record ReadsHead (first : FirstBase) (open_state : OpenState) (lines : List (List ℕ)) : Type 0 where
   pub lines_are : lines ≡ codes "V 3" ∷ []
   pub tells : TellsAll open_state (from empty_base)
   pub none : first.last ≡ None
   pub unused : (turn : ℕ) → is_used first turn ≡ false
 
--- the numbers of a base were read, and what it left open as far as these lines have it
+-- the numbers and these rows of a base were read
 pub record ReadsRows (first : FirstBase) (open_state : OpenState) (lines : List (List ℕ)) : Type 0 where
   pub base : Base
   pub says : SaysBase first open_state base
@@ -132,7 +132,7 @@ pub record ReadsRows (first : FirstBase) (open_state : OpenState) (lines : List 
 abbrev pub Reads : FirstBase → OpenState → List (List ℕ) → Type 0
 Reads first open_state lines = ReadsHead first open_state lines ⊎ ReadsRows first open_state lines
 
--- the lines are all of a base, and the open_state goes on from it
+-- the lines are a whole base, which the open_state continues
 pub record HasRead (lines : List (List ℕ)) (open_state : OpenState) : Type 0 where
   pub base : Base
   pub is_base : IsTextBase base
@@ -140,7 +140,7 @@ pub record HasRead (lines : List (List ℕ)) (open_state : OpenState) : Type 0 w
   pub tells : TellsAll open_state (from base)
   pub rising : open_state.numbers.rising ≡ true
 
--- the line is the next one of a base; it is the last one; it is not one; or memory was refused
+-- the line is the base's next or last one, or neither, or memory was refused
 abbrev pub TakesBaseLine : List (List ℕ) → List ℕ → Result Bool UnreadLine → FirstBase → OpenState → Type 0
 TakesBaseLine lines line (Ok false) first open_state =
     Reads first open_state (lines ++ line ∷ []) × TakesLine None lines line (inside None (lines ++ line ∷ []))

@@ -1,4 +1,4 @@
--- The chains of texts that name pages and sites of `http` alone, by their entries and their bases.
+-- The chains that name only `http` pages and sites, by their entries and bases.
 -- RFC 9309, section 2.3: a robots.txt holds for a scheme and an authority.
 use Rattle.std.specs.Prelude.{◌≡◌, Bool, false, All, List}
 use Rattle.path_normal.specs.PageText.{is_https}
@@ -18,11 +18,11 @@ is_https_entry (Granted moment number fetch) = is_https fetch.url
 is_https_entry (AskDenied moment fetch cause) = is_https fetch.url
 is_https_entry _ = false
 
--- the entry names none
+-- the entry names no `https`
 abbrev pub IsHttpEntry : Entry → Type 0
 IsHttpEntry e = is_https_entry e ≡ false
 
--- the site of an answer that stands, or of a turn, and the page of a permit are of `http`
+-- an answer's site is of `http`
 abbrev pub IsHttpAnswer : StandingAnswer → Type 0
 IsHttpAnswer s = is_https s.authority ≡ false
 
@@ -32,19 +32,19 @@ IsHttpTurn t = is_https t.authority ≡ false
 abbrev pub IsHttpPermit : GrantedPermit → Type 0
 IsHttpPermit p = is_https p.url ≡ false
 
--- what a base left open names `http` alone
+-- what a base left open names only `http`
 pub record IsHttpBase (b : Base) : Type 0 where
   pub standing : All IsHttpAnswer b.standing
   pub in_flight : All IsHttpTurn b.in_flight
   pub unspent : All IsHttpPermit b.unspent
   pub running : All IsHttpPermit b.running
 
--- a text names `http` alone
+-- the text names only `http`
 pub record IsHttpText (t : Text) : Type 0 where
   pub base : IsHttpBase t.base
   pub entries : All IsHttpEntry t.entries
 
--- each text of a chain does
+-- each text of the chain names only `http`
 pub record IsHttpChain (first : Text) (later : List Text) : Type 0 where
   pub first_text : IsHttpText first
   pub later_texts : All IsHttpText later

@@ -1,5 +1,5 @@
--- What the contracts of audits cite.
--- docs/FORMATS.md has the text.
+-- Definitions that the contracts of audits cite.
+-- See docs/FORMATS.md.
 pub mod Audit
 pub mod ChainAudit
 pub mod Chains

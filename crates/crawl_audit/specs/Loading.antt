@@ -1,4 +1,4 @@
--- What it is to load into the open_state what a base left open, thing by thing.
+-- Loading what a base left open into the open_state, one by one.
 -- RFC 9309, sections 2.3.1 and 2.4.
 use Rattle.std.specs.Prelude.{◌≡◌, ℕ, true, false, List}
 use Rattle.authority_cache.specs.declared.site.Flight.{Flight}
@@ -11,11 +11,11 @@ use Rattle.crawl_audit.specs.declared.open_state.OpenState.{OpenState}
 use Rattle.crawl_audit.specs.declared.numbers.Numbers.{Numbers}
 use Rattle.crawl_audit.specs.Tables.{KeepsLast, lasts_of}
 
--- the same numbers, from where on grants must rise
+-- these numbers, with grants that must rise from now on
 abbrev pub risen : Numbers → Numbers
 risen numbers = record numbers { rising = true }
 
--- the same open_state with the numbers of a base
+-- this open_state with the numbers of a base
 abbrev pub counted_from : OpenState → Counts → OpenState
 counted_from open_state numbers = record open_state {
   clock = numbers.moment;
@@ -25,19 +25,19 @@ counted_from open_state numbers = record open_state {
   numbers = risen open_state.numbers;
 }
 
--- the same open_state with this cache
+-- this open_state with another cache
 abbrev pub with_cache : OpenState → Known → OpenState
 with_cache open_state cache = record open_state { cache = cache }
 
--- the same open_state with these numbers of permits
+-- this open_state with other numbers of permits
 abbrev pub with_numbers : OpenState → Numbers → OpenState
 with_numbers open_state numbers = record open_state { numbers = numbers }
 
--- the flight of a turn that began at this moment
+-- a turn that began at this moment
 abbrev pub flight_of : ℕ → ℕ → Flight
 flight_of turn begun = record { turn = turn; begun = begun }
 
--- the authority had no turn in flight, and has this one now
+-- the authority now has its only turn in flight
 pub record LoadsTurn (old : OpenState) (authority : List ℕ) (turn begun : ℕ) (new : OpenState) : Type 0 where
   pub rest : new ≡ with_cache old new.cache
   pub idle : is_flying (site_of old.cache authority) ≡ false
@@ -52,7 +52,7 @@ pub record LoadsAnswer (old : OpenState) (authority : List ℕ) (turn begun : �
   pub came : Changes between.cache authority
       (arrived turn answer.says answer.life (site_of between.cache authority)) new.cache
 
--- the greatest generation of a slot is this one now
+-- the greatest generation of a slot is now this one
 pub record Sets (old : Numbers) (grant : SlotGrant) (new : Numbers) : Type 0 where
   pub lasts : KeepsLast (lasts_of old) grant.slot grant.generation (lasts_of new)
   pub out : new.out ≡ old.out

@@ -1,4 +1,4 @@
--- The base of a further text, made of what the tables say, and how far its lines were read.
+-- The base of a further text, made from the tables, and its lines so far.
 -- The contracts of `listing.rt` and `next_base.rt`.
 use Rattle.std.specs.Prelude.{◌≡◌, ℕ, ◌+◌, ◌⊎◌, List, [], ◌∷◌, ◌++◌, Some, codes, length}
 use Rattle.authority_cache.specs.Lists.{ListsAnswers, ListsTurns}
@@ -19,7 +19,7 @@ use Rattle.history_text.specs.SpellBase.{base_lines, numbers_line, open_lines}
 use Rattle.crawl_audit.specs.Steps.{EndsBase, Place, TakesLine, inside}
 use Rattle.crawl_audit.specs.Tables.{ListsGrants, ListsRunning, ListsUnspent}
 
--- the lists have what the tables of the open_state have
+-- the lists hold what the open_state's tables do
 pub record TellsLeft (l : OpenState) (left : LeftOpen) : Type 0 where
   pub answers : ListsAnswers l.cache left.standing.items
   pub turns : ListsTurns l.cache left.in_flight.items
@@ -41,7 +41,7 @@ row_count left =
     length left.standing.items + length left.in_flight.items + length left.grants.items
     + length left.unspent.items + length left.running.items
 
--- it was made of this, which is in order now, and none of its lines was read
+-- it was made and sorted from this, with no lines read
 pub record IsNextOf (left : LeftOpen) (numbers : BaseNumbers) (next : NextBase) : Type 0 where
   pub same : Reorders (base_with left numbers) (base_in next)
   pub order : IsInOrder (base_in next)
@@ -49,7 +49,7 @@ pub record IsNextOf (left : LeftOpen) (numbers : BaseNumbers) (next : NextBase) 
   pub count : next.count ≡ row_count next.left + 2
   pub taken : next.taken ≡ 0
 
--- a text's base says what the history does, and these are its first lines
+-- a base describes the history, and these are its first lines
 pub record Awaits (next : NextBase) (h : History) (lines : List (List ℕ)) : Type 0 where
   pub base : IsTextBase (base_in next)
   pub says : SaysAs (from (base_in next)) h
@@ -64,18 +64,18 @@ pub record AwaitsNone (next : NextBase) (h : History) (lines : List (List ℕ)) 
   pub entries : entry_count h ≡ 0
   pub lines_are : lines ≡ codes "V 3" ∷ []
 
--- what must come after the history, of which these lines were read
+-- what must follow the history, of which these lines were read
 abbrev pub Expects : NextBase → History → List (List ℕ) → Type 0
 Expects next h lines = Awaits next h lines ⊎ AwaitsNone next h lines
 
--- the lines are those of the base that must come
+-- the lines are all those of the next base
 pub record IsWholeBase (h : History) (lines : List (List ℕ)) : Type 0 where
   pub base : Base
   pub is_base : IsTextBase base
   pub says : SaysAs (from base) h
   pub lines_are : base_lines base ≡ lines
 
--- what the line is, behind these: one of the base, and more must come; its last one; or none
+-- the line is one of the base with more to come, its last one, or another
 abbrev pub TakesNextLine : History → List (List ℕ) → List ℕ → BaseLine → NextBase → Type 0
 TakesNextLine h lines line Taken next =
     Expects next h (lines ++ line ∷ []) × TakesLine (Some h) lines line (inside (Some h) (lines ++ line ∷ []))

@@ -1,10 +1,10 @@
--- The base of numbers alone, which left nothing open.
--- Cited where the first line of a base was read.
+-- A base of numbers that left nothing open.
+-- Used where a base's first line was read.
 use Rattle.std.specs.Prelude.{[]}
 use Rattle.gate_history.specs.declared.base.Numbers.{Numbers}
 use Rattle.gate_history.specs.Base.{Base}
 
--- a base with these numbers, of which nothing is open
+-- a base with these numbers and nothing open
 abbrev pub numbered : Numbers → Base
 numbered numbers = record {
   standing = [];

@@ -1,5 +1,5 @@
--- What a base left open as one list of rows, each of which is one line; and which row may stand behind others.
--- docs/FORMATS.md has the lines as a table.
+-- What a base left open as one list of rows, one line each; and which row may follow others.
+-- See docs/FORMATS.md.
 use Rattle.std.specs.Prelude.{◌≡◌, ℕ, true, List, [], ◌∷◌, ◌++◌, map}
 use Rattle.permit_book.specs.declared.granted_permit.GrantedPermit.{GrantedPermit}
 use Rattle.permit_book.specs.Outstanding.{permit_for}
@@ -31,7 +31,7 @@ row_line (Greatest g) = grant_line g
 row_line (Unspent p) = unspent_line p
 row_line (Running p) = running_line p
 
--- its fields are those of such a line
+-- its fields may be in such a line
 abbrev pub IsOpenRow : OpenRow → Type 0
 IsOpenRow (Answered s) = IsAnswerRow s × (has_its_life s ≡ true)
 IsOpenRow (InFlight t) = IsTurnRow t
@@ -39,13 +39,13 @@ IsOpenRow (Greatest g) = IsGrantRow g × IsSlotGrant g
 IsOpenRow (Unspent p) = IsPermitRow p
 IsOpenRow (Running p) = IsPermitRow p
 
--- what a base left open, in the order of its lines
+-- what a base left open, as sorted rows
 abbrev pub rows_of : Base → List OpenRow
 rows_of b =
     map Answered b.standing ++ (map InFlight b.in_flight ++ (map Greatest b.grants
     ++ (map Unspent b.unspent ++ map Running b.running)))
 
--- a base with the numbers of this one, and these lists
+-- the base with these lists
 abbrev pub left_as : List StandingAnswer → List Turn → List SlotGrant → List GrantedPermit → List GrantedPermit → Base
     → Base
 left_as standing in_flight grants unspent running b = record {
@@ -60,7 +60,7 @@ left_as standing in_flight grants unspent running b = record {
   started = b.started;
 }
 
--- the base with one thing more that it left open
+-- the base with one more thing left open
 abbrev pub with_row : Base → OpenRow → Base
 with_row b (Answered s) = left_as (b.standing ++ s ∷ []) b.in_flight b.grants b.unspent b.running b
 with_row b (InFlight t) = left_as b.standing (b.in_flight ++ t ∷ []) b.grants b.unspent b.running b
@@ -68,7 +68,7 @@ with_row b (Greatest g) = left_as b.standing b.in_flight (b.grants ++ g ∷ []) 
 with_row b (Unspent p) = left_as b.standing b.in_flight b.grants (b.unspent ++ p ∷ []) b.running b
 with_row b (Running p) = left_as b.standing b.in_flight b.grants b.unspent (b.running ++ p ∷ []) b
 
--- the row may stand behind those of the base: its line comes behind theirs, and it makes a base that a text can have
+-- the row may follow the base's: it sorts after them, and makes a base that a text can have
 pub record MayStand (b : Base) (row : OpenRow) : Type 0 where
   pub behind : rows_of (with_row b row) ≡ rows_of b ++ row ∷ []
   pub base : IsTextBase (with_row b row)
@@ -82,7 +82,7 @@ row_of (rows.Greatest grant) = Greatest grant
 row_of (rows.Unspent number fetch) = Unspent (permit_for number fetch)
 row_of (rows.Running number fetch) = Running (permit_for number fetch)
 
--- the fields of a thing, but for what they must be besides
+-- a thing's fields have their form; `IsInRange` has the rest
 abbrev pub HasRowFields : OpenRow → Type 0
 HasRowFields (Answered s) = IsAnswerRow s
 HasRowFields (InFlight t) = IsTurnRow t
@@ -90,7 +90,7 @@ HasRowFields (Greatest g) = IsGrantRow g
 HasRowFields (Unspent p) = IsPermitRow p
 HasRowFields (Running p) = IsPermitRow p
 
--- an answer has a life of its kind; and there may be the slot and the generation
+-- an answer's life suits its kind, and slot and generation are possible
 abbrev pub IsInRange : OpenRow → Type 0
 IsInRange (Answered s) = has_its_life s ≡ true
 IsInRange (InFlight t) = Unit {0}

@@ -1,5 +1,5 @@
--- What entries as the audit holds them stand for.
--- Cited by the contracts of all that reads, writes or enters them.
+-- The entries of the audit's records.
+-- Used by all that reads, writes or enters them.
 use Rattle.robots_verdict.specs.Answer.{said}
 use Rattle.gate_history.specs.declared.entry.Entry.{Entry}
 use Rattle.gate_history.specs.declared.entry.Entry.TheVariants.{Begun, Arrived, Granted, AskDenied, Started, StartDenied, Returned, Finished, Swept}

@@ -1,5 +1,6 @@
--- What a gate goes on from after a crash: the whole lines of a text, the lines that end what was out behind them, and
--- what is then known. docs/FORMATS.md has the texts; RFC 9309, sections 2.3.1 and 2.4.
+-- Where a gate continues after a crash: a text's whole lines, the lines that end what was outstanding, and the
+-- result.
+-- See docs/FORMATS.md; RFC 9309, sections 2.3.1 and 2.4.
 use Rattle.std.specs.Prelude.{◌≡◌, ℕ, ◌+◌, ◌*◌, ◌<◌, ◌≤◌, ◌⊎◌, All, Bool, true, false, Contains, List, [], ◌∷◌, ◌++◌, Option, Some, Result, Ok, Err, Vec, length, map}
 use Rattle.std.specs.declared.alloc.Global.{Global}
 use Rattle.std.specs.Io.KnownBytes.{Consumes}
@@ -32,24 +33,24 @@ use Rattle.crawl_audit.specs.Tables.{TellsAll}
 
 -- ---- a text whose last line may be torn
 
--- the text is these whole lines, and octets without a line feed behind them
+-- the text is these whole lines, and a rest without line feed
 pub record IsCut (text : List ℕ) (lines : List (List ℕ)) : Type 0 where
   pub torn : List ℕ
   pub no_line_feed : HasNoLineFeed torn
   pub text_is : text ≡ lines_text lines ++ torn
 
--- no right text goes on with what stands at the line, which is whole or too long
+-- no valid text has this line, which is whole or too long
 pub record IsBadWhole (schemes : Schemes) (text : List ℕ) (line : ℕ) : Type 0 where
   pub bad : IsChainBadAt schemes text line
   pub whole : Contains bad.behind line_feed ⊎ (line_limit < length bad.behind)
 
--- what was read were whole lines of the input, of so many octets
+-- whole lines of the input were read, of so many octets
 pub record HeardWhole (schemes : Schemes) (w : WholeLines) (input behind : Option (List ℕ)) : Type 0 where
   pub heard : Heard schemes w.auditor input behind
   pub octets_are : w.octets ≡ length (lines_text heard.lines)
   pub bound : length (lines_text heard.lines) ≤ length heard.lines * (line_limit + 1)
 
--- they were all whole lines of it
+-- all whole lines of the input were read
 pub record HeardCut (schemes : Schemes) (w : WholeLines) (input : Option (List ℕ)) : Type 0 where
   pub lines : List (List ℕ)
   pub place : Place
@@ -57,13 +58,13 @@ pub record HeardCut (schemes : Schemes) (w : WholeLines) (input : Option (List �
   pub cut : (text : List ℕ) → input ≡ Some text → IsCut text lines
   pub octets_are : w.octets ≡ length (lines_text lines)
 
--- what a fault says of a text whose last line may be torn
+-- the meaning of a fault of a possibly torn text
 abbrev pub IsWholeFault : Schemes → List ℕ → AuditFault → Type 0
 IsWholeFault schemes text (faults.BadLine line) = IsBadWhole schemes text line
 IsWholeFault schemes text faults.Read = Unit {0}
 IsWholeFault schemes text faults.NoMemory = Unit {0}
 
--- a whole line was taken, or none was left, or there was a fault
+-- a whole line was taken, or none left, or there was a fault
 abbrev pub TakesWhole : Schemes → Option (List ℕ) → WholeLines → Result Bool AuditFault → WholeLines → Option (List ℕ)
     → Type 0
 TakesWhole schemes input old (Ok true) new behind =
@@ -72,7 +73,7 @@ TakesWhole schemes input old (Ok false) new behind = HeardCut schemes new input
 TakesWhole schemes input old (Err fault) new behind =
     (text : List ℕ) → input ≡ Some text → IsWholeFault schemes text fault
 
--- the fault that recovery tells of a fault of the auditor
+-- the fault of recovery for a fault of the auditor
 abbrev pub fault_read : AuditFault → RecoverFault
 fault_read (faults.BadLine line) = BadLine line
 fault_read faults.Read = Read
@@ -80,7 +81,7 @@ fault_read faults.NoMemory = NoMemory
 
 -- ---- what the lines lead to
 
--- entries may come behind these lines, after a history of which the base says what it left open, in order
+-- entries may follow these lines, and the base in order says what their history left open
 pub record LeaveOpen (lines : List (List ℕ)) : Type 0 where
   pub version : Version
   pub rising : Bool
@@ -92,15 +93,15 @@ pub record LeaveOpen (lines : List (List ℕ)) : Type 0 where
   pub order : IsInOrder left
   pub says : SaysAs (from left) history
 
--- the base says what the history does, and the cache has the answers that stand and the turns in flight
+-- the base describes the history, and the cache has its valid answers and turns in flight
 pub record LeadsTo (h : History) (base : Base) (cache : Known) : Type 0 where
   pub is_base : IsBase base
   pub order : IsInOrder base
   pub says : SaysAs (from base) h
   pub answers : TellsCache cache base.standing base.in_flight
 
--- behind the whole lines of the text and those that end what was left open behind them, entries may come: an audit
--- that reads these schemes takes all these lines; and what was found is that to which they lead
+-- entries may come after the text's whole lines and those that end what was left open: an audit of these schemes
+-- takes all of them, and they lead to what was found
 pub record IsRecovered (schemes : Schemes) (text : List ℕ) (found : Recovered) : Type 0 where
   pub lines : List (List ℕ)
   pub cut : IsCut text lines
@@ -119,7 +120,7 @@ pub record IsRecovered (schemes : Schemes) (text : List ℕ) (found : Recovered)
 
 -- ---- what is refused
 
--- the whole lines of the text are those before this one, and no entry may come behind them
+-- the text has the whole lines before this one, and no entry may follow
 pub record EndsEarly (text : List ℕ) (line : ℕ) : Type 0 where
   pub lines : List (List ℕ)
   pub cut : IsCut text lines
@@ -128,7 +129,7 @@ pub record EndsEarly (text : List ℕ) (line : ℕ) : Type 0 where
   pub not_begun : HasBegun place → ⊥
   pub line_is : line ≡ length lines + 1
 
--- what the whole lines of the text left open can't be ended behind them: this line would be one of those that end it
+-- what the whole lines left open can't be ended: this line would be one of those that end it
 pub record LacksRoom (schemes : Schemes) (text : List ℕ) (line : ℕ) : Type 0 where
   pub lines : List (List ℕ)
   pub cut : IsCut text lines
@@ -138,7 +139,7 @@ pub record LacksRoom (schemes : Schemes) (text : List ℕ) (line : ℕ) : Type 0
   pub above : length lines < line
   pub within : line ≤ length lines + length (ends_of behind.left)
 
--- what a fault says of a text
+-- the meaning of a fault of a text
 abbrev pub IsRecoverFault : Schemes → List ℕ → RecoverFault → Type 0
 IsRecoverFault schemes text (BadLine line) = IsBadWhole schemes text line
 IsRecoverFault schemes text (NoEntries line) = EndsEarly text line
@@ -146,25 +147,25 @@ IsRecoverFault schemes text (NoRoom line) = LacksRoom schemes text line
 IsRecoverFault schemes text Read = Unit {0}
 IsRecoverFault schemes text NoMemory = Unit {0}
 
--- the base says what each history does of which the tables tell, in order
+-- the base describes, in order, each history that the tables do
 pub record IsLeft (a : Auditor) (left : Base) : Type 0 where
   pub says : (h : History) → IsLegal h → TellsAll a.open_state h → SaysAs (from left) h
   pub is_base : IsBase left
   pub order : IsInOrder left
 
--- what comes of the lines of these entries
+-- the result of the lines of these entries
 abbrev pub EndsFor : Auditor → List Entry → Result (Vec ℕ Global) RecoverFault → Auditor → Type 0
 EndsFor old es result new =
     (schemes : Schemes) (lines : List (List ℕ)) (version : Version) (rising : Bool) (h : History) (count : ℕ)
     → Holds schemes old lines (among version rising h count)
     → All IsEnding es → EndsAll schemes lines version rising h count es result new
 
--- what comes of those that end what the base left open
+-- the result of the lines that end the base
 abbrev pub EndsLeft : Auditor → Base → Result (Vec ℕ Global) RecoverFault → Auditor → Type 0
 EndsLeft old left = EndsFor old (ends_of left)
 
--- a base in order says what the tables tell, the auditor took the lines that end what it left open, and these are their
--- text and its sites; or they can't be taken, or memory was refused
+-- a sorted base agrees with the tables, and the auditor took the lines that end what it left open, with their text
+-- and sites; or it can't; or memory was refused
 abbrev pub EndsOpen : Auditor → Result (Vec ℕ Global × Vec (List ℕ) Global) RecoverFault → Auditor → Type 0
 EndsOpen old (Ok found) new =
     (left : Base) × (IsLeft old left
@@ -172,13 +173,13 @@ EndsOpen old (Ok found) new =
 EndsOpen old (Err fault) new =
     ((left : Base) × (IsLeft old left × EndsLeft old left (Err fault) new)) ⊎ (fault ≡ NoMemory)
 
--- what comes of the whole lines of an input: what was found is that to which they lead, or they are refused
+-- the result for an input's whole lines: the state they lead to, or a refusal
 abbrev pub Recovers : Schemes → Option (List ℕ) → Result Recovered RecoverFault → Type 0
 Recovers schemes input (Ok found) = (text : List ℕ) → input ≡ Some text → IsRecovered schemes text found
 Recovers schemes input (Err Read) = ⊥
 Recovers schemes input (Err fault) = (text : List ℕ) → input ≡ Some text → IsRecoverFault schemes text fault
 
--- nothing is out of the base, and the cache says what it does of answers
+-- nothing of the base is outstanding, and the cache has its answers
 pub record CanGoOn (base : Base) (cache : Known) : Type 0 where
   pub is_base : IsBase base
   pub turns : base.in_flight ≡ []
@@ -186,7 +187,7 @@ pub record CanGoOn (base : Base) (cache : Known) : Type 0 where
   pub runs : base.running ≡ []
   pub answers : TellsCache cache base.standing base.in_flight
 
--- the source's count of failures after a recovery: it rises exactly where a read failed
+-- the source's failures after a recovery: one more exactly if a read failed
 abbrev pub failures_after_recovery : {T : Type 0} → ℕ → Result T RecoverFault → ℕ
 failures_after_recovery failures (Ok _) = failures
 failures_after_recovery failures (Err Read) = one_more failures

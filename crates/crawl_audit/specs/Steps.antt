@@ -1,5 +1,5 @@
--- How texts are read line by line: where a reader stands, and what each line that a right text may have there
--- leads to. The laws say that the lines with which a right text may begin are those that are read so.
+-- Reading texts line by line: the reader's place, and where each line of a valid text leads. By the laws, the lines
+-- read in this way are those with which a valid text may begin.
 use Rattle.std.specs.Prelude.{◌≡◌, ℕ, ◌+◌, ◌<◌, ◌⊎◌, Bool, true, false, List, [], ◌∷◌, ◌++◌, Option, Some, None, codes}
 use Rattle.gate_history.specs.declared.entry.Entry.{Entry}
 use Rattle.gate_history.specs.Base.{Base, empty_base}
@@ -14,15 +14,14 @@ use Rattle.history_text.specs.Spell.{entry_line}
 use Rattle.history_text.specs.SpellBase.{base_lines}
 use Rattle.crawl_audit.specs.Tables.{MayCome}
 
--- where a reader stands: before the first line; behind so many entries of a text, after a history, where
--- grants must rise or need not; or behind these first lines of a base, which a first text has, or one that
--- goes on from a history
+-- the reader's place: before the first line; behind `count` entries after a history, where grants must rise or need
+-- not; or behind these lines of a first text's or a continuing text's base
 pub data Place : Type 0 where
   start : Place
   among : Version → Bool → History → ℕ → Place
   inside : Option History → List (List ℕ) → Place
 
--- a base that may stand there
+-- a base that may come there
 abbrev pub IsBaseFor : Option History → Base → Type 0
 IsBaseFor None b = IsTextBase b
 IsBaseFor (Some h) b = IsTextBase b × SaysAs (from b) h
@@ -38,7 +37,7 @@ pub record TakesEntry (version : Version) (rising : Bool) (h : History) (count :
   pub line_is : line ≡ entry_line version entry
   pub next_is : next ≡ among version rising (h ▸ entry) (count + 1)
 
--- the line is one of a base, and more lines of it follow
+-- the line is one of a base, with more to come
 pub record TakesLine (after : Option History) (lines : List (List ℕ)) (line : List ℕ) (next : Place) : Type 0 where
   pub base : Base
   pub is_base : IsBaseFor after base
@@ -47,19 +46,19 @@ pub record TakesLine (after : Option History) (lines : List (List ℕ)) (line : 
   pub lines_are : base_lines base ≡ (lines ++ line ∷ []) ++ following ∷ later
   pub next_is : next ≡ inside after (lines ++ line ∷ [])
 
--- the line is the last one of a base
+-- the line is the last of a base
 pub record EndsBase (after : Option History) (lines : List (List ℕ)) (line : List ℕ) (next : Place) : Type 0 where
   pub base : Base
   pub is_base : IsBaseFor after base
   pub lines_are : base_lines base ≡ lines ++ line ∷ []
   pub next_is : next ≡ among Two true (from base) 0
 
--- the line is this one, and leads there
+-- the line is this head, and leads to that place
 pub record IsHead (head line : List ℕ) (there next : Place) : Type 0 where
   pub line_is : line ≡ head
   pub next_is : next ≡ there
 
--- what a line leads to
+-- where a line leads
 abbrev pub Steps : Place → List ℕ → Place → Type 0
 Steps start line next =
     IsHead (codes "V 2") line (among Two false (from empty_base) 0) next
@@ -69,12 +68,12 @@ Steps (among version rising h count) line next =
     IsHead (codes "V 3") line (inside (Some h) (codes "V 3" ∷ [])) next ⊎ TakesEntry version rising h count line next
 Steps (inside after lines) line next = TakesLine after lines line next ⊎ EndsBase after lines line next
 
--- what lines lead to, one after the other
+-- where lines lead, one after the other
 abbrev pub Runs : Place → List (List ℕ) → Place → Type 0
 Runs place [] next = next ≡ place
 Runs place (line ∷ lines) next = (between : Place) × (Steps place line between × Runs between lines next)
 
--- a text may end there: not within a base
+-- a text may end there, that is, not within a base
 abbrev pub MayEnd : Place → Type 0
 MayEnd start = Unit {0}
 MayEnd (among version rising h count) = Unit {0}

@@ -1,4 +1,4 @@
--- The tables by which a text is audited, and that they say what a history does.
+-- The tables of an audit, and their agreement with a history.
 -- RFC 9309, sections 2.3.1 and 2.4.
 use Rattle.std.specs.Prelude.{◌≡◌, ℕ, ◌≤◌, ◌==◌, ◌||◌, Bool, true, false, max, nat_lt, not, List, [], ◌∷◌, Option, Some, None, Result, Ok, Err, is_some, if◌then◌else◌}
 use Rattle.std.specs.Borrow.{Bor}
@@ -22,52 +22,52 @@ use Rattle.crawl_audit.specs.declared.open_state.OpenState.{OpenState}
 use Rattle.crawl_audit.specs.declared.open_state.Unfit.{Unfit}
 use Rattle.crawl_audit.specs.declared.open_state.Unfit.TheVariants.{Illegal, NoMemory}
 
--- how each number is out, none of one that is not
+-- the phase of each outstanding number
 abbrev pub Phases : Type 0
 Phases = ℕ → Option Phase
 
--- what the table has under each number
+-- the phase that the table has for each number
 abbrev pub phases_of : Numbers → Phases
 phases_of numbers number = get (λ one other. one == other) numbers.out number
 
--- this is under the number now, and the others are as they were
+-- the number has this phase now, and others are unchanged
 abbrev pub KeepsPhase : Phases → ℕ → Option Phase → Phases → Type 0
 KeepsPhase old number phase new = (other : ℕ) → new other ≡ (if number == other then phase else old other)
 
--- the permit of the number, where it is unspent
+-- the number's permit, if unused
 abbrev pub unspent_under : ℕ → Option Phase → List GrantedPermit
 unspent_under number (Some (Unspent fetch)) = permit_for number fetch ∷ []
 unspent_under number _ = []
 
--- the permit of the number, where its fetch runs
+-- the number's permit, if its fetch runs
 abbrev pub running_under : ℕ → Option Phase → List GrantedPermit
 running_under number (Some (Running fetch)) = permit_for number fetch ∷ []
 running_under number _ = []
 
--- no start has spent it
+-- the permit is unused
 abbrev pub is_unspent_in : Option Phase → Bool
 is_unspent_in (Some (Unspent fetch)) = true
 is_unspent_in _ = false
 
--- the fetch, where no start has spent it
+-- the fetch, if unused
 abbrev pub GivesUnspent : Option Phase → Option (Bor Fetch) → Type 0
 GivesUnspent phase None = is_unspent_in phase ≡ false
 GivesUnspent phase (Some fetch) = phase ≡ Some (Unspent fetch.now)
 
--- a fetch is running
+-- the fetch is running
 abbrev pub is_running_in : Option Phase → Bool
 is_running_in (Some (Running fetch)) = true
 is_running_in _ = false
 
--- the greatest generation of each slot, none of one in which nothing was granted
+-- the greatest generation of each slot in which something was granted
 abbrev pub Lasts : Type 0
 Lasts = ℕ → Option ℕ
 
--- what the table has under each slot
+-- the generation that the table has for each slot
 abbrev pub lasts_of : Numbers → Lasts
 lasts_of numbers slot = get (λ one other. one == other) numbers.by_slot slot
 
--- the greatest generation is this one now, and those of other slots are as they were
+-- the slot has this greatest generation now, and others are unchanged
 abbrev pub KeepsLast : Lasts → ℕ → ℕ → Lasts → Type 0
 KeepsLast old slot generation new = (other : ℕ) → new other ≡ (if slot == other then Some generation else old other)
 
@@ -81,22 +81,22 @@ abbrev pub is_above : ℕ → Option ℕ → Bool
 is_above generation (Some last) = nat_lt last generation
 is_above generation None = true
 
--- the grants of the slot: that of its greatest generation
+-- the slot's grant of its greatest generation
 abbrev pub grants_under : ℕ → Option ℕ → List SlotGrant
 grants_under slot (Some generation) = record { slot = slot; generation = generation } ∷ []
 grants_under slot None = []
 
--- the number is among those that were granted
+-- the number was noted as granted
 abbrev pub is_noted : Numbers → ℕ → Bool
 is_noted numbers number = is_some (get (λ one other. one == other) numbers.granted number)
 
--- the number may be granted: it is above the greatest generation of its slot, or it was never granted
+-- the number may be granted: above its slot's greatest generation, or never granted
 abbrev pub is_new : Numbers → ℕ → Bool
 is_new numbers number =
     if numbers.rising then is_above (generation_of number) (lasts_of numbers (slot_of number))
     else not (is_noted numbers number)
 
--- this is out under the number now, and nothing else changed
+-- the number has this phase now, and nothing else changed
 pub record Puts (old : Numbers) (number : ℕ) (phase : Option Phase) (new : Numbers) : Type 0 where
   pub phases : KeepsPhase (phases_of old) number phase (phases_of new)
   pub slots : new.by_slot ≡ old.by_slot
@@ -108,7 +108,7 @@ abbrev pub StartsRun : Numbers → ℕ → Numbers → Type 0
 StartsRun old number new =
     (fetch : Fetch) → phases_of old number ≡ Some (Unspent fetch) → Puts old number (Some (Running fetch)) new
 
--- the number's slot has had the number's generation
+-- the slot has had the number's generation
 pub record Raises (old : Numbers) (number : ℕ) (new : Numbers) : Type 0 where
   pub fits : IsSlotGrant (record { slot = slot_of number; generation = generation_of number })
   pub lasts : KeepsLast (lasts_of old) (slot_of number)
@@ -122,7 +122,7 @@ abbrev pub AddsNumber : Numbers → ℕ → Numbers → Type 0
 AddsNumber old number new =
     old.rising ≡ false → (other : ℕ) → is_noted new other ≡ (number == other || is_noted old other)
 
--- that is noted
+-- the number is noted
 pub record Notes (old : Numbers) (number : ℕ) (new : Numbers) : Type 0 where
   pub granted : AddsNumber old number new
   pub out : new.out ≡ old.out
@@ -138,19 +138,19 @@ pub record Grants (old : Numbers) (number : ℕ) (fetch : Fetch) (new : Numbers)
   pub rising : new.rising ≡ old.rising
   pub fits : IsSlotGrant (record { slot = slot_of number; generation = generation_of number })
 
--- the list has each unspent permit that is out, once
+-- the list has each unused permit once
 abbrev pub ListsUnspent : Numbers → List GrantedPermit → Type 0
 ListsUnspent numbers = ListsPermits (λ number. unspent_under number (phases_of numbers number))
 
--- the list has each running one, once
+-- the list has each running permit once
 abbrev pub ListsRunning : Numbers → List GrantedPermit → Type 0
 ListsRunning numbers = ListsPermits (λ number. running_under number (phases_of numbers number))
 
--- the list has the greatest generation of each slot in which something was granted, once
+-- the list has each slot's greatest generation once
 abbrev pub ListsGrants : Numbers → List SlotGrant → Type 0
 ListsGrants numbers = ListsEach (λ slot. grants_under slot (lasts_of numbers slot))
 
--- the tables say what the history does of each number and of each slot; what is out was granted
+-- the tables agree with the history on numbers and slots; what is outstanding was granted
 pub record TellsNumbers (numbers : Numbers) (h : History) : Type 0 where
   pub unspent_are : ListsUnspent numbers (unspent h)
   pub running_are : ListsRunning numbers (running h)
@@ -163,49 +163,48 @@ pub record TellsNumbers (numbers : Numbers) (h : History) : Type 0 where
   pub slots_fit : (slot generation : ℕ) → lasts_of numbers slot ≡ Some generation
       → IsSlotGrant (record { slot = slot; generation = generation })
 
--- the tables say what the history does
+-- the tables agree with the history
 pub record Tells (l : OpenState) (h : History) : Type 0 where
   pub clock_is : l.clock ≡ now h
   pub begins_are : l.begins ≡ begins h
   pub cache_tells : TellsCache l.cache (standing h) (in_flight h)
   pub numbers_tell : TellsNumbers l.numbers h
 
--- so they do, and how many entries it has, and how many of them are started fetches
+-- the tables agree with the history, with the counts of its entries and started fetches
 pub record TellsAll (l : OpenState) (h : History) : Type 0 where
   pub tells : Tells l h
   pub entries_are : l.entries ≡ entry_count h
   pub started_are : l.started ≡ started_count h
   pub few : l.started ≤ l.entries
 
--- the counts are as they were
+-- the counts are unchanged
 pub record KeepsCounts (old new : OpenState) : Type 0 where
   pub entries : new.entries ≡ old.entries
   pub started : new.started ≡ old.started
 
--- the entry may come next: it is legal, and where grants rise, a grant is of a generation above all earlier
--- ones of its slot
+-- the entry may come next: it is legal, and where grants must rise, a grant's generation is above all earlier ones of
+-- its slot
 pub record MayCome (rising : Bool) (h : History) (e : Entry) : Type 0 where
   pub fit : MayFollow h e
   pub rises : rising ≡ true → Rises h e
 
--- the tables say what the longer history does, and grants must rise where they had to
+-- the tables agree with the longer history, and grants must rise as before
 pub record Enters (rising : Bool) (h : History) (new : OpenState) : Type 0 where
   pub tells : Tells new h
   pub still : new.numbers.rising ≡ rising
 
--- the tables say all of the longer history, and grants must rise where they had to
+-- tables and counts agree with the longer history, and grants must rise as before
 pub record EntersAll (rising : Bool) (h : History) (new : OpenState) : Type 0 where
   pub tells : TellsAll new h
   pub still : new.numbers.rising ≡ rising
 
--- the entry may come next after the history, and the tables say what the longer history does; or it may
--- not; or memory was refused
+-- the entry may come next and the tables have it, or it may not, or memory was refused
 abbrev pub FollowsLegally : OpenState → History → Entry → Result (Unit {0}) Unfit → OpenState → Type 0
 FollowsLegally old h e (Ok _) new = MayCome old.numbers.rising h e × Enters old.numbers.rising (h ▸ e) new
 FollowsLegally old h e (Err Illegal) new = MayCome old.numbers.rising h e → ⊥
 FollowsLegally old h e (Err NoMemory) new = Unit {0}
 
--- the same of all that the tables say
+-- like `FollowsLegally`, for the tables and counts
 abbrev pub EntersLegally : OpenState → History → Entry → Result (Unit {0}) Unfit → OpenState → Type 0
 EntersLegally old h e (Ok _) new = MayCome old.numbers.rising h e × EntersAll old.numbers.rising (h ▸ e) new
 EntersLegally old h e (Err Illegal) new = MayCome old.numbers.rising h e → ⊥

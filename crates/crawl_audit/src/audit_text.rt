@@ -1,5 +1,5 @@
-//! The audit: whether texts spell a chain of segments of a legal history, or which of their lines is the first
-//! that doesn't continue one (docs/FORMATS.md; RFC 9309, sections 2.2.2, 2.3.1 and 2.4).
+//! The audit: whether texts are a chain of segments of a legal history, or which line continues none.
+//! docs/FORMATS.md; RFC 9309, sections 2.2.2, 2.3.1 and 2.4.
 ghost use Rattle.std.specs.Prelude.{◌≡◌, List, Some, ℕ, IfErr, IfOk};
 ghost use Rattle.path_normal.specs.declared.schemes.Schemes.TheVariants.{Http};
 ghost use Rattle.crawl_audit.specs.Audit.{IsFault, failures_after_audit};
@@ -12,9 +12,9 @@ use path_normal::Schemes;
 use std::alloc::Global;
 use std::hash::RandomState;
 
-/// Reads a text, or texts of segments one after the other, to the end or to the first bad line, and derives
-/// every decision in them anew. It holds one line and the tables of what stands, whose hashers get these
-/// keys. Lines are counted over all texts. A line that names a site or a page of `https` is bad.
+/// Reads the texts of one or more segments to the end or the first bad line, and derives every decision
+/// anew. It holds one line, and tables hashed with these keys. Lines are counted over all texts. A line
+/// that names an `https` site or page is bad.
 pub fn audit<R: Source>(
     alloc: Global,
     keys: RandomState,
@@ -29,7 +29,7 @@ pub fn audit<R: Source>(
     audit_among(alloc, keys, Schemes::Http, reader)
 }
 
-/// Reads texts as `audit` does, of sites of these schemes. A line that names another one is bad.
+/// Like `audit`, for sites of these schemes. A line that names another scheme is bad.
 pub fn audit_among<R: Source>(
     alloc: Global,
     keys: RandomState,
@@ -43,7 +43,7 @@ pub fn audit_among<R: Source>(
     ensures reads { R.failures reader.new ≡ failures_after_audit (R.failures reader.old) result }
 {
     let mut auditor = Auditor::new(alloc, keys, schemes)?;
-    // At most so many lines, one more that is bad, and the end.
+    // The allowed lines, one too many, and the end.
     for _taken in 0..MAX_LINES + 2 {
         match auditor.take(alloc, reader) {
             Ok(more) => {

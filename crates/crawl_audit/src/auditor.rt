@@ -1,5 +1,5 @@
-//! The auditor: what was read of texts so far, and the next of their lines.
-//! docs/FORMATS.md has the lines and the causes of a bad one.
+//! The auditor: what was read of texts so far, and how their next line is taken.
+//! docs/FORMATS.md: the lines, and causes of bad ones.
 ghost use Rattle.std.specs.Prelude.{◌≡◌, ◌≢◌, ◌<◌, ◌+◌, ◌↔◌, ℕ, Bool, Err, IfOk, IsTrue, List, Option};
 ghost use Rattle.std.specs.Io.KnownBytes.{prepend_known};
 ghost use Rattle.path_normal.specs.declared.schemes.Schemes.{Schemes};
@@ -23,26 +23,23 @@ use path_normal::Schemes;
 use std::alloc::{AllocError, Global};
 use std::hash::RandomState;
 
-/// The most octets of a line, its end not counted.
+/// The most octets of a line, without its end.
 pub const MAX_LINE: usize = MAX_LONG_LINE;
 
-/// The most lines of texts that are audited together.
+/// The most lines of texts audited together.
 pub const MAX_LINES: u64 = 100_000_000;
 
-/// Where an auditor stands.
+/// What may come next.
 #[derive(Drop)]
 pub(crate) enum AuditState {
-    /// Before the first line.
     Start,
-    /// Where the line of an entry may come.
+    /// An entry or a head.
     Entries,
-    /// Within the base of a first text.
     First(FirstBase),
-    /// Within the base of a further text.
     Further(NextBase),
 }
 
-/// What was read so far.
+/// What was read so far, and the expected state.
 #[derive(Drop)]
 pub(crate) struct Auditor {
     pub(crate) reader: LineReader,
@@ -52,18 +49,15 @@ pub(crate) struct Auditor {
     pub(crate) stage: AuditState,
     /// A line that names another scheme is bad.
     pub(crate) schemes: Schemes,
-    /// The keys of the hashers of tables.
     pub(crate) keys: RandomState,
     pub(crate) lines: u64,
-    /// The entries of the text that is read.
     pub(crate) count: u64,
-    /// Those of all texts, and the started fetches among them.
+    /// The entries of all texts, and the started fetches among them.
     pub(crate) events: u64,
     pub(crate) starts: u64,
 }
 
 impl Auditor {
-    /// An auditor that has read nothing, with the keys of its tables' hashers.
     pub(crate) fn new(
         alloc: Global,
         keys: RandomState,
@@ -88,7 +82,7 @@ impl Auditor {
         })
     }
 
-    /// Takes the next line of a source, and says whether there was one.
+    /// Takes the next line of a source; false at the end.
     pub(crate) fn take<R: Source>(
         &mut self,
         alloc: Global,
@@ -124,14 +118,13 @@ impl Auditor {
         }
     }
 
-    // Whether a text may end here: not within a base.
+    // Whether a text may end here, that is, not within a base.
     fn may_end(&self) -> bool
         ensures { (place : Place) → StandsAt self.now place → IsTrue result ↔ MayEnd place }
     {
         matches!(self.stage, AuditState::Start | AuditState::Entries)
     }
 
-    /// Takes the line, where it may come.
     pub(crate) fn take_line(&mut self, alloc: Global) -> Result<(), AuditFault>
         ensures line { (schemes : Schemes) (lines : List (List ℕ)) (place : Place)
             → Holds schemes self.old lines place
@@ -155,7 +148,7 @@ impl Auditor {
         Ok(())
     }
 
-    // Whether the line names sites of the schemes alone that are read.
+    // Whether the line names only sites of the schemes that are read.
     fn is_among(&self) -> bool
         ensures { IsTrue result ↔ IsAmong self.now.schemes self.now.line.items }
     {
@@ -165,7 +158,6 @@ impl Auditor {
         }
     }
 
-    // Goes where the line leads.
     fn step(&mut self, alloc: Global) -> Result<(), UnreadLine>
         ensures moves { (place : Place) → StandsAt self.old place
             → Moves place self.old.line.items self.old result self.new }
@@ -197,7 +189,6 @@ impl Auditor {
         }
     }
 
-    // Entries may come behind a base: none yet.
     fn begin_entries(&mut self)
         ensures { BeginsEntries self.old self.new }
     {
@@ -206,7 +197,7 @@ impl Auditor {
         self.count = 0;
     }
 
-    // The first line: the head of version 2 or 3, or an entry of version 1.
+    // The head of version 2 or 3, or an entry of version 1.
     fn step_from_start(&mut self, alloc: Global) -> Result<(), UnreadLine>
         ensures moves { StandsAt self.old start
             → Moves start self.old.line.items self.old result self.new }
@@ -225,7 +216,7 @@ impl Auditor {
         self.take_entry(alloc)
     }
 
-    // A line where entries may come: an entry, or the head of a further text.
+    // An entry, or the head of a further text.
     fn step_among_entries(&mut self, alloc: Global) -> Result<(), UnreadLine>
         ensures moves { (version : Version) (rising : Bool) (h : History) (count : ℕ)
             → AreEntries self.old version rising h count
@@ -240,7 +231,6 @@ impl Auditor {
         self.take_entry(alloc)
     }
 
-    // Takes the line of an entry.
     fn take_entry(&mut self, alloc: Global) -> Result<(), UnreadLine>
         ensures line { (version : Version) (rising : Bool) (h : History) (count : ℕ)
             → AreEntries self.old version rising h count
@@ -267,7 +257,6 @@ impl Auditor {
         Ok(())
     }
 
-    /// The counts of what was read.
     pub(crate) fn audited(&self) -> Audited
         ensures { result ≡ record { events = self.now.events; starts = self.now.starts } }
     {

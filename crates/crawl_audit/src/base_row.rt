@@ -1,4 +1,4 @@
-//! A thing that a base left open, as a line brings it, with its token, its URL and its answer at hand.
+//! A thing that a base left open, parsed with its token, URL and answer.
 //! Used by `read_base` and `first_base`.
 
 use authority_cache::TurnNo;
@@ -10,7 +10,6 @@ use robots_verdict::Answer;
 /// A thing that a base left open.
 #[derive(Drop)]
 pub(crate) enum BaseRow {
-    /// An answer that stands.
     Answered {
         authority: Authority,
         turn: TurnNo,
@@ -18,7 +17,6 @@ pub(crate) enum BaseRow {
         answer: Answer,
         life: u64,
     },
-    /// A turn in flight.
     InFlight {
         authority: Authority,
         turn: TurnNo,
@@ -26,7 +24,7 @@ pub(crate) enum BaseRow {
     },
     /// The greatest generation of a slot.
     Greatest(SlotGrant),
-    /// A permit that no start has spent.
+    /// A permit that was not used yet.
     Unspent {
         number: PermitNo,
         fetch: Fetch,

@@ -1,5 +1,5 @@
-//! What ends all that a base left open, as entries and as lines behind those that an auditor read.
-//! docs/FORMATS.md has the lines; RFC 9309, section 2.3.1.4.
+//! The entries and lines that end what a base left open, written behind what an auditor read.
+//! See docs/FORMATS.md; RFC 9309, section 2.3.1.4.
 ghost use Rattle.std.specs.Prelude.{◌≡◌, ◌++◌, ◌↔◌, ℕ, All, Bool, IfOk, IsTrue, List, OnOk, [], map};
 ghost use Rattle.path_normal.specs.declared.schemes.Schemes.{Schemes};
 ghost use Rattle.gate_history.specs.History.{History};
@@ -25,8 +25,8 @@ use permit_book::GrantedPermit;
 use robots_verdict::{Answer, Closure};
 use std::alloc::{AllocError, Global};
 
-/// The entries that end all that a base left open: permits are given back, fetches end, and turns end without an
-/// answer from the network, at the base's moment.
+/// The entries that end what a base left open: permits are given back, fetches end, and turns end without
+/// an answer from the network, at the base's moment.
 pub(crate) fn ends_of(alloc: Global, left: &Base) -> Result<Vec<Record>, AllocError>
     ensures { IfOk result (λ ends. map entry_of ends.items ≡ ends_of left.now) }
 {
@@ -37,7 +37,6 @@ pub(crate) fn ends_of(alloc: Global, left: &Base) -> Result<Vec<Record>, AllocEr
     Ok(ends)
 }
 
-// Adds that each permit is given back.
 fn push_returns(ends: &mut Vec<Record>, permits: &[GrantedPermit]) -> Result<(), AllocError>
     ensures { OnOk result (map entry_of ends.new.items
         ≡ map entry_of ends.old.items ++ map give_back permits.now) }
@@ -50,7 +49,6 @@ fn push_returns(ends: &mut Vec<Record>, permits: &[GrantedPermit]) -> Result<(),
     Ok(())
 }
 
-// Adds that the fetch of each permit ends.
 fn push_finishes(ends: &mut Vec<Record>, permits: &[GrantedPermit]) -> Result<(), AllocError>
     ensures { OnOk result (map entry_of ends.new.items
         ≡ map entry_of ends.old.items ++ map finish permits.now) }
@@ -63,7 +61,7 @@ fn push_finishes(ends: &mut Vec<Record>, permits: &[GrantedPermit]) -> Result<()
     Ok(())
 }
 
-// Adds that each turn ends at the moment without an answer from the network.
+// Ends each turn at the moment, unanswered by the network.
 fn push_arrivals(ends: &mut Vec<Record>, moment: u64, turns: &[Turn]) -> Result<(), AllocError>
     ensures { OnOk result (map entry_of ends.new.items
         ≡ map entry_of ends.old.items ++ map (unanswered moment) turns.now) }
@@ -81,14 +79,14 @@ fn push_arrivals(ends: &mut Vec<Record>, moment: u64, turns: &[Turn]) -> Result<
 }
 
 impl Auditor {
-    /// Whether entries may come behind the lines that were read, of which there are some.
+    /// Whether a line was read and entries may come next.
     pub(crate) fn has_begun(&self) -> bool
         ensures { (place : Place) → StandsAt self.now place → IsTrue result ↔ HasBegun place }
     {
         matches!(self.stage, AuditState::Entries)
     }
 
-    /// Takes the lines of these entries, and gives their text.
+    /// Takes the lines of these entries, and returns their text.
     pub(crate) fn end_each(
         &mut self,
         alloc: Global,
@@ -112,7 +110,6 @@ impl Auditor {
         Ok(text)
     }
 
-    // Takes the line of the entry, and adds it to the text.
     fn end_one(
         &mut self,
         alloc: Global,
@@ -141,7 +138,6 @@ impl Auditor {
     }
 }
 
-// The line of an entry, without its end.
 fn spelled(
     alloc: Global,
     version: Version,

@@ -1,22 +1,21 @@
-//! What an audit comes to.
+//! The result of an audit.
 //! docs/FORMATS.md has the causes of a bad line.
 use counted_io::ReadLineFault;
 use std::alloc::AllocError;
 
-/// The counts of texts that were found right.
+/// The counts of valid texts.
 #[derive(Clone, Copy, Debug, PartialEq, Eq)]
 pub struct Audited {
-    /// How many entries they have.
+    /// Their entries.
     pub events: u64,
-    /// How many of them are fetches that were started.
+    /// The entries that are started fetches.
     pub starts: u64,
 }
 
-/// Why texts were not found right.
+/// Why texts are not valid.
 #[derive(Clone, Copy, Debug, PartialEq, Eq)]
 pub enum AuditFault {
-    /// The line of this number, from 1 and over all texts, is the first with which no right text
-    /// goes on.
+    /// This line, counted from 1 over all texts, is the first that no valid text could have here.
     BadLine(u64),
     /// A read failed.
     Read,

@@ -1,4 +1,4 @@
-//! The words of a line, read one by one as numbers, tokens, URLs, authorities and bodies.
+//! The words of a line, parsed one by one as numbers, tokens, URLs, authorities and bodies.
 //! Used by `read` and `read_base`.
 ghost use Rattle.std.specs.Prelude.{◌≡◌, ℕ, List, None, IfOk};
 ghost use Rattle.std.specs.Option.{option_map};
@@ -22,7 +22,7 @@ use percent_encoding::percent_decode;
 use robots_text::{RobotsText, Token, TokenFault};
 use std::alloc::{AllocError, Global};
 
-/// The next word, or the empty one.
+/// The next word; empty if there is none.
 pub(crate) fn next_word<'a>(words: &mut Words<'a>) -> &'a str
     ensures word { result.now ≡ head_word (words_left words.old) }
     ensures rest { words_left words.new ≡ tail_words (words_left words.old) }
@@ -33,7 +33,6 @@ pub(crate) fn next_word<'a>(words: &mut Words<'a>) -> &'a str
     }
 }
 
-/// The next word as a number.
 pub(crate) fn next_number(words: &mut Words<'_>) -> Result<u64, UnreadLine>
     ensures value { Reads result (number_of (head_word (words_left words.old))) }
     ensures rest { words_left words.new ≡ tail_words (words_left words.old) }
@@ -44,7 +43,6 @@ pub(crate) fn next_number(words: &mut Words<'_>) -> Result<u64, UnreadLine>
     }
 }
 
-/// A word as a token.
 pub(crate) fn read_token(alloc: Global, word: &str) -> Result<Token, UnreadLine>
     ensures { Reads result (token_of word.now) }
 {
@@ -55,7 +53,8 @@ pub(crate) fn read_token(alloc: Global, word: &str) -> Result<Token, UnreadLine>
     }
 }
 
-/// A word as the URL of a page of either scheme: a line that names one that is not read is refused before.
+/// Parses the URL of a page of either scheme. A line that names a scheme that is not read was refused
+/// earlier.
 pub(crate) fn read_page(alloc: Global, word: &str) -> Result<PageUrl, UnreadLine>
     ensures { Reads result (result_ok (page_url_among HttpAndHttps None word.now Enough)) }
 {
@@ -66,7 +65,7 @@ pub(crate) fn read_page(alloc: Global, word: &str) -> Result<PageUrl, UnreadLine
     }
 }
 
-/// A word as an authority: that of the page at its root.
+/// Parses an authority: that of the page at its root.
 pub(crate) fn read_authority(alloc: Global, word: &str) -> Result<Authority, UnreadLine>
     ensures { Reads result
         (option_map authority_of
@@ -77,7 +76,7 @@ pub(crate) fn read_authority(alloc: Global, word: &str) -> Result<Authority, Unr
     Ok(Authority::of(&url)?)
 }
 
-/// A word as a body, of which no more than the limit is kept.
+/// Decodes a body, of which no more than the limit is kept.
 pub(crate) fn read_body(alloc: Global, word: &str) -> Result<RobotsText, AllocError>
     ensures { (body : List ℕ) → IsBody body → word.now ≡ body_word body
         → IfOk result (λ text. text ≡ body) }

@@ -1,5 +1,6 @@
-//! The base of a first text, which is taken as written: read line by line into the open_state, each line
-//! checked against those before it. docs/FORMATS.md has the lines; RFC 9309, sections 2.3.1 and 2.4.
+//! The base of a first text, which is trusted: each line is only checked against those before it, and
+//! loaded.
+//! See docs/FORMATS.md; RFC 9309, sections 2.3.1 and 2.4.
 ghost use Rattle.std.specs.Prelude.{◌≡◌, ◌≢◌, ℕ, ◌+◌, ◌<◌, ◌≤◌, ◌==◌, ◌||◌, ◌↔◌};
 ghost use Rattle.std.specs.Prelude.{◌∷◌, [], IsTrue, List, OnOk, codes};
 ghost use Rattle.gate_history.specs.Base.{Base, empty_base};
@@ -24,34 +25,29 @@ use permit_book::PermitNo;
 use std::alloc::{AllocError, Global};
 use std::hash::RandomState;
 
-/// The last line of a base that was read, by its kind and key.
+/// The last line read of a base, by kind and key.
 #[derive(Drop)]
 pub(crate) enum LastLine {
-    /// The line of numbers: no row was read.
+    /// The line of numbers; no row was read.
     Numbers,
-    /// An answer that stands, by its authority.
     Answered(Authority),
-    /// A turn in flight.
     InFlight(TurnNo),
-    /// The greatest generation of a slot.
     Greatest(u64),
-    /// A permit that no start has spent.
     Unspent(PermitNo),
-    /// A permit whose fetch was started and has not ended.
     Running(PermitNo),
 }
 
-/// The base of a first text, as far as it was read. The open_state holds what it left open.
+/// A first text's base as far as it was read. The open_state holds what it left open.
 #[derive(Drop)]
 pub(crate) struct FirstBase {
-    // None where only the first line was read.
+    // None if only the first line was read.
     last: Option<LastLine>,
-    // The turns that were read, in flight or with their answers.
+    // The turns read so far, in flight or answered.
     turns: IndexMap<u64, (), RandomState>,
 }
 
 impl FirstBase {
-    /// The base of which the first line was read, with the keys of its table's hasher.
+    /// A base whose first line was read, with the hash keys of its table.
     pub(crate) fn new(alloc: Global, keys: RandomState) -> FirstBase
         ensures { (open_state : OpenState) → TellsAll open_state (from empty_base)
             → Reads result open_state (codes "V 3" ∷ []) }
@@ -62,7 +58,7 @@ impl FirstBase {
         }
     }
 
-    /// Takes the next line of the base, and says whether it was the last one.
+    /// Takes the next line of the base; true if it was the last one.
     pub(crate) fn take(
         &mut self,
         alloc: Global,
@@ -81,7 +77,6 @@ impl FirstBase {
         self.take_row(alloc, open_state, line)
     }
 
-    // Takes the line of numbers.
     fn take_numbers(&mut self, open_state: &mut OpenState, line: &[u8]) -> Result<bool, UnreadLine>
         ensures { (lines : List (List ℕ)) → ReadsHead self.old open_state.old lines
             → TakesBaseLine lines line.now result self.new open_state.new }
@@ -95,7 +90,6 @@ impl FirstBase {
         Ok(false)
     }
 
-    // Takes the line of a row.
     fn take_row(
         &mut self,
         alloc: Global,
@@ -113,7 +107,6 @@ impl FirstBase {
         Ok(false)
     }
 
-    // Whether the row may stand behind those that were read.
     fn may_stand(&self, open_state: &OpenState, row: &BaseRow) -> bool
         ensures { (b : Base) → SaysBase self.now open_state.now b → IsOpenRow (row_of row.now)
             → IsTrue result ↔ MayStand b (row_of row.now) }
@@ -124,7 +117,7 @@ impl FirstBase {
         }
     }
 
-    // Whether the row fits to those that were read, wherever it comes.
+    // Whether the row is consistent with those read, apart from their order.
     fn fits(&self, open_state: &OpenState, row: &BaseRow) -> bool
         ensures { result ≡ fits self.now open_state.now (row_of row.now) }
     {
@@ -146,7 +139,7 @@ impl FirstBase {
         }
     }
 
-    // Whether the turn was not read yet, and there may be one that began at this moment.
+    // Whether the turn was not read yet and could have begun at this moment.
     fn may_have_begun(&self, open_state: &OpenState, turn: TurnNo, begun: u64) -> bool
         ensures { result ≡ may_have_begun self.now open_state.now turn begun }
     {
@@ -155,7 +148,7 @@ impl FirstBase {
             && begun <= open_state.clock
     }
 
-    // Loads a row that may stand into the open_state.
+    // Loads a row that may come next into the open_state.
     fn load(&mut self, open_state: &mut OpenState, row: BaseRow) -> Result<(), AllocError>
         ensures { (b : Base) → SaysBase self.old open_state.old b
             → Loads b (row_of row) result self.new open_state.new }
@@ -246,7 +239,6 @@ impl FirstBase {
         Ok(())
     }
 
-    // A turn of this number was read.
     fn use_turn(&mut self, turn: TurnNo) -> Result<(), AllocError>
         ensures used { OnOk result ((other : ℕ)
             → is_used self.new other ≡ (turn == other || is_used self.old other)) }
@@ -260,7 +252,6 @@ impl FirstBase {
 }
 
 impl LastLine {
-    // The line of a permit that is out so.
     fn of_permit(number: PermitNo, phase: &Phase) -> LastLine
         ensures { result ≡ key_of (permit_row number phase.now) }
     {
@@ -270,8 +261,7 @@ impl LastLine {
         }
     }
 
-    // Whether the row comes behind this line: it is of a later kind, or of the same and with a
-    // greater key.
+    // Whether the row sorts after this line: by kind, then by key.
     fn is_before(&self, row: &BaseRow) -> bool
         ensures { result ≡ is_behind self.now (row_of row.now) }
     {
@@ -291,7 +281,6 @@ impl LastLine {
         }
     }
 
-    // The place of the line's kind among the kinds.
     fn kind_place(&self) -> u8
         ensures { result ≡ kind_place self.now }
     {
@@ -306,7 +295,6 @@ impl LastLine {
     }
 }
 
-// The place of the row's kind among the kinds of lines.
 fn kind_place(row: &BaseRow) -> u8
     ensures { result ≡ kind_place (key_of (row_of row.now)) }
 {
@@ -319,7 +307,7 @@ fn kind_place(row: &BaseRow) -> u8
     }
 }
 
-// Whether there may be a base of these numbers: no entry is both a begin and a start.
+// Whether a base can have these numbers: no entry is both a begin and a start.
 fn may_be_of_base(numbers: Numbers) -> bool
     ensures { IsTrue result ↔ ((0 < numbers.entries)
         × (numbers.begins + numbers.started ≤ numbers.entries)) }

@@ -1,4 +1,4 @@
-//! What stands in the open_state, in lists that outlive it.
+//! The contents of the open_state, as lists that outlive it.
 //! RFC 9309, sections 2.3.1 and 2.4.
 ghost use Rattle.std.specs.Prelude.{◌≡◌, ◌++◌, IfOk, OnOk, Some};
 ghost use Rattle.permit_book.specs.Outstanding.{permit_for};
@@ -13,7 +13,7 @@ use permit_book::{Fetch, GrantedPermit, PermitNo};
 use std::alloc::{AllocError, Global};
 
 impl OpenState {
-    /// What the entries so far left open, in no order.
+    /// What the entries so far left open, unordered.
     pub(crate) fn left_open(&self, alloc: Global) -> Result<LeftOpen, AllocError>
         ensures { IfOk result (λ left. TellsLeft self.now left) }
     {
@@ -29,7 +29,7 @@ impl OpenState {
 }
 
 impl Numbers {
-    /// The permits that no start has spent, and those whose fetch runs, each list in no order.
+    /// The unused permits and those whose fetch runs, each list unordered.
     pub(crate) fn permits(
         &self,
         alloc: Global,
@@ -48,7 +48,7 @@ impl Numbers {
         Ok((unspent, running))
     }
 
-    /// Of each slot in which something was granted, the greatest generation, in no order.
+    /// The greatest generation of each slot in which something was granted, unordered.
     pub(crate) fn slot_grants(&self, alloc: Global) -> Result<Vec<SlotGrant>, AllocError>
         ensures { IfOk result (λ grants. ListsGrants self.now grants.items) }
     {
@@ -66,7 +66,6 @@ impl Numbers {
     }
 }
 
-// Adds the permit of the number to the unspent ones, or to the running ones.
 fn push_permit(
     unspent: &mut Vec<GrantedPermit>,
     running: &mut Vec<GrantedPermit>,
@@ -85,7 +84,6 @@ fn push_permit(
     Ok(())
 }
 
-// The permit of the number for a fetch.
 fn permit_for(number: u64, fetch: &Fetch) -> Result<GrantedPermit, AllocError>
     ensures { IfOk result (λ permit. permit ≡ permit_for number fetch.now) }
 {

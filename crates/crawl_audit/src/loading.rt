@@ -1,4 +1,4 @@
-//! What a base left open, loaded into the open_state thing by thing.
+//! Loads what a base left open into the open_state, one thing at a time.
 //! Used by `first_base`; RFC 9309, sections 2.3.1 and 2.4.
 ghost use Rattle.std.specs.Prelude.{◌≡◌, OnOk, is_some};
 ghost use Rattle.crawl_audit.specs.FirstBase.{is_granted};
@@ -25,7 +25,6 @@ impl OpenState {
         self.numbers.rise();
     }
 
-    /// Loads a turn that began at this moment.
     pub(crate) fn load_turn(
         &mut self,
         authority: &Authority,
@@ -59,14 +58,14 @@ impl OpenState {
 }
 
 impl Numbers {
-    /// From now on each grant must be of a generation above all earlier ones of its slot.
+    /// From now on, each grant must have a generation above all earlier ones of its slot.
     pub(crate) fn rise(&mut self)
         ensures { self.new ≡ risen self.old }
     {
         self.rising = true;
     }
 
-    /// Whether the number's slot had a grant of its generation or of a later one.
+    /// Whether the number's slot had a grant of its generation or a later one.
     pub(crate) fn is_granted(&self, number: PermitNo) -> bool
         ensures { result ≡ is_granted self.now number }
     {
@@ -76,14 +75,12 @@ impl Numbers {
         }
     }
 
-    /// Whether a permit of the number is out.
     pub(crate) fn is_out(&self, number: PermitNo) -> bool
         ensures { result ≡ is_some (phases_of self.now number) }
     {
         self.get(number).is_some()
     }
 
-    /// Loads the greatest generation of a slot.
     pub(crate) fn load_grant(&mut self, grant: SlotGrant) -> Result<(), AllocError>
         ensures { OnOk result (Sets self.old grant self.new) }
     {

@@ -1,5 +1,5 @@
-//! The base of a further text: what was read before leads to it, and its lines must be that base's.
-//! docs/FORMATS.md has the lines.
+//! The base of a further text: what was read before determines its lines.
+//! See docs/FORMATS.md.
 ghost use Rattle.std.specs.Prelude.{◌≡◌, ◌<◌, ◌+◌, ◌↔◌, ℕ, All, List, [], ◌∷◌, Some, codes};
 ghost use Rattle.std.specs.Prelude.{IfOk, IfSome, IsTrue, length, map, slice_get};
 ghost use Rattle.gate_history.specs.History.{History};
@@ -17,29 +17,28 @@ use history_text::base_kinds::counts;
 use line_text::Pieces;
 use std::alloc::{AllocError, Global};
 
-/// The base that a further text must have, and how many of its lines were read.
+/// The base that must come, and how many of its lines were read.
 #[derive(Drop)]
 pub(crate) struct NextBase {
     left: LeftOpen,
     numbers: Numbers,
-    // How many lines stand behind `V 3`, and how many of them were read.
+    // Lines behind `V 3`, and how many of them were read.
     count: usize,
     taken: usize,
 }
 
-/// What a line is, where the next one of a base must come.
+/// How a line compares to the expected line of a base.
 #[derive(Clone, Copy, Debug, PartialEq, Eq)]
 pub(crate) enum BaseLine {
-    /// That one, and more follow.
+    /// It is the expected line, and more follow.
     Taken,
-    /// That one, and it is the last.
+    /// It is the expected line and the last one.
     Last,
-    /// Another one.
+    /// It is another line.
     Other,
 }
 
 impl OpenState {
-    /// The base to which what was entered leads.
     pub(crate) fn next_base(&self, alloc: Global) -> Result<NextBase, AllocError>
         ensures { IfOk result (λ next. (h : History) → IsLegal h → TellsAll self.now h
             → Expects next h (codes "V 3" ∷ [])) }
@@ -55,8 +54,8 @@ impl OpenState {
 }
 
 impl NextBase {
-    // The base of what was left open, which it puts in order, with these numbers.
-    // Where its lines are too many to be counted, there is no memory for them.
+    // Sorts what was left open into the base with these numbers.
+    // Too many lines to count are an allocation error.
     fn of(left: LeftOpen, numbers: Numbers) -> Result<NextBase, AllocError>
         ensures { IfOk result (λ next. IsNextOf left numbers next) }
     {
@@ -76,7 +75,7 @@ impl NextBase {
         }
     }
 
-    /// Takes the next line of the base, where it is the one that must come.
+    /// Takes the next line of the base, if it is the expected one.
     pub(crate) fn take(&mut self, line: &[u8]) -> BaseLine
         ensures { (h : History) (lines : List (List ℕ)) → Expects self.old h lines
             → TakesNextLine h lines line.now result self.new }
@@ -96,7 +95,7 @@ impl NextBase {
         }
     }
 
-    // Whether this is the line at the place behind `V 3`.
+    // Whether this is the line at the place, counted behind `V 3`.
     fn is_line_at(&self, place: usize, line: &[u8]) -> bool
         ensures { IsTrue result
             ↔ (slice_get (lines_behind (base_in self.now)) place ≡ Some line.now) }
@@ -134,7 +133,6 @@ impl NextBase {
     }
 }
 
-// Whether this is the line of the row at the place.
 fn is_row_at<T: TextLine>(rows: &[T], letter: &'static str, place: usize, line: &[u8]) -> bool
     requires { place < length rows.now }
     ensures { IsTrue result
@@ -143,7 +141,7 @@ fn is_row_at<T: TextLine>(rows: &[T], letter: &'static str, place: usize, line: 
     rows[place].pieces(letter).is(line)
 }
 
-// How many lines a base has behind `V 3`, where it can be told.
+// How many lines a base has behind `V 3`; none on overflow.
 fn line_count(left: &LeftOpen) -> Option<usize>
     ensures { IfSome result (λ count. count ≡ row_count left.now + 2) }
 {
@@ -155,7 +153,7 @@ fn line_count(left: &LeftOpen) -> Option<usize>
     running.checked_add(2)
 }
 
-// Goes over what a base has, of which a clause then knows that its fields are those of lines.
+// Goes over a base's contents, so that a clause knows that its fields are those of lines.
 fn know_fields(left: &LeftOpen, numbers: &Numbers)
     ensures { HasBaseFields (base_with left.now numbers.now) }
 {

@@ -1,5 +1,5 @@
-//! The permits of a history, by their numbers: what is out, and what was granted.
-//! Used by `OpenState`, which decides each entry of a text by them.
+//! The permits of a history by number: outstanding ones, and granted ones.
+//! Used by `OpenState` to decide each entry of a text.
 ghost use Rattle.std.specs.Prelude.{◌≡◌, ◌≤◌, ℕ, None, OnOk, Some, false};
 ghost use Rattle.std.specs.Option.{option_copied};
 ghost use Rattle.permit_book.specs.Numbers.{generation_of, last_generation, slot_of};
@@ -11,29 +11,28 @@ use permit_book::{Fetch, PermitNo};
 use std::alloc::{AllocError, Global};
 use std::hash::RandomState;
 
-/// How a permit is out.
+/// The phase of an outstanding permit.
 #[derive(Drop)]
 pub(crate) enum Phase {
-    /// No start has spent it.
     Unspent(Fetch),
     /// Its fetch was started and has not ended.
     Running(Fetch),
 }
 
-/// The numbers that are out, with how; and those that were granted.
+/// The outstanding numbers with their phases, and the granted ones.
 #[derive(Drop)]
 pub(crate) struct Numbers {
     pub(crate) out: IndexMap<u64, Phase, RandomState>,
-    // Of each slot in which something was granted, the greatest generation.
+    // The greatest generation of each slot in which something was granted.
     pub(crate) by_slot: IndexMap<u64, u64, RandomState>,
-    // Whether each grant must be of a generation above all earlier ones of its slot; where not, each number
-    // that was granted.
+    // Whether each grant must have a generation above all earlier ones of its slot. If not, every granted
+    // number is kept.
     pub(crate) rising: bool,
     pub(crate) granted: IndexMap<u64, (), RandomState>,
 }
 
 impl Numbers {
-    /// Nothing was granted, and any number may be.
+    /// No number was granted, and any may be.
     pub(crate) fn new(alloc: Global, keys: RandomState) -> Numbers
         ensures phases { (number : ℕ) → phases_of result number ≡ None }
         ensures lasts { (slot : ℕ) → lasts_of result slot ≡ None }
@@ -61,7 +60,6 @@ impl Numbers {
         }
     }
 
-    /// The fetch of the number, where no start has spent it.
     pub(crate) fn unspent(&self, number: PermitNo) -> Option<&Fetch>
         ensures { GivesUnspent (phases_of self.now number) result }
     {
@@ -72,7 +70,6 @@ impl Numbers {
         }
     }
 
-    /// Whether a fetch of the number is running.
     pub(crate) fn is_running(&self, number: PermitNo) -> bool
         ensures { result ≡ is_running_in (phases_of self.now number) }
     {
@@ -83,14 +80,13 @@ impl Numbers {
         }
     }
 
-    // How the number is out.
+    // The phase of the number's permit, if outstanding.
     pub(crate) fn get(&self, number: PermitNo) -> Option<&Phase>
         ensures { option_copied result ≡ phases_of self.now number }
     {
         self.out.get(&number.number())
     }
 
-    /// Grants the number for the fetch.
     pub(crate) fn grant(&mut self, number: PermitNo, fetch: Fetch) -> Result<(), AllocError>
         ensures { OnOk result (Grants self.old number fetch self.new) }
     {
@@ -99,7 +95,6 @@ impl Numbers {
         self.put(number, Phase::Unspent(fetch))
     }
 
-    // The slot of the number has had its generation.
     fn raise(&mut self, number: PermitNo) -> Result<(), AllocError>
         ensures { OnOk result (Raises self.old number self.new) }
     {
@@ -122,7 +117,6 @@ impl Numbers {
         }
     }
 
-    // The number was granted.
     fn note(&mut self, number: PermitNo) -> Result<(), AllocError>
         ensures { OnOk result (Notes self.old number self.new) }
     {
@@ -135,7 +129,6 @@ impl Numbers {
         }
     }
 
-    /// Starts the fetch of the number, where no start has spent it.
     pub(crate) fn start(&mut self, number: PermitNo) -> Result<(), AllocError>
         ensures { OnOk result (StartsRun self.old number self.new) }
     {
@@ -146,7 +139,7 @@ impl Numbers {
         }
     }
 
-    // Puts this under the number, in the place of what was there.
+    // Sets the number's phase, replacing an earlier one.
     pub(crate) fn put(&mut self, number: PermitNo, phase: Phase) -> Result<(), AllocError>
         ensures { OnOk result (Puts self.old number (Some phase) self.new) }
     {
@@ -156,7 +149,7 @@ impl Numbers {
         }
     }
 
-    /// Nothing is out under the number any more.
+    /// Removes the number from the outstanding ones.
     pub(crate) fn end(&mut self, number: PermitNo)
         ensures { Puts self.old number None self.new }
     {

@@ -1,4 +1,4 @@
-//! The open_state: what the entries that were read so far say, in tables, by which the next one is judged.
+//! The open_state: what the entries so far say, in tables that judge the next entry.
 //! RFC 9309, sections 2.2.2, 2.3.1 and 2.4.
 ghost use Rattle.std.specs.Prelude.{◌≡◌, ◌+◌, ◌<◌, ◌↔◌, IsTrue, false};
 ghost use Rattle.robots_verdict.specs.Answer.{said};
@@ -23,12 +23,12 @@ use robots_verdict::Answer;
 use std::alloc::{AllocError, Global};
 use std::hash::RandomState;
 
-/// Why an entry was not entered.
+/// Why an entry was refused.
 #[derive(Clone, Copy, PartialEq, Eq)]
 pub(crate) enum Unfit {
     /// It is not legal after the entries before it.
     Illegal,
-    /// There is no memory for it.
+    /// Out of memory.
     NoMemory,
 }
 
@@ -43,7 +43,7 @@ impl From<AllocError> for Unfit {
     }
 }
 
-/// What the entries so far say. After an entry that is not entered it is of no use.
+/// What the entries so far say. Unusable after a refused entry.
 #[derive(Drop)]
 pub(crate) struct OpenState {
     pub(crate) clock: u64,
@@ -56,7 +56,7 @@ pub(crate) struct OpenState {
 }
 
 impl OpenState {
-    /// The open_state of no entry, with the keys of its tables' hashers.
+    /// The open_state of no entry, with the hash keys of its tables.
     pub(crate) fn new(alloc: Global, keys: RandomState) -> OpenState
         ensures tells { TellsAll result (from empty_base) }
         ensures any { result.numbers.rising ≡ false }
@@ -72,7 +72,7 @@ impl OpenState {
         }
     }
 
-    /// Enters an entry, where it is legal after those so far.
+    /// Enters an entry, if it is legal after those so far.
     pub(crate) fn enter(&mut self, found: Record) -> Result<(), Unfit>
         requires life { HasLife Version.Two (entry_of found) }
         requires room { self.old.entries < greatest_number }
@@ -91,7 +91,6 @@ impl OpenState {
         Ok(())
     }
 
-    // Enters what an entry opens or ends.
     fn enter_open(&mut self, found: Record) -> Result<(), Unfit>
         requires { HasLife Version.Two (entry_of found) }
         ensures tells { (h : History) → IsLegal h → Tells self.old h
@@ -153,7 +152,6 @@ impl OpenState {
         Ok(())
     }
 
-    // Whether the turn is one more than the begins so far.
     fn is_next(&self, turn: TurnNo) -> bool
         ensures { IsTrue result ↔ (turn ≡ self.now.begins + 1) }
     {
@@ -247,7 +245,7 @@ impl OpenState {
         Ok(())
     }
 
-    // Whether an unspent permit of the number stands, whose fetch is decided so.
+    // Whether the number has an unused permit whose fetch is decided in this way.
     fn decides(&self, number: PermitNo, moment: u64, outcome: Result<Reason, Cause>) -> bool
         ensures { (h : History) → Tells self.now h
             → IsTrue result ↔ SpendsAs h number moment outcome }
@@ -298,14 +296,12 @@ impl OpenState {
     }
 }
 
-// Whether the entry is a fetch that was started.
 pub(crate) fn is_start(found: &Record) -> bool
     ensures { result ≡ is_start (entry_of found.now) }
 {
     matches!(found, Record::Started { .. })
 }
 
-// Whether both decide the same.
 fn is_same(one: Result<Reason, Cause>, other: Result<Reason, Cause>) -> bool
     ensures { IsTrue result ↔ (one ≡ other) }
 {

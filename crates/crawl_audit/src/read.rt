@@ -1,6 +1,6 @@
-//! A line read as an entry. The reader is lenient: to accept only the canonical text, the entry is written again and
-//! compared with the line.
-//! docs/FORMATS.md has the lines.
+//! Reads a line as an entry. It is lenient: to accept only the canonical text, the entry is written again
+//! and compared.
+//! See docs/FORMATS.md.
 ghost use Rattle.std.specs.Prelude.{◌≡◌, ◌≢◌, ◌↔◌, ◌∷◌, codes, Err, IfOk, IfSome, IsTrue, Some};
 ghost use Rattle.line_text.specs.Number.{number_of};
 ghost use Rattle.line_text.specs.Words.{words_left, words_of};
@@ -26,7 +26,7 @@ use permit_book::{Fetch, PermitNo};
 use robots_verdict::{Answer, Closure, Opening};
 use std::alloc::Global;
 
-/// Reads a line, without its end, as the entry that it spells.
+/// Parses a line, without its end, as an entry.
 pub(crate) fn read_line(alloc: Global, version: Version, line: &[u8]) -> Result<Record, UnreadLine>
     ensures spelled { IfOk result (λ found. line.now ≡ entry_line version (entry_of found)) }
     ensures entry { IfOk result (λ found. IsEntry version (entry_of found)) }
@@ -44,7 +44,7 @@ pub(crate) fn read_line(alloc: Global, version: Version, line: &[u8]) -> Result<
     }
 }
 
-// Whether this is the line of the entry in the version.
+// Whether this is the canonical line of the entry in the version.
 fn is_spelled(version: Version, found: &Record, line: &[u8]) -> bool
     ensures spelled { IsTrue result ↔ (HasLife version (entry_of found.now)
         × (line.now ≡ entry_line version (entry_of found.now))) }
@@ -54,7 +54,7 @@ fn is_spelled(version: Version, found: &Record, line: &[u8]) -> bool
     has_life(version, found) && pieces.is(line)
 }
 
-// Whether an arrival has a life of the version.
+// Whether an arrival's life is one that the version allows.
 fn has_life(version: Version, found: &Record) -> bool
     ensures { IsTrue result ↔ HasLife version (entry_of found.now) }
 {

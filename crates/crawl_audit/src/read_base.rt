@@ -1,6 +1,6 @@
-//! A line of a base, read as a thing that it left open or as its numbers. More is read than the one
-//! spelling of each, so what was read is spelled and compared with the line.
-//! docs/FORMATS.md has the lines.
+//! Reads a line of a base as a thing left open, or as its numbers. It is lenient: to accept only the
+//! canonical text, what was read is written again and compared.
+//! See docs/FORMATS.md.
 ghost use Rattle.std.specs.Prelude.{◌≡◌, ◌≢◌, ◌↔◌, [], ◌∷◌};
 ghost use Rattle.std.specs.Prelude.{codes, decimal, Err, IfOk, IsTrue, Some};
 ghost use Rattle.line_text.specs.Pieces.{pieces_text};
@@ -29,7 +29,7 @@ use line_text::{Pieces, Words, number_of};
 use permit_book::{Fetch, LAST_GENERATION, MAX_SLOTS, PermitNo};
 use std::alloc::Global;
 
-/// Reads a line, without its end, as the thing that it spells, which a base left open.
+/// Parses a line, without its end, as a thing that a base left open.
 pub(crate) fn read_row(alloc: Global, line: &[u8]) -> Result<BaseRow, UnreadLine>
     ensures spelled { IfOk result (λ found. line.now ≡ row_line (row_of found)) }
     ensures row { IfOk result (λ found. IsOpenRow (row_of found)) }
@@ -47,7 +47,7 @@ pub(crate) fn read_row(alloc: Global, line: &[u8]) -> Result<BaseRow, UnreadLine
     }
 }
 
-// Whether the thing is in range and this is its line.
+// Whether the thing is in range and this is its canonical line.
 fn is_spelled(found: &BaseRow, line: &[u8]) -> bool
     ensures spelled { IsTrue result ↔ (IsInRange (row_of found.now)
         × (line.now ≡ row_line (row_of found.now))) }
@@ -57,7 +57,6 @@ fn is_spelled(found: &BaseRow, line: &[u8]) -> bool
     is_in_range(found) && pieces.is(line)
 }
 
-// The line of a thing that was read.
 fn row_pieces(found: &BaseRow) -> Pieces<'_>
     ensures text { pieces_text result ≡ row_line (row_of found.now) }
     ensures fields { HasRowFields (row_of found.now) }
@@ -81,7 +80,7 @@ fn row_pieces(found: &BaseRow) -> Pieces<'_>
     }
 }
 
-// Whether an answer has a life of its kind, and whether there may be a slot and its generation.
+// Whether an answer's life suits its kind, and a slot and its generation are possible.
 fn is_in_range(found: &BaseRow) -> bool
     ensures { IsTrue result ↔ IsInRange (row_of found.now) }
 {
@@ -167,7 +166,7 @@ fn read_running(alloc: Global, words: Words<'_>) -> Result<BaseRow, UnreadLine>
     Ok(BaseRow::Running { number, fetch })
 }
 
-// A permit's number, and the fetch that it is for.
+// A permit's number, and its fetch.
 fn read_permit(alloc: Global, words: Words<'_>) -> Result<(PermitNo, Fetch), UnreadLine>
     ensures { (p : GrantedPermit) → IsPermitRow p
         → words_left words.entry ≡ decimal p.number ∷ p.token ∷ p.url ∷ []
@@ -180,7 +179,7 @@ fn read_permit(alloc: Global, words: Words<'_>) -> Result<(PermitNo, Fetch), Unr
     Ok((number, Fetch { token, url }))
 }
 
-/// Reads a line, without its end, as the numbers of a base. It takes no memory.
+/// Parses a line, without its end, as the numbers of a base. It allocates nothing.
 pub(crate) fn read_numbers(line: &[u8]) -> Result<Numbers, UnreadLine>
     ensures spelled { IfOk result (λ numbers. line.now ≡ numbers_line (numbered numbers)) }
     ensures numbers { IfOk result (λ numbers. HasNumbers (numbered numbers)) }

@@ -1,5 +1,5 @@
-//! An entry as a line brings it, with its token, its URL and its answer at hand.
-//! The history keeps their texts alone.
+//! An entry read from a line, with its token, URL and answer parsed.
+//! The history keeps only their texts.
 
 use authority_cache::TurnNo;
 use gate_history::{Cause, Reason};
@@ -7,7 +7,6 @@ use path_normal::Authority;
 use permit_book::{Fetch, PermitNo};
 use robots_verdict::Answer;
 
-/// An entry that was read.
 #[derive(Drop)]
 pub(crate) enum Record {
     Begun {

@@ -1,5 +1,5 @@
 //! The line of an entry that was read, as pieces.
-//! docs/FORMATS.md has the kinds as a table.
+//! See docs/FORMATS.md.
 ghost use Rattle.std.specs.Prelude.{◌≡◌};
 ghost use Rattle.gate_history.specs.declared.entry.Entry.TheVariants.{AskDenied, Granted};
 ghost use Rattle.history_text.specs.Entries.{HasFields, IsCause, IsFetch, IsNumber};
@@ -60,7 +60,6 @@ pub(crate) fn record_pieces(version: Version, found: &Record) -> Pieces<'_>
     }
 }
 
-// The line of a grant that was read.
 fn grant_pieces(moment: u64, number: PermitNo, fetch: &Fetch) -> Pieces<'_>
     ensures text { pieces_text result ≡ entry_line Version.Two (Granted moment number fetch.now) }
     ensures number { IsNumber number }
@@ -74,7 +73,6 @@ fn grant_pieces(moment: u64, number: PermitNo, fetch: &Fetch) -> Pieces<'_>
     )
 }
 
-// The line of a denied ask that was read.
 fn denied_ask_pieces(moment: u64, fetch: &Fetch, cause: Cause) -> Pieces<'_>
     ensures text { pieces_text result ≡ entry_line Version.Two (AskDenied moment fetch.now cause) }
     ensures fetch { IsFetch fetch.now }

@@ -1,18 +1,19 @@
-//! Why no gate can go on from the text of a journal.
-//! docs/FORMATS.md has the causes of a bad line.
+//! Why no gate can continue from a journal's text.
+//! docs/FORMATS.md: the causes of a bad line.
 use crate::fault::AuditFault;
 use std::alloc::AllocError;
 
-/// Why no gate can go on from a text.
+/// Why no gate can continue from a text.
 #[derive(Clone, Copy, Debug, PartialEq, Eq)]
 pub enum RecoverFault {
-    /// The line of this number, from 1, is whole or too long, and is the first with which no right text goes on.
+    /// This line, counted from 1, is whole or too long, and is the first that no valid text could have
+    /// here.
     BadLine(u64),
-    /// The text has no line of this number, or has it in part alone, and no entry may come there: it is empty, or
-    /// ends within its base.
+    /// The text ends before or within this line, and no entry may come there: the text is empty, or ends
+    /// within its base.
     NoEntries(u64),
-    /// The line of this number would end something that is out, and there is no room for it: a text has 1,000,000
-    /// entries at most. A gate keeps that room.
+    /// This line would end something outstanding, and there is no room for it: a text has at most 1,000,000
+    /// entries. A gate keeps that room.
     NoRoom(u64),
     /// A read failed.
     Read,

@@ -1,5 +1,5 @@
-//! Recovery: what a gate goes on from, by the text of the last file of its journal, also one whose last line was torn.
-//! docs/FORMATS.md has the texts; RFC 9309, sections 2.3.1 and 2.4.
+//! Recovery: where a gate continues, by the text of its journal's last file, whose last line may be torn.
+//! See docs/FORMATS.md; RFC 9309, sections 2.3.1 and 2.4.
 ghost use Rattle.std.specs.Prelude.{◌≡◌, List, Option, Some, ℕ, [], IfErr, IfOk, map};
 ghost use Rattle.path_normal.specs.declared.schemes.Schemes.{Schemes};
 ghost use Rattle.path_normal.specs.declared.schemes.Schemes.TheVariants.{Http};
@@ -25,25 +25,24 @@ use path_normal::{Authority, Schemes};
 use std::alloc::{AllocError, Global};
 use std::hash::RandomState;
 
-/// What the text of a journal's last file leads to.
+/// The state that the text of a journal's last file leads to.
 #[derive(Drop)]
 pub struct Recovered {
-    /// How many octets of the text are whole lines. A line behind them was torn by a crash.
+    /// The octets of the text's whole lines. A crash tore what is behind them.
     pub whole: u64,
-    /// The lines that end what was out behind the whole lines, each with its LF: to be written in the place of what
-    /// was torn.
+    /// The lines that end what was outstanding, each with its LF: to be written over what was torn.
     pub ending: Vec<u8>,
-    /// The sites whose turns these lines end, in the order of the turns: their robots.txt files were being fetched.
+    /// The sites whose turns these lines end, in the order of the turns: their robots.txt files were being
+    /// fetched.
     pub begun: Vec<Authority>,
-    /// What the history goes on from. No permit, fetch or turn is out.
+    /// Where the history continues: no permit, fetch or turn is outstanding.
     pub base: Base,
-    /// The answers that stand. It limits no authorities.
+    /// The valid answers. It does not limit authorities.
     pub cache: Cache,
 }
 
-/// Reads a text, or texts of segments one after the other, as `audit` does, but for a last line that lacks its LF, which
-/// counts as not written. It holds one line and the tables of what stands, whose hashers get these keys. A line
-/// that names a site or a page of `https` is bad.
+/// Like `audit`, except that a last line without LF counts as not written. A line that names an `https`
+/// site or page is bad.
 pub fn recover<R: Source>(
     alloc: Global,
     keys: RandomState,
@@ -56,7 +55,7 @@ pub fn recover<R: Source>(
     ensures reads { R.failures reader.new
         ≡ failures_after_recovery (R.failures reader.old) result }
 
-    // Whatever the source gave, a book can go on from it.
+    // Whatever the source gave, a book can continue from it.
     ensures base { IfOk result (λ found. IsBase found.base) }
     ensures turns { IfOk result (λ found. found.base.in_flight ≡ []) }
     ensures permits { IfOk result (λ found. found.base.unspent ≡ []) }
@@ -67,7 +66,7 @@ pub fn recover<R: Source>(
     recover_among(alloc, keys, Schemes::Http, reader)
 }
 
-/// Reads a text as `recover` does, of sites of these schemes. A line that names another one is bad.
+/// Like `recover`, for sites of these schemes. A line that names another scheme is bad.
 pub fn recover_among<R: Source>(
     alloc: Global,
     keys: RandomState,
@@ -81,7 +80,6 @@ pub fn recover_among<R: Source>(
     ensures reads { R.failures reader.new
         ≡ failures_after_recovery (R.failures reader.old) result }
 
-    // Whatever the source gave, a book can go on from it.
     ensures base { IfOk result (λ found. IsBase found.base) }
     ensures turns { IfOk result (λ found. found.base.in_flight ≡ []) }
     ensures permits { IfOk result (λ found. found.base.unspent ≡ []) }
@@ -90,7 +88,7 @@ pub fn recover_among<R: Source>(
         TellsCache found.cache found.base.standing found.base.in_flight) }
 {
     let mut whole = WholeLines::new(alloc, keys, schemes)?;
-    // At most so many lines, one more that is bad, and the end.
+    // The allowed lines, one too many, and the end.
     for _taken in 0..MAX_LINES + 2 {
         match whole.take(alloc, reader) {
             Ok(more) => {
@@ -104,7 +102,7 @@ pub fn recover_among<R: Source>(
     unreachable!()
 }
 
-// Ends what is out behind the lines that were read, and gives what they then lead to.
+// Ends what is outstanding, and returns the state that follows.
 fn go_on_from(alloc: Global, whole: WholeLines) -> Result<Recovered, RecoverFault>
     requires { (schemes : Schemes) × ((input : Option (List ℕ)) × HeardCut schemes whole input) }
     ensures recovers { (schemes : Schemes) (input : Option (List ℕ))
@@ -131,7 +129,7 @@ fn go_on_from(alloc: Global, whole: WholeLines) -> Result<Recovered, RecoverFaul
     }
 }
 
-// Ends what is out behind the lines that were read. It gives their text, and the sites of turns.
+// Ends what is outstanding. Returns the text of these lines, and the sites of turns.
 fn end_open(alloc: Global, auditor: &mut Auditor) -> Result<(Vec<u8>, Vec<Authority>), RecoverFault>
     requires { (h : History) × (IsLegal h × TellsAll auditor.old.open_state h) }
     ensures { EndsOpen auditor.old result auditor.new }
@@ -155,7 +153,6 @@ fn end_open(alloc: Global, auditor: &mut Auditor) -> Result<(Vec<u8>, Vec<Author
 }
 
 impl WholeLines {
-    // What read the lines.
     fn into_auditor(self) -> Auditor
         ensures { result ≡ self.auditor }
     {
@@ -164,7 +161,6 @@ impl WholeLines {
 }
 
 impl Auditor {
-    // What is known of sites.
     fn into_cache(self) -> Cache
         ensures { result ≡ self.open_state.cache }
     {
@@ -174,7 +170,7 @@ impl Auditor {
 }
 
 impl OpenState {
-    /// What the entries so far left open, in order, and their numbers.
+    /// What the entries so far left open, in order, with their numbers.
     pub(crate) fn base(&self, alloc: Global) -> Result<Base, AllocError>
         requires { (h : History) × (IsLegal h × TellsAll self.now h) }
         ensures says { IfOk result (λ base. (h : History) → IsLegal h → TellsAll self.now h
@@ -192,7 +188,6 @@ impl OpenState {
     }
 }
 
-// The authorities of turns.
 fn sites_of(alloc: Global, turns: &[Turn]) -> Result<Vec<Authority>, AllocError>
     ensures { IfOk result (λ sites. sites.items ≡ map (λ t. t.authority) turns.now) }
 {

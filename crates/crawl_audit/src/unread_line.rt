@@ -1,13 +1,13 @@
-//! Why a line was not read as an entry, or as one of a base.
-//! Used by all that reads lines.
+//! Why a line was not read as an entry, or as a line of a base.
+//! Used by every reader of lines.
 use std::alloc::AllocError;
 
 /// Why a line was not read.
 #[derive(Clone, Copy, PartialEq, Eq)]
 pub(crate) enum UnreadLine {
-    /// It is the spelling of nothing that may come there.
+    /// No entry or row that may come there has this line.
     NotOne,
-    /// There is no memory for what it spells.
+    /// Out of memory.
     NoMemory,
 }
 

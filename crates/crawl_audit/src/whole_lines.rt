@@ -1,5 +1,5 @@
-//! The whole lines of a text whose last line may be torn: what was read of them, and the next.
-//! docs/FORMATS.md has the lines and the causes of a bad one.
+//! The whole lines of a text whose last line may be torn.
+//! docs/FORMATS.md: the lines, and causes of bad ones.
 ghost use Rattle.std.specs.Prelude.{◌≡◌, ℕ, IfOk, List, Option};
 ghost use Rattle.std.specs.Io.KnownBytes.{prepend_known};
 ghost use Rattle.crawl_audit.specs.Audit.{failures_after_audit};
@@ -12,16 +12,14 @@ use path_normal::Schemes;
 use std::alloc::{AllocError, Global};
 use std::hash::RandomState;
 
-/// What was read of a text whose last line may be torn.
 #[derive(Drop)]
 pub(crate) struct WholeLines {
     pub(crate) auditor: Auditor,
-    /// The octets of the lines that were read, their ends among them.
+    /// The octets of the lines read, with their ends.
     pub(crate) octets: u64,
 }
 
 impl WholeLines {
-    /// Nothing was read.
     pub(crate) fn new(
         alloc: Global,
         keys: RandomState,
@@ -37,7 +35,7 @@ impl WholeLines {
         })
     }
 
-    /// Takes the next line of a source, and says whether a whole one was left.
+    /// Takes the next whole line of a source; false if there is none.
     pub(crate) fn take<R: Source>(
         &mut self,
         alloc: Global,
@@ -67,7 +65,7 @@ impl WholeLines {
                     Err(fault) => Err(fault),
                 }
             }
-            // It was torn.
+            // The last line is torn.
             Ok(NextLine::Last) => Ok(false),
             Ok(NextLine::End) => Ok(false),
             Ok(NextLine::TooLong) => Err(AuditFault::BadLine(number)),

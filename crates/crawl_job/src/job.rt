@@ -1,4 +1,4 @@
-//! A job of a crawler, and what came of it.
+//! A crawler's job and its outcome.
 ghost use Rattle.std.specs.Prelude.{◌≡◌, IfOk};
 
 use crate::hop::Hop;
@@ -14,7 +14,7 @@ pub struct Job {
 }
 
 impl Job {
-    /// A copy of the job. It takes memory for its token and its URL.
+    /// A copy. It allocates its token and URL.
     pub fn copy(&self) -> Result<Job, AllocError>
         ensures token { IfOk result (λ job. job.token ≡ self.now.token) }
         ensures url { IfOk result (λ job. job.url ≡ self.now.url) }
@@ -26,10 +26,10 @@ impl Job {
     }
 }
 
-/// What came of a job: its hops in order, one at least, and the octets of the last page.
+/// A job's outcome: its hops in order, at least one, and the last page's octets.
 #[derive(Drop)]
 pub struct Outcome {
     pub hops: Vec<Hop>,
-    /// The body that the last hop brought, at most 1,048,576 octets; empty where that is no page.
+    /// The last hop's body, at most 1,048,576 octets; empty if it is no page.
     pub body: Vec<u8>,
 }

@@ -1,4 +1,4 @@
-//! Jobs of crawlers, the hops that each takes, and what comes of them.
+//! Crawlers' jobs, their hops and outcomes.
 //! RFC 9309, sections 2.2 and 2.3.1.
 #![tactic(auto)]
 

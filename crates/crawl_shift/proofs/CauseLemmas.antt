@@ -1,4 +1,4 @@
--- What is told of a cause or of a refusal that has no words of the table's own: its word.
+-- Causes and refusals without words of their own in the table: their word.
 use Rattle.std.proofs.Common.{◌≡◌, ◌≢◌, Option, Some, codes, refl}
 use Rattle.http_client.specs.declared.failure.Failure.{Failure}
 use Rattle.http_client.specs.declared.failure.Failure.TheVariants as failures
@@ -11,7 +11,6 @@ use Rattle.crawl_workers.specs.declared.event.ClosedBy.{ClosedBy}
 use Rattle.command_server.specs.RefusalText.{refusal_word}
 use Rattle.crawl_shift.specs.Causes.{denial_phrase, early_end_phrase, refusal_phrase, spaced_words}
 
--- a cause that is not a closed site
 pub not_closed : (cause : Cause) (by : Option ClosedBy) → cause ≢ causes.Closed → denial_phrase cause by ≡ spaced_words (cause_words cause)
 not_closed causes.Spent by other = refl
 not_closed causes.Unknown by other = refl
@@ -19,7 +18,6 @@ not_closed causes.Expired by other = refl
 not_closed causes.Closed by other = absurd (other refl)
 not_closed (causes.Line line) by other = refl
 
--- a refusal that is not one of memory
 pub not_memory : (refusal : Refusal) → refusal ≢ refusals.NoMemory → refusal_phrase refusal ≡ refusal_word refusal
 not_memory refusals.AuthoritiesFull other = refl
 not_memory refusals.LogFull other = refl
@@ -27,7 +25,6 @@ not_memory refusals.Busy other = refl
 not_memory refusals.PermitsFull other = refl
 not_memory refusals.NoMemory other = absurd (other refl)
 
--- a failure that is not one of a TLS connection
 pub not_tls : (failure : Failure) → failure ≢ failures.NoTls → early_end_phrase (Some failure) ≡ codes "ended early"
 not_tls failures.NoName other = refl
 not_tls failures.Refused other = refl

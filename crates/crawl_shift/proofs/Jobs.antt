@@ -1,4 +1,4 @@
--- What the lines of a session come to where a list of jobs answers them.
+-- The lines of a session that a list of jobs answers.
 -- Used by the proof of `read_jobs`.
 use Rattle.std.proofs.Common.{◌≡◌, ◌≢◌, inl, inr, ◌+◌, ℕ, suc, Bool, true, false, List, [], ◌∷◌, ◌++◌, append_assoc, append-nil, length, Some, None, refl, sym, ap, ◌∙◌, subst, arith, rules}
 use Rattle.std.specs.Prelude.{Option, Result, Ok, Err, IfErr, IfOk, ◌⊎◌}
@@ -46,7 +46,6 @@ never e = search rules
 behind_one : (old mid new : List Job) (job : Job) (own : List Job) → mid ≡ old ++ job ∷ [] → new ≡ mid ++ own → new ≡ old ++ (job ∷ own)
 behind_one old mid new job own first later = later ∙ ap (λ (l : List Job). l ++ own) first ∙ append_assoc old (job ∷ []) own
 
--- where no line ended the session
 pub added : (schemes : Schemes) (old new : JobList) (lines : List (List ℕ)) (text : List ℕ) → AnswersLines (TakesJob schemes) old lines text false new → Added schemes old new lines
 added schemes old new [] text answered = record {
   own = [];
@@ -65,7 +64,6 @@ added schemes old new (line ∷ lines) text (inr goes) =
       fault_is = later.fault_is ∙ first.1.2;
     }
 
--- where the last line did
 pub stopped : (schemes : Schemes) (old new : JobList) (lines : List (List ℕ)) (text : List ℕ) → AnswersLines (TakesJob schemes) old lines text true new → Stopped schemes old new lines
 stopped schemes old new [] text answered = absurd (never (sym answered.1))
 stopped schemes old new (line ∷ lines) text (inl ends) =
@@ -96,7 +94,6 @@ stopped schemes old new (line ∷ lines) text (inr goes) =
       fault_is = later.fault_is;
     }
 
--- as many jobs as lines
 pub one_each : (schemes : Schemes) (lines : List (List ℕ)) (jobs : List Job) → AreJobs schemes lines jobs → length jobs ≡ length lines
 one_each schemes [] [] read = refl
 one_each schemes [] (job ∷ jobs) read = absurd read
@@ -109,14 +106,12 @@ Sessions schemes old new input left written written_new result =
     (old.jobs.items ≡ []) × (old.fault ≡ None)
     × Session (TakesJob schemes) job_line_limit max_jobs old new input left written written_new result
 
--- a list without a fault has the jobs of all lines that were taken
 goes_on : (schemes : Schemes) (ended : Bool) (old new : JobList) (lines : List (List ℕ)) (text : List ℕ) → new.fault ≡ None → AnswersLines (TakesJob schemes) old lines text ended new → Added schemes old new lines
 goes_on schemes false old new lines text clean answered = added schemes old new lines text answered
 goes_on schemes true old new lines text clean answered =
     let end = stopped schemes old new lines text answered in
     absurd (none-some end.fault (sym clean ∙ end.fault_is))
 
--- one with a fault has the jobs of all but the last
 ends : (schemes : Schemes) (ended : Bool) (old new : JobList) (lines : List (List ℕ)) (text : List ℕ) (fault : LineFault) → old.fault ≡ None → new.fault ≡ Some fault → AnswersLines (TakesJob schemes) old lines text ended new → Stopped schemes old new lines
 ends schemes true old new lines text fault clean bad answered = stopped schemes old new lines text answered
 ends schemes false old new lines text fault clean bad answered =
@@ -144,7 +139,6 @@ drained : (ended : Bool) (unread : List ℕ) (left : Option (List ℕ)) → ende
 drained ended unread left goes (inl over) = absurd (never (sym goes ∙ over))
 drained ended unread left goes (inr none) = none
 
--- a session that came to the end of its input took the lines of all jobs
 pub all_jobs : (schemes : Schemes) (old new : JobList) (input left written written_new : Option (List ℕ)) (result : Result (Unit {0}) SessionFault) → Sessions schemes old new input left written written_new result →
     new.fault ≡ None → result ≡ Ok tt → AreAllJobs schemes input left new.jobs.items
 all_jobs schemes old new input left written written_new result sessions clean well =
@@ -172,7 +166,6 @@ read_fails : (schemes : Schemes) (line : List ℕ) (fault : LineFault) → fault
 read_fails schemes line fault other (inl fails) = fails
 read_fails schemes line fault other (inr memory) = absurd (other memory)
 
--- the last line that was taken has a fault
 pub bad_line : (schemes : Schemes) (old new : JobList) (input left written written_new : Option (List ℕ)) (result : Result (Unit {0}) SessionFault) (number : ℕ) (fault : LineFault) →
     Sessions schemes old new input left written written_new result → new.fault ≡ Some fault → fault ≢ faults.Memory → number ≡ length new.jobs.items + 1 → IsBadJobLine schemes input left number
 bad_line schemes old new input left written written_new result number fault sessions bad other is =
@@ -195,7 +188,6 @@ bad_line schemes old new input left written written_new result number fault sess
       });
     }
 
--- the line behind those that were taken is too long
 pub too_long : (schemes : Schemes) (old new : JobList) (input left written written_new : Option (List ℕ)) (result : Result (Unit {0}) SessionFault) (number : ℕ) →
     Sessions schemes old new input left written written_new result → new.fault ≡ None → result ≡ Err LongLine → number ≡ length new.jobs.items + 1 → IsBadJobLine schemes input left number
 too_long schemes old new input left written written_new result number sessions clean long is =
@@ -211,7 +203,6 @@ too_long schemes old new input left written written_new result number sessions c
       bad = inr (inl (record { behind = s.behind; unread = s.unread; took = s.took; found = stop.1 }));
     }
 
--- the line behind those that were taken is one too many
 pub too_many : (schemes : Schemes) (old new : JobList) (input left written written_new : Option (List ℕ)) (result : Result (Unit {0}) SessionFault) (number : ℕ) →
     Sessions schemes old new input left written written_new result → new.fault ≡ None → result ≡ Err Lines → number ≡ length new.jobs.items + 1 → IsBadJobLine schemes input left number
 too_many schemes old new input left written written_new result number sessions clean many is =
@@ -227,7 +218,6 @@ too_many schemes old new input left written written_new result number sessions c
       bad = inr (inr (record { behind = s.behind; unread = s.unread; took = s.took; all = stop.1; found = stop.2 }));
     }
 
--- the jobs of a list that ended well
 pub read_well : {X : Type 0} (schemes : Schemes) (told : Result X JobsFault) (items : X → List Job) (old new : JobList) (input left written written_new : Option (List ℕ)) (result : Result (Unit {0}) SessionFault) →
     Sessions schemes old new input left written written_new result →
     IfOk told (λ jobs. EndsWell new result × (items jobs ≡ new.jobs.items)) → IfOk told (λ jobs. AreAllJobs schemes input left (items jobs))
@@ -235,7 +225,6 @@ read_well schemes (Ok jobs) items old new input left written written_new result 
     subst (AreAllJobs schemes input left) (sym well.1) (all_jobs schemes old new input left written written_new result sessions well.0.0 well.0.1)
 read_well schemes (Err _) items old new input left written written_new result sessions well = tt
 
--- why one ended badly
 pub read_badly : {X : Type 0} (schemes : Schemes) (told : Result X JobsFault) (old new : JobList) (input left written written_new : Option (List ℕ)) (result : Result (Unit {0}) SessionFault) →
     Sessions schemes old new input left written written_new result →
     IfErr told (EndsBadly new result) → IfErr told (IsJobsFault schemes input left)
@@ -251,7 +240,6 @@ read_badly schemes (Err (jobs_fault.BadLine number)) old new input left written 
       ]
     ]
 
--- a read failed where that is told
 pub read_failed : {X : Type 0} (told : Result X JobsFault) (new : JobList) (result : Result (Unit {0}) SessionFault) (failures failures' : ℕ) →
     failures' ≡ failures_after_reads failures result →
     IfErr told (EndsBadly new result) → IfErr told (FailsToReadJobs failures failures')

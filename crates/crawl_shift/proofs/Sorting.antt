@@ -1,4 +1,4 @@
--- What the lines of a session come to where a reading of job lines answers them.
+-- The lines of a session that a reading of job lines answers.
 -- Used by the proof of `read_job_lines`.
 use Rattle.std.proofs.Common.{◌≡◌, ◌≢◌, inl, inr, ◌+◌, ℕ, Bool, true, false, List, [], ◌∷◌, ◌++◌, append_assoc, append-nil, length, length-append, Some, None, refl, sym, ap, ◌∙◌, subst, arith, rules}
 use Rattle.std.specs.Prelude.{Option, Result, Ok, Err, IfErr, IfOk, ◌⊎◌}
@@ -74,7 +74,6 @@ fails_so : (schemes : Schemes) (line : List ℕ) (fault : LineFault) → fault �
 fails_so schemes line fault other (inl fails) = fails
 fails_so schemes line fault other (inr memory) = absurd (other memory)
 
--- a line that was kept is told as it is
 told_of : (schemes : Schemes) (number : ℕ) (line : List ℕ) (told : BadJobLine) (fault : LineFault) → told.number ≡ number → told.fault ≡ fault → fault ≢ faults.Memory → MayFail schemes line fault → IsToldOf schemes number line told
 told_of schemes number line told fault number_is fault_is other may = record {
   number_is = number_is;
@@ -82,7 +81,6 @@ told_of schemes number line told fault number_is fault_is other may = record {
   no_memory = subst (λ (f : LineFault). f ≢ faults.Memory) (sym fault_is) other;
 }
 
--- the lines behind one that added its job
 sorted_job : (schemes : Schemes) (number next : ℕ) (line : List ℕ) (lines : List (List ℕ)) (job : Job) (own : List Job) (bad : List BadJobLine) → next ≡ number + 1 → IsRead (Ok job) (job_of_among schemes line) →
     AreSorted schemes next lines own bad → AreSorted schemes number (line ∷ lines) (job ∷ own) bad
 sorted_job schemes number next line lines job own bad up read later = inl (record {
@@ -93,7 +91,6 @@ sorted_job schemes number next line lines job own bad up read later = inl (recor
   then = subst (λ (n : ℕ). AreSorted schemes n lines own bad) up later;
 })
 
--- and behind one that was kept
 sorted_bad : (schemes : Schemes) (number next : ℕ) (line : List ℕ) (lines : List (List ℕ)) (told : BadJobLine) (own : List Job) (bad : List BadJobLine) → next ≡ number + 1 → IsToldOf schemes number line told →
     AreSorted schemes next lines own bad → AreSorted schemes number (line ∷ lines) own (told ∷ bad)
 sorted_bad schemes number next line lines told own bad up is later = inr (record {
@@ -151,7 +148,6 @@ after_bad schemes bad_lines old mid new line lines one later =
 next_same : (old mid : Reading) → mid.list.jobs.items ≡ old.list.jobs.items → mid.bad.items ≡ old.bad.items → next_number mid ≡ next_number old
 next_same old mid jobs bad = omega (arith, ap length jobs, ap length bad)
 
--- a line that was no job, and left the reading as it was, is taken as its fault is met
 pub met_of : (schemes : Schemes) (bad_lines : BadLines) (old mid new : Reading) (line : List ℕ) (fault : LineFault) (ended : Bool) → MayFail schemes line fault →
     mid.list.jobs.items ≡ old.list.jobs.items → mid.list.fault ≡ old.list.fault → mid.bad.items ≡ old.bad.items →
     MeetsFault bad_lines mid fault ended new → TakesLine schemes bad_lines old line [] ended new
@@ -182,7 +178,6 @@ met_of schemes bad_lines old mid new line fault false may jobs kept bad met =
 met_of schemes bad_lines old mid new line fault true may jobs kept bad met =
     (refl, (fault, (may, (met.0 ∙ jobs, met.1 ∙ bad, met.2))))
 
--- where no line ended the session
 kept : (schemes : Schemes) (bad_lines : BadLines) (old new : Reading) (lines : List (List ℕ)) (text : List ℕ) → AnswersLines (TakesLine schemes bad_lines) old lines text false new → Kept schemes bad_lines old new lines
 kept schemes bad_lines old new [] text answered = record {
   own = [];
@@ -239,7 +234,6 @@ last_fault : (schemes : Schemes) (bad_lines : BadLines) (new : Reading) (line : 
 last_fault schemes bad_lines new line fault may (inl memory) = inl memory
 last_fault schemes bad_lines new line fault may (inr end) = inr (end.0, (fault, (may, end.1)))
 
--- where the last line did
 broken : (schemes : Schemes) (bad_lines : BadLines) (old new : Reading) (lines : List (List ℕ)) (text : List ℕ) → AnswersLines (TakesLine schemes bad_lines) old lines text true new → Broken schemes bad_lines old new lines
 broken schemes bad_lines old new [] text answered = absurd (never (sym answered.1))
 broken schemes bad_lines old new (line ∷ lines) text (inl ends) =
@@ -263,7 +257,6 @@ broken schemes bad_lines old new (line ∷ lines) text (inr goes) =
       | inr one ↦ before_bad schemes bad_lines old goes.state new line lines one later
     ]
 
--- as many lines as jobs and bad lines
 pub sorted_count : (schemes : Schemes) (number : ℕ) (lines : List (List ℕ)) (jobs : List Job) (bad : List BadJobLine) → AreSorted schemes number lines jobs bad → length jobs + length bad ≡ length lines
 sorted_count schemes number [] jobs bad sorted = omega (arith, ap length sorted.0, ap length sorted.1)
 sorted_count schemes number (line ∷ lines) jobs bad (inl one) = omega (arith, ap length one.jobs_are, sorted_count schemes (number + 1) lines one.later bad one.then)
@@ -279,14 +272,12 @@ ends_some : (schemes : Schemes) (bad_lines : BadLines) (new : Reading) (last : L
 ends_some schemes bad_lines new last clean (inl memory) = none-some faults.Memory (sym clean ∙ memory)
 ends_some schemes bad_lines new last clean (inr end) = none-some end.1.0 (sym clean ∙ end.1.1.1)
 
--- a reading without a fault kept all lines that were taken
 goes_on : (schemes : Schemes) (bad_lines : BadLines) (ended : Bool) (old new : Reading) (lines : List (List ℕ)) (text : List ℕ) → new.list.fault ≡ None → AnswersLines (TakesLine schemes bad_lines) old lines text ended new → Kept schemes bad_lines old new lines
 goes_on schemes bad_lines false old new lines text clean answered = kept schemes bad_lines old new lines text answered
 goes_on schemes bad_lines true old new lines text clean answered =
     let end = broken schemes bad_lines old new lines text answered in
     absurd (ends_some schemes bad_lines new end.last clean end.ends)
 
--- one with a fault kept all but the last
 ends : (schemes : Schemes) (bad_lines : BadLines) (ended : Bool) (old new : Reading) (lines : List (List ℕ)) (text : List ℕ) (fault : LineFault) → old.list.fault ≡ None → new.list.fault ≡ Some fault → AnswersLines (TakesLine schemes bad_lines) old lines text ended new → Broken schemes bad_lines old new lines
 ends schemes bad_lines true old new lines text fault clean bad answered = broken schemes bad_lines old new lines text answered
 ends schemes bad_lines false old new lines text fault clean bad answered =
@@ -317,7 +308,6 @@ drained ended unread left goes (inr none) = none
 first_number : (old : Reading) → old.list.jobs.items ≡ [] → old.bad.items ≡ [] → next_number old ≡ 1
 first_number old jobs bad = omega (arith, ap length jobs, ap length bad)
 
--- what was read of a new reading, counted from line 1
 from_first : (schemes : Schemes) (old : Reading) (lines : List (List ℕ)) (own : List Job) (bad : List BadJobLine) → old.list.jobs.items ≡ [] → old.bad.items ≡ [] → AreSorted schemes (next_number old) lines own bad → AreSorted schemes 1 lines own bad
 from_first schemes old lines own bad jobs none sorted = subst (λ (n : ℕ). AreSorted schemes n lines own bad) (first_number old jobs none) sorted
 
@@ -325,7 +315,6 @@ same_sorted : (schemes : Schemes) (lines : List (List ℕ)) (own jobs : List Job
 same_sorted schemes lines own jobs kept bad same other sorted =
     subst (λ (l : List Job). AreSorted schemes 1 lines l bad) (sym same) (subst (λ (l : List BadJobLine). AreSorted schemes 1 lines own l) (sym other) sorted)
 
--- a session that came to the end of its input kept all lines
 all_lines : (schemes : Schemes) (bad_lines : BadLines) (old new : Reading) (input left written written_new : Option (List ℕ)) (result : Result (Unit {0}) SessionFault) (read : JobLines) →
     Sessions schemes bad_lines old new input left written written_new result → LeavesWell new result read → AreJobLines schemes bad_lines input left read
 all_lines schemes bad_lines old new input left written written_new result read sessions well =
@@ -347,14 +336,12 @@ all_lines schemes bad_lines old new input left written written_new result read s
       few = omega (arith, s.within, ap length jobs, sorted_count schemes 1 s.lines all.own all.bad sorted);
     }
 
--- the line behind those that were read
 count_is : (schemes : Schemes) (lines : List (List ℕ)) (new : Reading) (own : List Job) (bad : List BadJobLine) (number : ℕ) → new.list.jobs.items ≡ own → new.bad.items ≡ bad → AreSorted schemes 1 lines own bad → number ≡ next_number new → number ≡ length lines + 1
 count_is schemes lines new own bad number jobs kept sorted is = omega (arith, is, ap length jobs, ap length kept, sorted_count schemes 1 lines own bad sorted)
 
 fault_same : (one other : LineFault) → Some one ≡ Some other → one ≡ other
 fault_same one other same = search rules
 
--- the last line that was taken can't be read, and such lines end the reading
 ended_by : (schemes : Schemes) (bad_lines : BadLines) (new : Reading) (input left behind : Option (List ℕ)) (front : List (List ℕ)) (last : List ℕ) (fault : LineFault) →
     TakesLines job_line_limit input behind (front ++ last ∷ []) → new.list.fault ≡ Some fault → fault ≢ faults.Memory → LastFault schemes bad_lines new last → EndsReading schemes bad_lines input left front fault
 ended_by schemes bad_lines new input left behind front last fault took bad other (inl memory) = absurd (other (fault_same fault faults.Memory (sym bad ∙ memory)))
@@ -392,7 +379,6 @@ bad_line schemes bad_lines old new input left written written_new result last se
       ends = ended_by schemes bad_lines new input left s.behind end.front end.last last.fault (subst (TakesLines job_line_limit input s.behind) end.lines_are s.took) bad other end.ends;
     }
 
--- the line behind those that were kept is too long, or one too many
 behind_all : (schemes : Schemes) (bad_lines : BadLines) (old new : Reading) (input left written written_new : Option (List ℕ)) (result : Result (Unit {0}) SessionFault) (last : BadJobLine) →
     (sessions : Sessions schemes bad_lines old new input left written written_new result) → new.list.fault ≡ None → last.number ≡ next_number new →
     EndsReading schemes bad_lines input left sessions.3.lines last.fault → IsLastLine schemes bad_lines input left last
@@ -428,14 +414,12 @@ too_many schemes bad_lines old new input left written written_new result last se
     behind_all schemes bad_lines old new input left written written_new result last sessions clean is
     (inr (inr (fault, record { behind = s.behind; unread = s.unread; took = s.took; all = stop.1; found = stop.2 })))
 
--- what a reading that ended well has
 pub read_well : (schemes : Schemes) (bad_lines : BadLines) (told : Result JobLines JobLinesFault) (old new : Reading) (input left written written_new : Option (List ℕ)) (result : Result (Unit {0}) SessionFault) →
     Sessions schemes bad_lines old new input left written written_new result →
     IfOk told (LeavesWell new result) → IfOk told (AreJobLines schemes bad_lines input left)
 read_well schemes bad_lines (Ok read) old new input left written written_new result sessions well = all_lines schemes bad_lines old new input left written written_new result read sessions well
 read_well schemes bad_lines (Err _) old new input left written written_new result sessions well = tt
 
--- why one ended badly
 pub read_badly : (schemes : Schemes) (bad_lines : BadLines) (told : Result JobLines JobLinesFault) (old new : Reading) (input left written written_new : Option (List ℕ)) (result : Result (Unit {0}) SessionFault) →
     Sessions schemes bad_lines old new input left written written_new result →
     IfErr told (LeavesBadly new result) → IfErr told (IsLinesFault schemes bad_lines input left)
@@ -451,7 +435,6 @@ read_badly schemes bad_lines (Err (lines_fault.BadLine last)) old new input left
       ]
     ]
 
--- a read failed where that is told
 pub read_failed : (told : Result JobLines JobLinesFault) (new : Reading) (result : Result (Unit {0}) SessionFault) (failures failures' : ℕ) →
     failures' ≡ failures_after_reads failures result →
     IfErr told (LeavesBadly new result) → IfErr told (FailsToReadLines failures failures')

@@ -1,5 +1,5 @@
--- The causes of a table of hops in words, as docs/FORMATS.md has them.
--- Cited by the contracts of `causes`.
+-- The causes of a table of hops, as docs/FORMATS.md has them.
+-- Used by `causes`.
 use Rattle.std.specs.Prelude.{ℕ, ◌/◌, List, ◌++◌, Option, None, Some, codes, decimal}
 use Rattle.std.specs.Duration.{as_nanos}
 use Rattle.std.specs.List.{join_with_byte}
@@ -22,7 +22,7 @@ use Rattle.line_text.specs.Pieces.{piece_text}
 use Rattle.command_server.specs.RefusalText.{refusal_word}
 use Rattle.crawl_shift.specs.declared.causes.CauseWords.{CauseWords}
 
--- a limit of time that was passed, in whole seconds
+-- an exceeded time limit, in whole seconds
 abbrev pub past_text : List ℕ → Duration → List ℕ
 past_text word limit = word ++ (decimal (as_nanos limit / 1_000_000_000) ++ codes " s")
 
@@ -40,7 +40,7 @@ failure_text failures.NoTlsProgram = codes "no TLS program"
 failure_text failures.Stopped = codes "stopped"
 failure_text failures.Other = codes "network"
 
--- why a response ended before it was whole: over TLS there may have been no connection
+-- why a response ended early; over TLS there may have been no connection
 abbrev pub early_end_phrase : Option Failure → List ℕ
 early_end_phrase (Some failures.NoTls) = codes "no TLS connection"
 early_end_phrase _ = codes "ended early"
@@ -68,11 +68,11 @@ closing_text closings.OtherScheme = codes "robots: redirect to another scheme"
 closing_text (closings.Fault fault failure) = codes "robots: " ++ wire_fault_phrase fault failure
 closing_text closings.NoMemory = codes "robots: no memory"
 
--- words with single spaces between them
+-- words joined by single spaces
 abbrev pub spaced_words : List (List ℕ) → List ℕ
 spaced_words words = join_with_byte space words
 
--- why a page was denied; of a closed site what closed it, where that is known
+-- why a page was denied; what closed its site, if known
 abbrev pub denial_phrase : Cause → Option ClosedBy → List ℕ
 denial_phrase causes.Closed (Some by) = closing_text by
 denial_phrase cause _ = spaced_words (cause_words cause)
@@ -88,6 +88,6 @@ stop_phrase stops.TooManyRedirects = codes "too many redirects"
 stop_phrase stops.BadRedirect = codes "redirect to no page"
 stop_phrase stops.Scheme = codes "redirect to another scheme"
 
--- the text of a cause that is kept in parts
+-- the text of a cause in parts
 abbrev pub words_text : CauseWords → List ℕ
 words_text words = words.of.now ++ (words.text.now ++ (piece_text words.number ++ words.unit.now))

@@ -1,5 +1,5 @@
--- The history of a shift, written as a text: the one that the receipts of its workers tell.
--- The contract of `Shift::history`; docs/FORMATS.md has the lines.
+-- A shift's history as a text, by its workers' receipts.
+-- The contract of `Shift::history`; see docs/FORMATS.md.
 use Rattle.std.specs.Prelude.{◌≡◌, ℕ, List, Option}
 use Rattle.std.specs.Io.KnownBytes.{Appends}
 use Rattle.gate_core.specs.Gate.{Gate, HasLegalHistory}
@@ -12,25 +12,25 @@ use Rattle.crawl_workers.specs.Shifts.{IsShift, ReportView}
 use Rattle.crawl_workers.specs.World.{World}
 use Rattle.crawl_shift.specs.JobLists.{AreAllJobs}
 
--- the receipts are the whole history of the gate, before which nothing was sealed
+-- the receipts are the gate's whole history, with nothing sealed before
 pub record AreWholeHistory (gate : Gate) (receipts : List Receipt) : Type 0 where
   pub from_start : gate.base.entries ≡ 0
   pub are : AreHistory gate receipts
 
--- the text of the history that the receipts tell, which is legal, was written behind what was written before
+-- the legal history of the receipts was written after earlier output
 pub record WritesReceipts (receipts : List Receipt) (old new : Option (List ℕ)) : Type 0 where
   pub gate : Gate
   pub legal : HasLegalHistory gate
   pub are : AreWholeHistory gate receipts
   pub wrote : Appends old new (spell_segment (present_segment gate))
 
--- a shift of so many workers did these jobs, and the history that its receipts tell was written
+-- a shift of these workers did the jobs, and its receipts' history was written
 pub record WritesJobs (world : World) (workers : ℕ) (jobs : List Job) (old new : Option (List ℕ)) : Type 0 where
   pub report : ReportView
   pub shift : IsShift world jobs workers report
   pub wrote : WritesReceipts report.receipts old new
 
--- a shift of so many workers did the jobs of the input, and the history that its receipts tell was written
+-- a shift of these workers did the input's jobs, and its receipts' history was written
 pub record WritesShift (world : World) (workers : ℕ) (input left old new : Option (List ℕ)) : Type 0 where
   pub jobs : List Job
   pub report : ReportView

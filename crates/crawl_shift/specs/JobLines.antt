@@ -1,6 +1,6 @@
--- The jobs of the lines of a shift, and the lines that can't be read as one, each with its fault; or the line at which
--- the reading ended.
--- The contract of `read_job_lines` cites it; docs/FORMATS.md has the lines.
+-- The jobs of a shift's lines, and the lines that can't be read, each with its fault; or the line that ended the
+-- reading.
+-- Used by `read_job_lines`; see docs/FORMATS.md.
 use Rattle.std.specs.Prelude.{◌≡◌, ◌≢◌, ◌⊎◌, ℕ, ◌+◌, ◌≤◌, Bool, true, false, List, [], ◌∷◌, ◌++◌, length, Option, None, Some, Result, Ok, Err, codes, decimal}
 use Rattle.std.specs.declared.alloc.AllocError.{AllocError}
 use Rattle.path_normal.specs.Capacity.{IsRead}
@@ -25,17 +25,17 @@ use Rattle.crawl_shift.specs.declared.job_lines.JobLinesFault.{JobLinesFault}
 use Rattle.crawl_shift.specs.declared.job_lines.JobLinesFault.TheVariants.{BadLine, Read, NoMemory}
 use Rattle.crawl_shift.specs.declared.job_lines.Reading.{Reading}
 
--- what tells a line that can't be read
+-- what is reported of a line that can't be read
 abbrev pub bad_line_text : BadJobLine → List ℕ
 bad_line_text bad = codes "line " ++ (decimal bad.number ++ (codes ": " ++ (fault_words bad.fault ++ codes "\n")))
 
--- the line of this number has the fault that is told of it
+-- the line of this number has the reported fault
 pub record IsToldOf (schemes : Schemes) (number : ℕ) (line : List ℕ) (told : BadJobLine) : Type 0 where
   pub number_is : told.number ≡ number
   pub fails : IsRead (Err told.fault) (job_of_among schemes line)
   pub no_memory : told.fault ≢ faults.Memory
 
--- a line reads as the first of the jobs
+-- a line is the first of the jobs
 pub record GivesJob (schemes : Schemes) (line : List ℕ) (jobs : List Job) (rest : List Job → Type 0) : Type 0 where
   pub job : Job
   pub later : List Job
@@ -43,7 +43,7 @@ pub record GivesJob (schemes : Schemes) (line : List ℕ) (jobs : List Job) (res
   pub read : IsRead (Ok job) (job_of_among schemes line)
   pub then : rest later
 
--- the first of the bad lines tells of a line
+-- the first of the bad lines is this line
 pub record IsTold (schemes : Schemes) (number : ℕ) (line : List ℕ) (bad : List BadJobLine)
     (rest : List BadJobLine → Type 0) : Type 0 where
   pub told : BadJobLine
@@ -52,19 +52,19 @@ pub record IsTold (schemes : Schemes) (number : ℕ) (line : List ℕ) (bad : Li
   pub is : IsToldOf schemes number line told
   pub then : rest later
 
--- each line reads as its job, or is told with its number, counted from this one, and its fault
+-- each line is its job, or a bad line with its number, counted from this one, and fault
 abbrev pub AreSorted : Schemes → ℕ → List (List ℕ) → List Job → List BadJobLine → Type 0
 AreSorted schemes number [] jobs bad = (jobs ≡ []) × (bad ≡ [])
 AreSorted schemes number (line ∷ lines) jobs bad =
     GivesJob schemes line jobs (λ later. AreSorted schemes (number + 1) lines later bad)
     ⊎ IsTold schemes number line bad (λ later. AreSorted schemes (number + 1) lines jobs later)
 
--- a line that can't be read is kept only where such lines are skipped
+-- bad lines are kept only if they are skipped
 abbrev pub MayKeep : BadLines → List BadJobLine → Type 0
 MayKeep End bad = bad ≡ []
 MayKeep Skip bad = Unit {0}
 
--- these are the jobs and the bad lines of all lines of the input, which are not too many or too long
+-- the jobs and bad lines of all lines of the input, not too many or too long
 pub record AreJobLines (schemes : Schemes) (bad_lines : BadLines) (input left : Option (List ℕ))
     (read : JobLines) : Type 0 where
   pub lines : List (List ℕ)
@@ -76,15 +76,14 @@ pub record AreJobLines (schemes : Schemes) (bad_lines : BadLines) (input left : 
   pub keeps : MayKeep bad_lines read.bad.items
   pub few : length read.jobs.items ≤ max_jobs
 
--- behind these lines one was taken that can't be read, for this fault, and such lines end the reading; or one is too
--- long, or one too many
+-- the next line can't be read, with this fault, and such lines end the reading; or it is too long, or one too many
 abbrev pub EndsReading : Schemes → BadLines → Option (List ℕ) → Option (List ℕ) → List (List ℕ) → LineFault → Type 0
 EndsReading schemes bad_lines input left lines fault =
     ((bad_lines ≡ End) × ((has : HasFault schemes input lines) × (has.fault ≡ fault)))
     ⊎ ((fault ≡ faults.Long) × IsTooLong input left lines)
     ⊎ ((fault ≡ faults.Lines) × IsTooMany input left lines)
 
--- behind lines that were read or kept, the line of this number ended the reading
+-- after lines read or kept, this line ended the reading
 pub record IsLastLine (schemes : Schemes) (bad_lines : BadLines) (input left : Option (List ℕ))
     (last : BadJobLine) : Type 0 where
   pub lines : List (List ℕ)
@@ -95,22 +94,22 @@ pub record IsLastLine (schemes : Schemes) (bad_lines : BadLines) (input left : O
   pub number_is : last.number ≡ length lines + 1
   pub ends : EndsReading schemes bad_lines input left lines last.fault
 
--- why no jobs were read of the input
+-- why no jobs were read
 abbrev pub IsLinesFault : Schemes → BadLines → Option (List ℕ) → Option (List ℕ) → JobLinesFault → Type 0
 IsLinesFault schemes bad_lines input left (BadLine last) = IsLastLine schemes bad_lines input left last
 IsLinesFault schemes bad_lines input left Read = Unit {0}
 IsLinesFault schemes bad_lines input left NoMemory = Unit {0}
 
--- a read is told to have failed only where one did
+-- a fault of a read is reported only after one failed
 abbrev pub FailsToReadLines : ℕ → ℕ → JobLinesFault → Type 0
 FailsToReadLines failures failures' Read = failures' ≡ one_more failures
 FailsToReadLines failures failures' _ = Unit {0}
 
--- the number of the line behind those that were read
+-- the number of the next line
 abbrev pub next_number : Reading → ℕ
 next_number reading = length reading.list.jobs.items + length reading.bad.items + 1
 
--- a line with this fault was kept, or there was no memory for it
+-- a line with this fault was kept, or memory ran out
 abbrev pub Skips : Reading → LineFault → Result (Unit {0}) AllocError → Reading → Type 0
 Skips old fault (Ok _) new =
     (told : BadJobLine) ×
@@ -119,7 +118,7 @@ Skips old fault (Ok _) new =
 Skips old fault (Err _) new =
     (new.bad.items ≡ old.bad.items) × (new.list.jobs.items ≡ old.list.jobs.items) × (new.list.fault ≡ old.list.fault)
 
--- a line with this fault was kept, or it ends the reading: where no line is kept, or memory ran out
+-- a line with this fault was kept, or ends the reading
 abbrev pub MeetsFault : BadLines → Reading → LineFault → Bool → Reading → Type 0
 MeetsFault bad_lines old fault false new =
     (bad_lines ≡ Skip) × (fault ≢ faults.Memory) × Skips old fault (Ok tt) new
@@ -128,7 +127,7 @@ MeetsFault bad_lines old fault true new =
     × (new.bad.items ≡ old.bad.items)
     × ((new.list.fault ≡ Some faults.Memory) ⊎ ((bad_lines ≡ End) × (new.list.fault ≡ Some fault)))
 
--- a line is answered with nothing: its job was added, or it has a fault
+-- the reply is empty: a job was added, or the line has a fault
 abbrev pub TakesLine : Schemes → BadLines → Reading → List ℕ → List ℕ → Bool → Reading → Type 0
 TakesLine schemes bad_lines old line reply false new =
     (reply ≡ [])
@@ -137,13 +136,13 @@ TakesLine schemes bad_lines old line reply false new =
 TakesLine schemes bad_lines old line reply true new =
     (reply ≡ []) × ((fault : LineFault) × (MayFail schemes line fault × MeetsFault bad_lines old fault true new))
 
--- a session ended where its input did, and nothing ended the reading
+-- the input came to its end, and nothing ended the reading
 abbrev pub LeavesWell : Reading → Result (Unit {0}) SessionFault → JobLines → Type 0
 LeavesWell reading end read =
     (reading.list.fault ≡ None) × (end ≡ Ok tt) × (read.jobs.items ≡ reading.list.jobs.items)
     × (read.bad.items ≡ reading.bad.items)
 
--- or it did not, and why; the line is the one behind those that were read
+-- the reading ended early, for this reason, at the next line
 abbrev pub LeavesBadly : Reading → Result (Unit {0}) SessionFault → JobLinesFault → Type 0
 LeavesBadly reading end (BadLine last) =
     (last.number ≡ next_number reading)

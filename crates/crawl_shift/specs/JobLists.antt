@@ -1,5 +1,5 @@
--- The jobs of the lines of a shift, or the line at which the reading ended.
--- The contract of `read_jobs` cites it; docs/FORMATS.md has the lines.
+-- The jobs of a shift's lines, or the line that ended the reading.
+-- Used by `read_jobs`; see docs/FORMATS.md.
 use Rattle.std.specs.Prelude.{◌≡◌, ◌≢◌, ◌⊎◌, ℕ, ◌+◌, ◌≤◌, Bool, true, false, List, [], ◌∷◌, ◌++◌, length, Option, None, Some, Result, Ok, Err}
 use Rattle.path_normal.specs.Capacity.{IsRead}
 use Rattle.path_normal.specs.declared.schemes.Schemes.{Schemes}
@@ -17,7 +17,7 @@ use Rattle.crawl_shift.specs.declared.job_list.JobList.{JobList}
 use Rattle.crawl_shift.specs.declared.job_list.JobsFault.{JobsFault}
 use Rattle.crawl_shift.specs.declared.job_list.JobsFault.TheVariants.{BadLine, Read, NoMemory}
 
--- the most octets of a line, its end not counted
+-- the most octets of a line, without its end
 abbrev pub job_line_limit : ℕ
 job_line_limit = 8192
 
@@ -25,7 +25,7 @@ job_line_limit = 8192
 abbrev pub MayFail : Schemes → List ℕ → LineFault → Type 0
 MayFail schemes line fault = IsRead (Err fault) (job_of_among schemes line) ⊎ (fault ≡ faults.Memory)
 
--- the job of a line was added, or its fault told, and the list is as it was
+-- a line's job was added; or its fault is returned, and the list is unchanged
 abbrev pub AddsJob : Schemes → JobList → List ℕ → Result (Unit {0}) LineFault → JobList → Type 0
 AddsJob schemes old line (Ok _) new =
     (job : Job) × (IsRead (Ok job) (job_of_among schemes line) × (new.jobs.items ≡ old.jobs.items ++ job ∷ [])
@@ -38,19 +38,19 @@ abbrev pub KeepsFault : Schemes → JobList → List ℕ → JobList → Type 0
 KeepsFault schemes old line new =
     (fault : LineFault) × (MayFail schemes line fault × (new.jobs.items ≡ old.jobs.items) × (new.fault ≡ Some fault))
 
--- a line is answered with nothing; its job was added, or it has a fault and is the last
+-- the reply is empty: a job was added, or the line has a fault and is the last
 abbrev pub TakesJob : Schemes → JobList → List ℕ → List ℕ → Bool → JobList → Type 0
 TakesJob schemes old line reply false new = (reply ≡ []) × AddsJob schemes old line (Ok tt) new
 TakesJob schemes old line reply true new = (reply ≡ []) × KeepsFault schemes old line new
 
--- each line reads as its job
+-- each line is its job
 abbrev pub AreJobs : Schemes → List (List ℕ) → List Job → Type 0
 AreJobs schemes [] [] = Unit {0}
 AreJobs schemes [] (job ∷ jobs) = ⊥
 AreJobs schemes (line ∷ lines) [] = ⊥
 AreJobs schemes (line ∷ lines) (job ∷ jobs) = IsRead (Ok job) (job_of_among schemes line) × AreJobs schemes lines jobs
 
--- the jobs are those of all lines of the input, which are not too many or too long
+-- the jobs of all lines of the input, not too many or too long
 pub record AreAllJobs (schemes : Schemes) (input left : Option (List ℕ)) (jobs : List Job) : Type 0 where
   pub lines : List (List ℕ)
   pub behind : Option (List ℕ)
@@ -60,7 +60,7 @@ pub record AreAllJobs (schemes : Schemes) (input left : Option (List ℕ)) (jobs
   pub read : AreJobs schemes lines jobs
   pub few : length jobs ≤ max_jobs
 
--- behind these lines one was taken that has a fault
+-- after these lines came one with a fault
 pub record HasFault (schemes : Schemes) (input : Option (List ℕ)) (lines : List (List ℕ)) : Type 0 where
   pub line : List ℕ
   pub behind : Option (List ℕ)
@@ -69,14 +69,14 @@ pub record HasFault (schemes : Schemes) (input : Option (List ℕ)) (lines : Lis
   pub fails : IsRead (Err fault) (job_of_among schemes line)
   pub no_memory : fault ≢ faults.Memory
 
--- the line behind these is too long
+-- the next line is too long
 pub record IsTooLong (input left : Option (List ℕ)) (lines : List (List ℕ)) : Type 0 where
   pub behind : Option (List ℕ)
   pub unread : List ℕ
   pub took : TakesLines job_line_limit input behind lines
   pub found : FindsTooLong job_line_limit behind unread left
 
--- the line behind these is one too many
+-- the next line is one too many
 pub record IsTooMany (input left : Option (List ℕ)) (lines : List (List ℕ)) : Type 0 where
   pub behind : Option (List ℕ)
   pub unread : List ℕ
@@ -84,7 +84,7 @@ pub record IsTooMany (input left : Option (List ℕ)) (lines : List (List ℕ)) 
   pub all : length lines ≡ max_jobs
   pub found : FindsLine job_line_limit behind unread left
 
--- behind lines that read as jobs, the line of this number has a fault, or is too long, or one too many
+-- after lines with jobs, this line has a fault, or is too long, or one too many
 pub record IsBadJobLine (schemes : Schemes) (input left : Option (List ℕ)) (number : ℕ) : Type 0 where
   pub lines : List (List ℕ)
   pub jobs : List Job
@@ -92,26 +92,26 @@ pub record IsBadJobLine (schemes : Schemes) (input left : Option (List ℕ)) (nu
   pub number_is : number ≡ length lines + 1
   pub bad : HasFault schemes input lines ⊎ IsTooLong input left lines ⊎ IsTooMany input left lines
 
--- why no jobs were read of the input
+-- why no jobs were read
 abbrev pub IsJobsFault : Schemes → Option (List ℕ) → Option (List ℕ) → JobsFault → Type 0
 IsJobsFault schemes input left (BadLine number) = IsBadJobLine schemes input left number
 IsJobsFault schemes input left Read = Unit {0}
 IsJobsFault schemes input left NoMemory = Unit {0}
 
--- a read is told to have failed only where one did
+-- a fault of a read is reported only after one failed
 abbrev pub FailsToReadJobs : ℕ → ℕ → JobsFault → Type 0
 FailsToReadJobs failures failures' Read = failures' ≡ one_more failures
 FailsToReadJobs failures failures' _ = Unit {0}
 
--- a session ended where its input did, and its list has no fault
+-- the input came to its end, and no line has a fault
 abbrev pub EndsWell : JobList → Result (Unit {0}) SessionFault → Type 0
 EndsWell list end = (list.fault ≡ None) × (end ≡ Ok tt)
 
--- the fault is one of a line, not of memory
+-- a line's fault, other than out of memory
 abbrev pub IsLineFault : Option LineFault → Type 0
 IsLineFault fault = (f : LineFault) × ((fault ≡ Some f) × (f ≢ faults.Memory))
 
--- or it did not, and why; the line is the one behind the jobs
+-- the session ended early, for this reason, at the next line
 abbrev pub EndsBadly : JobList → Result (Unit {0}) SessionFault → JobsFault → Type 0
 EndsBadly list end (BadLine number) =
     (number ≡ length list.jobs.items + 1)

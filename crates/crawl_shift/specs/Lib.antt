@@ -1,4 +1,4 @@
--- What contracts say of the lines of jobs, of the lines of a report or a table, and of why there is none.
+-- Definitions for job lines, report and table lines, and why there are none.
 pub mod Causes
 pub mod ClosedText
 pub mod Histories

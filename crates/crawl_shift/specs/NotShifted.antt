@@ -1,4 +1,4 @@
--- Why a shift has no whole report, by what was in its way.
+-- Why a shift has no whole report.
 -- The conversions of `not_shifted` cite it.
 use Rattle.crawl_workers.specs.declared.report.ShiftFault.{ShiftFault}
 use Rattle.crawl_workers.specs.declared.report.ShiftFault.TheVariants as shift
@@ -14,7 +14,7 @@ by_jobs (jobs_fault.BadLine number) = BadLine number
 by_jobs jobs_fault.Read = Device
 by_jobs jobs_fault.NoMemory = NoMemory
 
--- the workers, or the settlement of their gate
+-- the workers failed, or their gate was not settled
 abbrev pub by_workers : ShiftFault → NotShifted
 by_workers shift.NoMemory = NoMemory
 by_workers shift.DesksFull = Device

@@ -1,5 +1,5 @@
 -- The last line of a shift's report, as docs/FORMATS.md has it.
--- Cited by the contracts of `report_text`.
+-- Used by `report_text`.
 use Rattle.std.specs.Prelude.{ℕ, List, [], ◌∷◌, codes, decimal}
 use Rattle.line_text.specs.Pieces.{line_of}
 

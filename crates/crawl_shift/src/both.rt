@@ -1,8 +1,8 @@
-//! Two that watch a shift.
+//! A pair of watchers.
 use crawl_job::{Job, Outcome};
 use crawl_workers::{Event, Watcher};
 
-/// Both are told of each job.
+/// Two watchers of each job.
 #[derive(Drop)]
 pub(crate) struct Both<'a, 'b, A: Watcher, B: Watcher> {
     pub(crate) first: &'a A,

@@ -1,5 +1,5 @@
-//! The causes of a table of hops in words. This is the one place of what faults and closed sites are called
-//! there (docs/FORMATS.md, the table of a shift).
+//! The causes of a table of hops in words: the one table of the names of faults and closed sites
+//! (docs/FORMATS.md, the table of a shift).
 ghost use Rattle.std.specs.Prelude.{◌≡◌, ◌++◌, decimal};
 ghost use Rattle.gate_history.specs.Wording.{words_in};
 ghost use Rattle.crawl_shift.specs.Causes.{early_end_phrase, closing_text, denial_phrase, failure_text, wire_fault_phrase, past_text};
@@ -14,7 +14,7 @@ use line_text::Piece;
 use robots_fetch::Stop;
 use std::time::Duration;
 
-/// A cause in words: what it is of, a text, and behind it a number with its unit, where it has one.
+/// A cause in words: its kind, a text, and perhaps a number with its unit.
 #[derive(Clone, Copy)]
 pub(crate) struct CauseWords {
     pub(crate) of: &'static str,
@@ -47,7 +47,6 @@ impl CauseWords {
     }
 }
 
-/// The words of a reason or of a cause.
 pub(crate) fn worded(wording: Wording) -> CauseWords
     ensures { words_text result ≡ spaced_words (words_in wording) }
 {
@@ -57,7 +56,7 @@ pub(crate) fn worded(wording: Wording) -> CauseWords
     }
 }
 
-/// Why a page was denied; of a closed site what closed it, where that is known.
+/// Why a page was denied; for a closed site what closed it, if known.
 #[tactic(auto, using(crate::proofs::CauseLemmas::not_closed))]
 pub(crate) fn denial_words(cause: Cause, by: Option<ClosedBy>) -> CauseWords
     ensures { words_text result ≡ denial_phrase cause by }
@@ -71,7 +70,7 @@ pub(crate) fn denial_words(cause: Cause, by: Option<ClosedBy>) -> CauseWords
     }
 }
 
-/// Why a fetch failed; at its device for this, or at a TLS connection.
+/// Why a fetch failed, with its device's or TLS connection's failure.
 pub(crate) fn fault_words(
     of: &'static str,
     fault: WireFault,
@@ -96,7 +95,6 @@ pub(crate) fn fault_words(
     }
 }
 
-/// Why the gate had no permit.
 #[tactic(auto, using(crate::proofs::CauseLemmas::not_memory))]
 pub(crate) fn refusal_words(refusal: Refusal) -> CauseWords
     ensures { words_text result ≡ refusal_phrase refusal }
@@ -107,7 +105,6 @@ pub(crate) fn refusal_words(refusal: Refusal) -> CauseWords
     }
 }
 
-/// Why a redirect is not followed.
 pub(crate) fn stop_words(stop: Stop) -> CauseWords
     ensures { words_text result ≡ stop_phrase stop }
 {
@@ -118,7 +115,6 @@ pub(crate) fn stop_words(stop: Stop) -> CauseWords
     }
 }
 
-/// What closed a site.
 pub(crate) fn closing_words(by: ClosedBy) -> CauseWords
     ensures { words_text result ≡ closing_text by }
 {
@@ -133,7 +129,7 @@ pub(crate) fn closing_words(by: ClosedBy) -> CauseWords
     }
 }
 
-// Why a response ended before it was whole.
+// Why a response ended early.
 #[tactic(auto, using(crate::proofs::CauseLemmas::not_tls))]
 fn early_words(of: &'static str, failure: Option<Failure>) -> CauseWords
     ensures { words_text result ≡ of.now ++ early_end_phrase failure }
@@ -145,7 +141,6 @@ fn early_words(of: &'static str, failure: Option<Failure>) -> CauseWords
     }
 }
 
-// Why a device failed.
 fn failure_words(of: &'static str, failure: Failure) -> CauseWords
     ensures { words_text result ≡ of.now ++ failure_text failure }
 {
@@ -164,7 +159,7 @@ fn failure_words(of: &'static str, failure: Failure) -> CauseWords
     }
 }
 
-// A limit of time that was passed, in whole seconds.
+// An exceeded time limit, in whole seconds.
 fn past_words(of: &'static str, text: &'static str, limit: Duration) -> CauseWords
     ensures { words_text result ≡ of.now ++ past_text text.now limit }
 {

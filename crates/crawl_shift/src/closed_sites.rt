@@ -1,4 +1,4 @@
-//! The sites that their robots.txt files closed in a shift, and why, told once each.
+//! The sites that their robots.txt files closed in a shift, and why, reported once each.
 ghost use Rattle.std.specs.Prelude.{◌≡◌, ◌++◌, flat_map};
 ghost use Rattle.counted_io.specs.Output.{Pushes};
 ghost use Rattle.line_text.specs.Pieces.{pieces_text};
@@ -13,8 +13,7 @@ use line_text::{Piece, Pieces};
 use std::alloc::{AllocError, Global};
 use std::sync::{Mutex, Wait};
 
-/// What workers tell of the sites that are closed. It has a lock of its own, which is taken while a worker has
-/// no other.
+/// A watcher for closed sites. Its lock is taken only by a worker that holds no other lock.
 #[derive(Drop)]
 pub struct ClosedSites<'a, R: Wait> {
     rt: &'a R,
@@ -30,7 +29,7 @@ pub(crate) struct ClosedSite {
 }
 
 impl<'a, R: Wait> ClosedSites<'a, R> {
-    /// No site is closed.
+    /// No closed sites.
     pub fn new(rt: &'a R, alloc: Global) -> ClosedSites<'a, R> {
         ClosedSites {
             rt,
@@ -39,7 +38,7 @@ impl<'a, R: Wait> ClosedSites<'a, R> {
         }
     }
 
-    /// Writes a line for each site, in the order in which they were closed.
+    /// Writes a line for each site, in the order of closing.
     pub fn tell<E: Sink>(self, errors: &mut E) -> Result<(), DeviceFault> {
         let mut output = Output::new(self.alloc).map_err(|_| DeviceFault)?;
         push_sites(self.sites.into_inner().as_slice(), &mut output, errors)?;
@@ -53,7 +52,7 @@ impl<R: Wait> Watcher for ClosedSites<'_, R> {
             // A fetch that was given up says nothing of its site.
             Event::Brought(_, Some(ClosedBy::Fault(_, Some(Failure::Stopped)))) => {}
             Event::Brought(authority, Some(by)) => {
-                // (a site that there is no memory for is not told)
+                // (a site is left out if there is no memory for it)
                 let _ = keep(self.alloc, &mut self.sites.lock(self.rt), authority, by);
             }
             _ => {}
@@ -63,7 +62,7 @@ impl<R: Wait> Watcher for ClosedSites<'_, R> {
     fn done(&self, _number: u64, _job: &Job, _outcome: &Outcome) {}
 }
 
-// Keeps what closed a site, in place of what closed it before.
+// Keeps what closed a site, replacing an earlier cause.
 fn keep(
     alloc: Global,
     sites: &mut Vec<ClosedSite>,
@@ -99,7 +98,6 @@ fn push_sites<E: Sink>(
 }
 
 impl ClosedSite {
-    // The line that tells it.
     fn pieces(&self) -> Pieces<'_>
         ensures { pieces_text result ≡ closed_site_text self.now }
     {
@@ -112,7 +110,7 @@ impl ClosedSite {
     }
 }
 
-// A line of a name, and words of it.
+// A line with a name and a cause.
 fn line_of<'a>(
     name: &'a str,
     middle: &'static str,

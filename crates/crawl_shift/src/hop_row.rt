@@ -20,15 +20,15 @@ pub(crate) struct HopRow<'a> {
     pub(crate) token: &'a str,
     pub(crate) url: &'a str,
     pub(crate) end: &'a Hop,
-    /// How long the page's fetch took, where there was one.
+    /// How long the page's fetch took, if there was one.
     pub(crate) milliseconds: Option<u64>,
-    /// Why its device failed, where it did.
+    /// Why its device failed, if it did.
     pub(crate) failure: Option<Failure>,
-    /// What closed its site, where that is known.
+    /// What closed its site, if known.
     pub(crate) closed_by: Option<ClosedBy>,
 }
 
-/// The first line, which names the columns.
+/// The first line, with the names of the columns.
 pub(crate) fn columns() -> Pieces<'static>
     ensures { pieces_text result ≡ columns_text }
 {
@@ -36,7 +36,6 @@ pub(crate) fn columns() -> Pieces<'static>
 }
 
 impl HopRow<'_> {
-    /// Pushes the line.
     pub(crate) fn push<W: Sink>(&self, output: &mut Output, sink: &mut W) -> Result<(), DeviceFault>
         ensures { Pushes (W.written sink.old) (W.written sink.new)
             (W.failures sink.old) (W.failures sink.new) output.old output.new
@@ -46,7 +45,7 @@ impl HopRow<'_> {
         self.push_outcome(output, sink)
     }
 
-    // Pushes what stands behind the page.
+    // Pushes what follows the page.
     fn push_outcome<W: Sink>(&self, output: &mut Output, sink: &mut W) -> Result<(), DeviceFault>
         ensures { Pushes (W.written sink.old) (W.written sink.new)
             (W.failures sink.old) (W.failures sink.new) output.old output.new
@@ -110,7 +109,7 @@ impl HopRow<'_> {
     }
 }
 
-// A cause, with what ends its line.
+// A cause, and the end of its line.
 fn ended(words: CauseWords, end: &'static str) -> Pieces<'static>
     ensures { pieces_text result ≡ words_text words ++ end.now }
 {
@@ -153,7 +152,7 @@ fn octets_of(hop: &Hop) -> Option<u64>
     }
 }
 
-// A number, or nothing: who reads a table of numbers takes an empty cell for none.
+// A number, or an empty cell, which readers of numeric tables take for none.
 fn number(number: Option<u64>) -> Piece<'static>
     ensures { piece_text result ≡ number_text number }
 {

@@ -1,4 +1,4 @@
-//! The jobs of a shift, and the lines that can't be read as one, each with its fault (docs/FORMATS.md, jobs).
+//! The jobs of a shift, and the lines that can't be read, each with its fault (docs/FORMATS.md, jobs).
 ghost use Rattle.std.specs.Prelude.{◌≡◌, [], IfErr, IfOk, Some, true};
 ghost use Rattle.command_server.specs.Answers.{ends_session};
 ghost use Rattle.crawl_shift.specs.JobLines.{AreJobLines, FailsToReadLines, IsLinesFault, LeavesBadly, LeavesWell, MeetsFault, Skips, TakesLine, next_number};
@@ -12,24 +12,24 @@ use path_normal::Schemes;
 use std::alloc::{AllocError, Global};
 use std::io;
 
-/// What becomes of the other lines where one can't be read as a job.
+/// What to do about lines that can't be read as a job.
 #[derive(Clone, Copy, Debug, PartialEq, Eq)]
 pub enum BadLines {
-    /// The first such line ends the reading, and there are no jobs.
+    /// The first one ends the reading, without jobs.
     End,
-    /// It is kept with its fault, and the others are read.
+    /// Keep it with its fault, and read on.
     Skip,
 }
 
-/// A line that can't be read as a job, and its first fault: `Long` where it has more than 8,192 octets,
-/// `Lines` where it is line 4,097. Lines count from 1.
+/// A line that can't be read as a job, and its first fault: `Long` with more than 8,192 octets, `Lines` for
+/// line 4,097. Lines count from 1.
 #[derive(Clone, Copy, Debug, PartialEq, Eq)]
 pub struct BadJobLine {
     pub number: u64,
     pub fault: LineFault,
 }
 
-/// The jobs of the lines that can be read, and the other lines, each in the order of the input.
+/// The jobs of the readable lines, and the other lines, each in input order.
 #[derive(Drop)]
 pub struct JobLines {
     pub jobs: Vec<Job>,
@@ -43,7 +43,7 @@ pub enum JobLinesFault {
     BadLine(BadJobLine),
     /// A read failed.
     Read,
-    /// A growth of memory was refused.
+    /// An allocation failed.
     NoMemory,
 }
 
@@ -55,14 +55,13 @@ pub(crate) struct Reading {
 }
 
 impl Reading {
-    // The number of the line behind those that were read.
+    // The number of the next line.
     fn next_number(&self) -> u64
         ensures { result ≡ next_number self.now }
     {
         self.list.jobs.len() as u64 + self.bad.len() as u64 + 1
     }
 
-    // Takes a line.
     fn take(&mut self, alloc: Global, schemes: Schemes, bad_lines: BadLines, line: &[u8]) -> Flow
         ensures { TakesLine schemes bad_lines self.old line.now [] (ends_session result) self.new }
     {
@@ -88,7 +87,7 @@ impl Reading {
         }
     }
 
-    // The line with this fault is the last.
+    // This line's fault ends the reading.
     fn end_with(&mut self, fault: LineFault) -> Flow
         ensures flow { ends_session result ≡ true }
         ensures jobs { self.new.list.jobs.items ≡ self.old.list.jobs.items }
@@ -99,7 +98,6 @@ impl Reading {
         Flow::Ends
     }
 
-    // Keeps the line with this fault.
     fn skip(&mut self, fault: LineFault) -> Result<(), AllocError>
         ensures { Skips self.old fault result self.new }
     {
@@ -109,7 +107,7 @@ impl Reading {
         Ok(())
     }
 
-    // What was read, where the reading came to the end of its input.
+    // What was read, if the input came to its end.
     fn end(self, end: Result<(), SessionFault>) -> Result<JobLines, JobLinesFault>
         ensures lines { IfOk result (LeavesWell self end) }
         ensures fault { IfErr result (LeavesBadly self end) }
@@ -140,7 +138,7 @@ impl Reading {
     }
 }
 
-/// A line is answered with nothing.
+/// A line has an empty reply.
 #[derive(Drop)]
 struct LineTaker {
     schemes: Schemes,
@@ -164,7 +162,8 @@ impl Answerer<Reading> for LineTaker {
     }
 }
 
-/// Reads the jobs of a source to its end, of pages of these schemes: at most 4,096 lines, which end with LF or CR LF.
+/// Reads a source's jobs to its end, with pages of these schemes: at most 4,096 lines, each ended by LF or
+/// CR LF.
 pub fn read_job_lines<R: Source>(
     alloc: Global,
     schemes: Schemes,

@@ -1,4 +1,4 @@
-//! The jobs of a shift, a line for each (docs/FORMATS.md, jobs).
+//! The jobs of a shift, one a line (docs/FORMATS.md, jobs).
 ghost use Rattle.std.specs.Prelude.{◌≡◌, [], IfErr, IfOk, None};
 ghost use Rattle.path_normal.specs.declared.schemes.Schemes.TheVariants.{Http};
 ghost use Rattle.crawl_shift.specs.JobLists.{AddsJob, AreAllJobs, EndsBadly, EndsWell, FailsToReadJobs, IsJobsFault};
@@ -11,21 +11,21 @@ use path_normal::Schemes;
 use std::alloc::Global;
 use std::io;
 
-/// The most octets of a job's line, its end not counted.
+/// The most octets of a job's line, without its end.
 pub const MAX_JOB_LINE: usize = 8192;
 
 /// Why no jobs were read. Lines count from 1.
 #[derive(Clone, Copy, Debug, PartialEq, Eq)]
 pub enum JobsFault {
-    /// The line of this number can't be read, is longer than 8,192 octets, or is line 4,097.
+    /// This line can't be read, is longer than 8,192 octets, or is line 4,097.
     BadLine(u64),
     /// A read failed.
     Read,
-    /// A growth of memory was refused.
+    /// An allocation failed.
     NoMemory,
 }
 
-// The jobs of the lines so far, and the fault of the last line, if it has one.
+// The jobs of the lines so far, and the last line's fault, if any.
 #[derive(Drop)]
 pub(crate) struct JobList {
     pub(crate) jobs: Vec<Job>,
@@ -33,7 +33,6 @@ pub(crate) struct JobList {
 }
 
 impl JobList {
-    // No line was read.
     pub(crate) fn new(alloc: Global) -> JobList
         ensures jobs { result.jobs.items ≡ [] }
         ensures fault { result.fault ≡ None }
@@ -44,7 +43,6 @@ impl JobList {
         }
     }
 
-    // Adds the job of a line.
     pub(crate) fn take(
         &mut self,
         alloc: Global,
@@ -59,7 +57,7 @@ impl JobList {
         Ok(())
     }
 
-    // The jobs, where the reading came to the end of its input.
+    // The jobs, if the input came to its end.
     fn end(self, end: Result<(), SessionFault>) -> Result<Vec<Job>, JobsFault>
         ensures jobs { IfOk result (λ jobs. EndsWell self end × (jobs.items ≡ self.jobs.items)) }
         ensures fault { IfErr result (EndsBadly self end) }
@@ -80,7 +78,7 @@ impl JobList {
     }
 }
 
-/// A line is answered with nothing, and the first line with a fault is the last.
+/// A line has an empty reply, and the first line with a fault is the last.
 #[derive(Drop)]
 struct JobTaker {
     schemes: Schemes,
@@ -109,8 +107,8 @@ impl Answerer<JobList> for JobTaker {
     }
 }
 
-/// Reads the jobs of a source to its end: at most 4,096 lines, which end with LF or CR LF. Their pages
-/// are of `http` alone.
+/// Reads a source's jobs to its end, with pages of `http` only: at most 4,096 lines, each ended by LF or CR
+/// LF.
 pub fn read_jobs<R: Source>(alloc: Global, reader: &mut R) -> Result<Vec<Job>, JobsFault>
     ensures jobs { IfOk result (λ jobs.
         AreAllJobs Http (R.left reader.old) (R.left reader.new) jobs.items) }
@@ -120,7 +118,7 @@ pub fn read_jobs<R: Source>(alloc: Global, reader: &mut R) -> Result<Vec<Job>, J
     read_jobs_among(alloc, Schemes::Http, reader)
 }
 
-/// Reads jobs as `read_jobs` does, of pages of these schemes.
+/// Like `read_jobs`, with pages of these schemes.
 pub fn read_jobs_among<R: Source>(
     alloc: Global,
     schemes: Schemes,

@@ -1,4 +1,4 @@
-//! A shift over a gate that goes on from what was entered before it, as a gate with a journal does.
+//! A shift over a gate that continues from earlier entries, as one with a journal does.
 ghost use Rattle.std.specs.Prelude.{◌≤◌, IfOk, length, map};
 ghost use Rattle.crawl_workers.specs.Shifts.{IsLaterShift};
 ghost use Rattle.crawl_workers.specs.World.{world_of};
@@ -23,8 +23,8 @@ impl<
     C: Clock + Sync,
     R: Threads + Wait + time::Clock + Sync,
 > Shift<'_, '_, E, F, C, R> {
-    /// Has the workers do these jobs, and writes the report, as `report_jobs` does, over a gate with these receipts of
-    /// what was entered before. The report has the starts of its own jobs alone.
+    /// Like `report_jobs`, over a gate with these receipts of earlier entries. The report has only the
+    /// starts of its own jobs.
     pub fn report_later<G: Gate + Send + Sync, W: Sink + Send, V: Watcher + Sync>(
         &self,
         jobs: &[Job],
@@ -44,7 +44,7 @@ impl<
         Ok(())
     }
 
-    /// Has the workers do these jobs, and writes the table, as `table_jobs` does, over such a gate.
+    /// Like `table_jobs`, over a gate with these receipts.
     pub fn table_later<G: Gate + Send + Sync, W: Sink + Send>(
         &self,
         jobs: &[Job],
@@ -61,7 +61,7 @@ impl<
         Ok(())
     }
 
-    // Does the jobs, and has both watchers and the status line told of them.
+    // Does the jobs for both watchers and the status line.
     fn run_both_later<G: Gate + Send + Sync, A: Watcher + Sync, B: Watcher + Sync>(
         &self,
         jobs: &[Job],
@@ -77,7 +77,7 @@ impl<
         self.run_later(jobs, gate, past, &both)
     }
 
-    // Does the jobs, and has the watcher and the status line told of them.
+    // Does the jobs for the watcher and the status line.
     fn run_later<G: Gate + Send + Sync, V: Watcher + Sync>(
         &self,
         jobs: &[Job],
@@ -113,7 +113,7 @@ impl<
     }
 }
 
-// How many fetches were started by what these receipts tell.
+// How many fetches were started, by these receipts.
 fn starts_of<G: Gate>(receipts: &[Receipts<G>]) -> u64 {
     let mut starts: u64 = 0;
     for one in receipts {

@@ -1,4 +1,4 @@
-//! Shifts as texts: jobs read from lines, done by several workers, and the report of what came of them.
+//! Shifts as texts: jobs read from lines, done by several workers, and reported.
 //! docs/FORMATS.md has the lines of jobs and of reports.
 #![tactic(auto)]
 

@@ -8,11 +8,11 @@ use std::alloc::AllocError;
 /// Why a shift has no whole report.
 #[derive(Clone, Copy, Debug, PartialEq, Eq)]
 pub enum NotShifted {
-    /// The line of this number, from 1, can't be read as a job. Nothing was fetched.
+    /// This line, counted from 1, can't be read as a job. Nothing was fetched.
     BadLine(u64),
-    /// A growth of memory was refused.
+    /// An allocation failed.
     NoMemory,
-    /// A read or a write failed, or the gate was not the shift's alone.
+    /// A read or a write failed, or others used the gate too.
     Device,
 }
 

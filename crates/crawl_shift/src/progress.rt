@@ -1,5 +1,4 @@
-//! The report of a shift, written while its workers work: each job's lines as soon as those of all jobs
-//! before it are written.
+//! The report of a shift, written during the work: each job's lines follow those of all jobs before it.
 use crate::report_text::sums;
 use command_server::push_hops;
 use counted_io::{Counted, DeviceFault, Output, Sink};
@@ -9,7 +8,7 @@ use line_text::Piece;
 use std::alloc::{AllocError, Global};
 use std::sync::{Mutex, Wait};
 
-/// What workers tell of their jobs. It has a lock of its own, which is taken while a worker has no other.
+/// A watcher that writes the report. Its lock is taken only by a worker that holds no other lock.
 #[derive(Drop)]
 pub(crate) struct Progress<'a, W: Sink, F: Fetcher, R: Wait> {
     rt: &'a R,
@@ -17,24 +16,24 @@ pub(crate) struct Progress<'a, W: Sink, F: Fetcher, R: Wait> {
     lines: Mutex<Lines<'a, W>>,
 }
 
-// The lines that are written, and those that wait for others.
+// The written lines, and those that wait for others.
 #[derive(Drop)]
 struct Lines<'a, W: Sink> {
     sink: &'a mut W,
     output: Output,
-    // How many jobs have their lines written, from the first on.
+    // How many jobs, from the first, have their lines written.
     next: u64,
-    // The lines of jobs that are done before others in front of them, by the numbers of the jobs.
+    // The lines of jobs done before earlier ones, by job number.
     waiting: Vec<Option<Vec<u8>>>,
-    // Through this the lines that wait are spelled.
+    // Formats waiting lines.
     spelling: Output,
-    // Whether a write failed. Nothing is written then.
+    // Whether a write failed; nothing is written after that.
     failed: bool,
 }
 
 impl<'a, W: Sink, F: Fetcher, R: Wait> Progress<'a, W, F, R> {
-    /// The report of so many jobs, of which none is done. All memory that the report needs is taken
-    /// here, but for lines that wait for others: without it they are written at the end.
+    /// The report of this many jobs, none of them done. All its memory is allocated here, except for
+    /// waiting lines: without memory these are written at the end.
     pub(crate) fn new(
         rt: &'a R,
         alloc: Global,
@@ -57,13 +56,13 @@ impl<'a, W: Sink, F: Fetcher, R: Wait> Progress<'a, W, F, R> {
         Ok(Progress { rt, fetcher, lines })
     }
 
-    /// Writes what is not written yet of the jobs, and the last line.
+    /// Writes the remaining jobs, and the last line.
     pub(crate) fn finish(self, outcomes: &[Crawled], starts: u64) -> Result<(), DeviceFault> {
         self.lines.into_inner().finish(outcomes, starts)
     }
 }
 
-/// Once a write has failed nothing more is fetched.
+/// After a failed write nothing more is fetched.
 impl<W: Sink, F: Fetcher, R: Wait> Watcher for Progress<'_, W, F, R> {
     fn sees(&self, _number: u64, _event: Event<'_>) {}
 
@@ -96,7 +95,7 @@ impl<W: Sink> Lines<'_, W> {
         }
     }
 
-    // Writes the lines of the next job, and those that waited for it.
+    // Writes the next job's lines, and those that waited for it.
     fn write(&mut self, hops: &[Hop]) -> Result<(), DeviceFault> {
         let behind = self.next.saturating_add(1);
         push_hops(Piece::Number(behind), 1, hops, &mut self.output, self.sink)?;
@@ -111,7 +110,7 @@ impl<W: Sink> Lines<'_, W> {
         self.output.flush(self.sink)
     }
 
-    // The lines of a job. A fault is one of memory.
+    // The lines of a job. Its only fault is out of memory.
     fn spell(&mut self, number: u64, hops: &[Hop]) -> Result<Vec<u8>, DeviceFault> {
         let mut text = Counted::new(Vec::new(*self.waiting.allocator()));
         push_hops(

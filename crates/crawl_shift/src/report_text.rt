@@ -5,7 +5,7 @@ ghost use Rattle.crawl_shift.specs.ShiftText.{sums_text};
 
 use line_text::{Piece, Pieces};
 
-/// The last line: how many jobs there were, and how many hops and started fetches they had.
+/// The last line: the numbers of jobs, of hops and of started fetches.
 pub fn sums<'a>(jobs: u64, hops: u64, starts: u64) -> Pieces<'a>
     ensures { pieces_text result ≡ sums_text jobs hops starts }
 {

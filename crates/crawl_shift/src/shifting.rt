@@ -1,4 +1,4 @@
-//! A shift: jobs, a line for each, done by several workers, and what is told of them.
+//! A shift over job lines: several workers do the jobs, and the results are written.
 //! `crawlgate shift` runs it over standard input and output.
 ghost use Rattle.std.specs.Prelude.{◌≡◌, ◌≤◌, [], IfOk, OnOk, length};
 ghost use Rattle.crawl_workers.specs.Shifts.{IsShift};
@@ -23,8 +23,8 @@ use std::thread::Threads;
 use std::time;
 use std::time::Duration;
 
-/// How a shift is done: so many workers fetch with `fetcher` by `clock`, at each site with a delay between the begins of two
-/// fetches, and `status` is written meanwhile.
+/// The settings of a shift: how many workers fetch with `fetcher` by `clock`, the delay between the begins
+/// of two fetches at a site, and the `status` line.
 #[derive(Drop)]
 pub struct Shift<'a, 's, E: Sink, F, C, R: Wait + time::Clock> {
     pub rt: &'a R,
@@ -42,8 +42,8 @@ impl<
     C: Clock + Sync,
     R: Threads + Wait + time::Clock + Sync,
 > Shift<'_, '_, E, F, C, R> {
-    /// Reads the jobs to the end of the input, has the workers do them over the gate, and writes the
-    /// report. Once a write of it has failed nothing more is fetched.
+    /// Reads the jobs to the end of the input, does them over the gate, and writes the report. After a
+    /// failed write of it nothing more is fetched.
     pub fn report<G: Gate + Send + Sync, S: Source, W: Sink + Send>(
         &self,
         reader: &mut S,
@@ -56,8 +56,8 @@ impl<
         self.report_jobs(jobs.as_slice(), writer, gate, &())
     }
 
-    /// Has the workers do these jobs over the gate, and writes the report; the watcher is told of them too. Once
-    /// a write of the report has failed nothing more is fetched.
+    /// Does these jobs over the gate, and writes the report; the watcher gets their events too. After a
+    /// failed write of the report nothing more is fetched.
     pub fn report_jobs<G: Gate + Send + Sync, W: Sink + Send, V: Watcher + Sync>(
         &self,
         jobs: &[Job],
@@ -74,7 +74,8 @@ impl<
         Ok(())
     }
 
-    /// Reads the jobs, has them done as `report` does, and writes a table: a line for each hop as soon as it has ended.
+    /// Reads and does the jobs as `report` does, and writes a table: a line for each hop as soon as it
+    /// ends.
     pub fn table<G: Gate + Send + Sync, S: Source, W: Sink + Send>(
         &self,
         reader: &mut S,
@@ -87,7 +88,7 @@ impl<
         self.table_jobs(jobs.as_slice(), writer, gate)
     }
 
-    /// Has the workers do these jobs over the gate, and writes the table.
+    /// Does these jobs over the gate, and writes the table.
     pub fn table_jobs<G: Gate + Send + Sync, W: Sink + Send>(
         &self,
         jobs: &[Job],
@@ -103,9 +104,9 @@ impl<
         Ok(())
     }
 
-    /// Reads the jobs to the end of the input, has the workers do them over the gate, and writes the
-    /// history of the gate, which an audit takes: that each page was allowed when its fetch began. It is
-    /// the one that the workers' receipts tell. Nothing is written where the jobs were not all done.
+    /// Reads the jobs to the end of the input, does them over the gate, and writes the gate's history by
+    /// the workers' receipts. An audit of it shows that each page was allowed when its fetch began. Nothing
+    /// is written unless all jobs were done.
     pub fn history<G: Gate + Send + Sync, S: Source, W: Sink>(
         &self,
         reader: &mut S,
@@ -122,7 +123,7 @@ impl<
         self.history_jobs(jobs.as_slice(), writer, gate, &())
     }
 
-    /// Has the workers do these jobs over the gate, and writes its history; the watcher is told of the jobs.
+    /// Does these jobs over the gate, and writes its history; the watcher gets their events.
     pub fn history_jobs<G: Gate + Send + Sync, W: Sink, V: Watcher + Sync>(
         &self,
         jobs: &[Job],
@@ -142,7 +143,7 @@ impl<
         write_receipts(self.alloc, &held, &report.receipts, &mut output, writer)
     }
 
-    // Does the jobs, and has both watchers and the status line told of them.
+    // Does the jobs for both watchers and the status line.
     fn run_both<G: Gate + Send + Sync, A: Watcher + Sync, B: Watcher + Sync>(
         &self,
         jobs: &[Job],
@@ -160,7 +161,7 @@ impl<
         self.run_told(jobs, gate, &both)
     }
 
-    // Does the jobs, and has the watcher and the status line told of them.
+    // Does the jobs for the watcher and the status line.
     fn run_told<G: Gate + Send + Sync, V: Watcher + Sync>(
         &self,
         jobs: &[Job],
@@ -193,7 +194,7 @@ impl<
     }
 }
 
-// Writes the history of the gate whose lock is held, where it is the one that the receipts tell.
+// Writes the locked gate's history, if the receipts match it.
 fn write_receipts<G: Gate, W: Sink>(
     alloc: Global,
     held: &Held<'_, G>,
@@ -210,8 +211,8 @@ fn write_receipts<G: Gate, W: Sink>(
     Ok(())
 }
 
-// Whether the receipts are the whole history of the gate. For those of a shift that was settled they are; a
-// contract knows it only because they are compared under the lock under which the history is written.
+// Whether the receipts are the gate's whole history. For a settled shift this is already true; the check,
+// under the lock under which the history is written, exists so that a contract can rely on it.
 fn compare<G: Gate>(
     alloc: Global,
     held: &Held<'_, G>,

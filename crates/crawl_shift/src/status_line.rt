@@ -1,4 +1,4 @@
-//! A line of progress for a person at a terminal, written over again while workers work.
+//! A progress line at a terminal, rewritten during the work.
 use counted_io::{DeviceFault, Output, Sink};
 use crawl_job::{Job, Outcome};
 use crawl_workers::{Event, Watcher};
@@ -8,11 +8,10 @@ use std::sync::{Mutex, Wait};
 use std::time;
 use std::time::{Duration, Instant};
 
-// The least milliseconds from one writing to the next.
+// The least milliseconds between two writes.
 const PAUSE_MILLISECONDS: u64 = 100;
 
-/// What workers tell of their jobs, in one line. It has a lock of its own, which is taken while a worker has
-/// no other.
+/// A watcher with a progress line. Its lock is taken only by a worker that holds no other lock.
 #[derive(Drop)]
 pub struct StatusLine<'a, W: Sink, R: Wait + time::Clock> {
     rt: &'a R,
@@ -21,7 +20,7 @@ pub struct StatusLine<'a, W: Sink, R: Wait + time::Clock> {
 
 #[derive(Drop)]
 struct Status<'a, W: Sink> {
-    // Where it is written, if it is.
+    // Where it is written, if at all.
     sink: Option<&'a mut W>,
     output: Output,
     written: Option<Instant>,
@@ -32,14 +31,14 @@ struct Status<'a, W: Sink> {
 struct ShiftCounts {
     jobs: u64,
     done: u64,
-    // Fetches of pages and of robots.txt files that are under way.
+    // Running fetches of pages and robots.txt files.
     fetches: u64,
     // Robots.txt files that closed their sites.
     closed: u64,
 }
 
 impl<'a, W: Sink, R: Wait + time::Clock> StatusLine<'a, W, R> {
-    /// A line that is written to this device, or to none.
+    /// A line on this device, or on none.
     pub fn new(
         rt: &'a R,
         alloc: Global,
@@ -59,12 +58,12 @@ impl<'a, W: Sink, R: Wait + time::Clock> StatusLine<'a, W, R> {
         Ok(StatusLine { rt, status })
     }
 
-    /// So many jobs are to be done.
+    /// This many jobs are to be done.
     pub(crate) fn expect(&self, jobs: u64) {
         self.status.lock(self.rt).counts.jobs = jobs;
     }
 
-    /// Takes the line off the terminal.
+    /// Erases the line.
     pub(crate) fn erase(&self) {
         let mut status = self.status.lock(self.rt);
         if status.written.is_some() {
@@ -104,7 +103,7 @@ impl ShiftCounts {
 }
 
 impl<W: Sink> Status<'_, W> {
-    // Writes the line, unless it was written just now.
+    // Writes the line, unless it was just written.
     fn show(&mut self, now: Option<Instant>) {
         let Some(now) = now else {
             return;
@@ -121,7 +120,7 @@ impl<W: Sink> Status<'_, W> {
         }
     }
 
-    // A terminal that is gone is written to no more.
+    // Writing stops when the terminal is gone.
     fn write(&mut self, first: Pieces<'_>, second: Pieces<'_>) {
         if self.try_write(first, second).is_err() {
             self.sink = None;

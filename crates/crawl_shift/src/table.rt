@@ -1,4 +1,4 @@
-//! The table of a shift's hops, written while its workers work: a line for each hop as soon as it has ended.
+//! The table of a shift's hops, written during the work: a line for each hop as soon as it ends.
 use crate::hop_row::columns;
 use crate::under_way::UnderWay;
 use counted_io::{DeviceFault, Output, Sink};
@@ -11,7 +11,7 @@ use std::sync::{Mutex, Wait};
 use std::time;
 use std::time::Instant;
 
-/// What workers tell of their hops. It has a lock of its own, which is taken while a worker has no other.
+/// A watcher that writes the table. Its lock is taken only by a worker that holds no other lock.
 #[derive(Drop)]
 pub(crate) struct Table<'a, W: Sink, F: Fetcher, R: Wait + time::Clock> {
     rt: &'a R,
@@ -19,21 +19,21 @@ pub(crate) struct Table<'a, W: Sink, F: Fetcher, R: Wait + time::Clock> {
     rows: Mutex<Rows<'a, W>>,
 }
 
-// What is written, and what is known for the lines to come.
+// The output, and what is known for the next lines.
 #[derive(Drop)]
 struct Rows<'a, W: Sink> {
     alloc: Global,
     sink: &'a mut W,
     output: Output,
     under_way: UnderWay,
-    // What closed each authority that is closed. One that there was no memory for is not among them.
+    // What closed each closed authority, except those without memory.
     closings: BTreeMap<String, ClosedBy>,
-    // What came of the writes so far. After a fault nothing is written.
+    // The result of the writes so far. After a fault nothing is written.
     wrote: Result<(), DeviceFault>,
 }
 
 impl<'a, W: Sink, F: Fetcher, R: Wait + time::Clock> Table<'a, W, F, R> {
-    /// A table that has its first line.
+    /// A table with its first line.
     pub(crate) fn new(
         rt: &'a R,
         alloc: Global,
@@ -56,13 +56,12 @@ impl<'a, W: Sink, F: Fetcher, R: Wait + time::Clock> Table<'a, W, F, R> {
         })
     }
 
-    /// Whether all was written.
     pub(crate) fn finish(self) -> Result<(), DeviceFault> {
         self.rows.into_inner().wrote
     }
 }
 
-/// Once a write has failed nothing more is fetched.
+/// After a failed write nothing more is fetched.
 impl<W: Sink, F: Fetcher, R: Wait + time::Clock> Watcher for Table<'_, W, F, R> {
     fn sees(&self, number: u64, event: Event<'_>) {
         let now = Instant::now(self.rt).ok();
@@ -111,7 +110,7 @@ impl<W: Sink> Rows<'_, W> {
         }
     }
 
-    // Takes down what closes an authority, if it is closed.
+    // Notes what closes an authority, if it is closed.
     fn learn(&mut self, authority: &str, closed_by: Option<ClosedBy>) {
         self.closings.remove(authority);
         if let (Some(by), Ok(name)) = (closed_by, String::from_str(self.alloc, authority)) {
@@ -129,7 +128,7 @@ impl<W: Sink> Rows<'_, W> {
         self.output.flush(self.sink)
     }
 
-    // What closed the site of a hop that was denied for it.
+    // What closed the site of a hop denied for that.
     fn closing_of(&self, hop: &Hop) -> Option<ClosedBy> {
         match hop {
             Hop::No(denial) if denial.cause == Cause::Closed => {

@@ -1,4 +1,4 @@
-//! The lines of a shift that can't be read as a job, as they are told.
+//! Reports the lines of a shift that can't be read as a job.
 ghost use Rattle.std.specs.Prelude.{◌≡◌, [], flat_map, IfOk};
 ghost use Rattle.counted_io.specs.Output.{Pushes};
 ghost use Rattle.std.specs.Io.KnownBytes.{Appends};
@@ -13,7 +13,7 @@ use crawl_job::Refusal;
 use line_text::{Piece, Pieces};
 use std::alloc::Global;
 
-/// Writes a line for each, with its number and its fault. Where there is no memory for that, nothing is written.
+/// Writes a line for each, with its number and fault. If memory runs out, nothing is written.
 pub fn tell_bad_lines<E: Sink>(
     alloc: Global,
     bad: &[BadJobLine],
@@ -57,7 +57,7 @@ fn push_bad_lines<E: Sink>(
 }
 
 impl BadJobLine {
-    /// The line that tells it.
+    /// Its line.
     pub fn pieces(self) -> Pieces<'static>
         ensures { pieces_text result ≡ bad_line_text self }
     {
@@ -71,7 +71,7 @@ impl BadJobLine {
     }
 }
 
-// The words of a fault, as `ERR` has them in a reply.
+// The words of a fault, as in an `ERR` reply.
 fn words_of(fault: LineFault) -> &'static str
     ensures { result.now ≡ fault_words fault }
 {

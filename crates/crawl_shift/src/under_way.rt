@@ -1,4 +1,4 @@
-//! The hops that are under way, and what is told of each until it has ended.
+//! The hops in progress, and what is known of each until it ends.
 use crate::hop_row::HopRow;
 use crawl_job::Hop;
 use crawl_workers::{ClosedBy, Failure};
@@ -8,18 +8,18 @@ use robots_text::Token;
 use std::alloc::{AllocError, Global};
 use std::time::Instant;
 
-/// A place for the hops of each job that is being done.
+/// A place for each running job's hop.
 #[derive(Drop)]
 pub(crate) struct UnderWay {
     places: Vec<Place>,
 }
 
-/// What is known of the hop that a job is at.
+/// The current hop of a job.
 #[derive(Drop)]
 pub(crate) struct Place {
-    // The job, from 0, where the place is taken.
+    // The job, from 0, if the place is taken.
     job: Option<u64>,
-    // How many of its hops have ended.
+    // Its ended hops.
     ended: u64,
     token: String,
     url: String,
@@ -29,7 +29,7 @@ pub(crate) struct Place {
 }
 
 impl UnderWay {
-    /// No job is being done. There is a place for each worker.
+    /// No job is running. There is a place for each worker.
     pub(crate) fn new(alloc: Global) -> Result<UnderWay, AllocError> {
         let mut places = Vec::with_capacity(alloc, MAX_WORKERS as usize)?;
         for _ in 0..MAX_WORKERS {
@@ -46,12 +46,12 @@ impl UnderWay {
         Ok(UnderWay { places })
     }
 
-    /// The place of a job that is being done.
+    /// The place of a running job.
     pub(crate) fn at(&mut self, job: u64) -> Option<&mut Place> {
         self.places.iter_mut().find(|place| place.job == Some(job))
     }
 
-    /// A job comes to this page, behind so many of its hops.
+    /// A job begins a hop at this page, after this many others.
     pub(crate) fn begin(&mut self, job: u64, before: u64, token: &Token, url: &PageUrl) {
         let found = self
             .places
@@ -76,12 +76,12 @@ impl UnderWay {
 }
 
 impl Place {
-    /// The fetch of its page begins now, where that can be read.
+    /// The fetch of its page begins, at this moment if known.
     pub(crate) fn fetch(&mut self, now: Option<Instant>) {
         self.begun = now;
     }
 
-    /// It has ended now, for this where its device failed.
+    /// The fetch ends, with its device's failure if there was one.
     pub(crate) fn end_fetch(&mut self, now: Option<Instant>, failure: Option<Failure>) {
         self.failure = failure;
         if let (Some(begun), Some(now)) = (self.begun, now) {
@@ -90,7 +90,7 @@ impl Place {
         }
     }
 
-    /// A hop has ended, of a site that this has closed.
+    /// A hop ended; this closed its site.
     pub(crate) fn row<'a>(&'a mut self, end: &'a Hop, closed_by: Option<ClosedBy>) -> HopRow<'a> {
         self.ended = self.ended.saturating_add(1);
         let (milliseconds, failure) = (self.milliseconds, self.failure);
@@ -107,7 +107,7 @@ impl Place {
         }
     }
 
-    // Nothing is known of the fetch any more.
+    // Forgets the fetch.
     fn forget(&mut self) {
         self.begun = None;
         self.milliseconds = None;
@@ -115,7 +115,7 @@ impl Place {
     }
 }
 
-// Without memory for it the text is empty.
+// Out of memory leaves the text empty.
 fn copy_text(text: &mut String, of: &str) {
     text.clear();
     let _ = text.push_str(of);

@@ -12,11 +12,9 @@ use Rattle.crawl_workers.specs.WaysOn.{AddsEntries, TellsWay}
 use Rattle.crawl_workers.specs.World.{World}
 use Rattle.crawl_workers.proofs.OwnEntries.{appended}
 
--- nothing in front and nothing behind
 empty_front : (own : List Entry) → [] ++ own ≡ own ++ []
 empty_front own = sym (append-nil own)
 
--- one redirect more is followed
 follows_more : (world : World) (token url mid next : List ℕ) (way : List Hop)
     (hop : Hop) (front own : List Entry) → FollowsHops world token url way mid front →
     AfterRefresh world mid (IsFollowed world token mid hop next) own →
@@ -62,14 +60,12 @@ pub record HasCome
   pub follows : FollowsHops world token url way end own
   pub few : length way ≤ most_redirects
 
--- it begins
 pub begin_chain : (world : World) (token url : List ℕ) (way : List Hop) (desk : DeskView) →
     way ≡ [] → HasCome world token url way url desk desk
 begin_chain world token url way desk empty =
     subst (λ (hs : List Hop). HasCome world token url hs url desk desk) (sym empty)
     (record { own = []; adds = sym (append-nil (entries_of desk.marks)); follows = (refl, refl); few = omega arith })
 
--- it goes on
 pub come_on : (world : World) (token url mid next : List ℕ) (way all : List Hop)
     (hop : Hop) (followed : ℕ) (old now new : DeskView) → followed ≡ length way → all ≡ way ++ hop ∷ [] →
     HasCome world token url way mid old now →
@@ -85,7 +81,6 @@ come_on world token url mid next way all hop followed old now new count is come 
       few = omega (arith, length-append way (hop ∷ []), added.tells.tells.1, count);
     })
 
--- it ends with one hop
 pub come_to_end : (world : World) (token url mid : List ℕ) (way : List Hop)
     (hop : Hop) (body : List ℕ) (old now new : DeskView) → HasCome world token url way mid old now →
     AddsEntries (AfterRefresh world mid (IsLastHop world token mid hop body)) now new →
@@ -107,7 +102,6 @@ come_to_end world token url mid way hop body old now new come added = record {
   };
 }
 
--- it ends with a redirect that is not followed, and why
 pub come_to_stop : (world : World) (token url mid : List ℕ) (way more all : List Hop)
     (hop stop : Hop) (body : List ℕ) (followed : ℕ) (old now new : DeskView) → followed ≡ length way →
     more ≡ way ++ hop ∷ [] → all ≡ more ++ stop ∷ [] → body ≡ [] → HasCome world token url way mid old now →

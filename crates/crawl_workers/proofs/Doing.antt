@@ -7,7 +7,6 @@ use Rattle.crawl_job.specs.declared.job.Job.{Job}
 use Rattle.crawl_workers.specs.Shifts.{AreDone, IsDone}
 use Rattle.crawl_workers.specs.World.{World}
 
--- a desk did these jobs, and then one more
 pub did_more : (world : World) (jobs : List Job) (done : List Done) (last : Done) (own more : List Entry)
     → AreDone world jobs done own → IsDone world jobs last more → AreDone world jobs (done ++ last ∷ []) (own ++ more)
 did_more world jobs [] last own more so_far this = record {
@@ -25,7 +24,6 @@ did_more world jobs (done ∷ later) last own more so_far this = record {
   own_is = ap (λ entries. entries ++ more) so_far.own_is ∙ append_assoc so_far.first so_far.later more;
 }
 
--- the same of the lists behind it
 pub did_another : (world : World) (jobs : List Job) (done now : List Done) (last : Done) (own more after : List Entry)
     → now ≡ done ++ last ∷ [] → after ≡ own ++ more → AreDone world jobs done own → IsDone world jobs last more → AreDone world jobs now after
 did_another world jobs done now last own more after items entries so_far this =

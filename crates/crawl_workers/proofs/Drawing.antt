@@ -1,4 +1,4 @@
--- What a worker drew and which ends it found, when it draws once more, and what all workers drew.
+-- What a worker has drawn after one more draw, and what all workers drew.
 -- Used by `Crew` and `run_shift`.
 use Rattle.std.proofs.Common.{◌≡◌, ◌∙◌, ℕ, zero, suc, ◌<◌, ◌≤◌, Bool, true, false, List, [], ◌∷◌, ◌++◌, length, slice_set, ap, refl, sym, subst, arith}
 use Rattle.std.specs.Prelude.{slice_index, slice_index_or}
@@ -12,13 +12,11 @@ use Rattle.crawl_workers.specs.Orders.{IsOrder, weigh_at}
 use Rattle.crawl_workers.proofs.Ordering.{weigh_both, weigh_indexes}
 use Rattle.crawl_workers.proofs.Placing.{one_below_some, one_for_itself, weigh_below-one_for}
 
--- a list weighs at least what one of its numbers does
 weigh_one : (weight : ℕ → ℕ) (xs : List ℕ) (i : ℕ) → i < length xs → weight (slice_index xs i) ≤ weigh weight xs
 weigh_one weight [] i there = absurd (omega arith)
 weigh_one weight (x ∷ xs) zero there = omega arith
 weigh_one weight (x ∷ xs) (suc i) there = let later = weigh_one weight xs i (omega (arith, there)) in omega (arith, later)
 
--- the order has numbers of jobs alone
 pub is_job : (count : ℕ) (counts order : List ℕ) → IsOrder count counts order → (index : ℕ) → index < length order → slice_index order index < count
 is_job count counts order is index there =
     let n = slice_index order index in
@@ -28,7 +26,6 @@ is_job count counts order is index there =
     let below = weigh_below-one_for n count in
     one_below_some count n (omega (arith, at, all, one, below))
 
--- a job more is drawn
 pub draws_more : (order drawn now : List ℕ) (seat after : List ℕ) (index number : ℕ) → ((weight : ℕ → ℕ) → weigh weight drawn ≡ weigh (weigh_at order weight) seat)
     → number ≡ slice_index order index → after ≡ seat ++ index ∷ [] → now ≡ drawn ++ number ∷ []
     → (weight : ℕ → ℕ) → weigh weight now ≡ weigh (weigh_at order weight) after
@@ -43,7 +40,6 @@ draws_more order drawn now seat after index number so_far job at_seat more weigh
       weigh_both (weigh_at order weight) seat (index ∷ []),
     )
 
--- an end that was found stays found, and so is one more
 pub end_kept : (ended : List Bool) (site other : ℕ) → slice_index_or ended other false ≡ true → slice_index_or (slice_set ended site true) other false ≡ true
 end_kept [] site other is = is
 end_kept (end ∷ ended) zero zero is = refl
@@ -56,7 +52,6 @@ end_is_found [] site there = absurd (omega arith)
 end_is_found (end ∷ ended) zero there = refl
 end_is_found (end ∷ ended) (suc site) there = end_is_found ended site (omega (arith, there))
 
--- the ends of all sites
 pub all_found : (ended : List Bool) → ((site : ℕ) → site < length ended → slice_index_or ended site false ≡ true) → list_all (λ end. end) ended ≡ true
 all_found [] each = refl
 all_found (true ∷ ended) each = all_found ended (λ site there. each (suc site) (omega (arith, there)))
@@ -65,7 +60,6 @@ all_found (false ∷ ended) each = absurd (apart (each 0 (omega arith)))
     apart : false ≡ true → ⊥
     apart is = cc
 
--- the seat is the same one where nothing is drawn, where a job is drawn, and where an end is found
 pub stays : (seat : SeatView) → StaysAt seat seat
 stays seat = record { same_line = refl; same_counts = refl; same_parts = refl; same_sites = refl; ends_kept = λ site is. is }
 
@@ -97,7 +91,7 @@ at_line_still line counts old new stays at = record {
   its_sites = stays.same_sites ∙ at.its_sites;
 }
 
--- all workers drew all jobs, each once, where the seats cover the line and one found the end of each site
+-- each job is drawn once if the seats cover the line and one found the end of each site
 pub drawn_once : (count : ℕ) (counts order : List ℕ) (drawn : List (List ℕ)) (seats : List SeatView) → IsOrder count counts order → Covers counts seats → list_any has_ended seats ≡ true
     → ((weight : ℕ → ℕ) → weigh_all weight drawn ≡ weigh_all (weigh_at order weight) (lists_of seats))
     → (weight : ℕ → ℕ) → weigh_all weight drawn ≡ weigh_below weight count

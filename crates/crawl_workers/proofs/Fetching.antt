@@ -1,4 +1,4 @@
--- The walk of a refresh over what was given, up to its answer.
+-- The walk of a refresh up to its answer.
 -- Used by `fetch_answer`.
 use Rattle.std.proofs.Common.{◌≡◌, ◌≤◌, ◌++◌, ◌∷◌, [], ℕ, List, Result, length, map, refl, sym, ◌∙◌, subst, arith, length-append}
 use Rattle.std.proofs.lemmas.List.{length-map, map-append}
@@ -15,7 +15,6 @@ use Rattle.robots_fetch.specs.Walk.{EndsWalkAmong, LeadsAmong, LeadsOverAmong}
 use Rattle.fetchers.specs.Walks.{AreLed, robots_reply_of}
 use Rattle.crawl_workers.specs.Refreshes.{IsFetched}
 
--- one redirect more
 led_more : (schemes : Schemes) (gives : List ℕ → Result HttpReply WireFault → Type 0) (url mid end : List ℕ)
     (way : List (Result HttpReply WireFault)) (given : Result HttpReply WireFault) →
     AreLed schemes gives url way mid → gives mid given → LeadsAmong schemes mid (robots_reply_of given) end → AreLed schemes gives url (way ++ given ∷ []) end
@@ -24,7 +23,6 @@ led_more schemes gives url mid end [] given led is leads =
 led_more schemes gives url mid end (one ∷ way) given led is leads =
     (led.0, (led.1.0, (led.1.1.0, led_more schemes gives led.1.0 mid end way given led.1.1.1 is leads)))
 
--- the replies lead where the results do
 led_over : (schemes : Schemes) (gives : List ℕ → Result HttpReply WireFault → Type 0) (url end : List ℕ)
     (way : List (Result HttpReply WireFault)) → AreLed schemes gives url way end → LeadsOverAmong schemes url (map robots_reply_of way) end
 led_over schemes gives url end [] led = led
@@ -38,13 +36,11 @@ pub record IsUnderWay
   pub are_all : walk.followed ≡ length way
   pub are_few : walk.followed ≤ most_redirects
 
--- it begins
 pub begin_walk : (schemes : Schemes) (gives : List ℕ → Result HttpReply WireFault → Type 0) (authority : List ℕ) (walk : Walk) →
     IsBegun authority walk → IsUnderWay schemes gives authority walk
 begin_walk schemes gives authority walk begun =
     record { way = []; are_led = sym begun.0; are_all = begun.1; are_few = omega (arith, begun.1) }
 
--- it goes on
 pub go_on : (schemes : Schemes) (gives : List ℕ → Result HttpReply WireFault → Type 0) (authority : List ℕ) (walk next : Walk)
     (given : Result HttpReply WireFault) → IsUnderWay schemes gives authority walk → gives walk.url given →
     StepsAmong schemes walk (robots_reply_of given) (Go next) → IsUnderWay schemes gives authority next
@@ -55,7 +51,6 @@ go_on schemes gives authority walk next given under is steps = record {
   are_few = omega (arith, steps.1, steps.2);
 }
 
--- it is done
 pub fetched : (schemes : Schemes) (gives : List ℕ → Result HttpReply WireFault → Type 0) (authority : List ℕ) (walk : Walk)
     (given : Result HttpReply WireFault) (answer : Timed) → IsUnderWay schemes gives authority walk →
     gives walk.url given → StepsAmong schemes walk (robots_reply_of given) (Done answer) → IsFetched schemes gives authority answer.says answer.life

@@ -1,4 +1,4 @@
--- What workers hand over, of one worker more and of all.
+-- What one more worker, and all workers, hand over.
 -- Used by `Handover::take_all` and `do_all`.
 use Rattle.std.proofs.Common.{◌≡◌, ◌∙◌, ℕ, suc, ◌<◌, ◌≤◌, true, List, [], ◌∷◌, ◌++◌, length, take, ap, sym, refl, subst, arith}
 use Rattle.std.specs.Prelude.{All, IfOk, Some, Ok, Option, Result, map, slice_index_or}
@@ -32,7 +32,6 @@ drawn_by worker = worker.work.drawn
 abbrev done_by : MemberView → List Done
 done_by worker = worker.work.done
 
--- one worker more
 pub hands_more : (workers : List MemberView) (h : HandoverView) (worker : MemberView) (after : HandoverView)
     → HandsOver workers h → TakesIn h worker after → HandsOver (workers ++ worker ∷ []) after
 hands_more workers h worker after so_far this = record {
@@ -43,7 +42,6 @@ hands_more workers h worker after so_far this = record {
       ∙ (λ i. so_far.receipts_are i ++ sym this.end_is i ∷ []) ∙ sym (map-append (λ (w : MemberView). w.end) workers (worker ∷ []));
 }
 
--- workers that were hired have new seats, and have drawn nothing
 pub all_new : (line : TableId) (counts : List ℕ) (members : List MemberView) (seats : List SeatView) → members ≡ map newcomer seats → All (IsNew line counts) seats
     → All (λ member. IsNewWork line counts member.work) members
 all_new line counts members seats are new = subst (All (λ (member : MemberView). IsNewWork line counts member.work)) (sym are) (each_new seats new)
@@ -55,7 +53,7 @@ all_new line counts members seats are new = subst (All (λ (member : MemberView)
         (record { new_seat = All-head (IsNew line counts) seat seats new; none_drawn = refl; none_done = refl })
         (each_new seats (All-tail (IsNew line counts) seat seats new))
 
--- each worker has ended, at the seat that it had
+-- each worker has ended, at its seat
 abbrev pub EndEach : World → List Job → List ℕ → List SeatView → List MemberView → Type 0
 EndEach world jobs order seats workers = AllZip (λ seat worker. Ends world jobs order (newcomer seat) worker) seats workers
 
@@ -67,7 +65,6 @@ ends_each world jobs order (s ∷ ss) [] many each = absurd (omega (arith, many)
 ends_each world jobs order (s ∷ ss) (w ∷ ws) many each =
     (each 0 w (omega arith), ends_each world jobs order ss ws (omega (arith, many)) (λ i d within. each (suc i) d (omega (arith, within))))
 
--- the seats are of the line still, and have as many parts
 still_at_line : (world : World) (jobs : List Job) (order : List ℕ) (line : TableId) (counts : List ℕ) (seats : List SeatView) (workers : List MemberView)
     → All (IsNew line counts) seats → EndEach world jobs order seats workers → All (λ seat. seat.line ≡ line) (map seat_of workers)
 still_at_line world jobs order line counts [] [] new each = All-nil (λ (seat : SeatView). seat.line ≡ line)
@@ -92,7 +89,7 @@ still_parts world jobs order [] (w ∷ ws) each = absurd each
 still_parts world jobs order (s ∷ ss) [] each = absurd each
 still_parts world jobs order (s ∷ ss) (w ∷ ws) each = let later = still_parts world jobs order ss ws each.1 in omega (arith, later, each.0.stays.same_parts)
 
--- workers that have receipts did what they drew, and found the end of each site
+-- workers with receipts did what they drew, and found the end of each site
 abbrev HaveEnded : World → List Job → List ℕ → List MemberView → List Receipt → Type 0
 HaveEnded world jobs order workers receipts = AllZip (λ worker r. HasEnded world jobs order worker.work r) workers receipts
 
@@ -130,7 +127,6 @@ first_ended world jobs order [] receipts some ended = absurd (omega (arith, some
 first_ended world jobs order (w ∷ ws) [] some ended = absurd ended
 first_ended world jobs order (w ∷ ws) (r ∷ rs) some ended = rw ended.0.all_ended
 
--- and hand it over
 all_did : (world : World) (jobs : List Job) (order : List ℕ) (line : TableId) (counts : List ℕ) (seats : List SeatView) (workers : List MemberView) (members : ℕ) (h : HandoverView)
     → 1 ≤ members → length workers ≡ members → All (IsNew line counts) seats → parts_of seats ≡ max_workers → EndEach world jobs order seats workers → HandsOver workers h
     → AreAllDone world jobs order line counts members h
@@ -149,7 +145,6 @@ all_did world jobs order line counts seats workers members h some many new parts
           ∙ ap (λ seats. weigh_all (weigh_at order weight) (lists_of seats)) (sym hands.seats_are);
     }
 
--- the same of workers that worked in a slice of a list
 pub workers_end : (world : World) (jobs : List Job) (order : List ℕ) (seats : List SeatView) (old new : List MemberView) → old ≡ map newcomer seats → length new ≡ length old
     → ((i : ℕ) (d : MemberView) → i < length old → Ends world jobs order (slice_index_or old i d) (slice_index_or new i d)) → EndEach world jobs order seats new
 workers_end world jobs order seats old new hired many each =

@@ -34,21 +34,17 @@ use Rattle.crawl_workers.specs.WaysOn.{AddsEntries, GoesOn, TellsWay, ask_hop}
 use Rattle.crawl_workers.specs.World.{IsSinceRead, World}
 use Rattle.crawl_workers.proofs.OwnEntries.{appended, looked, made}
 
--- no entry, and so no turn
 nothing_made : (world : World) (authority : List ℕ) (old new : DeskView) →
     entries_of new.marks ≡ entries_of old.marks ++ [] → AddsEntries (MayRefresh world authority) old new
 nothing_made world authority old new is = record { own = []; adds = is; tells = inl refl }
 
--- a desk that did nothing made no turn
 pub did_nothing : (world : World) (authority : List ℕ) (old new : DeskView) → DoesNothing old new → AddsEntries (MayRefresh world authority) old new
 did_nothing world authority old new is =
     nothing_made world authority old new (is.entries_stay ∙ sym (append-nil (entries_of old.marks)))
 
--- a moment of an entry is the one handed in, or behind it
 pub since : (world : World) (g : Gate) (m : ℕ) → world.reads m → IsSinceRead world (moment_at g m)
 since world g m reads = (m, (reads, omega arith))
 
--- a turn that began where no answer was in force, and brought one
 pub refreshed : (world : World) (authority : List ℕ) (turn : Errand) (word : Standing) (old mid new : DeskView) →
     BeginsStale world authority turn old mid → Brings world turn word mid new → AddsEntries (MayRefresh world authority) old new
 refreshed world authority turn word old mid new begins brings =
@@ -78,7 +74,6 @@ refreshed world authority turn word old mid new begins brings =
       });
     }
 
--- a hop behind what is no turn or one
 pub behind_refresh : (world : World) (url : List ℕ) (Tells : List Entry → Type 0)
     (old mid new : DeskView) → AddsEntries (MayRefresh world (authority_of url)) old mid → AddsEntries Tells mid new →
     AddsEntries (AfterRefresh world url Tells) old new
@@ -88,13 +83,11 @@ behind_refresh world url Tells old mid new before behind = record {
   tells = record { before = before.own; behind = behind.own; may_refresh = before.tells; tells = behind.tells; own_is = refl };
 }
 
--- a refusal makes no entry
 pub refused : (world : World) (token url : List ℕ) (refusal : Refusal)
     (body : List ℕ) (desk : DeskView) → body ≡ [] → AddsEntries (IsLastHop world token url (hops.Refused refusal) body) desk desk
 refused world token url refusal body desk empty =
     record { own = []; adds = sym (append-nil (entries_of desk.marks)); tells = (refl, empty) }
 
--- an ask that granted no permit
 pub ask_refused : (world : World) (token url : List ℕ) (m : ℕ)
     (refusal : AskRefusal) (body : List ℕ) (old new : DeskView) → world.reads m → body ≡ [] →
     Somewhere old (λ g g2. DeskAsks old g token url m (Err refusal) g2 new) →
@@ -117,7 +110,6 @@ ask_refused world token url m asks.PermitsFull body old new reads empty step =
 ask_refused world token url m asks.NoMemory body old new reads empty step =
     record { own = []; adds = looked old step.0 new step.1.1.1.1; tells = (refl, empty) }
 
--- what is true of a grant's entries, whatever its moment, behind the grant
 pub ask_granted : (world : World) (token url : List ℕ) (m followed : ℕ)
     (permit : Pass) (way : WayOn) (old mid new : DeskView) →
     world.reads m → Somewhere old (λ g g2. DeskAsks old g token url m (Ok permit) g2 mid) →
@@ -137,7 +129,6 @@ ask_granted world token url m followed permit way old mid new reads step behind 
       tells = subst P step.1.1.1.1 (behind.tells (moment_at g m) (since world g m reads));
     }
 
--- a start that is denied
 pub start_denied : (world : World) (permit : Pass) (m followed : ℕ)
     (denial : Denial) (body : List ℕ) (old new : DeskView) → world.reads m → body ≡ [] →
     Somewhere old (λ g g2. DeskStarts old g permit m (Err denial) g2 new) →
@@ -160,11 +151,9 @@ start_denied world permit m followed denial body old new reads empty step = reco
   );
 }
 
--- a result is one or the other
 not_both : (stop : Stop) (next : List ℕ) → Err stop ≡ Ok next → ⊥
 not_both stop next is = cc
 
--- a redirect with a target is one that may be followed
 target_if : (few : Bool) (target : Result (List ℕ) Stop) (next : List ℕ) →
     (if few then target else Err stops.TooManyRedirects) ≡ Ok next → (few ≡ true) × (target ≡ Ok next)
 target_if true target next is = (refl, is)
@@ -176,7 +165,6 @@ led schemes followed url location next is =
     let both = target_if (nat_lt followed most_redirects) (location_target_among schemes url location) next is in
     (ltb-true followed most_redirects both.0, both.1)
 
--- a hop of a fetch that gave no redirect is the last
 last_fetch : (world : World) (token url : List ℕ) (number : ℕ) (reason : Reason)
     (given : Result HttpReply WireFault) (body : List ℕ) (own : List Entry) →
     IsFetch world token url (hop_of number reason given) given own → (IsRedirect given → ⊥) → body ≡ body_given given →
@@ -186,7 +174,6 @@ last_fetch world token url number reason (Ok reply) body own fetch ends is =
 last_fetch world token url number reason (Err fault) body own fetch ends is =
     record { given = Err fault; fetch = fetch; ends = ends; body_is = is }
 
--- the entries of a fetch tell its way on
 pub fetch_tells : (world : World) (token url : List ℕ) (number : ℕ)
     (reason : Reason) (granted started followed : ℕ) (given : Result HttpReply WireFault) (way : WayOn) →
     IsSinceRead world granted → IsSinceRead world started → world.gives page_limit url given →
@@ -219,7 +206,6 @@ fetch_tells world token url number reason granted started followed given (ways.S
   body_is = refl;
 }
 
--- a fetch that was started, made and finished
 pub fetched_once : (world : World) (permit : Pass) (m followed : ℕ) (run : Run)
     (given : Result HttpReply WireFault) (way : WayOn) (old mid new : DeskView) →
     world.reads m → Somewhere old (λ g g2. DeskStarts old g permit m (Ok run) g2 mid) →

@@ -1,4 +1,4 @@
--- Where an answer of an authority is in force, the gate does not lack one.
+-- A gate with an answer of the authority in force does not lack one.
 -- Used by `begin_if_stale`.
 use Rattle.std.proofs.Common.{◌≡◌, ◌∙◌, ℕ, Bool, true, false, List, inl, inr, sym, subst}
 use Rattle.std.specs.Prelude.{◌⊎◌, MatchBool, Option, None, Some}
@@ -18,12 +18,10 @@ past_or_not : (is_past : Bool) (said one other : Standing) → MatchBool is_past
 past_or_not true said one other is is' = is ∙ sym is'
 past_or_not false said one other is is' = is ∙ sym is'
 
--- one thing stands
 stands_once : (answer : Option StandingAnswer) (moment : ℕ) (one other : Standing) → StandsAs answer moment one → StandsAs answer moment other → one ≡ other
 stands_once None moment one other is is' = is ∙ sym is'
 stands_once (Some s) moment one other is is' = past_or_not (is_past_answer moment s) (standing_as s.says) one other is is'
 
--- an answer in force is one
 not_both : (standing : Standing) → (standing ≡ standings.Closed) ⊎ ((standing ≡ standings.Open) ⊎ (standing ≡ standings.Rules)) → IsNoAnswer standing → ⊥
 not_both standing (inl closed) (inl unknown) = cc
 not_both standing (inl closed) (inr expired) = cc

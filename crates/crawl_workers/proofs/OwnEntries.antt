@@ -10,19 +10,15 @@ use Rattle.gate_lock.specs.Marks.{mark_at}
 use Rattle.gate_lock.specs.declared.mark.Mark.{Mark}
 use Rattle.crawl_workers.specs.Refreshes.{entries_of}
 
--- entries behind entries
 pub appended : (xs ys zs own more : List Entry) → ys ≡ xs ++ own → zs ≡ ys ++ more → zs ≡ xs ++ (own ++ more)
 appended xs ys zs own more one other = other ∙ ap (λ (ds : List Entry). ds ++ more) one ∙ append_assoc xs own more
 
--- a mark more is an entry more
 pub pushed : (old new : List Mark) (m : Mark) → new ≡ old ++ m ∷ [] → entries_of new ≡ entries_of old ++ m.entry ∷ []
 pushed old new m is = ap entries_of is ∙ map-append (λ (k : Mark). k.entry) old (m ∷ [])
 
--- so is an entry that a desk made
 pub made : (d : DeskView) (g : Gate) (e : Entry) (d2 : DeskView) → Makes d g e d2 →
     entries_of d2.marks ≡ entries_of d.marks ++ e ∷ []
 made d g e d2 makes = pushed d.marks d2.marks (mark_at (entry_count (history g)) e) makes.marks_are
 
--- a desk that made no entry has no entry more
 pub looked : (d : DeskView) (g : Gate) (d2 : DeskView) → Looks d g d2 → entries_of d2.marks ≡ entries_of d.marks ++ []
 looked d g d2 looks = ap entries_of looks.marks_are ∙ sym (append-nil (entries_of d.marks))

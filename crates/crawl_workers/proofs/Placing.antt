@@ -1,4 +1,4 @@
--- Outcomes that stand at their places, when another is put at a place of its own.
+-- Outcomes stay at their places when another is put at its own.
 -- Used by `place` and `place_all`.
 use Rattle.std.proofs.Common.{◌≡◌, ◌∙◌, ◌≢◌, ℕ, zero, suc, ◌+◌, ◌<◌, ◌≤◌, List, [], ◌∷◌, ◌++◌, length, slice_set, ap, refl, arith}
 use Rattle.std.specs.Prelude.{Some}
@@ -10,7 +10,6 @@ use Rattle.crawl_workers.specs.declared.report.Crawled.{Crawled}
 use Rattle.crawl_workers.specs.Crews.{AllPlaced, all_numbers, one_below, one_at_number}
 use Rattle.crawl_workers.specs.Shifts.{ArePlaced, numbers_of}
 
--- what stands at a place after it was put there, and at every other place
 pub get_put : (xs : List Crawled) (place : ℕ) (x : Crawled) → place < length xs → slice_get (slice_set xs place x) place ≡ Some x
 get_put [] place x within = absurd (omega arith)
 get_put (y ∷ ys) zero x within = refl
@@ -23,7 +22,6 @@ get_other (y ∷ ys) zero (suc other) x differ = refl
 get_other (y ∷ ys) (suc place) zero x differ = refl
 get_other (y ∷ ys) (suc place) (suc other) x differ = get_other ys place other x (λ same. differ (ap suc same))
 
--- a number counts one for itself, and two that differ count nothing for each other
 pub one_for_itself : (n : ℕ) → one_at_number n n ≡ 1
 one_for_itself n = grind (arith, nat_tests)
 
@@ -34,7 +32,6 @@ pub weigh-append : (weight : ℕ → ℕ) (xs ys : List ℕ) → weigh weight (x
 weigh-append weight [] ys = omega arith
 weigh-append weight (x ∷ xs) ys = let later = weigh-append weight xs ys in omega (arith, later)
 
--- the jobs stay at their places where each of these stays as it is
 pub placed_kept : (old new : List Crawled) (done : List Done) → ((n : ℕ) → 0 < weigh (one_at_number n) (numbers_of done) → slice_get new n ≡ slice_get old n)
     → ArePlaced old done → ArePlaced new done
 placed_kept old new [] keeps placed = tt
@@ -47,12 +44,10 @@ pub placed_more : (outcomes : List Crawled) (done : List Done) (last : Done) →
 placed_more outcomes [] last placed this = (this, tt)
 placed_more outcomes (done ∷ later) last placed this = (placed.0, placed_more outcomes later last placed.1 this)
 
--- the numbers of one job more
 pub numbers_more : (done : List Done) (last : Done) → numbers_of (done ++ last ∷ []) ≡ numbers_of done ++ last.number ∷ []
 numbers_more [] last = refl
 numbers_more (done ∷ later) last = ap (λ numbers. done.number ∷ numbers) (numbers_more later last)
 
--- one job more is put at a place of its own
 pub put_one : (outcomes : List Crawled) (done : List Done) (last : Done) → last.number < length outcomes → weigh (one_at_number last.number) (numbers_of done) ≡ 0
     → ArePlaced outcomes done → ArePlaced (slice_set outcomes last.number last.crawled) (done ++ last ∷ [])
 put_one outcomes done last within none placed =
@@ -61,14 +56,12 @@ put_one outcomes done last within none placed =
     (λ n some. get_other outcomes last.number n last.crawled (λ same. absurd (omega (arith, some, none, ap (λ m. weigh (one_at_number m) (numbers_of done)) same)))) placed)
     (get_put outcomes last.number last.crawled within)
 
--- one below a count
 pub one_below_few : (count n : ℕ) → one_below count n ≤ 1
 one_below_few count n = grind (arith, nat_tests)
 
 pub one_below_some : (count n : ℕ) → 0 < one_below count n → n < count
 one_below_some count n some = grind (arith, nat_tests)
 
--- the numbers below a count have each number below it once
 pub weigh_below-one_for : (n count : ℕ) → weigh_below (one_at_number n) count ≡ one_below count n
 weigh_below-one_for n zero = grind (arith, nat_tests)
 weigh_below-one_for n (suc count) = below_more n count (weigh_below-one_for n count)
@@ -76,13 +69,11 @@ weigh_below-one_for n (suc count) = below_more n count (weigh_below-one_for n co
     below_more : (n count : ℕ) → weigh_below (one_at_number n) count ≡ one_below count n → weigh_below (one_at_number n) count + one_at_number n count ≡ one_below (suc count) n
     below_more n count so_far = grind (arith, nat_tests)
 
--- what the numbers of some jobs, of one, and of others weigh
 pub weigh_middle : (weight : ℕ → ℕ) (done : List Done) (this : Done) (later : List Done)
     → weigh weight (numbers_of (done ++ this ∷ later)) ≡ weigh weight (numbers_of done) + (weight this.number + weigh weight (numbers_of later))
 weigh_middle weight [] this later = omega arith
 weigh_middle weight (done ∷ more) this later = let rest = weigh_middle weight more this later in omega (arith, rest)
 
--- where no number comes twice, one job's place is a place of its own
 pub own_place : (done : List Done) (this : Done) (later : List Done) (count : ℕ)
     → weigh (one_at_number this.number) (numbers_of (done ++ this ∷ later)) ≤ one_below count this.number
     → (this.number < count) × (weigh (one_at_number this.number) (numbers_of done) ≡ 0)
@@ -92,7 +83,6 @@ own_place done this later count few =
     let at_most = one_below_few count this.number in
     (one_below_some count this.number (omega (arith, few, middle, one)), omega (arith, few, middle, one, at_most))
 
--- the jobs of all workers stay at their places where each of these stays as it is
 pub all_placed_kept : (old new : List Crawled) (lists : List (List Done)) → ((n : ℕ) → 0 < weigh_all (one_at_number n) (all_numbers lists) → slice_get new n ≡ slice_get old n)
     → AllPlaced old lists → AllPlaced new lists
 all_placed_kept old new [] keeps placed = tt
@@ -104,13 +94,11 @@ pub all_placed_more : (outcomes : List Crawled) (lists : List (List Done)) (last
 all_placed_more outcomes [] last placed this = (this, tt)
 all_placed_more outcomes (done ∷ lists) last placed this = (placed.0, all_placed_more outcomes lists last placed.1 this)
 
--- what the numbers of some workers' jobs, of one worker's, and of others' weigh
 pub all_weigh_middle : (weight : ℕ → ℕ) (lists : List (List Done)) (this : List Done) (later : List (List Done))
     → weigh_all weight (all_numbers (lists ++ this ∷ later)) ≡ weigh_all weight (all_numbers lists) + (weigh weight (numbers_of this) + weigh_all weight (all_numbers later))
 all_weigh_middle weight [] this later = omega arith
 all_weigh_middle weight (done ∷ more) this later = let rest = all_weigh_middle weight more this later in omega (arith, rest)
 
--- one worker's jobs are put at places of their own
 pub places_one : (old new : List Crawled) (lists : List (List Done)) (this : List Done) (later : List (List Done)) (count : ℕ)
     → ((n : ℕ) → weigh_all (one_at_number n) (all_numbers (lists ++ this ∷ later)) ≤ one_below count n)
     → ((n : ℕ) → weigh (one_at_number n) (numbers_of this) ≡ 0 → slice_get new n ≡ slice_get old n)

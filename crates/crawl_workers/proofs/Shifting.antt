@@ -17,7 +17,6 @@ use Rattle.crawl_workers.specs.World.{World}
 use Rattle.crawl_workers.proofs.Placing.{weigh_below-one_for}
 use Rattle.crawl_workers.proofs.StartTotals.{starts_are_fetches}
 
--- the numbers that were drawn are those of the jobs that were done
 pub numbers_drawn : (world : World) (jobs : List Job) (drawn : List (List ℕ)) (lists : List (List Done)) (receipts : List Receipt)
     → EachHasDone world jobs drawn lists receipts → all_numbers lists ≡ drawn
 numbers_drawn world jobs [] [] [] did = refl
@@ -27,14 +26,12 @@ numbers_drawn world jobs (ns ∷ nss) [] receipts did = absurd did
 numbers_drawn world jobs (ns ∷ nss) (ds ∷ dss) [] did = absurd did
 numbers_drawn world jobs (ns ∷ nss) (ds ∷ dss) (r ∷ rs) did = λ i. did.0.numbers i ∷ numbers_drawn world jobs nss dss rs did.1 i
 
--- no job was done twice
 pub done_once : (world : World) (jobs : List Job) (drawn : List (List ℕ)) (lists : List (List Done)) (receipts : List Receipt) (count : ℕ)
     → EachHasDone world jobs drawn lists receipts → ((weight : ℕ → ℕ) → weigh_all weight drawn ≡ weigh_below weight count)
     → (n : ℕ) → weigh_all (one_at_number n) (all_numbers lists) ≤ one_below count n
 done_once world jobs drawn lists receipts count did each n =
     omega (arith, ap (weigh_all (one_at_number n)) (numbers_drawn world jobs drawn lists receipts did), each (one_at_number n), weigh_below-one_for n count)
 
--- each worker's jobs stand in the report
 pub all_worked : (world : World) (jobs : List Job) (outcomes : List Crawled) (drawn : List (List ℕ)) (lists : List (List Done)) (receipts : List Receipt)
     → EachHasDone world jobs drawn lists receipts → AllPlaced outcomes lists → AllZip (Worked world jobs outcomes) drawn receipts
 all_worked world jobs outcomes [] [] [] did placed = tt
@@ -45,7 +42,6 @@ all_worked world jobs outcomes (ns ∷ nss) (ds ∷ dss) [] did placed = absurd 
 all_worked world jobs outcomes (ns ∷ nss) (ds ∷ dss) (r ∷ rs) did placed =
     (record { done = ds; numbers_are = did.0.numbers; are_placed = placed.0; are_done = did.0.are_done; are_all = did.0.are_all }, all_worked world jobs outcomes nss dss rs did.1 placed.1)
 
--- no worker's desk handed out an entry
 none_handed : (world : World) (jobs : List Job) (outcomes : List Crawled) (drawn : List (List ℕ)) (receipts : List Receipt)
     → AllZip (Worked world jobs outcomes) drawn receipts → handed_at_all receipts ≡ 0
 none_handed world jobs outcomes [] [] worked = refl
@@ -54,11 +50,9 @@ none_handed world jobs outcomes (ns ∷ nss) [] worked = absurd worked
 none_handed world jobs outcomes (ns ∷ nss) (r ∷ rs) worked =
     omega (arith, ap (λ (s : SealedView). s.handed) worked.0.are_all, none_handed world jobs outcomes nss rs worked.1)
 
--- a list that was lent whole
 pub lent_whole : (len : ℕ) (new rest : List Crawled) → length new ≡ len → take len (new ++ rest) ≡ new
 lent_whole len new rest same = take-append-le len new rest (omega (arith, same)) ∙ take_all len new (omega (arith, same))
 
--- all jobs are done
 pub all_jobs : (world : World) (jobs : List Job) (workers : ℕ) (drawn : List (List ℕ)) (lists : List (List Done)) (receipts : List Receipt)
     (outcomes placed : List Crawled)
     → length drawn ≡ workers → ((weight : ℕ → ℕ) → weigh_all weight drawn ≡ weigh_below weight (length jobs))
@@ -72,11 +66,9 @@ all_jobs world jobs workers drawn lists receipts outcomes placed many each did s
   worked = all_worked world jobs outcomes drawn lists receipts did (subst (λ (cs : List Crawled). AllPlaced cs lists) (sym same) placed_all);
 }
 
--- as many fetches were started
 starts_of_done : (world : World) (jobs : List Job) (workers : ℕ) (d : DoneView) → AreAllJobs world jobs workers d → starts_of_all d.receipts ≡ all_fetches d.outcomes
 starts_of_done world jobs workers d done = starts_are_fetches world jobs d.outcomes d.drawn d.receipts done.worked done.each_once done.one_each
 
--- the report
 pub is_shift : (world : World) (jobs : List Job) (workers : ℕ) (d : DoneView) (lent : List Receipt) (settled : Settled)
     → AreAllJobs world jobs workers d → lent ≡ d.receipts → SettlesSome lent (Ok settled) → IsWholeUnlessSealed lent settled → settled.starts ≡ starts_of_all lent
     → IsShift world jobs workers (record { outcomes = d.outcomes; drawn = d.drawn; receipts = d.receipts; settled = settled })
@@ -94,7 +86,6 @@ starts_with : (rs past : List Receipt) → starts_of_all (rs ++ past) ≡ starts
 starts_with [] past = omega arith
 starts_with (r ∷ rs) past = let e = starts_with rs past in omega (arith, e)
 
--- that over a gate that goes on
 pub is_later_shift : (world : World) (jobs : List Job) (workers : ℕ) (past : List Receipt) (d : DoneView) (all lent : List Receipt) (settled : Settled)
     → AreAllJobs world jobs workers d → all ≡ d.receipts ++ past → lent ≡ all → SettlesSome lent (Ok settled) → settled.starts ≡ starts_of_all lent
     → IsLaterShift world jobs workers past (record { outcomes = d.outcomes; drawn = d.drawn; receipts = all; settled = settled })

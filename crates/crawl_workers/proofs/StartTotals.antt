@@ -20,11 +20,10 @@ abbrev fetches_of : Option Crawled → ℕ
 fetches_of None = 0
 fetches_of (Some crawled) = fetches_in crawled.hops.items
 
--- how many fetches the job of a number has
+-- the fetches of a numbered job
 abbrev fetches_at : List Crawled → ℕ → ℕ
 fetches_at outcomes n = fetches_of (slice_get outcomes n)
 
--- what a worker's desk started
 done_starts : (world : World) (jobs : List Job) (outcomes : List Crawled) (list : List Done) (own : List Entry) → AreDone world jobs list own → ArePlaced outcomes list →
     length (numbers_started own) ≡ weigh (fetches_at outcomes) (numbers_of list)
 done_starts world jobs outcomes [] own none placed = ap (λ es. length (numbers_started es)) none
@@ -48,7 +47,6 @@ worked_starts world jobs outcomes (ns ∷ nss) (r ∷ rs) worked =
     let none = ap (λ (s : SealedView). s.starts) one.are_all in
     omega (arith, here, none, worked_starts world jobs outcomes nss rs worked.1)
 
--- all outcomes, by their places
 first_below : (weight : ℕ → ℕ) (n : ℕ) → weigh_below weight (suc n) ≡ weight 0 + weigh_below (λ k. weight (suc k)) n
 first_below weight zero = omega arith
 first_below weight (suc n) = omega (arith, first_below weight n)

@@ -20,32 +20,27 @@ use Rattle.crawl_workers.specs.Outcomes.{AfterRefresh, AreHops, FollowsHops, IsE
 use Rattle.crawl_workers.specs.Refreshes.{entries_of}
 use Rattle.crawl_workers.specs.World.{World}
 
--- the numbers of two lists of entries, one behind the other
 pub started_append : (xs ys : List Entry) → numbers_started (xs ++ ys) ≡ numbers_started xs ++ numbers_started ys
 started_append [] ys = refl
 started_append (entries.Started moment number reason ∷ xs) ys = ap (λ (ns : List ℕ). number ∷ ns) (started_append xs ys)
 started_append (entry ∷ xs) ys = started_append xs ys
 
--- the same of hops
 fetched_append : (xs ys : List Hop) → numbers_fetched (xs ++ ys) ≡ numbers_fetched xs ++ numbers_fetched ys
 fetched_append [] ys = refl
 fetched_append (hops.Page number reason status size cut ∷ xs) ys = ap (λ (ns : List ℕ). number ∷ ns) (fetched_append xs ys)
 fetched_append (hops.Fault number fault ∷ xs) ys = ap (λ (ns : List ℕ). number ∷ ns) (fetched_append xs ys)
 fetched_append (hop ∷ xs) ys = fetched_append xs ys
 
--- both, where each list has its own numbers
 both_append : (front back : List Entry) (own : List Entry) (ns ms : List ℕ) → own ≡ front ++ back →
     numbers_started front ≡ ns → numbers_started back ≡ ms → numbers_started own ≡ ns ++ ms
 both_append front back own ns ms is one other =
     ap numbers_started is ∙ started_append front back ∙ ap (λ (xs : List ℕ). xs ++ numbers_started back) one ∙ ap (λ (xs : List ℕ). ns ++ xs) other
 
--- a refresh starts no fetch of a page
 no_start : (world : World) (authority : List ℕ) (own : List Entry) →
     MayRefresh world authority own → numbers_started own ≡ []
 no_start world authority own (inl is) = ap numbers_started is
 no_start world authority own (inr turn) = ap numbers_started turn.own_is
 
--- so a hop behind one starts what it starts by itself
 after_start : (world : World) (url : List ℕ) (Tells : List Entry → Type 0)
     (own : List Entry) (ns : List ℕ) → AfterRefresh world url Tells own →
     ((behind : List Entry) → Tells behind → numbers_started behind ≡ ns) → numbers_started own ≡ ns
@@ -53,13 +48,11 @@ after_start world url Tells own ns after starts =
     both_append after.before after.behind own [] ns after.own_is
     (no_start world _ after.before after.may_refresh) (starts after.behind after.tells)
 
--- the number of a hop of a fetch
 number_of_hop : (number : ℕ) (reason : Reason) (given : Result HttpReply WireFault) →
     numbers_fetched (hop_of number reason given ∷ []) ≡ number ∷ []
 number_of_hop number reason (Ok reply) = refl
 number_of_hop number reason (Err fault) = refl
 
--- a fetch is started by its number
 fetch_starts : (world : World) (token url : List ℕ) (hop : Hop)
     (given : Result HttpReply WireFault) (own : List Entry) → IsFetch world token url hop given own →
     numbers_started own ≡ numbers_fetched (hop ∷ [])
@@ -67,7 +60,7 @@ fetch_starts world token url hop given own fetch =
     ap numbers_started fetch.own_is
     ∙ sym (ap (λ (h : Hop). numbers_fetched (h ∷ [])) fetch.tells ∙ number_of_hop fetch.number fetch.reason given)
 
--- the last hop by itself is started by its number, where it is a fetch
+-- a fetch as single last hop is started by its number
 last_starts : (world : World) (token url : List ℕ) (hop : Hop) (body : List ℕ)
     (own : List Entry) → IsLastHop world token url hop body own → numbers_started own ≡ numbers_fetched (hop ∷ [])
 last_starts world token url (hops.Page number reason status size cut) body own last =
@@ -79,7 +72,6 @@ last_starts world token url (hops.No denial) body own (is, inr started, empty) =
 last_starts world token url (hops.Refused refusal) body own last = ap numbers_started last.0
 last_starts world token url (hops.Stop stop) body own last = absurd last
 
--- why a redirect is not followed is no fetch
 stop_starts : (followed : ℕ) (target : Result (List ℕ) Stop) (stop : Hop) → IsStop followed target stop →
     numbers_fetched (stop ∷ []) ≡ []
 stop_starts followed target (hops.Stop stop) is = refl
@@ -89,7 +81,6 @@ stop_starts followed target (hops.Page number reason status size cut) is = absur
 stop_starts followed target (hops.Fault number fault) is = absurd is
 stop_starts followed target (hops.No denial) is = absurd is
 
--- the last hops are started by their numbers
 end_starts : (world : World) (token url : List ℕ) (followed : ℕ) (last : List Hop)
     (body : List ℕ) (own : List Entry) → IsEnd world token url followed last body own →
     numbers_started own ≡ numbers_fetched last
@@ -105,7 +96,6 @@ end_starts world token url followed (hop ∷ (stop ∷ [])) body own end =
     ∙ sym (fetched_append (hop ∷ []) (stop ∷ [])))
 end_starts world token url followed (hop ∷ (stop ∷ (other ∷ later))) body own end = absurd end
 
--- so are the redirects that were followed
 follow_starts : (world : World) (token url end : List ℕ) (way : List Hop)
     (own : List Entry) → FollowsHops world token url way end own → numbers_started own ≡ numbers_fetched way
 follow_starts world token url end [] own follows = ap numbers_started follows.1
@@ -129,25 +119,21 @@ hops_start world token url all body own are =
 pub outcome_starts : (world : World) → FetchesAreStarted world
 outcome_starts world job outcome own is = hops_start world job.token job.url outcome.hops.items outcome.body.items own is
 
--- so many hops are fetches as they have numbers
 pub fetches_counted : FetchesAreCounted
 fetches_counted [] = refl
 fetches_counted (hops.Page number reason status size cut ∷ all) = ap suc (fetches_counted all)
 fetches_counted (hops.Fault number fault ∷ all) = ap suc (fetches_counted all)
 fetches_counted (hop ∷ all) = fetches_counted all
 
--- one mark more is one start more, or none
 one_counted : (place : ℕ) (entry : Entry) (rest : List Mark) → starts_in rest ≡ length (numbers_started (entries_of rest)) →
     starts_in (record { place = place; entry = entry } ∷ rest) ≡ length (numbers_started (entry ∷ entries_of rest))
 one_counted place (entries.Started moment number reason) rest is = omega (arith, is)
 one_counted place entry rest is = omega (arith, is)
 
--- so many marks are starts as their entries have numbers
 pub starts_counted : (ms : List Mark) → starts_in ms ≡ length (numbers_started (entries_of ms))
 starts_counted [] = refl
 starts_counted (m ∷ ms) = one_counted m.place m.entry ms (starts_counted ms)
 
--- a desk that worked on a job started as many fetches as the outcome tells of
 pub works_starts : (world : World) (job : Job) (outcome : Outcome) (old new : DeskView) →
     Works world job outcome old new → starts_in new.marks ≡ starts_in old.marks + fetches_in outcome.hops.items
 works_starts world job outcome old new works =

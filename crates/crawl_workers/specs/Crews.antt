@@ -1,4 +1,4 @@
--- The workers of a shift: what each draws and does at its desk, what they hand over, and where that goes.
+-- The workers of a shift: what each draws, does and hands over.
 -- The contracts of the functions behind `run_shift`.
 use Rattle.std.specs.Prelude.{◌≡◌, ℕ, ◌++◌, ◌==◌, nat_lt, true, All, List, [], ◌∷◌, length, map, Option, None, Some, Ok, Result, IfOk}
 use Rattle.std.specs.List.{list_any}
@@ -20,46 +20,45 @@ use Rattle.crawl_workers.specs.Refreshes.{entries_of}
 use Rattle.crawl_workers.specs.Shifts.{AreDone, ArePlaced, IsDone, numbers_of}
 use Rattle.crawl_workers.specs.World.{World}
 
--- a desk did a job more
+-- a desk did one more job
 abbrev pub DoesJob : World → List Job → Done → DeskView → DeskView → Type 0
 DoesJob world jobs done old new =
     (own : List Entry) × ((entries_of new.marks ≡ entries_of old.marks ++ own) × IsDone world jobs done own)
 
--- a worker drew the jobs of these numbers, and a desk with these receipts did them, and nothing else
+-- a worker drew these jobs, and a desk with these receipts did exactly them
 pub record HasDone (world : World) (jobs : List Job) (drawn : List ℕ) (done : List Done) (r : Receipt) : Type 0 where
   pub numbers : numbers_of done ≡ drawn
   pub are_done : AreDone world jobs done (entries_of r.marks)
   pub are_all : r.sealed ≡ nothing_sealed
 
--- what a worker draws and does: its seat at the line of jobs, the numbers of the jobs that it drew, and the
--- jobs that it did
+-- a worker's progress: its seat at the line, the jobs drawn and the jobs done
 pub record WorkView : Type 0 where
   pub seat : SeatView
   pub drawn : List ℕ
   pub done : List Done
 
--- a worker: its work, and its end, if it has ended
+-- a worker: its work, and its end if it has ended
 pub record MemberView : Type 0 where
   pub work : WorkView
   pub end : Option (Result Receipt ShiftFault)
 
--- a worker at a seat, who has drawn nothing
+-- a new worker at a seat
 abbrev pub newcomer : SeatView → MemberView
 newcomer seat = record { work = record { seat = seat; drawn = []; done = [] }; end = None }
 
--- the work of a worker at a new seat of the line
+-- a new worker's work at a seat of the line
 pub record IsNewWork (line : TableId) (counts : List ℕ) (work : WorkView) : Type 0 where
   pub new_seat : IsNew line counts work.seat
   pub none_drawn : work.drawn ≡ []
   pub none_done : work.done ≡ []
 
--- the seat is one of the line, whose sites have so many jobs
+-- a seat of a line with these counts of jobs
 pub record IsAtLine (line : TableId) (counts : List ℕ) (seat : SeatView) : Type 0 where
   pub its_line : seat.line ≡ line
   pub its_counts : seat.counts ≡ counts
   pub its_sites : length seat.ended ≡ length counts
 
--- the seat is the same one, whatever was drawn at it, and of no site is the end forgotten
+-- the seat is the same, whatever was drawn, and remembers the ends found
 pub record StaysAt (old new : SeatView) : Type 0 where
   pub same_line : new.line ≡ old.line
   pub same_counts : new.counts ≡ old.counts
@@ -67,24 +66,22 @@ pub record StaysAt (old new : SeatView) : Type 0 where
   pub same_sites : length new.ended ≡ length old.ended
   pub ends_kept : (site : ℕ) → ended_at site old ≡ true → ended_at site new ≡ true
 
--- a worker drew the jobs at the indexes that were drawn at its seat, and a desk with these receipts did them,
--- and nothing else
+-- a worker drew the jobs at its seat's indexes, and a desk with these receipts did exactly them
 pub record HasWorked (world : World) (jobs : List Job) (order : List ℕ) (work : WorkView) (r : Receipt) : Type 0 where
   pub has_drawn : (weight : ℕ → ℕ) → weigh weight work.drawn ≡ weigh (weigh_at order weight) work.seat.drawn
   pub has_done : HasDone world jobs work.drawn work.done r
 
--- it has, and has found the end of each site
+-- the worker has also found the end of each site
 pub record HasEnded (world : World) (jobs : List Job) (order : List ℕ) (work : WorkView) (r : Receipt) : Type 0 where
   pub has_worked : HasWorked world jobs order work r
   pub all_ended : has_ended work.seat ≡ true
 
--- a worker has ended, at the seat that it had; and where it has receipts, it did the jobs that it drew, and
--- found the end of each site
+-- a worker has ended at its seat; if it has receipts, it did the jobs drawn and found the end of each site
 pub record Ends (world : World) (jobs : List Job) (order : List ℕ) (old new : MemberView) : Type 0 where
   pub stays : StaysAt old.work.seat new.work.seat
   pub ends : IsSomeAnd new.end (λ end. IfOk end (HasEnded world jobs order new.work))
 
--- what workers hand over: their seats, what they drew, the jobs that they did, and the receipts of their desks
+-- what workers hand over: their seats, the jobs drawn and done, and their desks' receipts
 pub record HandoverView : Type 0 where
   pub seats : List SeatView
   pub drawn : List (List ℕ)
@@ -95,7 +92,7 @@ pub record HandoverView : Type 0 where
 abbrev pub nothing_handed : HandoverView
 nothing_handed = record { seats = []; drawn = []; done = []; receipts = [] }
 
--- one worker more, which has receipts, hands them over
+-- one more worker hands over, with its receipts
 pub record TakesIn (old : HandoverView) (worker : MemberView) (new : HandoverView) : Type 0 where
   pub receipt : Receipt
   pub end_is : worker.end ≡ Some (Ok receipt)
@@ -104,7 +101,7 @@ pub record TakesIn (old : HandoverView) (worker : MemberView) (new : HandoverVie
   pub done_are : new.done ≡ old.done ++ worker.work.done ∷ []
   pub receipts_are : new.receipts ≡ old.receipts ++ receipt ∷ []
 
--- these workers, who all have receipts, hand them over
+-- these workers all have receipts and hand over
 pub record HandsOver (workers : List MemberView) (h : HandoverView) : Type 0 where
   pub seats_are : h.seats ≡ map (λ worker. worker.work.seat) workers
   pub drawn_are : h.drawn ≡ map (λ worker. worker.work.drawn) workers
@@ -118,8 +115,7 @@ EachHasDone world jobs (numbers ∷ drawn) (done ∷ more) (r ∷ receipts) =
     HasDone world jobs numbers done r × EachHasDone world jobs drawn more receipts
 EachHasDone world jobs _ _ _ = ⊥
 
--- the workers at these seats of the line did all that they drew, one of them at least has found the end of
--- each site, and they hand it over
+-- these seats' workers did all that they drew and hand it over, and one at least found each site's end
 pub record AreAllDone (world : World) (jobs : List Job) (order : List ℕ) (line : TableId) (counts : List ℕ)
     (workers : ℕ) (h : HandoverView) : Type 0 where
   pub all_workers : length h.drawn ≡ workers
@@ -131,19 +127,19 @@ pub record AreAllDone (world : World) (jobs : List Job) (order : List ℕ) (line
   pub one_ended : list_any has_ended h.seats ≡ true
   pub have_drawn : (weight : ℕ → ℕ) → weigh_all weight h.drawn ≡ weigh_all (weigh_at order weight) (lists_of h.seats)
 
--- the numbers of the jobs that each worker did
+-- the numbers of the jobs done by each worker
 abbrev pub all_numbers : List (List Done) → List (List ℕ)
 all_numbers lists = map numbers_of lists
 
--- each of the jobs of all workers has its hops at its place
+-- each done job has its hops at its place
 abbrev pub AllPlaced : List Crawled → List (List Done) → Type 0
 AllPlaced outcomes [] = Unit {0}
 AllPlaced outcomes (done ∷ lists) = ArePlaced outcomes done × AllPlaced outcomes lists
 
--- one for this number, and nothing for every other one
+-- one for this number, zero for others
 abbrev pub one_at_number : ℕ → ℕ → ℕ
 one_at_number n m = one_if (m == n)
 
--- one for a number below the count, and nothing for every other one
+-- one for numbers below the count, zero for others
 abbrev pub one_below : ℕ → ℕ → ℕ
 one_below count n = one_if (nat_lt n count)

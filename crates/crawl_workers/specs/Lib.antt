@@ -1,4 +1,4 @@
--- What contracts say of jobs and refreshes, and of the crate's clock.
+-- Definitions for jobs, refreshes, and the crate's clock.
 pub mod Clock
 pub mod Closings
 pub mod Crews

@@ -1,5 +1,5 @@
--- The order in which a line of jobs has the jobs of a list: those of one site behind those of another.
--- Cited by the contracts of `Order`, `Crew` and `Turns`.
+-- The order of jobs in a line: site by site.
+-- Used by `Order`, `Crew` and `Turns`.
 use Rattle.std.specs.Prelude.{◌≡◌, ℕ, suc, Bool, true, false, List, [], ◌∷◌, length, map, slice_index, Vec}
 use Rattle.std.specs.declared.alloc.Global.{Global}
 use Rattle.job_line.specs.Sums.{jobs_in, weigh, weigh_below}
@@ -8,13 +8,13 @@ use Rattle.job_line.specs.Sums.{jobs_in, weigh, weigh_below}
 abbrev pub lists_in : List (Vec ℕ Global) → List (List ℕ)
 lists_in lists = map (λ list. list.items) lists
 
--- the order has the numbers of so many jobs, each once, and the sites have as many jobs together
+-- the order has each number below the count once, as many as the sites' jobs
 pub record IsOrder (count : ℕ) (counts order : List ℕ) : Type 0 where
   pub jobs : jobs_in counts ≡ count
   pub len : length order ≡ count
   pub each_once : (weight : ℕ → ℕ) → weigh weight order ≡ weigh_below weight count
 
--- what an index weighs where the job at it has this weight
+-- the weight of an index: that of the job at it
 abbrev pub weigh_at : List ℕ → (ℕ → ℕ) → ℕ → ℕ
 weigh_at order weight index = weight (slice_index order index)
 

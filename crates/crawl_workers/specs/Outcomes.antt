@@ -1,4 +1,4 @@
--- What came of a job: fetches one behind another, each by a permit of its own, and how the list of hops ends.
+-- The outcome of a job: fetches in sequence, each with its own permit, and how the hops end.
 -- RFC 9309, sections 2.2 and 2.3.1; RFC 9110, section 15.4.
 use Rattle.std.specs.Prelude.{◌≡◌, ◌<◌, ◌≤◌, ◌⊎◌, ◌++◌, ◌∷◌, [], ℕ, suc, List, Option, None, Result, Ok, Err, length, string_bytes}
 use Rattle.std.specs.Option.{option_map}
@@ -25,7 +25,7 @@ use Rattle.crawl_workers.specs.Limits.{page_limit}
 use Rattle.crawl_workers.specs.Refreshes.{BeganStale, IsBrought, entries_of}
 use Rattle.crawl_workers.specs.World.{IsSinceRead, World}
 
--- the hop of a fetch, by its permit and what was given
+-- the hop of a fetch, by permit and result
 abbrev pub hop_of : ℕ → Reason → Result HttpReply WireFault → Hop
 hop_of number reason (Ok reply) = hops.Page number reason reply.status (length reply.body.items) reply.cut
 hop_of number reason (Err fault) = hops.Fault number fault
@@ -40,12 +40,12 @@ abbrev pub location_given : Result HttpReply WireFault → Option (List ℕ)
 location_given (Ok reply) = option_map string_bytes reply.location
 location_given (Err fault) = None
 
--- a reply was given whose status is that of a redirect
+-- the reply has the status of a redirect
 abbrev pub IsRedirect : Result HttpReply WireFault → Type 0
 IsRedirect (Ok reply) = class_of reply.status ≡ classes.Redirect
 IsRedirect (Err fault) = ⊥
 
--- a turn of the authority began where no answer of it was in force, and brought an answer that fetches decide
+-- a turn of the authority began without an answer in force, and brought one decided by fetches
 pub record IsTurn
     (world : World) (authority : List ℕ) (own : List Entry)
     : Type 0 where
@@ -64,7 +64,7 @@ pub record IsTurn
 abbrev pub MayRefresh : World → List ℕ → List Entry → Type 0
 MayRefresh world authority own = (own ≡ []) ⊎ IsTurn world authority own
 
--- a hop behind at most one turn of its authority
+-- a hop after at most one turn of its authority
 pub record AfterRefresh
     (world : World) (url : List ℕ) (Tells : List Entry → Type 0) (own : List Entry)
     : Type 0 where
@@ -74,8 +74,8 @@ pub record AfterRefresh
   pub tells : Tells behind
   pub own_is : own ≡ before ++ behind
 
--- one fetch of a page: a permit of its own is granted for this token and URL, started and finished, and the
--- hop tells what was given for the URL
+-- one fetch of a page: its own permit is granted for this token and URL, started and finished, and the hop has the
+-- result
 pub record IsFetch
     (world : World) (token url : List ℕ) (hop : Hop)
     (given : Result HttpReply WireFault) (own : List Entry)
@@ -98,7 +98,7 @@ pub record IsAskDenied (world : World) (token url : List ℕ) (cause : Cause) (o
   pub since_denied : IsSinceRead world denied
   pub own_is : own ≡ entries.AskDenied denied (record { token = token; url = url }) cause ∷ []
 
--- the denial of the start of a permit that was granted for them
+-- the denied start of a permit that was granted for them
 pub record IsStartDenied (world : World) (token url : List ℕ) (cause : Cause) (own : List Entry) : Type 0 where
   pub number : ℕ
   pub granted : ℕ
@@ -109,7 +109,7 @@ pub record IsStartDenied (world : World) (token url : List ℕ) (cause : Cause) 
       own ≡ entries.Granted granted number (record { token = token; url = url })
       ∷ entries.StartDenied denied number cause ∷ []
 
--- a fetch behind which no hop comes: no redirect was given
+-- a fetch that gave no redirect, so no hop follows
 pub record IsLastFetch
     (world : World) (token url : List ℕ) (hop : Hop) (body : List ℕ)
     (own : List Entry)
@@ -119,7 +119,7 @@ pub record IsLastFetch
   pub ends : IsRedirect given → ⊥
   pub body_is : body ≡ body_given given
 
--- a fetch behind which a hop comes at another URL: a redirect leads there
+-- a fetch whose redirect leads to a hop at another URL
 pub record IsFollowed
     (world : World) (token url : List ℕ) (hop : Hop) (next : List ℕ)
     (own : List Entry)
@@ -129,14 +129,13 @@ pub record IsFollowed
   pub redirects : IsRedirect given
   pub leads : location_target_among world.schemes url (location_given given) ≡ Ok next
 
--- why a redirect is not followed, with so many followed before it: it leads nowhere, or there is no memory
--- for where it leads
+-- why a redirect is not followed, after this many: no target, or no memory for it
 abbrev pub IsStop : ℕ → Result (List ℕ) Stop → Hop → Type 0
 IsStop followed target (hops.Stop stop) = target ≡ Err stop
 IsStop followed target (hops.Refused refusals.NoMemory) = followed < most_redirects
 IsStop followed target _ = ⊥
 
--- a fetch behind which a hop says why the redirect is not followed
+-- a fetch, and why its redirect is not followed
 pub record IsStopped
     (world : World) (token url : List ℕ) (followed : ℕ) (hop stop : Hop)
     (body : List ℕ) (own : List Entry)
@@ -147,7 +146,7 @@ pub record IsStopped
   pub stops : IsStop followed (redirect_target_among world.schemes followed url (location_given given)) stop
   pub body_is : body ≡ []
 
--- the last hop by itself: a fetch that gave no redirect, a denial, or a refusal
+-- a single last hop: a fetch without redirect, a denial or a refusal
 abbrev pub IsLastHop :
     World → List ℕ → List ℕ → Hop → List ℕ → List Entry → Type 0
 IsLastHop world token url (hops.Page number reason status size cut) body own =
@@ -160,8 +159,7 @@ IsLastHop world token url (hops.No denial) body own =
 IsLastHop world token url (hops.Refused refusal) body own = (own ≡ []) × (body ≡ [])
 IsLastHop world token url (hops.Stop stop) body own = ⊥
 
--- the last hops at a URL, with so many redirects followed to it: the last by itself, or a redirect and why
--- it is not followed
+-- the last hops at a URL after this many redirects: a single one, or a redirect and why it is not followed
 abbrev pub IsEnd :
     World → List ℕ → List ℕ → ℕ → List Hop → List ℕ → List Entry → Type 0
 IsEnd world token url followed [] body own = ⊥
@@ -170,7 +168,7 @@ IsEnd world token url followed (hop ∷ (stop ∷ [])) body own =
     AfterRefresh world url (IsStopped world token url followed hop stop body) own
 IsEnd world token url followed (hop ∷ (stop ∷ (other ∷ later))) body own = ⊥
 
--- the hops are redirects from the one URL to the other, each followed from where the one before it led
+-- the hops are redirects from one URL to the other, each followed by the next
 abbrev pub FollowsHops :
     World → List ℕ → List ℕ → List Hop → List ℕ → List Entry → Type 0
 FollowsHops world token url [] end own = (url ≡ end) × (own ≡ [])
@@ -179,7 +177,7 @@ FollowsHops world token url (hop ∷ later) end own =
     (AfterRefresh world url (IsFollowed world token url hop next) first
     × FollowsHops world token next later end rest × (own ≡ first ++ rest))))
 
--- hops and a body for a token and a URL: redirects, at most five, that are followed, and how they end
+-- hops and a body for a token and URL: at most five followed redirects, and their end
 pub record AreHops
     (world : World) (token url : List ℕ) (all : List Hop) (body : List ℕ)
     (own : List Entry)
@@ -195,16 +193,16 @@ pub record AreHops
   pub ends : IsEnd world token end (length way) last body back
   pub own_is : own ≡ front ++ back
 
--- an outcome of a job is told by what its desk did
+-- an outcome tells what a desk did for its job
 abbrev pub IsOutcome : World → Job → Outcome → List Entry → Type 0
 IsOutcome world job outcome own = AreHops world job.token job.url outcome.hops.items outcome.body.items own
 
--- a desk worked on a job: the marks that it made meanwhile are those of the outcome
+-- a desk worked on a job: its marks meanwhile are the outcome's
 abbrev pub Works : World → Job → Outcome → DeskView → DeskView → Type 0
 Works world job outcome old new =
     (own : List Entry) × ((entries_of new.marks ≡ entries_of old.marks ++ own) × IsOutcome world job outcome own)
 
--- how many of the hops are fetches of a page, whatever came of them
+-- how many hops are fetches of a page, failed or not
 abbrev pub fetches_in : List Hop → ℕ
 fetches_in [] = 0
 fetches_in (hops.Page number reason status size cut ∷ later) = suc (fetches_in later)

@@ -1,4 +1,4 @@
--- What a refresh of an authority's robots answer brings: the answer that fetches decide, and the desk's two steps.
+-- A refresh of an authority's robots answer: what fetches decide, and the desk's two steps.
 -- RFC 9309, sections 2.3.1.1 to 2.3.1.5.
 use Rattle.std.specs.Prelude.{◌≡◌, ◌⊎◌, ◌+◌, ◌++◌, ◌∷◌, [], ℕ, List, Option, None, Some, Result, Ok, Err, map}
 use Rattle.path_normal.specs.PageText.{robots_url_of}
@@ -30,8 +30,8 @@ use Rattle.crawl_workers.specs.World.{IsSinceRead, World}
 abbrev pub entries_of : List Mark → List Entry
 entries_of ms = map (λ m. m.entry) ms
 
--- fetches decide the answer for the authority, and its life, where pages of these schemes are fetched: each was
--- made of the URL to which the one before it led, the first of the authority's robots.txt
+-- fetches of these schemes decide the authority's answer and its life: first of its robots.txt, then of each URL that
+-- the one before led to
 pub record IsFetched
     (schemes : Schemes) (gives : List ℕ → Result HttpReply WireFault → Type 0) (authority : List ℕ) (says : Said)
     (life : ℕ)
@@ -43,16 +43,15 @@ pub record IsFetched
   pub is_given : gives url last
   pub decided : AnswerOfAmong schemes authority (map robots_reply_of (way ++ last ∷ [])) says life
 
--- if memory runs out, the answer is closed, for the greatest life
+-- out of memory: the answer is closed, for the greatest life
 abbrev pub IsUndecided : Said → ℕ → Type 0
 IsUndecided says life = (says ≡ Closed closures.Other) × (life ≡ greatest_life)
 
--- the answer that arrives is one or the other
+-- the answer is decided by fetches, or memory ran out
 abbrev pub IsBrought : Schemes → (List ℕ → Result HttpReply WireFault → Type 0) → List ℕ → Said → ℕ → Type 0
 IsBrought schemes gives authority says life = IsFetched schemes gives authority says life ⊎ IsUndecided says life
 
--- the turn of this number began at a moment at which no answer of the authority was in force, by the history
--- before it
+-- this turn began when, by the history, no answer of the authority was in force
 pub record BeganStale (authority : List ℕ) (begun turn : ℕ) : Type 0 where
   pub before : Gate
   pub legal : HasLegalHistory before
@@ -61,8 +60,7 @@ pub record BeganStale (authority : List ℕ) (begun turn : ℕ) : Type 0 where
   pub lacks : IsNoAnswer state.standing
   pub turn_is : turn ≡ begins (history before) + 1
 
--- a turn of the authority begins at a desk, under one hold of the lock with the look that found no answer of it
--- in force
+-- a turn begins at a desk, under one lock with the check that found no answer of the authority in force
 pub record BeginsStale (world : World) (authority : List ℕ) (turn : Errand) (old new : DeskView) : Type 0 where
   pub begun : ℕ
   pub since_begun : IsSinceRead world begun
@@ -76,13 +74,13 @@ pub record DoesNothing (old new : DeskView) : Type 0 where
   pub entries_stay : entries_of new.marks ≡ entries_of old.marks
   pub out : KeepsOut old new
 
--- a turn begins where no answer is in force, and nothing is done where one is or the begin is refused
+-- a turn begins if no answer is in force; nothing is done otherwise, or if the begin is refused
 abbrev pub MayBeginErrand : World → List ℕ → Result (Option Errand) BeginRefusal → DeskView → DeskView → Type 0
 MayBeginErrand world authority (Ok (Some turn)) old new = BeginsStale world authority turn old new
 MayBeginErrand world authority (Ok None) old new = DoesNothing old new
 MayBeginErrand world authority (Err refusal) old new = DoesNothing old new
 
--- a turn brings the answer that fetches decide: a step of the desk, and the answer's word
+-- a turn brings the answer that fetches decide, by a step of the desk
 pub record Brings (world : World) (turn : Errand) (word : Standing) (old new : DeskView) : Type 0 where
   pub answer : Timed
   pub arrived : ℕ
@@ -91,7 +89,7 @@ pub record Brings (world : World) (turn : Errand) (word : Standing) (old new : D
   pub arrives : Somewhere old (λ before behind. DeskArrives old before turn answer arrived behind new)
   pub word_is : word ≡ standing_as answer.says
 
--- a turn of the authority began, and brought such an answer
+-- a turn of the authority began and brought such an answer
 pub record IsRefreshed (world : World) (authority : List ℕ) (word : Standing) (old new : DeskView) : Type 0 where
   pub turn : Errand
   pub begun : ℕ
@@ -105,7 +103,7 @@ abbrev pub IsNotBegun : List ℕ → BeginRefusal → DeskView → DeskView → 
 IsNotBegun authority refusal old new =
     (moment : ℕ) × Somewhere old (λ before behind. DeskBegins old before authority moment (Err refusal) behind new)
 
--- a refresh: one or the other
+-- a refresh: a turn brought an answer, or none began
 abbrev pub Refreshes : World → List ℕ → Result Standing BeginRefusal → DeskView → DeskView → Type 0
 Refreshes world authority (Ok word) old new = IsRefreshed world authority word old new
 Refreshes world authority (Err refusal) old new = IsNotBegun authority refusal old new

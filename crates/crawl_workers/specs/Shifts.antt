@@ -1,6 +1,6 @@
--- What a shift of several workers does: each job is drawn by one worker, once, and what each worker's desk
--- did is told by the outcomes of the jobs that it drew, in the order of its draws.
--- Cited by the contract of `run_shift`, and by those of shifts over texts.
+-- A shift of several workers: each job is drawn once, and the outcomes of the jobs that a worker drew tell, in the
+-- order drawn, what its desk did.
+-- Used by `run_shift`, and by shifts over texts.
 use Rattle.std.specs.Prelude.{◌≡◌, ℕ, ◌+◌, ◌++◌, List, [], ◌∷◌, length, map, Ok, Some}
 use Rattle.std.specs.List.{AllZip, slice_get}
 use Rattle.gate_lock.specs.Settling.{IsWhole, SettlesSome}
@@ -16,7 +16,7 @@ use Rattle.crawl_workers.specs.Outcomes.{IsOutcome, fetches_in}
 use Rattle.crawl_workers.specs.Refreshes.{entries_of}
 use Rattle.crawl_workers.specs.World.{World}
 
--- a desk did this for a job of the list: what an outcome of the job tells, with these hops and some body
+-- an outcome with these hops and some body tells what a desk did for a job
 pub record IsDone (world : World) (jobs : List Job) (done : Done) (own : List Entry) : Type 0 where
   pub job : Job
   pub outcome : Outcome
@@ -24,7 +24,7 @@ pub record IsDone (world : World) (jobs : List Job) (done : Done) (own : List En
   pub hops_are : outcome.hops ≡ done.crawled.hops
   pub told : IsOutcome world job outcome own
 
--- it did one job, and then others
+-- a desk did one job, and then others
 pub record IsDoneFirst (world : World) (jobs : List Job) (done : Done) (Later : List Entry → Type 0)
     (own : List Entry) : Type 0 where
   pub first : List Entry
@@ -33,7 +33,7 @@ pub record IsDoneFirst (world : World) (jobs : List Job) (done : Done) (Later : 
   pub later_are : Later later
   pub own_is : own ≡ first ++ later
 
--- it did these jobs, one behind another, and nothing else
+-- a desk did exactly these jobs, in order
 abbrev pub AreDone : World → List Job → List Done → List Entry → Type 0
 AreDone world jobs [] own = own ≡ []
 AreDone world jobs (done ∷ later) own = IsDoneFirst world jobs done (AreDone world jobs later) own
@@ -47,7 +47,7 @@ abbrev pub ArePlaced : List Crawled → List Done → Type 0
 ArePlaced outcomes [] = Unit {0}
 ArePlaced outcomes (done ∷ later) = (slice_get outcomes done.number ≡ Some done.crawled) × ArePlaced outcomes later
 
--- a worker drew the jobs of these numbers, and what its desk did is told by their outcomes
+-- a worker drew these jobs, and their outcomes tell what its desk did
 pub record Worked (world : World) (jobs : List Job) (outcomes : List Crawled) (numbers : List ℕ)
     (r : Receipt) : Type 0 where
   pub done : List Done
@@ -56,36 +56,33 @@ pub record Worked (world : World) (jobs : List Job) (outcomes : List Crawled) (n
   pub are_done : AreDone world jobs done (entries_of r.marks)
   pub are_all : r.sealed ≡ nothing_sealed
 
--- how many of the hops of all outcomes are fetches of a page
+-- how many hops of all outcomes are fetches of a page
 abbrev pub all_fetches : List Crawled → ℕ
 all_fetches [] = 0
 all_fetches (crawled ∷ later) = fetches_in crawled.hops.items + all_fetches later
 
--- what came of all jobs before the gate is settled: the outcomes, the numbers that each worker drew, and the receipts
--- of its desk
+-- the results before the gate is settled: the outcomes, and each worker's numbers and receipts
 pub record DoneView : Type 0 where
   pub outcomes : List Crawled
   pub drawn : List (List ℕ)
   pub receipts : List Receipt
 
--- all jobs are done: as many workers drew the numbers of all jobs, each number once; each job has an outcome, and they
--- tell what the workers' desks did
+-- all jobs are done: the workers drew each number once, and each job has an outcome that tells what a desk did
 pub record AreAllJobs (world : World) (jobs : List Job) (workers : ℕ) (done : DoneView) : Type 0 where
   pub one_each : length done.outcomes ≡ length jobs
   pub all_workers : length done.drawn ≡ workers
   pub each_once : (weight : ℕ → ℕ) → weigh_all weight done.drawn ≡ weigh_below weight (length jobs)
   pub worked : AllZip (Worked world jobs done.outcomes) done.drawn done.receipts
 
--- a report: the outcomes, the numbers that each worker drew, the receipts of its desk, and the settled gate
+-- a report: the outcomes, each worker's numbers and receipts, and the settled gate
 pub record ReportView : Type 0 where
   pub outcomes : List Crawled
   pub drawn : List (List ℕ)
   pub receipts : List Receipt
   pub settled : Settled
 
--- the report of a shift: as many workers drew the numbers of all jobs, each number once; each job has an
--- outcome, and they tell what the workers' desks did; by their receipts the gate is settled, and these are a
--- whole legal history, with as many started fetches as the outcomes have
+-- a shift's report: the workers drew each number once; each job has an outcome, which tells what a desk did; the
+-- receipts settle the gate, and are a whole legal history with as many started fetches as the outcomes have
 pub record IsShift (world : World) (jobs : List Job) (workers : ℕ) (report : ReportView) : Type 0 where
   pub one_each : length report.outcomes ≡ length jobs
   pub all_workers : length report.drawn ≡ workers
@@ -95,9 +92,8 @@ pub record IsShift (world : World) (jobs : List Job) (workers : ℕ) (report : R
   pub whole : IsWhole report.receipts report.settled
   pub starts : report.settled.starts ≡ all_fetches report.outcomes
 
--- the report of a shift over a gate that goes on from a base: all jobs are done, as the workers' receipts tell; by them
--- and those of what was before, which come last, the gate is settled, with as many started fetches more as the
--- outcomes have
+-- a shift's report over a gate that continues from a base: all jobs are done; the workers' receipts and the earlier
+-- ones, which come last, settle the gate, with as many more started fetches as the outcomes have
 pub record IsLaterShift (world : World) (jobs : List Job) (workers : ℕ) (past : List Receipt)
     (report : ReportView) : Type 0 where
   pub own : List Receipt

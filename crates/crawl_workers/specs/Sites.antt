@@ -1,5 +1,5 @@
--- A site of a shift: when a worker may enter it for a job, and what it is then and when the worker leaves.
--- Cited by the contracts of `ShiftSite`.
+-- A site of a shift: when a worker may enter it, and what changes when one enters or leaves.
+-- Used by `ShiftSite`.
 use Rattle.std.specs.Prelude.{◌≡◌, ◌+◌, ◌-◌, ◌==◌, ◌&&◌, ℕ, Bool, Some, true, false, if◌then◌else◌, nat_lt, not}
 use Rattle.crawl_workers.specs.Pauses.{begun_at, later_of}
 use Rattle.crawl_workers.specs.declared.site.ShiftSite.{ShiftSite}
@@ -16,13 +16,12 @@ abbrev pub may_enter : ShiftSite → ℕ → Bool
 may_enter site places =
     nat_lt 0 site.left && (nat_lt site.workers places && (not (is_fetched site.robots) && not site.next_is_taken))
 
--- who enters where nothing is known of the robots.txt fetches it
+-- a worker that enters fetches the robots.txt if nothing is known of it
 abbrev pub seen_to : Robots → Robots
 seen_to robots.Unknown = robots.Fetched
 seen_to known = known
 
--- a worker enters: one job less is left, and one worker more does jobs of the site; where fetches pause it is to fetch
--- next
+-- a worker enters: one job less is left, one more worker is there; with pauses it is to fetch next
 abbrev pub entered_by : Bool → ShiftSite → ShiftSite
 entered_by pauses site =
     record site {
@@ -33,16 +32,16 @@ entered_by pauses site =
           pauses;
     }
 
--- nobody fetches the robots.txt where no worker is left
+-- if no worker is left, nobody fetches the robots.txt
 abbrev pub left_to : ℕ → Robots → Robots
 left_to workers known = if workers == 0 && is_fetched known then robots.Unknown else known
 
--- one worker less does jobs of the site, and another may fetch next
+-- a worker leaves, and another may fetch next
 abbrev pub left_by : ShiftSite → ShiftSite
 left_by site =
     record site { workers = site.workers - 1; robots = left_to (site.workers - 1) site.robots; next_is_taken = false }
 
--- a fetch has begun, behind which another worker may fetch next; nothing else is other than it was
+-- a fetch has begun, so another worker may fetch next; nothing else changed
 pub record HasBegun (old new : ShiftSite) (now : ℕ) : Type 0 where
   pub begun : begun_at new.begun ≡ Some (later_of (begun_at old.begun) now)
   pub same : new ≡ record old { begun = new.begun; next_is_taken = false }

@@ -1,5 +1,5 @@
--- When a turn begins for a job: only where the gate has no answer of the authority in force.
--- Cited by the contract of `begin_if_stale`; RFC 9309, section 2.4.
+-- A job begins a turn only if no answer of the authority is in force.
+-- Used by `begin_if_stale`; RFC 9309, section 2.4.
 use Rattle.std.specs.Prelude.{◌≡◌, ◌⊎◌, ℕ, List, Option, None, Some, Result, Ok, Err}
 use Rattle.gate_core.specs.declared.refusal.BeginRefusal.{BeginRefusal}
 use Rattle.gate_core.specs.declared.state.Standing.{Standing}
@@ -11,17 +11,16 @@ use Rattle.gate_core.specs.States.{IsState}
 use Rattle.gate_lock.specs.Desks.{DeskView, Errand, Looks}
 use Rattle.gate_lock.specs.Steps.{DeskBegins}
 
--- what stands is no answer in force
+-- no answer is in force
 abbrev pub IsNoAnswer : Standing → Type 0
 IsNoAnswer standing = (standing ≡ standings.Unknown) ⊎ (standing ≡ standings.Expired)
 
--- the gate has no answer of the authority in force at the moment of a call
+-- the gate has no answer of the authority in force when called
 abbrev pub LacksAnswer : Gate → List ℕ → ℕ → Type 0
 LacksAnswer g authority m =
     (state : State) × (IsState (history g) authority (moment_at g m) state × IsNoAnswer state.standing)
 
--- a turn begins where no answer is in force; where one is, the desk only looks; and so it does where none is and the
--- begin is refused
+-- a turn begins if no answer is in force; if one is, or the begin is refused, the desk only looks
 abbrev pub BeginsIfStale : DeskView → Gate → List ℕ → ℕ → Result (Option Errand) BeginRefusal → Gate → DeskView → Type 0
 BeginsIfStale d old authority m (Ok (Some turn)) new d2 =
     LacksAnswer old authority m × DeskBegins d old authority m (Ok turn) new d2

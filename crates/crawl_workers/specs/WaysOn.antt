@@ -1,4 +1,4 @@
--- Where a job goes on behind one hop, and what the entries of that hop are.
+-- Where a job continues after a hop, and the hop's entries.
 -- RFC 9309, sections 2.2 and 2.3.1; RFC 9110, section 15.4.
 use Rattle.std.specs.Prelude.{◌≡◌, ◌<◌, ◌++◌, [], ℕ, List, Result, Ok}
 use Rattle.gate_core.specs.declared.refusal.AskRefusal.{AskRefusal}
@@ -20,13 +20,13 @@ use Rattle.crawl_workers.specs.Outcomes.{IsFollowed, IsLastHop, IsRedirect, IsSt
 use Rattle.crawl_workers.specs.Refreshes.{entries_of}
 use Rattle.crawl_workers.specs.World.{World}
 
--- a desk made some entries meanwhile, of which this is true
+-- a desk made some entries meanwhile, with this property
 pub record AddsEntries (Tells : List Entry → Type 0) (old new : DeskView) : Type 0 where
   pub own : List Entry
   pub adds : entries_of new.marks ≡ entries_of old.marks ++ own
   pub tells : Tells own
 
--- the hop of an ask that granted no permit
+-- the hop of an ask without permit
 abbrev pub ask_hop : AskRefusal → Hop
 ask_hop (asks.Denied denial) = hops.No denial
 ask_hop asks.LogFull = hops.Refused refusals.LogFull
@@ -34,14 +34,13 @@ ask_hop asks.Busy = hops.Refused refusals.Busy
 ask_hop asks.PermitsFull = hops.Refused refusals.PermitsFull
 ask_hop asks.NoMemory = hops.Refused refusals.NoMemory
 
--- a redirect with a target, or with why it has none, and with so many followed before it
+-- a redirect with its target or why it has none, after this many followed
 abbrev pub LeadsOn : ℕ → Result (List ℕ) Stop → Hop → WayOn → Type 0
 LeadsOn followed target page (ways.Ends hop body) = ⊥
 LeadsOn followed target page (ways.Leads hop next) = (hop ≡ page) × (target ≡ Ok next)
 LeadsOn followed target page (ways.Stops hop stop) = (hop ≡ page) × IsStop followed target stop
 
--- what comes behind a fetch, where pages of these schemes are fetched: nothing behind what is no redirect, else
--- where it leads
+-- what follows a fetch, for these schemes: nothing without a redirect, else its target
 abbrev pub GoesOn : Schemes → ℕ → Reason → ℕ → List ℕ → Result HttpReply WireFault → WayOn → Type 0
 GoesOn schemes number reason followed url given (ways.Ends hop body) =
     (hop ≡ hop_of number reason given) × (IsRedirect given → ⊥) × (body.items ≡ body_given given)
@@ -54,7 +53,7 @@ GoesOn schemes number reason followed url given (ways.Stops hop stop) =
     × LeadsOn followed (redirect_target_among schemes followed url (location_given given)) (hop_of number reason given)
     (ways.Stops hop stop)
 
--- the entries of a hop, behind a refresh of its authority
+-- the entries of a hop, after a refresh of its authority
 abbrev pub TellsWay :
     World → List ℕ → List ℕ → ℕ → WayOn → List Entry → Type 0
 TellsWay world token url followed (ways.Ends hop body) own = IsLastHop world token url hop body.items own

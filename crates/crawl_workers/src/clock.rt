@@ -1,11 +1,11 @@
-//! The clock that a gate's moments are read from.
+//! The clock that gives a gate's moments.
 ghost use Rattle.std.specs.Prelude.{◌≡◌};
 ghost use Rattle.crawl_workers.specs.Clock.{seconds_read};
 
 use std::time::{SystemTime, UNIX_EPOCH};
 use std::{io, time};
 
-/// What tells the moment of a call, in seconds. It may go back.
+/// Gives the moment of a call, in seconds. It may go back.
 pub trait Clock {
     ghost use Rattle.std.specs.Prelude.{ℕ, ⊤};
 
@@ -17,8 +17,8 @@ pub trait Clock {
         ensures { reads self.now result };
 }
 
-/// The system's clock: whole seconds since the beginning of 1970, in UTC. It tells 0 where it is set
-/// to an earlier time, or can't be read.
+/// The system's clock: whole seconds since the beginning of 1970, UTC; 0 if it is set earlier or can't be
+/// read.
 #[derive(Drop)]
 pub struct SystemClock<R: time::Clock> {
     rt: R,
@@ -37,7 +37,6 @@ impl<R: time::Clock> Clock for SystemClock<R> {
     }
 }
 
-// The whole seconds of a reading of the system's clock.
 fn whole_seconds(reading: io::Result<SystemTime>) -> u64
     ensures { result ≡ seconds_read reading }
 {

@@ -1,4 +1,4 @@
-//! The workers of a shift: each draws jobs of the sites that it has entered, and does them at a desk of its own.
+//! The workers of a shift: each draws jobs at the sites that it enters, and does them at its own desk.
 //! Called by `run_shift`, once for each worker.
 ghost use Rattle.std.specs.Prelude.{◌≡◌, ◌<◌, ◌++◌, ◌∷◌, [], false, IfOk, OnOk, Some, length, true};
 ghost use Rattle.std.specs.List.{slice_get};
@@ -24,12 +24,12 @@ use std::alloc::{AllocError, Global};
 use std::marker::Model;
 use std::sync::Wait;
 
-/// What the workers of a shift have in common.
+/// What a shift's workers share.
 #[derive(Drop)]
 pub(crate) struct Crew<'a, F, C, W, P> {
     pub(crate) jobs: &'a [Job],
     pub(crate) line: &'a JobLine,
-    /// Which job an index of the line stands for, and how many jobs of the line each site has.
+    /// The number of the job at each index of the line, and how many jobs each site has.
     pub(crate) order: &'a [u64],
     pub(crate) counts: &'a [u64],
     pub(crate) sites: &'a ShiftSites,
@@ -40,7 +40,7 @@ pub(crate) struct Crew<'a, F, C, W, P> {
     ghost is_order: { IsOrder (length jobs.now) counts.now order.now },
 }
 
-// Who is told of the job of a number: the sites, of robots.txt files and of fetches, and the watcher.
+// Receives the events of a numbered job: the sites, of robots.txt files and fetches, and the watcher.
 #[derive(Drop)]
 struct Notifier<'t, W: Watcher, P: Pace, R: Wait> {
     rt: &'t R,
@@ -69,15 +69,15 @@ impl<W: Watcher, P: Pace, R: Wait> EventObserver for Notifier<'_, W, P, R> {
     }
 }
 
-/// A job that was done: its number and what is kept of its outcome.
+/// A job that was done: its number and its kept outcome.
 #[derive(Drop)]
 pub(crate) struct Done {
     pub(crate) number: u64,
     pub(crate) crawled: Crawled,
 }
 
-/// What a worker draws and does: its seat at the line, the numbers of the jobs that it drew, and what came
-/// of them, in this order.
+/// A worker's progress: its seat at the line, the numbers of the jobs that it drew, and their outcomes in
+/// this order.
 #[derive(Drop)]
 pub(crate) struct Work {
     pub(crate) seat: JobSeat,
@@ -97,8 +97,7 @@ impl Model for Work {
     } };
 }
 
-/// A worker, as a member of the crew: its work, and, once it has ended, the receipts of its desk or why it
-/// has none.
+/// A worker: its work, and once it has ended, its desk's receipts or why there are none.
 #[derive(Drop)]
 pub(crate) struct Member<G: Gate> {
     pub(crate) work: Work,
@@ -117,7 +116,6 @@ impl<G: Gate> Model for Member<G> {
 }
 
 impl<F: Fetcher, C: Clock, W: Watcher, P: Pace> Crew<'_, F, C, W, P> {
-    /// Lets a new worker work until no job is left.
     pub(crate) fn employ<G: Gate, R: Wait>(
         &self,
         rt: &R,
@@ -134,7 +132,7 @@ impl<F: Fetcher, C: Clock, W: Watcher, P: Pace> Crew<'_, F, C, W, P> {
         worker.end = Some(end);
     }
 
-    // Opens a desk, does jobs at it until none is left, and closes it, whatever came of them.
+    // Opens a desk, does jobs until none is left, and closes the desk whatever happened.
     fn man_desk<G: Gate, R: Wait>(
         &self,
         rt: &R,
@@ -155,8 +153,8 @@ impl<F: Fetcher, C: Clock, W: Watcher, P: Pace> Crew<'_, F, C, W, P> {
         Ok(receipts)
     }
 
-    // Enters sites until no job is left to enter for, and at each draws a job and does it. Then it does
-    // what it finds left. A worker that ends well has found the end of each site.
+    // Enters sites while there is a job to enter for, drawing and doing one job at each, and then does the
+    // rest. A worker that ends well has found the end of each site.
     fn draw_all<G: Gate, R: Wait>(
         &self,
         rt: &R,
@@ -183,8 +181,8 @@ impl<F: Fetcher, C: Clock, W: Watcher, P: Pace> Crew<'_, F, C, W, P> {
         unreachable!()
     }
 
-    // Draws at each site, in order, to its end. A job that is still there is one for which a worker has
-    // entered and has not drawn yet: it then finds one job less.
+    // Draws at each site, in order, to its end. A job found there is one that another worker entered for
+    // but has not drawn; that worker then finds one job less.
     fn draw_rest<G: Gate, R: Wait>(
         &self,
         rt: &R,
@@ -208,7 +206,7 @@ impl<F: Fetcher, C: Clock, W: Watcher, P: Pace> Crew<'_, F, C, W, P> {
         Ok(())
     }
 
-    // Draws at a site until its end, and does each job.
+    // Draws and does a site's jobs to its end.
     fn draw_to_end<G: Gate, R: Wait>(
         &self,
         rt: &R,
@@ -237,7 +235,7 @@ impl<F: Fetcher, C: Clock, W: Watcher, P: Pace> Crew<'_, F, C, W, P> {
         unreachable!()
     }
 
-    // Draws a job at a site and does it, and tells whether there was one.
+    // Draws and does a job at a site; false if there was none.
     fn draw_one<G: Gate, R: Wait>(
         &self,
         rt: &R,
@@ -266,8 +264,7 @@ impl<F: Fetcher, C: Clock, W: Watcher, P: Pace> Crew<'_, F, C, W, P> {
         Ok(true)
     }
 
-    // Does the job of a number, behind those before it. The room for what is kept of a job is taken before
-    // it is done.
+    // Does the numbered job. The memory for its outcome is allocated before.
     fn do_next<G: Gate, R: Wait>(
         &self,
         rt: &R,
@@ -296,7 +293,7 @@ impl<F: Fetcher, C: Clock, W: Watcher, P: Pace> Crew<'_, F, C, W, P> {
         Ok(())
     }
 
-    // Does a job of the list and tells of it. Its body is let go here.
+    // Does a job and reports it. Its body is dropped here.
     fn do_job<G: Gate, R: Wait>(
         &self,
         rt: &R,

@@ -1,5 +1,5 @@
-//! What workers tell of a job while they do it.
-//! For whoever shows a crawl while it runs: a table, a line of progress, the sites that are closed.
+//! The events that workers report while they do a job.
+//! For watchers of a crawl: a table, a progress line, the closed sites.
 ghost use Rattle.std.specs.Prelude.{◌≡◌};
 ghost use Rattle.robots_verdict.specs.Answer.{said};
 ghost use Rattle.crawl_workers.specs.Closings.{closing_of, decided_by, leads_to_https};
@@ -12,49 +12,47 @@ use robots_fetch::RobotsReply;
 use robots_text::{Token, is_same_word};
 use robots_verdict::{Answer, Closure};
 
-/// What comes next in a job.
+/// The next event of a job.
 #[derive(Clone, Copy)]
 pub enum Event<'a> {
-    /// A hop begins, behind so many others: a page under a token.
+    /// A hop begins, after this many others: a page under a token.
     Begins {
         before: u64,
         token: &'a Token,
         url: &'a PageUrl,
     },
-    /// The robots.txt of the authority is fetched from now on.
+    /// The fetch of the authority's robots.txt begins.
     AsksRobots(&'a str),
-    /// That fetch has ended, with an answer for the authority, which it may close.
+    /// That fetch has ended with an answer for the authority, and with what closed it, if it did.
     Brought(&'a str, Option<ClosedBy>),
     /// An answer for the authority is known, or none will come.
     Answered(&'a str),
-    /// The hop's page is fetched from now on.
+    /// The fetch of the hop's page begins.
     Fetches,
-    /// The fetch has ended; for this, where its device failed.
+    /// The fetch has ended; with this failure, if its device failed.
     Fetched(Option<Failure>),
-    /// A hop came to this. The last one of a job may stand for a redirect that is not followed, and has no
-    /// begin of its own.
+    /// A hop ended. A job's last hop may be a redirect that is not followed, which has no begin of its own.
     Ends(&'a Hop),
 }
 
-/// What closed a site: the reply to a request for its robots.txt, or for what redirects led to from it.
+/// What closed a site: the response to the request for its robots.txt, or for a redirect's target.
 #[derive(Clone, Copy, Debug, PartialEq, Eq)]
 pub enum ClosedBy {
-    /// A response of this status.
+    /// A response with this status.
     Status(u16),
-    /// A redirect whose target is missing or is no page URL.
+    /// A redirect whose target is missing or no page URL.
     BadRedirect,
     /// A redirect to https.
     Https,
     /// A redirect to another scheme than http.
     OtherScheme,
-    /// The fetch failed so; for this, where its device failed.
+    /// The fetch failed; with this failure, if its device failed.
     Fault(WireFault, Option<Failure>),
-    /// There was no memory for the fetch.
+    /// No memory for the fetch.
     NoMemory,
 }
 
 impl ClosedBy {
-    /// What came of a fetch, which failed for this where its device did.
     pub(crate) fn met(given: &Result<HttpReply, WireFault>, failure: Option<Failure>) -> ClosedBy
         ensures { result ≡ closing_of given.now failure }
     {
@@ -64,7 +62,7 @@ impl ClosedBy {
         }
     }
 
-    /// What decided this answer, which a fetch brought: of a redirect why it is not followed.
+    /// What decided this fetched answer; for a redirect, why it is not followed.
     pub(crate) fn decided(self, reply: &RobotsReply, answer: &Answer) -> ClosedBy
         ensures { result ≡ decided_by self reply.now (said answer.now) }
     {
@@ -77,7 +75,7 @@ impl ClosedBy {
     }
 }
 
-// Whether the reply's Location begins with `https:`, in whatever case.
+// Whether the Location begins with `https:`, in any case.
 fn leads_to_https(reply: &RobotsReply) -> bool
     ensures { result ≡ leads_to_https reply.now }
 {

@@ -1,5 +1,5 @@
-//! What the workers of a shift hand over when they have ended.
-//! Called by `run_shift`, behind the last job.
+//! What a shift's workers hand over when they end.
+//! Called by `run_shift`, after the last job.
 ghost use Rattle.std.specs.Prelude.{◌≡◌, ◌≤◌, ◌<◌, All, IfOk, OnOk, length, vec_len};
 ghost use Rattle.std.specs.Option.{IsSome};
 ghost use Rattle.job_line.specs.Limits.{max_workers};
@@ -12,8 +12,8 @@ use job_line::{JobSeat, MAX_WORKERS};
 use std::alloc::{AllocError, Global};
 use std::marker::Model;
 
-/// The seats of workers, what they drew and did, and their receipts, in the order of the workers. The room
-/// for 16 is taken when it is made, so that nothing that was done is lost to a refusal.
+/// The workers' seats, jobs drawn and done, and receipts, in the order of the workers. Room for 16 is
+/// allocated at the start, so that no failed allocation loses what was done.
 #[derive(Drop)]
 pub(crate) struct Handover<G: Gate> {
     pub(crate) seats: Vec<JobSeat>,
@@ -43,7 +43,7 @@ impl<G: Gate> Model for Handover<G> {
 }
 
 impl<G: Gate> Handover<G> {
-    /// Nothing yet, and room for 16 workers.
+    /// Empty, with room for 16 workers.
     pub(crate) fn with_room(alloc: Global) -> Result<Handover<G>, AllocError>
         ensures { IfOk result (λ h. h ≡ nothing_handed) }
     {
@@ -55,7 +55,7 @@ impl<G: Gate> Handover<G> {
         })
     }
 
-    /// Takes what these workers hand over. The first that has no receipts tells why.
+    /// Takes what these workers hand over. The first without receipts gives the fault.
     pub(crate) fn take_all(&mut self, workers: Vec<Member<G>>) -> Result<(), ShiftFault>
         requires new { self.old ≡ nothing_handed }
         requires few { vec_len workers ≤ max_workers }
@@ -68,7 +68,6 @@ impl<G: Gate> Handover<G> {
         Ok(())
     }
 
-    // Takes what one worker hands over.
     fn take_in(&mut self, worker: Member<G>) -> Result<(), ShiftFault>
         requires room { length self.old.drawn < max_workers }
         requires ended { IsSome worker.end }

@@ -1,5 +1,4 @@
-//! Crawlers' jobs, over the redirects of pages and the robots answers that they need, done by one worker or by
-//! several, with a clock and what fetches.
+//! Crawlers' jobs, with their redirects and robots answers, done by one or several workers.
 #![tactic(auto)]
 
 mod clock;

@@ -1,4 +1,4 @@
-//! The jobs of a shift by their sites: how many each site has, and in which order a line of jobs has them.
+//! A shift's jobs by site: how many each site has, and their order in a line.
 //! Called by `run_shift`, before a worker begins.
 ghost use Rattle.std.specs.Prelude.{◌≡◌, ◌+◌, ◌<◌, ℕ, IfOk, IfSome, OnOk, length, map, vec_len};
 ghost use Rattle.job_line.specs.Sums.{jobs_in, weigh, weigh_all, weigh_below};
@@ -8,18 +8,17 @@ use crawl_job::Job;
 use std::alloc::{AllocError, Global};
 use std::collections::BTreeMap;
 
-/// The jobs, those of one site behind those of another, each by its number in the list of all jobs.
+/// The jobs site by site, each by its number in the list of all jobs.
 #[derive(Drop)]
 pub(crate) struct Order {
-    /// The sites by their authorities, numbered in the order of their first jobs.
+    /// The sites by authority, numbered by their first jobs.
     pub(crate) names: BTreeMap<String, usize>,
     /// How many jobs each site has.
     pub(crate) counts: Vec<u64>,
-    /// The numbers of the jobs, which the jobs of a site have in their order.
+    /// The numbers of the jobs; a site's jobs keep their order.
     pub(crate) numbers: Vec<u64>,
 }
 
-// The jobs so far, a list of numbers for each site.
 #[derive(Drop)]
 struct BySite {
     names: BTreeMap<String, usize>,
@@ -27,7 +26,6 @@ struct BySite {
 }
 
 impl Order {
-    /// The order of these jobs.
     pub(crate) fn of_jobs(alloc: Global, jobs: &[Job]) -> Result<Order, AllocError>
         ensures { IfOk result (λ order.
             IsOrder (length jobs.now) order.counts.items order.numbers.items) }
@@ -41,7 +39,6 @@ impl Order {
     }
 }
 
-// The jobs by their sites.
 fn by_site(alloc: Global, jobs: &[Job]) -> Result<BySite, AllocError>
     ensures { IfOk result (λ sites. (weight : ℕ → ℕ)
         → weigh_all weight (lists_in sites.lists.items) ≡ weigh_below weight (length jobs.now)) }
@@ -56,7 +53,6 @@ fn by_site(alloc: Global, jobs: &[Job]) -> Result<BySite, AllocError>
     Ok(sites)
 }
 
-// How many numbers each list has.
 fn lengths(alloc: Global, lists: &[Vec<u64>]) -> Result<Vec<u64>, AllocError>
     ensures { IfOk result (λ counts.
         jobs_in counts.items ≡ weigh_all (λ _. 1) (lists_in lists.now)) }
@@ -68,7 +64,7 @@ fn lengths(alloc: Global, lists: &[Vec<u64>]) -> Result<Vec<u64>, AllocError>
     Ok(counts)
 }
 
-// The numbers of all lists, one list behind the other.
+// The concatenated lists.
 fn joined(alloc: Global, lists: &[Vec<u64>]) -> Result<Vec<u64>, AllocError>
     ensures { IfOk result (λ numbers. (weight : ℕ → ℕ)
         → weigh weight numbers.items ≡ weigh_all weight (lists_in lists.now)) }
@@ -81,7 +77,6 @@ fn joined(alloc: Global, lists: &[Vec<u64>]) -> Result<Vec<u64>, AllocError>
 }
 
 impl BySite {
-    // Adds a job of this authority behind those of its site.
     fn add(&mut self, alloc: Global, authority: &str, number: u64) -> Result<(), AllocError>
         ensures { OnOk result ((weight : ℕ → ℕ) → weigh_all weight (lists_in self.new.lists.items)
             ≡ weigh_all weight (lists_in self.old.lists.items) + weight number) }
@@ -91,7 +86,7 @@ impl BySite {
         Ok(())
     }
 
-    // The site of an authority; where there is none, a new one without jobs.
+    // The authority's site, which is added without jobs if it is new.
     fn site_of(&mut self, alloc: Global, authority: &str) -> Result<usize, AllocError>
         ensures there { IfOk result (λ site. site < vec_len self.new.lists) }
         ensures same { OnOk result ((weight : ℕ → ℕ)
@@ -108,7 +103,6 @@ impl BySite {
         Ok(site)
     }
 
-    // The site of an authority, where one is known.
     fn known(&self, authority: &str) -> Option<usize>
         ensures { IfSome result (λ site. site < vec_len self.now.lists) }
     {

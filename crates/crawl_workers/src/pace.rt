@@ -1,4 +1,4 @@
-//! The pauses between fetches at a site: when the last one began, and who tells the time and waits.
+//! The pauses between fetches at a site: when the last one began, and the clock to wait by.
 //! Called by the table of sites, for `shift --delay`.
 ghost use Rattle.std.specs.Prelude.{◌≡◌, ◌≢◌, ◌<◌, None, Some};
 ghost use Rattle.std.specs.Duration.{as_nanos};
@@ -9,18 +9,18 @@ use std::sync::{Condvar, MutexGuard, Wait};
 use std::time::{Duration, Instant};
 use std::{thread, time};
 
-/// What a shift knows of time between the fetches at a site.
+/// The clock for the pauses between fetches.
 pub(crate) trait Pace {
-    /// How long lies at least between the begins of two fetches at a site; zero where nothing is waited for.
+    /// The least time between the begins of two fetches at a site; zero for no pauses.
     fn delay(&self) -> Duration;
 
-    /// The moment now, where the clock can be read.
+    /// The moment now, if the clock can be read.
     fn now(&self) -> Option<Instant>;
 
     /// Waits so long.
     fn sleep(&self, time: Duration);
 
-    /// Waits until the condition variable is told, or so long.
+    /// Waits until the condition variable is notified, at most this long.
     fn wait<'b, T>(
         &self,
         told: &Condvar,
@@ -29,7 +29,7 @@ pub(crate) trait Pace {
     ) -> MutexGuard<'b, T>;
 }
 
-/// Nothing is waited for.
+/// No pauses.
 impl Pace for () {
     fn delay(&self) -> Duration {
         Duration::ZERO
@@ -51,7 +51,6 @@ impl Pace for () {
     }
 }
 
-/// Pauses of this length, by the runtime's clock.
 #[derive(Drop)]
 pub(crate) struct Pauses<'a, R: Wait + time::Clock> {
     pub(crate) rt: &'a R,
@@ -81,21 +80,20 @@ impl<R: Wait + time::Clock> Pace for Pauses<'_, R> {
     }
 }
 
-/// When the last fetch at a site began, if one did.
+/// When the last fetch at a site began, if any.
 #[derive(Clone, Copy)]
 pub(crate) struct LastBegin {
     last: Option<Instant>,
 }
 
 impl LastBegin {
-    /// No fetch has begun.
     pub(crate) fn never() -> LastBegin
         ensures { begun_at result ≡ None }
     {
         LastBegin { last: None }
     }
 
-    /// How long a fetch must wait that would begin now.
+    /// How long a fetch must wait.
     pub(crate) fn wait(&self, delay: Duration, now: Instant) -> Duration
         ensures { as_nanos result
             ≡ wait_of (as_nanos delay) (begun_at self.now) (instant_nanos now) }
@@ -106,7 +104,7 @@ impl LastBegin {
         }
     }
 
-    /// A fetch begins now, whatever was before it.
+    /// Notes that a fetch begins now, without waiting.
     pub(crate) fn note(&mut self, now: Instant)
         ensures { begun_at self.new ≡ Some (later_of (begun_at self.old) (instant_nanos now)) }
     {
@@ -117,7 +115,7 @@ impl LastBegin {
         self.last = Some(later);
     }
 
-    /// A fetch begins now where it need not wait. How long it must wait is told.
+    /// Begins a fetch now unless it must wait. Returns how long it must wait.
     pub(crate) fn begin(&mut self, delay: Duration, now: Instant) -> Duration
         ensures wait { as_nanos result
             ≡ wait_of (as_nanos delay) (begun_at self.old) (instant_nanos now) }

@@ -1,5 +1,5 @@
-//! The outcomes of a shift, each put in the place of its job.
-//! Called by `run_shift`, behind the last job.
+//! Puts a shift's outcomes in the places of their jobs.
+//! Called by `run_shift`, after the last job.
 ghost use Rattle.std.specs.Prelude.{◌≡◌, ◌≤◌, ℕ, length, map};
 ghost use Rattle.std.specs.List.{slice_get};
 ghost use Rattle.job_line.specs.Sums.{weigh, weigh_all};
@@ -9,7 +9,7 @@ ghost use Rattle.crawl_workers.specs.Shifts.{ArePlaced, numbers_of};
 use crate::crew::Done;
 use crate::report::Crawled;
 
-/// Puts what came of each job in the place of its number. No number comes twice.
+/// Puts each job's outcome at its number. No number comes twice.
 pub(crate) fn place_all(outcomes: &mut [Crawled], done: Vec<Vec<Done>>)
     requires { (n : ℕ)
         → weigh_all (one_at_number n) (all_numbers (map (λ list. list.items) done.items))
@@ -22,7 +22,7 @@ pub(crate) fn place_all(outcomes: &mut [Crawled], done: Vec<Vec<Done>>)
     }
 }
 
-// Puts what one worker did in its places, and leaves the others.
+// Puts one worker's outcomes, and leaves the others.
 fn place(outcomes: &mut [Crawled], done: Vec<Done>)
     requires { (n : ℕ) → weigh (one_at_number n) (numbers_of done.items)
         ≤ one_below (length outcomes.old) n }

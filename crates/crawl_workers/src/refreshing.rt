@@ -1,4 +1,4 @@
-//! `refresh`: a robots answer of an authority, fetched anew.
+//! `refresh`: fetches an authority's robots answer anew.
 //! RFC 9309, sections 2.3.1 and 2.4.
 ghost use Rattle.std.specs.Prelude.{◌≡◌};
 ghost use Rattle.gate_lock.specs.Desks.{HasOut, KeepsOut};
@@ -21,11 +21,11 @@ use robots_verdict::{Answer, Closure};
 use std::alloc::Global;
 use std::sync::Wait;
 
-/// Fetches the robots.txt of an authority, and has the desk bring the answer, which stands from now
-/// on. It tells that answer's word: rules, open or closed. No lock is held while it fetches.
+/// Fetches the authority's robots.txt and has the desk bring the answer, which is in force from now on.
+/// Returns the answer's word: rules, open or closed. No lock is held while it fetches.
 ///
-/// Where the allocator has no memory for the fetch, the authority is closed. Only what `Desk::begin`
-/// refuses is refused, and then nothing is fetched.
+/// Out of memory for the fetch closes the authority. It fails only if `Desk::begin` does, and then nothing
+/// is fetched.
 pub fn refresh<G: Gate, F: Fetcher, C: Clock, R: Wait>(
     rt: &R,
     alloc: Global,
@@ -44,7 +44,7 @@ pub fn refresh<G: Gate, F: Fetcher, C: Clock, R: Wait>(
     Ok(bring_answer(rt, alloc, turn, desk, fetcher, clock, &()))
 }
 
-/// Fetches the robots.txt of a turn's authority, has the desk bring the answer, and tells its word.
+/// Fetches the robots.txt of a turn's authority, brings the answer, and returns its word.
 pub(crate) fn bring_answer<G: Gate, F: Fetcher, C: Clock, N: EventObserver, R: Wait>(
     rt: &R,
     alloc: Global,
@@ -74,8 +74,7 @@ pub(crate) fn bring_answer<G: Gate, F: Fetcher, C: Clock, N: EventObserver, R: W
     word
 }
 
-// The answer that the authority's robots.txt gives, with its life. `why` is told what decided it, where
-// that was a reply.
+// The answer of the authority's robots.txt, with its life. `why` gets what decided it, if that was a reply.
 fn fetch_answer<G: Gate, F: Fetcher, N: EventObserver>(
     alloc: Global,
     turn: &RobotsTurn<G>,
@@ -110,8 +109,8 @@ fn fetch_answer<G: Gate, F: Fetcher, N: EventObserver>(
     }
 }
 
-// Lets the answer share the text of the one in force, where this has the same octets: a robots.txt that is fetched again
-// and again lies in memory once.
+// Lets the answer share the text in force if it has the same octets, so a robots.txt fetched again and
+// again is in memory once.
 fn share_text<G: Gate, R: Wait>(
     rt: &R,
     desk: &Desk<'_, G>,
@@ -126,7 +125,7 @@ fn share_text<G: Gate, R: Wait>(
     }
 }
 
-// The answer if memory runs out: a closed site is the safe side.
+// The answer when memory runs out: closing the site is the safe side.
 fn undecided() -> TimedAnswer
     ensures undecided { IsUndecided result.says result.life }
     ensures spares { result.spares ≡ 2 }

@@ -1,4 +1,4 @@
-//! What a shift of several workers reports, and why one does not.
+//! The report of a shift of several workers, and why there may be none.
 //! For callers of `run_shift`.
 
 use crate::event::Event;
@@ -7,18 +7,18 @@ use gate_lock::{DesksFull, Gate, Receipts, SettleFault, Settled};
 use std::alloc::AllocError;
 use std::marker::Model;
 
-/// What is kept of an outcome: its hops in order. Its body is let go when the job is done.
+/// The kept outcome: its hops in order. The body is dropped when the job is done.
 #[derive(Drop)]
 pub struct Crawled {
     pub hops: Vec<Hop>,
 }
 
-/// What a shift did, when it has ended and its gate is settled.
+/// What a shift did, after its gate is settled.
 #[derive(Drop)]
 pub struct Report<G: Gate> {
-    /// What came of the jobs, in their order.
+    /// The jobs' outcomes, in order.
     pub outcomes: Vec<Crawled>,
-    /// The numbers of the jobs that each worker drew, from 0, in the order of its draws.
+    /// The numbers, from 0, of the jobs that each worker drew, in the order drawn.
     pub drawn: Vec<Vec<u64>>,
     /// The receipts of each worker's desk, in the same order.
     pub receipts: Vec<Receipts<G>>,
@@ -40,14 +40,14 @@ impl<G: Gate> Model for Report<G> {
     } };
 }
 
-/// Why a shift has no report. The shift has nothing out: no permit, no running fetch and no turn.
+/// Why a shift has no report. No permit, running fetch or turn of the shift is outstanding.
 #[derive(Clone, Copy, Debug, PartialEq, Eq)]
 pub enum ShiftFault {
-    /// A growth of memory was refused.
+    /// An allocation failed.
     NoMemory,
     /// The gate has no desk for one of the workers.
     DesksFull,
-    /// The jobs were done, but the gate is not settled by the shift's receipts: others used it too.
+    /// The jobs were done, but the shift's receipts don't settle the gate: others used it too.
     Unsettled(SettleFault),
 }
 
@@ -84,22 +84,22 @@ impl From<SettleFault> for ShiftFault {
     }
 }
 
-/// What is told of jobs while they are done. Workers call it at the same time, each on its own thread.
+/// Receives the events of jobs. Workers call it concurrently, each on its own thread.
 pub trait Watcher {
-    /// This comes next in the job of this number, from 0.
+    /// The next event in the job of this number, from 0.
     fn sees(&self, number: u64, event: Event<'_>);
 
-    /// The job of this number, from 0, is done, and has this outcome, bodies too.
+    /// The job of this number, from 0, is done with this outcome, bodies included.
     fn done(&self, number: u64, job: &Job, outcome: &Outcome);
 
-    /// Whether nothing more is to be fetched: who waits for a fetch then waits no longer. It is asked after each job of a
-    /// shift with pauses.
+    /// Whether no more fetches are wanted, so that waits for fetches end. A shift with pauses asks after
+    /// each job.
     fn is_over(&self) -> bool {
         false
     }
 }
 
-/// Nobody watches.
+/// Ignores all events.
 impl Watcher for () {
     fn sees(&self, _number: u64, _event: Event<'_>) {}
 

@@ -1,4 +1,4 @@
-//! A shift: several workers do the jobs of a list over one gate, each on a thread of its own.
+//! A shift: several workers, each on its own thread, do the jobs of a list over one gate.
 //! RFC 9309, sections 2.2 to 2.4, in the profile of docs/POLICY.md.
 ghost use Rattle.std.specs.Prelude.{◌≡◌, ◌≤◌, ◌<◌, ℕ, All, IfOk, OnOk, length, map, slice_index_or, vec_len};
 ghost use Rattle.job_line.specs.Covers.{IsNew, parts_of};
@@ -26,17 +26,16 @@ use std::thread::Threads;
 use std::time::Duration;
 use std::{thread, time};
 
-/// Does all jobs over a gate that has made no entry, by so many workers, 1 to 16, and settles the gate.
-/// Each worker has a thread of its own, and one is the caller's; where no thread can be had, a worker
-/// works before or after another one, on that one's thread. `watcher` is told of each job as soon as it
-/// is done.
+/// Does all jobs over a gate that has made no entry, by 1 to 16 workers, and settles the gate. Each worker
+/// has its own thread, and one is the caller's; if a thread can't be had, its worker works before or after
+/// another on that one's thread. `watcher` gets each job as soon as it is done.
 ///
-/// Workers draw from the sites in turn. While the robots.txt of a site is fetched, no other worker draws a
-/// job of that site; no more workers do jobs of one site at a time than it has places, and one worker less
-/// than all while other sites have jobs. The report keeps the order of the jobs.
+/// Workers draw from the sites in turn. While a site's robots.txt is fetched, no other worker draws its
+/// jobs. At most as many workers as a site has places do its jobs at once, and one less than all while
+/// other sites have jobs. The report keeps the order of the jobs.
 ///
-/// The faults of the workers come before those of the settlement. After a fault the shift has nothing
-/// out, but its receipts are lost: a gate in which it made an entry can't be settled any more.
+/// A worker's fault is returned before one of settling. After a fault the shift has nothing outstanding,
+/// but its receipts are lost: a gate in which it made an entry can't be settled any more.
 pub fn run_shift<
     G: Gate + Send + Sync,
     F: Fetcher + Sync,
@@ -62,9 +61,9 @@ pub fn run_shift<
     run_at_pace(rt, alloc, jobs, workers, &(), gate, fetcher, clock, watcher)
 }
 
-/// `run_shift` with pauses: each fetch of a page begins no sooner than the delay after the begin of the fetch before it at the
-/// same site, be that a page, a robots.txt or what a redirect led to. Robots.txt files wait for nobody. While a site rests
-/// workers draw jobs of others. A delay of zero pauses nowhere.
+/// `run_shift` with pauses: each fetch of a page begins no sooner than the delay after the begin of the
+/// fetch before it at the same site, be that a page, a robots.txt or a redirect's target. Robots.txt files
+/// don't wait. While a site rests, workers draw jobs of others. A delay of zero means no pauses.
 pub fn run_shift_paced<
     G: Gate + Send + Sync,
     F: Fetcher + Sync,
@@ -94,8 +93,8 @@ pub fn run_shift_paced<
     )
 }
 
-/// `run_shift_paced` over a gate that goes on from a base: it is settled with the receipts of what was before, which come last
-/// in the report. The report has the started fetches of these too.
+/// `run_shift_paced` over a gate that continues from a base. The receipts of earlier work are needed to
+/// settle it; they come last in the report, which includes their started fetches.
 pub fn run_later_shift<
     G: Gate + Send + Sync,
     F: Fetcher + Sync,
@@ -139,7 +138,7 @@ pub fn run_later_shift<
     })
 }
 
-// Does all jobs at this pace over a gate that has made no entry, and settles the gate.
+// `run_shift` at this pace.
 fn run_at_pace<
     G: Gate + Send + Sync,
     F: Fetcher + Sync,
@@ -180,7 +179,7 @@ fn run_at_pace<
     })
 }
 
-// What came of all jobs, before the gate is settled.
+// The results of all jobs, before the gate is settled.
 #[derive(Drop)]
 struct AllDone<G: Gate> {
     outcomes: Vec<Crawled>,
@@ -201,7 +200,6 @@ impl<G: Gate> Model for AllDone<G> {
     } };
 }
 
-// Does all jobs.
 fn do_jobs<
     G: Gate + Send + Sync,
     F: Fetcher + Sync,
@@ -256,7 +254,7 @@ fn do_jobs<
         done,
         receipts,
     } = handover;
-    // One worker alone has found the end of each site, so all seats together drew each job, once.
+    // A single worker has found the end of each site, so all seats together drew each job once.
     line.gather(seats);
     place_all(&mut outcomes, done);
     Ok(AllDone {
@@ -266,7 +264,7 @@ fn do_jobs<
     })
 }
 
-// As many outcomes, none of which has a hop yet.
+// This many outcomes without hops.
 fn no_outcomes(alloc: Global, count: usize) -> Result<Vec<Crawled>, AllocError>
     ensures { IfOk result (λ outcomes. vec_len outcomes ≡ count) }
 {
@@ -279,7 +277,7 @@ fn no_outcomes(alloc: Global, count: usize) -> Result<Vec<Crawled>, AllocError>
     Ok(outcomes)
 }
 
-// A worker for each seat, who has done nothing.
+// A new worker for each seat.
 fn hire<G: Gate>(alloc: Global, seats: Vec<JobSeat>) -> Result<Vec<Member<G>>, AllocError>
     ensures { IfOk result (λ members. members.items ≡ map newcomer seats.items) }
 {
@@ -298,7 +296,7 @@ fn hire<G: Gate>(alloc: Global, seats: Vec<JobSeat>) -> Result<Vec<Member<G>>, A
 }
 
 impl<F: Fetcher + Sync, C: Clock + Sync, W: Watcher + Sync, P: Pace + Sync> Crew<'_, F, C, W, P> {
-    // Lets a worker at each seat do all jobs with the others, and takes what they hand over.
+    // Runs all workers, and takes what they hand over.
     fn do_all<G: Gate + Send + Sync, R: Threads + Wait + Sync>(
         &self,
         rt: &R,
@@ -322,7 +320,7 @@ impl<F: Fetcher + Sync, C: Clock + Sync, W: Watcher + Sync, P: Pace + Sync> Crew
         Ok(())
     }
 
-    // Lets each worker work on a thread of its own, and the last one on this.
+    // Runs each worker on its own thread, and the last one on this.
     fn employ_all<G: Gate + Send + Sync, R: Threads + Wait + Sync>(
         &self,
         rt: &R,

@@ -1,4 +1,4 @@
-//! A site of a shift: when a worker may enter it for a job, and when a fetch there may begin.
+//! A site of a shift: when a worker may enter it, and when a fetch there may begin.
 //! Called by the table of sites, under its lock.
 ghost use Rattle.std.specs.Prelude.{◌≡◌, ◌<◌, false, IsTrue};
 ghost use Rattle.std.specs.Duration.{as_nanos};
@@ -9,7 +9,7 @@ ghost use Rattle.crawl_workers.specs.Sites.{HasBegun, awaited_by, entered_by, le
 use crate::pace::LastBegin;
 use std::time::{Duration, Instant};
 
-/// What is known of the robots.txt of a site.
+/// The state of a site's robots.txt.
 #[derive(Clone, Copy, PartialEq, Eq)]
 pub(crate) enum Robots {
     Unknown,
@@ -18,23 +18,22 @@ pub(crate) enum Robots {
     Answered,
 }
 
-/// A site.
 #[derive(Drop)]
 pub(crate) struct ShiftSite {
-    /// For how many of its jobs no worker has entered.
+    /// Jobs that no worker has entered for.
     pub(crate) left: u64,
-    /// How many workers do jobs of it.
+    /// Workers doing its jobs.
     pub(crate) workers: u64,
     pub(crate) robots: Robots,
-    /// When the last fetch there began, and whether a worker is to fetch there next: it has entered, and its fetch has not
-    /// begun yet. Neither is known where fetches don't pause.
+    /// When the last fetch began, and whether a worker that entered has yet to begin the next fetch. Both
+    /// are unused without pauses.
     pub(crate) begun: LastBegin,
     pub(crate) next_is_taken: bool,
 }
 
 impl ShiftSite {
-    /// Whether a worker may enter: for a job that is left, while no worker fetches the robots.txt or is to fetch next, and
-    /// at a place that is free.
+    /// Whether a worker may enter: a job is left, a place is free, and no worker fetches the robots.txt or
+    /// is to fetch next.
     pub(crate) fn may_enter(&self, places: u64) -> bool
         ensures { result ≡ may_enter self.now places }
     {
@@ -44,8 +43,8 @@ impl ShiftSite {
             && !self.next_is_taken
     }
 
-    /// Lets a worker enter for a job, and tells whether it may. Who enters first fetches the robots.txt, and where fetches
-    /// pause each is to fetch next.
+    /// Lets a worker enter for a job if it may; returns whether it may. The first to enter fetches the
+    /// robots.txt; with pauses each is to fetch next.
     pub(crate) fn enter(&mut self, places: u64, pauses: bool) -> bool
         ensures may { result ≡ may_enter self.old places }
         ensures entered { IsTrue result → self.new ≡ entered_by pauses self.old }
@@ -63,7 +62,7 @@ impl ShiftSite {
         true
     }
 
-    /// A worker has left. Where nobody else is there, nobody fetches the robots.txt.
+    /// A worker leaves. If none is left, nobody fetches the robots.txt.
     pub(crate) fn leave(&mut self)
         ensures { self.new ≡ left_by self.old }
     {
@@ -74,7 +73,8 @@ impl ShiftSite {
         self.next_is_taken = false;
     }
 
-    /// A fetch begins now where it need not wait, and else a worker waits to fetch next. How long it must wait is told.
+    /// Begins a fetch now unless it must wait, in which case a worker waits to fetch next. Returns how long
+    /// it must wait.
     pub(crate) fn begin(&mut self, delay: Duration, now: Instant) -> Duration
         ensures wait { as_nanos result
             ≡ wait_of (as_nanos delay) (begun_at self.old.begun) (instant_nanos now) }

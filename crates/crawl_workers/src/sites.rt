@@ -1,5 +1,5 @@
-//! The sites of a shift: at which of them a worker may do a job now. Sites take turns, and a site that
-//! would have a worker wait is passed by.
+//! The sites of a shift: where a worker may do a job now.
+//! Sites take turns, and one at which a worker would have to wait is skipped.
 use crate::pace::{LastBegin, Pace};
 use crate::site::{Robots, ShiftSite};
 use crate::strangers::Strangers;
@@ -9,15 +9,14 @@ use std::collections::BTreeMap;
 use std::sync::{Condvar, Mutex, MutexGuard, Wait};
 use std::time::{Duration, Instant};
 
-/// What is known of each site. It has a lock of its own, which is taken while a worker has no other.
+/// The sites' state. Its lock is taken only by a worker that holds no other lock.
 #[derive(Drop)]
 pub(crate) struct ShiftSites {
-    // The sites by their authorities.
     names: BTreeMap<String, usize>,
-    // How long lies between the begins of two fetches at a site; where it is zero none is taken down.
+    // The time between the begins of two fetches at a site; if zero, begins are not noted.
     delay: Duration,
     waiting: Mutex<SiteTable>,
-    // Told of each site that may be entered again, and when no job is left.
+    // Notified of each site that may be entered again, and when no job is left.
     freed: Condvar,
 }
 
@@ -25,10 +24,9 @@ pub(crate) struct ShiftSites {
 struct SiteTable {
     sites: Vec<ShiftSite>,
     turns: Turns,
-    // How many jobs of all sites no worker has entered for.
+    // Jobs of all sites that no worker has entered for.
     left: u64,
-    // The most workers that do jobs of one site at a time; and how many do so while others have jobs, one
-    // less than all.
+    // The most workers at one site, and the most while others have jobs: one less than all.
     places: u64,
     crowd: u64,
     delay: Duration,
@@ -36,8 +34,8 @@ struct SiteTable {
 }
 
 impl ShiftSites {
-    /// Sites that have these names and so many jobs, for so many workers, of which at most so many have a
-    /// place at one site. At each so long lies between the begins of two fetches.
+    /// Sites with these names and job counts, for this many workers, at most `places` at one site, with
+    /// this delay between the begins of two fetches.
     pub(crate) fn new(
         alloc: Global,
         names: BTreeMap<String, usize>,
@@ -66,8 +64,8 @@ impl ShiftSites {
         })
     }
 
-    /// Enters the site whose turn it is, for one job; none once workers have entered for all jobs. It waits
-    /// while each site that has jobs left would have a worker wait.
+    /// Enters the next site in turn for one job; none once workers have entered for all jobs. Waits while a
+    /// worker would have to wait at each site with jobs left.
     pub(crate) fn enter<P: Pace, R: Wait>(&self, rt: &R, pace: &P) -> Option<usize> {
         'tries: for _ in rt.forever() {
             let now = self.moment_by(pace);
@@ -85,7 +83,7 @@ impl ShiftSites {
         unreachable!()
     }
 
-    // Waits while no site's turn comes; where fetches pause, once, and no longer than until a site has rested.
+    // Waits while no site has a turn; with pauses, once, and no longer than until a site has rested.
     fn wait_while_stuck<'w, P: Pace, R: Wait>(
         &self,
         rt: &R,
@@ -107,7 +105,7 @@ impl ShiftSites {
         }
     }
 
-    // The moment now, where fetches pause.
+    // The moment now, with pauses.
     fn moment_by<P: Pace>(&self, pace: &P) -> Option<Instant> {
         if self.delay.is_zero() {
             return None;
@@ -115,14 +113,14 @@ impl ShiftSites {
         pace.now()
     }
 
-    /// Waits until a fetch at the authority may begin, and takes down that it does.
+    /// Waits until a fetch at the authority may begin, and notes its begin.
     pub(crate) fn await_turn<P: Pace, R: Wait>(&self, rt: &R, pace: &P, authority: &str) {
         if self.delay.is_zero() {
             return;
         }
         for _ in rt.forever() {
             let Some(now) = pace.now() else {
-                // A clock that can't be read tells nothing of the last fetch.
+                // Without a clock nothing is known of the last fetch.
                 pace.sleep(self.delay);
                 return;
             };
@@ -139,18 +137,17 @@ impl ShiftSites {
         }
     }
 
-    /// Whether fetches pause.
     pub(crate) fn pauses(&self) -> bool {
         !self.delay.is_zero()
     }
 
-    /// Ends all pauses, and the waits for them.
+    /// Ends all pauses, and wakes the workers that wait for them.
     pub(crate) fn end_pauses<R: Wait>(&self, rt: &R) {
         self.waiting.lock(rt).delay = Duration::ZERO;
         self.freed.notify_all();
     }
 
-    /// Takes down that a fetch at the authority begins now, which waits for nobody.
+    /// Notes that a fetch at the authority begins now, without waiting.
     pub(crate) fn note_fetch<P: Pace, R: Wait>(&self, rt: &R, pace: &P, authority: &str) {
         let Some(now) = self.moment_by(pace) else {
             return;
@@ -162,14 +159,13 @@ impl ShiftSites {
         }
     }
 
-    /// A worker that has entered the site leaves it.
     pub(crate) fn leave<R: Wait>(&self, rt: &R, site: usize) {
         if self.waiting.lock(rt).leave(site) {
             self.freed.notify_all();
         }
     }
 
-    /// The robots.txt of the authority is fetched from now on.
+    /// The fetch of the authority's robots.txt begins.
     pub(crate) fn asks<R: Wait>(&self, rt: &R, authority: &str) {
         self.learn(rt, authority, Robots::Fetched);
     }
@@ -179,7 +175,6 @@ impl ShiftSites {
         self.learn(rt, authority, Robots::Answered);
     }
 
-    // Takes down what is known of the robots.txt of an authority.
     fn learn<R: Wait>(&self, rt: &R, authority: &str, robots: Robots) {
         let Some(site) = self.names.get(authority) else {
             return;
@@ -191,7 +186,6 @@ impl ShiftSites {
 }
 
 impl SiteTable {
-    // Adds a site that has so many jobs.
     fn add(&mut self, count: u64) -> Result<(), AllocError> {
         let site = self.sites.len();
         self.sites.push(ShiftSite {
@@ -206,13 +200,13 @@ impl SiteTable {
         Ok(())
     }
 
-    // Whether jobs are left, and no site's turn comes.
+    // Whether jobs are left, but no site has a turn.
     fn is_stuck(&self) -> bool {
         self.left > 0 && self.turns.is_empty()
     }
 
-    // Enters the first site in turn that a worker may enter now, and that is not crowded while others may be
-    // entered. One that may not be entered is lined up again when it may, and one that rests when it has rested.
+    // Enters the first site in turn that a worker may enter and that is not crowded while others may be
+    // entered. A skipped site is lined up again when it may be entered, or has rested.
     fn enter(&mut self, now: Option<Instant>) -> Option<usize> {
         let mut crowded = None;
         for _ in 0..self.sites.len().saturating_add(1) {
@@ -232,7 +226,7 @@ impl SiteTable {
         None
     }
 
-    // How long a fetch at the site would have to wait now.
+    // How long a fetch at the site would have to wait.
     fn rest_of(&self, site: usize, now: Option<Instant>) -> Duration {
         match (self.sites.get(site), now) {
             (Some(site), Some(now)) => site.begun.wait(self.delay, now),
@@ -240,7 +234,7 @@ impl SiteTable {
         }
     }
 
-    // Lines up the sites at which a fetch need not wait, and tells how long it is until another one has rested.
+    // Lines up the sites at which no fetch must wait. Returns how long until another has rested.
     fn line_up_rested(&mut self, now: Option<Instant>) -> Option<Duration> {
         let mut first: Option<Duration> = None;
         for site in 0..self.sites.len() {
@@ -254,7 +248,7 @@ impl SiteTable {
         first
     }
 
-    // Takes down that a fetch at the site begins now, where it need not wait, and tells how long it must.
+    // Begins a fetch at the site unless it must wait; returns how long.
     fn begin(&mut self, site: usize, now: Instant) -> Duration {
         let delay = self.delay;
         match self.sites.get_mut(site) {
@@ -263,12 +257,12 @@ impl SiteTable {
         }
     }
 
-    // Takes down that a fetch at an authority that no job names begins now, where it need not wait, and tells how long it must.
+    // Begins a fetch at an authority that no job names unless it must wait; returns how long.
     fn begin_elsewhere(&mut self, authority: &str, now: Instant) -> Duration {
         self.strangers.begin(authority, self.delay, now)
     }
 
-    // Takes down that a fetch at the site begins now, whatever was before it.
+    // Notes that a fetch at the site begins now, without waiting.
     fn note(&mut self, site: usize, now: Instant) {
         if let Some(site) = self.sites.get_mut(site) {
             site.begun.note(now);
@@ -282,7 +276,8 @@ impl SiteTable {
             .is_some_and(|site| site.workers >= self.crowd)
     }
 
-    // Lets a worker enter a site, whose turn comes again behind the others, and tells whether it may.
+    // Lets a worker enter a site if it may; returns whether it may. The site then has its turn after the
+    // others.
     fn let_in(&mut self, site: usize) -> bool {
         let places = self.places;
         let pauses = !self.delay.is_zero();
@@ -297,7 +292,7 @@ impl SiteTable {
         may
     }
 
-    // A worker has left the site. It tells whether that gives the site a turn.
+    // A worker leaves; returns whether that gives the site a turn.
     fn leave(&mut self, site: usize) -> bool {
         if let Some(site) = self.sites.get_mut(site) {
             site.leave();
@@ -305,7 +300,7 @@ impl SiteTable {
         self.line_up(site)
     }
 
-    // Takes down what is known of a site's robots.txt, and tells whether that gives the site a turn.
+    // Notes the state of a site's robots.txt; returns whether that gives the site a turn.
     fn learn(&mut self, site: usize, robots: Robots) -> bool {
         if let Some(site) = self.sites.get_mut(site) {
             site.robots = robots;
@@ -313,7 +308,7 @@ impl SiteTable {
         self.line_up(site)
     }
 
-    // Gives a site a turn behind the others, where a worker may enter it and it has none yet.
+    // Gives a site a turn after the others, if a worker may enter it and it has none.
     fn line_up(&mut self, site: usize) -> bool {
         let places = self.places;
         self.sites

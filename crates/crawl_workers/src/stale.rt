@@ -1,5 +1,5 @@
-//! A turn that begins where no answer is in force: the look and the begin are made under one hold of the lock, so no
-//! two desks fetch one robots.txt. RFC 9309, section 2.4.
+//! A turn that begins if no answer is in force. One hold of the lock covers check and begin, so no two
+//! desks fetch one robots.txt. RFC 9309, section 2.4.
 ghost use Rattle.std.specs.Prelude.{◌≤◌};
 ghost use Rattle.path_normal.specs.PageText.{authority_of};
 ghost use Rattle.gate_history.specs.History.{entry_count};
@@ -10,7 +10,7 @@ use gate_core::{BeginRefusal, Standing};
 use gate_lock::{Desk, Gate, Held, RobotsTurn};
 use path_normal::{Authority, PageUrl};
 
-/// Begins a turn of a page's authority where no answer of it is in force in the gate that is lent.
+/// Begins a turn of a page's authority if the gate has no answer of it in force.
 pub(crate) fn begin_if_stale<G: Gate>(
     url: &PageUrl,
     desk: &mut Desk<'_, G>,

@@ -1,4 +1,4 @@
-//! The sites that no job of a shift names, to which redirects lead: when the last fetch began there.
+//! The sites that no job names but redirects lead to: when the last fetch began there.
 //! Called by the table of sites, for `shift --delay`.
 
 use crate::pace::LastBegin;
@@ -6,17 +6,15 @@ use std::alloc::Global;
 use std::collections::BTreeMap;
 use std::time::{Duration, Instant};
 
-/// What is known of such sites.
 #[derive(Drop)]
 pub(crate) struct Strangers {
     alloc: Global,
     sites: BTreeMap<String, LastBegin>,
-    // Those for which there was no memory share one.
+    // Shared by those for which there was no memory.
     others: LastBegin,
 }
 
 impl Strangers {
-    /// None is known.
     pub(crate) fn new(alloc: Global) -> Strangers {
         Strangers {
             alloc,
@@ -25,7 +23,7 @@ impl Strangers {
         }
     }
 
-    /// A fetch at the authority begins now where it need not wait. How long it must wait is told.
+    /// Begins a fetch unless it must wait. Returns how long it must wait.
     pub(crate) fn begin(&mut self, authority: &str, delay: Duration, now: Instant) -> Duration {
         self.know(authority);
         match self.sites.get_mut(authority) {
@@ -34,7 +32,7 @@ impl Strangers {
         }
     }
 
-    /// A fetch at the authority begins now, whatever was before it.
+    /// Notes that a fetch at the authority begins now, without waiting.
     pub(crate) fn note(&mut self, authority: &str, now: Instant) {
         self.know(authority);
         match self.sites.get_mut(authority) {
@@ -43,13 +41,13 @@ impl Strangers {
         }
     }
 
-    // Makes room for an authority, which may have shared with others so far.
+    // Makes room for an authority, which may have been sharing so far.
     fn know(&mut self, authority: &str) {
         if self.sites.contains_key(authority) {
             return;
         }
         if let Ok(name) = String::from_str(self.alloc, authority) {
-            // (without memory it shares with others)
+            // (without memory it keeps sharing)
             let _ = self.sites.insert(name, self.others);
         }
     }

@@ -1,4 +1,4 @@
-//! The turns of sites: a line in which each site stands at most once.
+//! The turns of sites: a queue that holds each site at most once.
 //! Called by the table of sites, under its lock.
 ghost use Rattle.std.specs.Prelude.{◌≤◌, ◌+◌};
 ghost use Rattle.std.specs.VecDeque.{deque_capacity, deque_len};
@@ -7,17 +7,17 @@ ghost use Rattle.crawl_workers.specs.Orders.{how_many_false};
 use std::alloc::{AllocError, Global};
 use std::collections::VecDeque;
 
-/// The sites whose turns come, in this order. There is room for every site.
+/// The sites in order of their turns. There is room for every site.
 #[derive(Drop)]
 pub(crate) struct Turns {
     line: VecDeque<usize>,
-    // Whether a site stands in the line.
+    // Whether a site is in the queue.
     stands: Vec<bool>,
     ghost room: { deque_len line + how_many_false stands.items ≤ deque_capacity line },
 }
 
 impl Turns {
-    /// No turns yet, of so many sites.
+    /// No turns yet.
     pub(crate) fn with_room(alloc: Global, sites: usize) -> Result<Turns, AllocError> {
         Ok(Turns {
             line: VecDeque::with_capacity(alloc, sites)?,
@@ -25,12 +25,11 @@ impl Turns {
         })
     }
 
-    /// Whether no site's turn comes.
     pub(crate) fn is_empty(&self) -> bool {
         self.line.is_empty()
     }
 
-    /// Gives a site a turn behind the others, and tells whether it had none.
+    /// Gives a site a turn after the others; returns whether it had none.
     pub(crate) fn line_up(&mut self, site: usize) -> bool {
         if site >= self.stands.len() || self.stands[site] {
             return false;
@@ -40,7 +39,6 @@ impl Turns {
         true
     }
 
-    /// Takes the first site out of the line.
     pub(crate) fn take(&mut self) -> Option<usize> {
         let site = self.line.pop_front()?;
         if site < self.stands.len() {

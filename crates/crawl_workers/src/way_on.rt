@@ -1,4 +1,4 @@
-//! Where a job goes on behind one fetch of a page.
+//! Where a job continues after the fetch of a page.
 //! RFC 9110, section 15.4.
 ghost use Rattle.std.specs.Prelude.{string_bytes};
 ghost use Rattle.std.specs.Option.{option_map};
@@ -13,19 +13,19 @@ use permit_book::PermitNo;
 use robots_fetch::{MAX_REDIRECTS, Nowhere, StatusClass, Stop, class_of, redirect_target_among};
 use std::alloc::Global;
 
-/// Where a job goes on behind a hop.
+/// Where a job continues after a hop.
 #[derive(Drop)]
 pub(crate) enum WayOn {
-    /// Nowhere, and this is the body of its page.
+    /// Nowhere; this is its page's body.
     Ends(Hop, Vec<u8>),
-    /// To the page where its redirect leads.
+    /// To the page that its redirect leads to.
     Leads(Hop, PageUrl),
-    /// Nowhere: its redirect is not followed, as the second hop says.
+    /// Nowhere: its redirect is not followed, for the second hop's reason.
     Stops(Hop, Hop),
 }
 
-/// Where a job goes on behind the fetch of a page by the permit of this number, with so many
-/// redirects followed before it, where pages of these schemes are fetched.
+/// Where a job continues after fetching a page by this permit number, after this many followed redirects,
+/// if pages of these schemes are fetched.
 pub(crate) fn way_on(
     alloc: Global,
     schemes: Schemes,
@@ -54,7 +54,6 @@ pub(crate) fn way_on(
     }
 }
 
-// Where a job goes on behind a page of a redirect status.
 fn follow(
     page: Hop,
     schemes: Schemes,

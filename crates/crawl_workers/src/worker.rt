@@ -1,4 +1,4 @@
-//! The hops of a job, each with a refresh where no answer is in force, an ask, and a fetch by the permit.
+//! The hops of a job, each with a refresh if no answer is in force, an ask, and a fetch by the permit.
 //! RFC 9309, sections 2.2, 2.3.1 and 2.4.
 ghost use Rattle.std.specs.Prelude.{◌≡◌, ◌≤◌, ◌∷◌, [], ℕ, List, vec_capacity};
 ghost use Rattle.path_normal.specs.PageText.{authority_of};
@@ -24,27 +24,25 @@ use robots_text::Token;
 use std::alloc::Global;
 use std::sync::Wait;
 
-/// The most octets that are taken of a page's body.
+/// The most octets taken of a page's body.
 pub(crate) const PAGE_LIMIT: usize = 1_048_576;
 
-/// What is told of a job while a worker does it.
+/// Receives a job's events while a worker does it.
 pub(crate) trait EventObserver {
-    /// This comes next.
+    /// The next event.
     fn sees(&self, event: Event<'_>);
 
-    /// A page of this authority is fetched next. It returns once its fetch may begin.
+    /// A page of this authority is to be fetched. Returns once its fetch may begin.
     fn awaits_turn(&self, _authority: &str) {}
 
-    /// A robots.txt of this authority, or what a redirect of one leads to there, is fetched from now on.
+    /// The fetch of this authority's robots.txt, or of a robots redirect to this authority, begins.
     fn begins_at(&self, _authority: &str) {}
 }
 
-/// Nobody is told.
 impl EventObserver for () {
     fn sees(&self, _event: Event<'_>) {}
 }
 
-/// What works on jobs.
 #[derive(Drop)]
 pub(crate) struct Worker<'a, F: Fetcher, C: Clock, N: EventObserver, R: Wait> {
     pub(crate) rt: &'a R,
@@ -55,7 +53,7 @@ pub(crate) struct Worker<'a, F: Fetcher, C: Clock, N: EventObserver, R: Wait> {
 }
 
 impl<F: Fetcher, C: Clock, N: EventObserver, R: Wait> Worker<'_, F, C, N, R> {
-    /// Makes the hops of a job, for which there is room.
+    /// Makes the hops of a job, which has room for them.
     pub(crate) fn hops_from<G: Gate>(
         &self,
         token: &Token,
@@ -97,7 +95,7 @@ impl<F: Fetcher, C: Clock, N: EventObserver, R: Wait> Worker<'_, F, C, N, R> {
         }
     }
 
-    // Makes a hop at a page, with so many redirects followed before it.
+    // Makes a hop at a page, after this many followed redirects.
     fn hop_at<G: Gate>(
         &self,
         token: &Token,
@@ -129,8 +127,8 @@ impl<F: Fetcher, C: Clock, N: EventObserver, R: Wait> Worker<'_, F, C, N, R> {
         }
     }
 
-    // Refreshes the answer of a page's authority where none is in force. Where another desk does so,
-    // its answer is waited for.
+    // Refreshes the answer of a page's authority if none is in force. If another desk does, waits for its
+    // answer.
     fn see_to_answer<G: Gate>(&self, url: &PageUrl, desk: &mut Desk<'_, G>) -> Result<(), Refusal>
         ensures refreshed { AddsEntries
             (MayRefresh (world_of (F.gives self.now.fetcher.now) (F.follows self.now.fetcher.now)
@@ -163,7 +161,6 @@ impl<F: Fetcher, C: Clock, N: EventObserver, R: Wait> Worker<'_, F, C, N, R> {
         }
     }
 
-    // Begins a turn of a page's authority where no answer of it is in force.
     fn begin_stale<G: Gate>(
         &self,
         url: &PageUrl,
@@ -180,8 +177,7 @@ impl<F: Fetcher, C: Clock, N: EventObserver, R: Wait> Worker<'_, F, C, N, R> {
         begin_if_stale(url, desk, &mut held, moment)
     }
 
-    // Asks for a page, and fetches it where that is granted, once it is its turn at the site: a page that is denied takes
-    // none.
+    // Asks for a page and, if granted, fetches it once the site's turn comes: a denied page needs no turn.
     fn fetch_asked<G: Gate>(
         &self,
         token: Token,
@@ -204,7 +200,7 @@ impl<F: Fetcher, C: Clock, N: EventObserver, R: Wait> Worker<'_, F, C, N, R> {
         }
     }
 
-    // Starts the fetch of a permit, makes it and finishes it.
+    // Starts, makes and finishes a permit's fetch.
     fn fetch_granted<G: Gate>(
         &self,
         permit: Permit<G>,
@@ -249,7 +245,7 @@ impl<F: Fetcher, C: Clock, N: EventObserver, R: Wait> Worker<'_, F, C, N, R> {
     }
 }
 
-// The hop of an ask that granted no permit.
+// The hop of an ask without permit.
 fn ask_hop(refusal: AskRefusal) -> Hop
     ensures { result ≡ ask_hop refusal }
 {

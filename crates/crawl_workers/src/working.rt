@@ -1,4 +1,4 @@
-//! `work`: a job, page after page over redirects, each by a permit of its own.
+//! `work`: a job, page after page over redirects, each with its own permit.
 //! RFC 9309, sections 2.2 and 2.3.1; RFC 9110, section 15.4.
 ghost use Rattle.std.specs.Prelude.{◌≡◌, ◌+◌, IfOk, OnErr};
 ghost use Rattle.gate_lock.specs.Desks.{KeepsOut};
@@ -14,16 +14,16 @@ use gate_lock::{Desk, Gate};
 use std::alloc::{AllocError, Global};
 use std::sync::Wait;
 
-/// The most hops of a job: five redirects that are followed, the page behind them, and why that is
-/// not followed where it is a redirect too.
+/// The most hops of a job: five followed redirects, the page they lead to, and why that is not followed if
+/// it redirects too.
 pub(crate) const MAX_HOPS: usize = 7;
 
-/// Fetches the page of a job, and where redirects lead from it, five at most. Each page has an ask
-/// and a start of its own. Before the ask the robots answer of the page's authority is refreshed
-/// where none is in force; where another desk is refreshing it, that is waited for.
+/// Fetches a job's page, and follows at most five redirects. Each page has its own ask and start. Before
+/// the ask, the robots answer of the page's authority is refreshed if none is in force; if another desk is
+/// refreshing it, this waits for that.
 ///
-/// The room of the hops is taken first, and only that can be refused here. If memory runs out later,
-/// the list of hops ends.
+/// Only the allocation of the hops, made first, can fail here. If memory runs out later, the list of hops
+/// ends.
 pub fn work<G: Gate, F: Fetcher, C: Clock, R: Wait>(
     rt: &R,
     alloc: Global,

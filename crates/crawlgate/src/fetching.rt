@@ -1,4 +1,4 @@
-//! What fetches pages and robots.txt files for a shift and for a server, as the options say.
+//! The fetcher of a shift or server, by the options.
 //! RFC 9309, section 2.2.1; RFC 9110, section 10.1.5.
 ghost use Rattle.program_arguments.specs.Contacts.{IsAllowedContact};
 
@@ -8,11 +8,11 @@ use program_arguments::Contact;
 use std::alloc::AllocError;
 use std::net::SocketAddr;
 
-// Robots.txt files are fetched under this name, pages under the token of their job.
+// The agent for robots.txt files. Pages have their job's token.
 const AGENT: &[u8] = b"crawlgate";
 
-/// A fetcher with these limits of time, of this reach, of https where a program opens TLS for it, which names a contact
-/// where one is to be told.
+/// A fetcher with these time limits and this reach, for https too if a program opens TLS, and with a
+/// contact if given.
 pub(crate) fn new_fetcher(
     host: &HostRuntime,
     times: TimeLimits,

@@ -1,5 +1,5 @@
-//! The folder of a gate's journal, where the words name one, and what the gate begins with: what an earlier process wrote
-//! there, or nothing.
+//! The folder of a gate's journal, if any, and the gate's beginning: what an earlier process wrote, or
+//! nothing.
 //! docs/crawlgate.1.md has the options.
 ghost use Rattle.std.specs.Prelude.{IfOk};
 ghost use Rattle.gate_core.specs.Limits.{AreLimits};
@@ -20,7 +20,7 @@ use std::hash::RandomState;
 use std::io;
 use std::io::ErrorKind;
 
-/// The folder of a journal, which no other process has; its name, and when the journal is synced.
+/// The locked folder of a journal, with its name and sync policy.
 #[derive(Drop)]
 pub(crate) struct OpenJournal<'a> {
     pub(crate) name: &'a str,
@@ -28,21 +28,21 @@ pub(crate) struct OpenJournal<'a> {
     pub(crate) sync: SyncPolicy,
 }
 
-/// What a gate begins with: its book, and the sites whose robots.txt files are to be fetched anew.
+/// A gate's beginning: its book, and the sites whose robots.txt files to fetch anew.
 #[derive(Drop)]
 pub(crate) struct JournalStart {
     pub(crate) book: Book,
     pub(crate) sites: Vec<Authority>,
 }
 
-/// What a gate goes on from: the receipts of what was entered before, and those sites.
+/// The earlier receipts of a gate, and those sites.
 #[derive(Drop)]
 pub(crate) struct Past<G: Gate> {
     pub(crate) receipts: Receipts<G>,
     pub(crate) sites: Vec<Authority>,
 }
 
-/// Opens the folder that the options name, if they do. Why it can't be a journal's is told.
+/// Opens the folder that the options name, if any. Reports why it can't be a journal's.
 pub(crate) fn open_journal<'a>(
     host: &HostRuntime,
     options: &'a Option<JournalOptions>,
@@ -61,8 +61,8 @@ pub(crate) fn open_journal<'a>(
     }
 }
 
-/// What a gate of these limits begins with: what the journal's last file leads to, whose text is ended; or else nothing.
-/// Why it can't go on from there is told.
+/// A gate's beginning with these limits: the state of the journal's last file, whose text is ended; or
+/// nothing. Reports why it can't continue there.
 pub(crate) fn begin_with(
     host: &HostRuntime,
     limits: Limits,
@@ -81,7 +81,6 @@ pub(crate) fn begin_with(
     }
 }
 
-// A gate without a past.
 fn begin_new(host: &HostRuntime, limits: Limits) -> Result<JournalStart, Ending>
     requires { AreLimits limits }
     ensures { IfOk result (λ begun. IsIdle begun.book) }
@@ -119,7 +118,7 @@ fn go_on(host: &HostRuntime, limits: Limits, file: LastFile) -> Result<JournalSt
     }
 }
 
-// Ends the text of a journal's last file, from which the gate goes on.
+// Ends the text of a journal's last file, from which the gate continues.
 fn end_file(host: &HostRuntime, file: LastFile, resumed: Resumed) -> Result<JournalStart, Ending>
     requires { IsIdle resumed.book }
     ensures { IfOk result (λ begun. IsIdle begun.book) }
@@ -143,7 +142,7 @@ fn end_file(host: &HostRuntime, file: LastFile, resumed: Resumed) -> Result<Jour
     }
 }
 
-// Tells why no gate goes on from a file.
+// Reports why no gate can continue from a file.
 fn tell_fault(
     host: &HostRuntime,
     file: &str,

@@ -1,4 +1,4 @@
-//! The program: what its words ask for, done over the standard streams.
+//! The program: does what its arguments ask, over the standard streams.
 //! docs/crawlgate.1.md is its manual page.
 #![tactic(auto)]
 
@@ -48,7 +48,7 @@ fn main(rt: HostRuntime) -> ExitCode {
     ExitCode::from(ending.status())
 }
 
-// Does a shift of these options. The first handle is for threads, the second for the streams.
+// Does a shift. The first handle is for threads, the second for streams.
 fn shift<R: Threads + Wait + time::Clock + Sync>(
     rt: &R,
     host: &HostRuntime,
@@ -74,7 +74,7 @@ fn shift<R: Threads + Wait + time::Clock + Sync>(
     }
 }
 
-// Does it over what the gate begins with.
+// Does it from the gate's beginning.
 fn shift_by<F: Fetcher + Sync, C: Clock + Sync, R: Threads + Wait + time::Clock + Sync>(
     rt: &R,
     host: &HostRuntime,
@@ -93,7 +93,7 @@ fn shift_by<F: Fetcher + Sync, C: Clock + Sync, R: Threads + Wait + time::Clock 
     }
 }
 
-// Does it, with a line of progress on standard error where a person watches that.
+// Does it with a progress line, if standard error is a watched terminal.
 fn shift_shown<F: Fetcher + Sync, C: Clock + Sync, R: Threads + Wait + time::Clock + Sync>(
     rt: &R,
     host: &HostRuntime,
@@ -123,12 +123,10 @@ fn shift_shown<F: Fetcher + Sync, C: Clock + Sync, R: Threads + Wait + time::Clo
     }
 }
 
-// Whether standard error is a terminal, on which nothing else is written.
 fn is_watched(host: &HostRuntime) -> bool {
     host.stderr().is_terminal() && !host.stdout().is_terminal()
 }
 
-// Reads the jobs, and does them over a new gate.
 fn shift_told<
     G: Gate + Send + Sync,
     E: Sink + Send,
@@ -173,7 +171,7 @@ fn shift_told<
                 None => do_jobs(host, &shift, jobs, &gate, options.told),
             };
             match ending {
-                // Lines that were skipped are told already.
+                // Skipped lines were reported already.
                 Ending::Done if !lines.bad.is_empty() => Ending::BadLine,
                 ending => ending,
             }
@@ -182,7 +180,7 @@ fn shift_told<
     }
 }
 
-// Reads the jobs on standard input, or tells why they can't be read.
+// Reads the jobs on standard input, or reports why they can't be read.
 fn read_jobs<F: Fetcher>(
     host: &HostRuntime,
     fetcher: &F,
@@ -208,14 +206,14 @@ fn read_jobs<F: Fetcher>(
     }
 }
 
-// Tells lines that are no jobs. A standard error that fails leaves the shift alone.
+// Reports lines that are no jobs, ignoring a failing standard error.
 fn tell_lines(host: &HostRuntime, lines: &[BadJobLine]) {
     let mut errors = Counted::new(host.stderr());
     let _ = tell_bad_lines(host.alloc(), lines, &mut errors);
 }
 
-// Does these jobs, and writes what is to be told of them to standard output; and, where that is no table, the sites
-// that were closed to standard error.
+// Does these jobs, and writes the output to standard output; and unless that is a table, the closed sites
+// to standard error.
 fn do_jobs<
     G: Gate + Send + Sync,
     E: Sink + Send,
@@ -239,12 +237,12 @@ fn do_jobs<
         ShiftOutput::Table => shift.table_jobs(jobs, &mut writer, gate),
         ShiftOutput::History => shift.history_jobs(jobs, &mut writer, gate, &closed),
     };
-    // (a standard error that fails leaves the status alone)
+    // (a failing standard error does not change the status)
     let _ = closed.tell(&mut Counted::new(host.stderr()));
     tell_failed(host, shift_ending(end), Stream::Output, writer)
 }
 
-// How a shift ends whose jobs were read.
+// The ending of a shift whose jobs were read.
 fn shift_ending(end: Result<(), NotShifted>) -> Ending {
     match end {
         Ok(()) => Ending::Done,

@@ -1,5 +1,5 @@
-//! `crawlgate shift` with a journal: nothing is written, and no page is asked for, before what was entered until then stands
-//! in the journal's files. The shift goes on from where these end.
+//! `crawlgate shift` with a journal: output and requests wait until all earlier entries are in the files.
+//! The shift continues from where these end.
 ghost use Rattle.std.specs.Prelude.{◌≤◌, length};
 ghost use Rattle.job_line.specs.Limits.{IsCrew, max_jobs};
 
@@ -25,13 +25,13 @@ use std::thread::Threads;
 use std::time::Duration;
 use std::{thread, time};
 
-// How long lie between two looks at what nobody waits for, and at every how many looks it is made to outlive the machine,
-// where that is done once a second.
+// The time between two looks at entries that nobody waits for, and how many looks are between two syncs, if
+// those come once a second.
 const NAP_MILLISECONDS: u64 = 20;
 
 const SYNC_LOOKS: u64 = 50;
 
-/// Begins the journal, and does these jobs behind it. Where it has failed that is told.
+/// Begins the journal, and does these jobs. Reports a failure of the journal.
 pub(crate) fn shift_recorded<
     G: Gate + Send + Sync,
     E: Sink + Send,
@@ -69,7 +69,7 @@ pub(crate) fn shift_recorded<
     }
 }
 
-// A gate, and what records it.
+// A gate and its journal.
 #[derive(Clone, Copy)]
 struct Recorded<'r, 'a, G: Gate, J: Recorder, R: Wait> {
     chronicle: &'r Recording<'a, G, R>,
@@ -83,8 +83,8 @@ impl<
     J: Recorder + Sync,
     R: Threads + Wait + time::Clock + Sync,
 > Recorded<'r, 'a, G, J, R> {
-    // Does the jobs, and has what nobody waits for recorded meanwhile. What is named first is done last where no thread
-    // can be made.
+    // Does the jobs, and records meanwhile what nobody waits for. Without threads, what is named first runs
+    // last.
     fn work<E: Sink + Send, F: Fetcher + Sync, C: Clock + Sync>(
         &self,
         host: &HostRuntime,
@@ -106,14 +106,14 @@ impl<
         ending
     }
 
-    // Has recorded what is entered until the jobs have ended, and all of it then.
+    // Records entries until the jobs have ended, and then all that is left.
     fn record(&self, ended: &AtomicU64) {
         let rt = self.chronicle.rt;
         let mut looks: u64 = 0;
         for _ in rt.forever() {
             let is_last = ended.load(Ordering::SeqCst) > 0;
             looks = looks.wrapping_add(1);
-            // (a fault is kept, and each write meets it)
+            // (a fault is kept, and each write returns it)
             let _ = if is_last || looks % SYNC_LOOKS == 0 {
                 self.journal.see_to(rt, self.chronicle)
             } else {
@@ -126,8 +126,8 @@ impl<
         }
     }
 
-    // Does the jobs, of which there are as many, and as many workers, as may be: a thread's closure knows nothing of what
-    // its maker was told.
+    // Does the jobs, if their number and the workers' are within the limits: a thread's closure does not
+    // know what its maker was promised.
     fn do_some<E: Sink + Send, F: Fetcher + Sync, C: Clock + Sync>(
         &self,
         host: &HostRuntime,
@@ -175,7 +175,7 @@ impl<
         }
     }
 
-    // Does the jobs, and writes what is to be told of them.
+    // Does the jobs, and writes the output.
     fn write_jobs<E: Sink + Send, F: Fetcher + Sync, C: Clock + Sync>(
         &self,
         host: &HostRuntime,
@@ -198,12 +198,12 @@ impl<
                 shift.report_later(jobs, &mut writer, gate, past, &closed)
             }
         };
-        // (a standard error that fails leaves the status alone)
+        // (a failing standard error does not change the status)
         let _ = closed.tell(&mut Counted::new(host.stderr()));
         tell_failed(host, shift_ending(end), Stream::Output, writer.into_sink())
     }
 
-    // The receipts of what was entered before the jobs: by an earlier process, and for the robots.txt files that it was
+    // The receipts from before the jobs: of an earlier process, and of the robots.txt files that it was
     // fetching, which are fetched anew.
     fn receipts_before<E: Sink + Send, F: Fetcher + Sync, C: Clock + Sync>(
         &self,
@@ -224,7 +224,7 @@ impl<
         Ok(all)
     }
 
-    // Has the robots.txt files of these sites fetched, at a desk of its own.
+    // Fetches these sites' robots.txt files at its own desk.
     fn fetch_anew<E: Sink + Send, F: Fetcher + Sync, C: Clock + Sync>(
         &self,
         shift: &Shift<'_, '_, E, F, C, R>,
@@ -233,13 +233,13 @@ impl<
         let gate = self.chronicle.gate;
         let mut keeper = DeskKeeper::open(shift.rt, shift.alloc, gate, shift.fetcher)?;
         for site in sites {
-            // (without room in the history its answer stands)
+            // (without room in the history its old answer stays)
             let _ = keeper.refresh(shift.alloc, site, shift.clock);
         }
         Ok(keeper.close())
     }
 
-    // What comes up before each write and each fetch.
+    // What records before each write and fetch.
     fn abreast(&self) -> Abreast<'r, Recording<'a, G, R>, J, R> {
         Abreast {
             rt: self.chronicle.rt,

@@ -1,4 +1,4 @@
-//! `crawlgate serve`: clients that connect, served over a new gate.
+//! `crawlgate serve`: serves clients that connect to its gate.
 ghost use Rattle.std.specs.Prelude.{◌≡◌};
 ghost use Rattle.journal_resume.specs.Resuming.{IsIdle};
 ghost use Rattle.job_line.specs.Limits.{IsCrew};
@@ -25,7 +25,7 @@ use std::thread::Threads;
 use std::time::Duration;
 use std::{fs, io, time};
 
-// Who is told of a full history: standard error.
+// Reports a full history on standard error.
 #[derive(Drop)]
 struct FullLog<'a> {
     rt: &'a HostRuntime,
@@ -37,7 +37,7 @@ impl Alarm for FullLog<'_> {
     }
 }
 
-/// Listens, and serves clients to the end. The first handle is for threads, the second for the streams.
+/// Listens, and serves clients. The first handle is for threads, the second for streams.
 pub(crate) fn serve<R: Threads + Wait + time::Clock + Sync>(
     rt: &R,
     host: &HostRuntime,
@@ -54,7 +54,7 @@ pub(crate) fn serve<R: Threads + Wait + time::Clock + Sync>(
     }
 }
 
-// Listens, and serves with this journal, if there is one, from where it ends.
+// Listens, and serves with this journal, if any, from where it ends.
 fn serve_over<R: Threads + Wait + time::Clock + Sync>(
     rt: &R,
     host: &HostRuntime,
@@ -76,7 +76,7 @@ fn serve_over<R: Threads + Wait + time::Clock + Sync>(
     }
 }
 
-// Listens for overseers too, where the options say so, and serves.
+// Listens for overseers too, if the options say so, and serves.
 fn serve_at<R: Threads + Wait + time::Clock + Sync>(
     rt: &R,
     host: &HostRuntime,
@@ -100,7 +100,6 @@ fn serve_at<R: Threads + Wait + time::Clock + Sync>(
     }
 }
 
-// Listens where the options say.
 fn listen(host: &HostRuntime, place: &ListenAddress) -> io::Result<Listener> {
     match place {
         ListenAddress::Port(port) => Listener::bind(host, *port),
@@ -108,7 +107,7 @@ fn listen(host: &HostRuntime, place: &ListenAddress) -> io::Result<Listener> {
     }
 }
 
-// Tells where it listens: a port that was free is known to the listener alone.
+// Reports where it listens: only the listener knows the free port that it got.
 fn tell_places(
     host: &HostRuntime,
     place: &ListenAddress,
@@ -125,7 +124,6 @@ fn tell_places(
     }
 }
 
-// Tells where clients connect.
 fn tell_place(host: &HostRuntime, place: &ListenAddress, listener: &Listener) -> Ending {
     if let ListenAddress::Socket(path) = place {
         return tell_listening_at(host, path.as_str());
@@ -136,14 +134,14 @@ fn tell_place(host: &HostRuntime, place: &ListenAddress, listener: &Listener) ->
     }
 }
 
-// Removes the socket that was made. While this server listens at it, no other has taken its path.
+// Removes the socket. While this server listens there, no other takes its path.
 fn leave(host: &HostRuntime, place: &ListenAddress) {
     if let ListenAddress::Socket(path) = place {
         let _ = fs::remove_file(host, path.as_str());
     }
 }
 
-// Serves clients of this listener, and overseers at another, if there is one.
+// Serves this listener's clients, and overseers at another, if any.
 fn serve_clients<R: Threads + Wait + time::Clock + Sync>(
     rt: &R,
     host: &HostRuntime,
@@ -188,7 +186,7 @@ fn serve_clients<R: Threads + Wait + time::Clock + Sync>(
     }
 }
 
-// How long the gate fetches for lines that were sent ahead, where that has a bound.
+// The limit of fetching for lines sent ahead, if any.
 fn ahead_of(ahead: Ahead) -> Option<Duration> {
     match ahead {
         Ahead::Unbounded => None,
@@ -196,7 +194,7 @@ fn ahead_of(ahead: Ahead) -> Option<Duration> {
     }
 }
 
-// Runs a server over a gate that goes on from what was begun, behind a journal, if there is one.
+// Runs a server over the gate's beginning, with its journal, if any.
 fn run_over<
     G: Gate + Send + Sync,
     F: crawl_workers::Fetcher + Sync,
@@ -224,7 +222,7 @@ fn run_over<
     }
 }
 
-// Begins the journal of a gate, and runs a server behind it. Where the journal has failed it tells why.
+// Begins the journal of a gate, and runs a server with it. Reports why the journal has failed.
 fn run_recorded<
     G: Gate + Send + Sync,
     F: crawl_workers::Fetcher + Sync,
@@ -259,7 +257,7 @@ fn run_recorded<
     }
 }
 
-// Tells where it listens, and runs a server behind what records its gate, and tells what it has done.
+// Reports where it listens, runs a recorded server, and reports what it has done.
 fn run_behind<
     G: Gate + Send + Sync,
     F: crawl_workers::Fetcher + Sync,
@@ -287,7 +285,6 @@ fn run_behind<
     }
 }
 
-// Tells what a server has done.
 fn ending<G: Gate>(rt: &HostRuntime, end: Result<Served<G>, ServeFault>) -> Ending {
     match end {
         Ok(

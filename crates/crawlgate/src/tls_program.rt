@@ -1,5 +1,5 @@
-//! Whether the program that opens TLS is there.
-//! It is connected to once, before anything else is done: without it every site of https would be closed for a day.
+//! Whether the TLS program is there.
+//! It is connected to once, first of all: without it every https site would be closed for a day.
 ghost use Rattle.std.specs.Prelude.{◌≡◌, IfErr, Some, option_map};
 ghost use Rattle.program_commands.specs.declared.ending.Ending.TheVariants as endings;
 
@@ -7,8 +7,8 @@ use program_commands::Ending;
 use std::net::{SocketAddr, TcpStream};
 use std::time::Duration;
 
-/// Connects to the program at this address, where there is to be one. Where nobody takes the connection within this
-/// time, the program ends so.
+/// Connects to the program at this address, if there is to be one. If nobody accepts in time, crawlgate
+/// ends.
 pub(crate) fn find_tls_program(
     host: &HostRuntime,
     tls_by: Option<SocketAddr>,

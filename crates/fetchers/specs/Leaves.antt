@@ -1,5 +1,5 @@
--- What a leave to fetch is for.
--- The contracts of `Fetcher` cite it.
+-- The use of a leave to fetch.
+-- Used by `Fetcher`.
 use Rattle.std.specs.Prelude.{ℕ, List}
 use Rattle.fetchers.specs.declared.fetcher.PageLeave.{PageLeave}
 use Rattle.fetchers.specs.declared.fetcher.RobotsLeave.{RobotsLeave}
@@ -8,7 +8,7 @@ use Rattle.fetchers.specs.declared.fetcher.RobotsLeave.{RobotsLeave}
 abbrev pub page_of : PageLeave → List ℕ
 page_of leave = leave.url.now
 
--- the token under which it is fetched
+-- its token
 abbrev pub token_of_leave : PageLeave → List ℕ
 token_of_leave leave = leave.token.now
 

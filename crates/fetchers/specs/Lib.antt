@@ -1,4 +1,4 @@
--- What contracts say of leaves to fetch, of what fetches, and of where a robots fetch may lead.
+-- Definitions for leaves, fetchers, and robots walks.
 pub mod Leaves
 pub mod Limits
 pub mod Network

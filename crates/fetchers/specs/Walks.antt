@@ -10,14 +10,14 @@ use Rattle.robots_fetch.specs.declared.reply.RobotsReply.{RobotsReply}
 use Rattle.robots_fetch.specs.declared.reply.RobotsReply.TheVariants.{Status, CodingFault, NetworkFault}
 use Rattle.robots_fetch.specs.Walk.{LeadsAmong}
 
--- what came of a fetch of a robots.txt, as a walk reads it
+-- a fetch's result, as a walk reads it
 abbrev pub robots_reply_of : Result HttpReply WireFault → RobotsReply
 robots_reply_of (Ok reply) = Status reply.status reply.location reply.body reply.max_age
 robots_reply_of (Err faults.Coding) = CodingFault
 robots_reply_of (Err fault) = NetworkFault
 
--- the results are redirects from the one URL to the other, each given for the URL to which the one before it led,
--- where pages of these schemes are fetched
+-- redirects lead from one URL to the other, each given for the URL that the one before led to, for pages of these
+-- schemes
 abbrev pub AreLed : Schemes → (List ℕ → Result HttpReply WireFault → Type 0) → List ℕ
     → List (Result HttpReply WireFault) → List ℕ → Type 0
 AreLed schemes gives url [] end = url ≡ end
@@ -25,7 +25,7 @@ AreLed schemes gives url (given ∷ later) end =
     gives url given × ((next : List ℕ)
     × (LeadsAmong schemes url (robots_reply_of given) next × AreLed schemes gives next later end))
 
--- fetches led to this URL from that of the authority's robots.txt
+-- fetches led from the authority's robots.txt to this URL
 abbrev pub IsOnWalk : Schemes → (List ℕ → Result HttpReply WireFault → Type 0) → List ℕ → List ℕ → Type 0
 IsOnWalk schemes gives authority url =
     (way : List (Result HttpReply WireFault)) × AreLed schemes gives (robots_url_of authority) way url

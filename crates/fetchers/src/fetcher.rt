@@ -1,4 +1,4 @@
-//! What workers fetch by, and the leaves without which nothing is fetched.
+//! The interface of fetchers, and the leaves that they need.
 ghost use Rattle.std.specs.Prelude.{◌≡◌};
 ghost use Rattle.fetchers.specs.Leaves.{page_of, robots_page_of, token_of_leave};
 ghost use Rattle.fetchers.specs.Limits.{robots_limit};
@@ -10,8 +10,8 @@ use http_wire::{HttpReply, WireFault};
 use path_normal::{PageUrl, Schemes};
 use robots_text::Token;
 
-/// Leave to fetch a page once. `Fetcher::fetch_page` has it of a started permit, and nothing else
-/// makes one. It has no `Drop`: `spend` uses it up.
+/// Leave to fetch a page once. `Fetcher::fetch_page` makes it for a started permit; nothing else does. It
+/// has no `Drop`: `spend` uses it up.
 #[must_use]
 pub struct PageLeave<'a> {
     token: &'a Token,
@@ -19,79 +19,76 @@ pub struct PageLeave<'a> {
 }
 
 impl PageLeave<'_> {
-    /// The token under which the page is fetched.
+    /// The token for the fetch.
     pub fn token(&self) -> &Token
         ensures { result.now ≡ token_of_leave self.now }
     {
         self.token
     }
 
-    /// The page to fetch.
+    /// The page.
     pub fn url(&self) -> &PageUrl
         ensures { result.now ≡ page_of self.now }
     {
         self.url
     }
 
-    /// The fetch is made.
+    /// Uses it up.
     pub fn spend(self) {
         let PageLeave { token: _, url: _ } = self;
     }
 }
 
-/// Leave to fetch a robots.txt, or what a redirect led to from one, once.
-/// `Fetcher::fetch_robots` has it of a turn in flight, and nothing else makes one. It has no `Drop`: `spend`
-/// uses it up.
+/// Leave to fetch a robots.txt, or the target of a redirect of one, once.
+/// `Fetcher::fetch_robots` makes it for a turn in flight; nothing else does. It has no `Drop`: `spend` uses
+/// it up.
 #[must_use]
 pub struct RobotsLeave<'a> {
     url: &'a PageUrl,
 }
 
 impl RobotsLeave<'_> {
-    /// The file to fetch.
+    /// The file.
     pub fn url(&self) -> &PageUrl
         ensures { result.now ≡ robots_page_of self.now }
     {
         self.url
     }
 
-    /// The fetch is made.
+    /// Uses it up.
     pub fn spend(self) {
         let RobotsLeave { url: _ } = self;
     }
 }
 
-/// What fetches pages and robots.txt files. A redirect is a reply like others, and is not followed. Where the
-/// device of a fetch fails, `failure` is told why, in as far as that is known.
+/// Fetches pages and robots.txt files. A redirect is a reply like others, and is not followed. If the
+/// device of a fetch fails, `failure` gets the reason, if known.
 pub trait Fetcher {
     ghost use Rattle.std.specs.Prelude.{ℕ, List, Result};
     ghost use Rattle.http_wire.specs.declared.fault.WireFault.{WireFault};
     ghost use Rattle.http_wire.specs.declared.response.HttpReply.{HttpReply};
     ghost use Rattle.path_normal.specs.declared.schemes.Schemes.{Schemes};
 
-    /// Holds of the most octets that are taken of a body, a URL, and each result that such a fetch of
-    /// it gives.
+    /// Holds of the limit of a body, a URL, and each result of such a fetch.
     ghost gives: { Self → ℕ → List ℕ → Result HttpReply WireFault → Type 0 };
 
     /// The schemes of the pages that it fetches.
     ghost follows: { Self → Schemes };
 
-    /// The schemes of the pages that it fetches. Where texts are read for it, pages of others are refused, and no
-    /// redirect is followed to them.
+    /// The schemes of the pages that it fetches. Texts read for it may name no other pages, and redirects
+    /// to others are not followed.
     fn schemes(&self) -> Schemes
         ensures { result ≡ follows self.now };
 
-    /// The time that the fetches of one walk over the redirects of a robots.txt may take together, which
-    /// begins now; none where they have no limit, or no clock can be read.
+    /// The shared time limit of one robots.txt walk, from now on; none without a limit or clock.
     fn begin_walk(&self) -> Option<Deadline> {
         None
     }
 
-    /// Has all fetches fail from now on, those under way as soon as that can be. Fetches that take no
-    /// time need not be stopped.
+    /// Makes all fetches fail from now on, running ones as soon as possible. Instant fetches need no stop.
     fn stop(&self) {}
 
-    /// Fetches a page, and gives at most `limit` octets of its body.
+    /// Fetches a page, with at most `limit` octets of its body.
     fn load_page(
         &self,
         leave: PageLeave<'_>,
@@ -100,8 +97,8 @@ pub trait Fetcher {
     ) -> Result<HttpReply, WireFault>
         ensures { gives self.now limit (page_of leave.entry) result };
 
-    /// Fetches a robots.txt, and gives at most 512,001 octets of its body: those that are kept, and
-    /// one that tells that there are more.
+    /// Fetches a robots.txt, with at most 512,001 octets of its body: the limit, and one that shows that
+    /// there are more.
     fn load_robots(
         &self,
         leave: RobotsLeave<'_>,
@@ -110,8 +107,8 @@ pub trait Fetcher {
     ) -> Result<HttpReply, WireFault>
         ensures { gives self.now robots_limit (robots_page_of leave.entry) result };
 
-    /// Makes a fetch that may be made, under its token, with at most `limit` octets of the page's
-    /// body. Whatever comes of it, the fetch was made.
+    /// Makes an allowed fetch under its token, with at most `limit` octets of the page's body. Whatever
+    /// happens, the fetch counts as made.
     final fn fetch_page<G: Gate>(
         &self,
         running: Running<G>,
@@ -129,8 +126,7 @@ pub trait Fetcher {
         (running.spend(), reply)
     }
 
-    /// Fetches a robots.txt, or what redirects led to from one, while a turn of its authority is in
-    /// flight.
+    /// Fetches a robots.txt, or the target of its redirects, while a turn of its authority is in flight.
     final fn fetch_robots<G: Gate>(
         &self,
         _turn: &RobotsTurn<G>,

@@ -1,4 +1,4 @@
-//! What fetches pages and robots.txt files over TCP, and the leaves without which nothing is fetched.
+//! Fetches pages and robots.txt files over TCP, with the leaves needed for it.
 #![tactic(auto)]
 
 mod fetcher;

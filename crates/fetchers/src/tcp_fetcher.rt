@@ -18,14 +18,13 @@ use std::marker::Model;
 use std::net::{Net, SocketAddr, TcpStream};
 use std::time;
 
-/// The most octets that are taken of a robots.txt: those that are kept, and one that tells that
-/// there are more.
+/// The most octets of a robots.txt: those kept, and one that shows that there are more.
 const ROBOTS_LIMIT: usize = MAX_TEXT + 1;
 
-/// What fetches pages under the tokens of crawlers, and robots.txt files under an agent of its own.
+/// Fetches pages under crawlers' tokens, and robots.txt files under its own agent.
 ///
-/// A clause sees it as that agent, the value of User-Agent, what stands behind the token of a crawler there, its limits of
-/// time, and the schemes of the pages that it fetches.
+/// A clause sees it as that agent (the value of User-Agent), the comment after a crawler's token, its time
+/// limits, and the schemes of its pages.
 #[derive(Drop)]
 pub struct TcpFetcher<R: Net<Stream = TcpStream> + time::Clock> {
     client: TcpClient<R>,
@@ -51,7 +50,7 @@ impl<R: Net<Stream = TcpStream> + time::Clock> Model for TcpFetcher<R> {
 }
 
 impl<R: Net<Stream = TcpStream> + time::Clock> TcpFetcher<R> {
-    /// A fetcher of http with the standard limits of time.
+    /// A fetcher of http with the standard time limits.
     pub fn new(alloc: Global, rt: R, agent: &[u8]) -> Result<TcpFetcher<R>, AllocError>
     where
         R: Drop,
@@ -63,7 +62,7 @@ impl<R: Net<Stream = TcpStream> + time::Clock> TcpFetcher<R> {
         TcpFetcher::with_limits(alloc, rt, agent, TimeLimits::standard(), Reach::Anywhere)
     }
 
-    /// A fetcher of http whose fetches take no longer than these limits, and connect to addresses within this reach.
+    /// A fetcher of http within these time limits and this reach.
     pub fn with_limits(
         alloc: Global,
         rt: R,
@@ -81,8 +80,7 @@ impl<R: Net<Stream = TcpStream> + time::Clock> TcpFetcher<R> {
         TcpFetcher::with_tls(alloc, rt, agent, limits, reach, None)
     }
 
-    /// A fetcher like that of `with_limits`, which fetches pages of https too where a program opens TLS for it at an
-    /// address.
+    /// Like `with_limits`, for https too if a program opens TLS at an address.
     pub fn with_tls(
         alloc: Global,
         rt: R,
@@ -107,7 +105,7 @@ impl<R: Net<Stream = TcpStream> + time::Clock> TcpFetcher<R> {
         })
     }
 
-    /// This fetcher, with a contact in each request: a comment after the agent, and after a crawler's token.
+    /// This fetcher with a contact in each request: a comment after the agent or a crawler's token.
     pub fn with_contact(self, contact: &[u8]) -> Result<TcpFetcher<R>, AllocError>
     where
         R: Drop,
@@ -137,7 +135,7 @@ impl<R: Net<Stream = TcpStream> + time::Clock> TcpFetcher<R> {
         *self.agent.allocator()
     }
 
-    // Fetches a page under a crawler's agent, with the contact behind it.
+    // Fetches a page under a crawler's agent, with the contact after it.
     fn fetch_under(
         &self,
         agent: &[u8],
@@ -160,7 +158,7 @@ impl<R: Net<Stream = TcpStream> + time::Clock> TcpFetcher<R> {
     }
 }
 
-/// Nothing is known of a network, so each fetch gives what some octets give as a response.
+/// A network is unknown, so each fetch gives some octets as a response.
 impl<R: Net<Stream = TcpStream> + time::Clock> Fetcher for TcpFetcher<R> {
     ghost use Rattle.fetchers.specs.Network.{GivesAny};
 
@@ -172,7 +170,7 @@ impl<R: Net<Stream = TcpStream> + time::Clock> Fetcher for TcpFetcher<R> {
         self.schemes
     }
 
-    /// The fetches of a walk take no longer together than one whole fetch may.
+    /// All fetches of a walk take no longer than one may.
     fn begin_walk(&self) -> Option<Deadline>
         ensures { IfSome result (λ deadline. deadline.whole ≡ self.now.limits.whole) }
     {
@@ -218,7 +216,7 @@ impl<R: Net<Stream = TcpStream> + time::Clock> Fetcher for TcpFetcher<R> {
     }
 }
 
-// The agent with the comment behind it. RFC 9110, section 5.6.5.
+// The agent and the comment. RFC 9110, section 5.6.5.
 fn with_comment(alloc: Global, agent: &[u8], comment: &[u8]) -> Result<Vec<u8>, AllocError>
     requires { IsAgent agent.now × IsAgent comment.now }
     ensures text { IfOk result (λ made. made.items ≡ agent_with agent.now (Some comment.now)) }
@@ -231,7 +229,7 @@ fn with_comment(alloc: Global, agent: &[u8], comment: &[u8]) -> Result<Vec<u8>, 
     Ok(made)
 }
 
-// The schemes of the pages that are fetched, where a program opens TLS at an address.
+// The schemes of its pages: https if a program opens TLS at an address.
 fn schemes_by(tls_by: Option<SocketAddr>) -> Schemes
     ensures { result ≡ schemes_by tls_by }
 {

@@ -1,4 +1,4 @@
--- From the steps of a call to what the call replies.
+-- From the steps of a call to its reply.
 -- Used by `Book::begin`, `Book::start`, `Book::url_of` and `Book::ask_judged`.
 use Rattle.std.proofs.Common.{◌≡◌, ◌<◌, ◌≤◌, ℕ, Bool, true, false, inl, inr, List, refl, sym, ap, ◌∙◌, subst}
 use Rattle.std.specs.Prelude.{MatchBool, Option, Result, Ok, Err}
@@ -28,13 +28,11 @@ use Rattle.gate_core.specs.Replies.{Asks, Begins, IsAllowed, moment_at, Starts}
 use Rattle.gate_core.proofs.Keeping.{reads, told}
 use Rattle.gate_core.proofs.Looking.{fetching_is}
 
--- whether a turn is in flight, as the cache says
 pub fetching_as : (b : Inside) → IsKept b → (g : Gate) → gate_of b ≡ g → (authority text : List ℕ) → text ≡ authority → (says : Bool) →
     says ≡ is_flying (site_of b.cache text) → says ≡ is_fetching (history g) authority
 fetching_as b kept g is authority text same says flying =
     flying ∙ fetching_is b kept text ∙ ap (is_fetching (told b)) same ∙ ap (λ (g : Gate). is_fetching (history g) authority) is
 
--- a begin is what its last step says
 pub begins_by : (g : Gate) (authority : List ℕ) (m moment : ℕ) → moment ≡ moment_at g m → is_fetching (history g) authority ≡ false → HasRoom g 2 → (r : Result ℕ BeginRefusal) (new : Gate) →
     OpensTurn g authority moment r new → Begins g authority m r new
 begins_by g authority m moment is idle room (Ok turn) new opens =
@@ -44,12 +42,10 @@ begins_by g authority m moment is idle room (Err begin.NoMemory) new opens = (id
 begins_by g authority m moment is idle room (Err begin.InFlight) new opens = absurd opens
 begins_by g authority m moment is idle room (Err begin.LogFull) new opens = absurd opens
 
--- whether a permit stands, as the table says
 pub stands_as : (b : Inside) → IsKept b → (g : Gate) → gate_of b ≡ g → (number : ℕ) (token url : List ℕ) → stands b.permits number token url ≡ outstanding.stands (history g) number token url
 stands_as b kept g is number token url =
     (reads b kept b.entries).permits number token url ∙ ap (λ (g : Gate). outstanding.stands (history g) number token url) is
 
--- the URL of a permit that stands, as the table says
 pub permit_url_as : (b : Inside) → IsKept b → (g : Gate) → gate_of b ≡ g → (number : ℕ) → is_unspent b.permits number ≡ true → (url : Option (List ℕ)) →
     url ≡ url_out (out_under b.permits number) → IsPermitUrl (history g) number url
 permit_url_as b kept g is number out_is url same =
@@ -64,7 +60,6 @@ permit_url_as b kept g is number out_is url same =
     by (Running fetch) under out_is = absurd (true≢false (sym out_is))
     by Nothing under out_is = absurd (true≢false (sym out_is))
 
--- a start that finds no permit
 pub start_spent : (g : Gate) (number : ℕ) (token url : List ℕ) (m : ℕ) → outstanding.stands (history g) number token url ≡ false → Starts g number token url m (Err (record { url = url; cause = Spent })) g
 start_spent g number token url m none = (refl, by _ (outstanding.stands (history g) number token url) none)
   where
@@ -80,7 +75,6 @@ start_denied g new number token url m cause out decided adds = (refl, by _ (outs
     by Q true is = (decided, adds)
     by Q false is = absurd (true≢false (sym is))
 
--- an ask is what its last step says
 pub asks_by : (g : Gate) (token url : List ℕ) (m moment : ℕ) → moment ≡ moment_at g m → HasRoom g 3 → IsAllowed g token url m → (r : Result ℕ AskRefusal) (new : Gate) →
     Grants g token url moment r new → Asks g token url m r new
 asks_by g token url m moment is room allowed (Ok number) new grants =

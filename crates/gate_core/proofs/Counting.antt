@@ -18,7 +18,6 @@ use Rattle.permit_book.specs.Table.{url_out}
 use Rattle.gate_core.specs.PlaceCounts.{AddsOne, HeldBy, LeavesPlace, TakesOne, one_at}
 
 module _ (old new : HeldBy) (authority : List ℕ) (count : ℕ) (set : (other : List ℕ) → new other ≡ cond (bytes_eq authority other) count (old other)) where
-  -- a count was set to one more
   one_more : count ≡ old authority + 1 → AddsOne old authority new
   one_more more other = set other ∙ by (bytes_eq authority other) refl
     where
@@ -26,7 +25,6 @@ module _ (old new : HeldBy) (authority : List ℕ) (count : ℕ) (set : (other :
       by true is = more ∙ ap (λ a. old a + 1) ((bytes_eq-Decides authority other).0 is)
       by false is = omega arith
 
-  -- a count was set to one less
   one_less : count ≡ old authority - 1 → TakesOne old authority new
   one_less less other = set other ∙ by (bytes_eq authority other) refl
     where
@@ -39,7 +37,6 @@ abbrev pub counts : {Y S : Type 0} → HashMap (String Y) ℕ S → HeldBy
 counts map other = unwrap_or (get_by_text map other) 0
 
 module _ {Y S : Type 0} (m n : HashMap (String Y) ℕ S) (authority : List ℕ) (count : Option ℕ) where
-  -- the counts of a map of which one was set
   set_to : UpdatesBy string_eq (λ k. bytes_eq authority (string_bytes k)) m n count →
       (other : List ℕ) → counts n other ≡ cond (bytes_eq authority other) (unwrap_or count 0) (counts m other)
   set_to updates other = ap (λ o. unwrap_or o 0) (hash_map_updates_text authority m n count updates other) ∙ by (bytes_eq authority other)
@@ -56,7 +53,6 @@ module _ {Y S : Type 0} (m n : HashMap (String Y) ℕ S) (authority : List ℕ) 
       unwrap_or count 0 ≡ counts m authority - 1 → TakesOne (counts m) authority (counts n)
   takes_one updates less = one_less (counts m) (counts n) authority (unwrap_or count 0) (set_to updates) less
 
--- the key that is found passes the test
 pub key_passes : {Y : Type 0} (test : String Y → Bool) (es : List (String Y × ℕ)) (k : String Y) → lookup_key test es ≡ Some k → test k ≡ true
 key_passes test [] k found = absurd (true≢false (ap is_some (sym found)))
 key_passes {Y} test (e ∷ es) k found = by (test e.0) refl (key_passes test es k) found
@@ -67,21 +63,18 @@ key_passes {Y} test (e ∷ es) k found = by (test e.0) refl (key_passes test es 
 
 module _ {Y S : Type 0} (m : HashMap (String Y) ℕ S) (i : ℕ) (name : String Y) (authority : List ℕ) (count : ℕ)
     (at : slice_get m.entries i ≡ Some (name, count)) (same : string_bytes name ≡ authority) where
-  -- the count at the authority's index was set to one more
   pub adds_at : (more : ℕ) → IsUnique string_eq m → more ≡ counts m authority + 1 → AddsOne (counts m) authority (counts (with_value_at m i more))
   adds_at more unique is =
       adds_one m (with_value_at m i more) authority (Some more)
       (subst (λ (a : List ℕ). UpdatesBy string_eq (λ k. bytes_eq a (string_bytes k)) m (with_value_at m i more) (Some more)) same
       (updates-with_value_at m i more string_eq_equiv unique name count at)) is
 
-  -- it was set to one less
   pub takes_at : (less : ℕ) → IsUnique string_eq m → less ≡ counts m authority - 1 → TakesOne (counts m) authority (counts (with_value_at m i less))
   takes_at less unique is =
       takes_one m (with_value_at m i less) authority (Some less)
       (subst (λ (a : List ℕ). UpdatesBy string_eq (λ k. bytes_eq a (string_bytes k)) m (with_value_at m i less) (Some less)) same
       (updates-with_value_at m i less string_eq_equiv unique name count at)) is
 
--- what stands at an index is one of the elements
 pub somewhere : {X : Type 0} (xs : List X) (i : ℕ) (x : X) → slice_get xs i ≡ Some x → i < length xs
 somewhere [] i x at = absurd (true≢false (ap is_some (sym at)))
 somewhere (first ∷ xs) zero x at = omega arith
@@ -90,7 +83,6 @@ somewhere (first ∷ xs) (suc i) x at = omega (arith, somewhere xs i x at)
 one_url : (a b : List ℕ) → Some a ≡ Some b → a ≡ b
 one_url a b same = cc
 
--- one less is counted for the authority of the URL that is out
 pub leaves : (old new : HeldBy) (url : List ℕ) (out : SlotContent) → Some url ≡ url_out out → TakesOne old (authority_of url) new → LeavesPlace old out new
 leaves old new url (Unspent fetch) is takes authority = takes authority ∙ ap (λ u. old authority - one_at (authority_of u) authority) (one_url url fetch.url is)
 leaves old new url (Running fetch) is takes authority = takes authority ∙ ap (λ u. old authority - one_at (authority_of u) authority) (one_url url fetch.url is)

@@ -1,4 +1,4 @@
--- That each reply which a call may have tells what the headline says.
+-- Each possible reply of a call is true by the headline.
 -- Used by `Book::answer` and `run`.
 use Rattle.std.proofs.Common.{◌≡◌, ℕ, ◌+◌, ◌<◌, ◌≤◌, Bool, true, false, List, [], ◌∷◌, ◌++◌, refl, sym, arith, subst}
 use Rattle.std.specs.Prelude.{Option, Some, None, Result, Ok, Err, MatchBool}
@@ -53,7 +53,6 @@ denying cause = Err cause
 
 -- ---- what allows, and what denies
 
--- what allows a fetch is an answer in force that says so
 judged_ok : (o : Option StandingAnswer) (token url : List ℕ) (m : ℕ) (reason : Reason) → Judges o token url m (Ok reason) →
     (s : StandingAnswer) × ((o ≡ Some s) × ((m ≤ s.begun + s.life) × Says s.says token url (Ok reason)))
 judged_ok None token url m reason judged = cc
@@ -83,7 +82,6 @@ denied_by (says.Rules text) token url cause is = by is.0 is.1.0 is.1.1
     by (Deny line) holds same =
         let is : cause ≡ causes.Line line = cc in subst (λ (c : Cause). DeniesBy (says.Rules text) token url c) (sym is) (text, (refl, holds))
 
--- what denies a fetch is the first cause that holds
 judged_err : (o : Option StandingAnswer) (token url : List ℕ) (m : ℕ) (cause : Cause) → Judges o token url m (Err cause) → Denies o token url m cause
 judged_err None token url m cause judged = let same : cause ≡ causes.Unknown = cc in subst (λ (c : Cause). Denies None token url m c) (sym same) refl
 judged_err (Some s) token url m cause judged = step (is_past_answer m s) refl judged
@@ -100,7 +98,6 @@ judged_err (Some s) token url m cause judged = step (is_past_answer m s) refl ju
         let same : cause ≡ causes.Expired = cc in subst (λ (c : Cause). Denies (Some s) token url m c) (sym same) (s, (refl, ltb-true _ _ past))
     step false fresh is = fresh_denies cause (ltb-false _ _ fresh) (denied_by s.says token url cause is)
 
--- what is allowed is allowed by the answer in force
 allowed : (h : History) (token url : List ℕ) (m : ℕ) (reason : Reason) → IsLegal h → Decides h token url m (Ok reason) → Allows h token url m
 allowed h token url m reason legal decides =
     let judged = judged_ok (standing_of h (authority_of url)) token url m reason decides in
@@ -113,7 +110,6 @@ allowed h token url m reason legal decides =
       says = judged.1.1.1;
     }
 
--- an answer in force that allows a fetch decides it
 decides : (h : History) (token url : List ℕ) (m : ℕ) → (a : Allows h token url m) → Decides h token url m (Ok a.reason)
 decides h token url m a =
     subst (λ (o : Option StandingAnswer). Judges o token url m (Ok a.reason)) (sym a.standing) (step (is_past_answer m a.answer) refl)
@@ -125,12 +121,10 @@ decides h token url m a =
         late less fits = omega arith
     step false past = a.says
 
--- what is denied is not allowed
 not_both : (h : History) (token url : List ℕ) (m : ℕ) (cause : Cause) → Decides h token url m (Err cause) → Allows h token url m → ⊥
 not_both h token url m cause denied a =
     let same : denying cause ≡ allowing a.reason = history_laws.decides_once h token url m (Err cause) (Ok a.reason) denied (decides h token url m a) in cc
 
--- the cause of a start that has its permit
 cause_of_start : (h : History) (number : ℕ) (token url : List ℕ) (m : ℕ) (cause : Cause) → stands h number token url ≡ true →
     Denies (standing_of h (authority_of url)) token url m cause → IsCauseOfStart h number token url m cause
 cause_of_start h number token url m causes.Spent out denies = absurd denies
@@ -139,9 +133,8 @@ cause_of_start h number token url m causes.Expired out denies = (out, denies)
 cause_of_start h number token url m causes.Closed out denies = (out, denies)
 cause_of_start h number token url m (causes.Line line) out denies = (out, denies)
 
--- ---- what each call tells
+-- ---- the reply to each call
 
--- a start tells what the headline says
 pub start_told : (old new : Gate) (number : ℕ) (token url : List ℕ) (m : ℕ) (result : Result Started Denial) → IsLegal (history old) →
     Starts old number token url m result new → IsStartTold (history old) number token url m result
 start_told old new number token url m (Ok s) legal starts = record {
@@ -166,7 +159,6 @@ start_told old new number token url m (Err d) legal starts = step (stands (histo
       denied = (starts.0, subst (λ (c : Cause). IsCauseOfStart (history old) number token url (at_moment (history old) m) c) (sym spent.0) none);
     }
 
--- an ask tells what the headline says
 pub ask_told : (old new : Gate) (token url : List ℕ) (m : ℕ) (result : Result ℕ AskRefusal) → IsLegal (history old) →
     Asks old token url m result new → IsAskTold (history old) token url m result
 ask_told old new token url m (Ok number) legal asks =
@@ -178,7 +170,6 @@ ask_told old new token url m (Err ask.Busy) legal asks = record { granted = tt; 
 ask_told old new token url m (Err ask.PermitsFull) legal asks = record { granted = tt; refused = tt }
 ask_told old new token url m (Err ask.NoMemory) legal asks = record { granted = tt; refused = tt }
 
--- each call tells what the headline says
 pub step_told : (old : Gate) (call : Call) (reply : Reply) (new : Gate) → IsLegal (history old) → Step old call reply new → IsTold (history old) call reply
 step_told old (calls.Start number token url m) (replies.Start r) new legal step = start_told old new number token url m r legal step
 step_told old (calls.Ask token url m) (replies.Ask r) new legal step = ask_told old new token url m r legal step
@@ -186,7 +177,6 @@ step_told old _ _ new legal step = tt
 
 -- ---- that a history stays legal
 
--- with one legal entry more
 added_legal : (old new : Gate) (e : Entry) → IsLegal (history old) → Adds old e new → IsLegal (history new)
 added_legal old new e legal adds =
     subst (λ (g : Gate). IsLegal (history g)) (sym adds.adds) (subst IsLegal (sym (history_laws.followed_push (from old.base) old.entries e)) (legal, adds.fit))
@@ -249,7 +239,6 @@ step_legal old _ _ new legal step = absurd step
 
 -- ---- lists of calls
 
--- a list of calls tells what the headline says
 pub run_told : (old : Gate) (calls : List Call) (replies : List Reply) (new : Gate) → IsLegal (history old) → Replies old calls replies new → RunTells old calls replies new
 run_told old [] [] new legal stays = stays
 run_told old (call ∷ later) (reply ∷ rest) new legal run =
@@ -257,7 +246,6 @@ run_told old (call ∷ later) (reply ∷ rest) new legal run =
 run_told old [] (reply ∷ rest) new legal run = run
 run_told old (call ∷ later) [] new legal run = run
 
--- one more call and its reply
 pub replies_push : (old : Gate) (calls : List Call) (replies : List Reply) (mid : Gate) (call : Call) (reply : Reply) (new : Gate) →
     Replies old calls replies mid → Step mid call reply new → Replies old (calls ++ call ∷ []) (replies ++ reply ∷ []) new
 replies_push old [] [] mid call reply new stays step = (new, (subst (λ (g : Gate). Step g call reply new) stays step, refl))

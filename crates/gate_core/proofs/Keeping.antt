@@ -1,4 +1,4 @@
--- What each kind of entry does to what a book keeps beside its history.
+-- How each kind of entry changes what a book keeps beside its history.
 -- Used by the calls that make entries.
 use Rattle.std.proofs.Common.{◌≡◌, ℕ, ◌+◌, ◌<◌, ◌≤◌, ◌==◌, Bool, true, false, inl, inr, All, Vec, Global, max, not, List, [], ◌∷◌, ◌++◌, length, filter, replicate, refl, sym, ap, ◌∙◌, subst, arith, eqb-true}
 use Rattle.std.specs.Prelude.{◌&&◌, ◌||◌, nat_le, nat_lt, Option, Result, Some, None, cond, vec_capacity}
@@ -55,7 +55,6 @@ use Rattle.gate_core.specs.PlaceCounts.{AddsOne, held_by, HeldBy, LeavesPlace, o
 abbrev pub told : Inside → History
 told b = history (gate_of b)
 
--- a book with one entry more is kept where its parts say what the longer history says
 pub kept_after : (b b' : Inside) (e : Entry) → IsKept b → MayFollow (told b) e → Rises (told b) e → b'.limits ≡ b.limits → b'.base ≡ b.base → b'.entries.items ≡ b.entries.items ++ e ∷ [] →
     b'.clock ≡ now (told b ▸ e) → b'.begins ≡ begins (told b ▸ e) → b'.begins ≤ b.base.entries + length b.entries.items + 1 → b'.starts ≡ started_count (told b ▸ e) →
     TellsCache b'.cache (standing (told b ▸ e)) (in_flight (told b ▸ e)) → b'.cache.limit ≡ b.cache.limit →
@@ -117,26 +116,22 @@ late_is moment clock late = omega arith
 early_is : (clock : ℕ) → clock ≡ max 0 clock
 early_is clock = omega arith
 
--- where an unspent permit is out, something is
 unspent_some : (out : SlotContent) → is_unspent_out out ≡ true → is_nothing out ≡ false
 unspent_some (Unspent fetch) is = refl
 unspent_some (Running fetch) is = refl
 unspent_some Nothing is = absurd (true≢false (sym is))
 
--- where a running fetch is out, something is
 running_some : (out : SlotContent) → is_running_out out ≡ true → is_nothing out ≡ false
 running_some (Running fetch) is = refl
 running_some (Unspent fetch) is = refl
 running_some Nothing is = absurd (true≢false (sym is))
 
--- the generation of a next grant is one that there may be
 generation_bounds : (first last : ℕ) → 1 ≤ first → first ≤ last_generation → last < last_generation → (0 < generation_after first last) × (generation_after first last ≤ last_generation)
 generation_bounds first last some low small = elim (eqb_tells last 0) [
   | inl e ↦ rw e.0 (omega (arith, some), low)
   | inr d ↦ rw d.0 (omega arith, omega (arith, small))
 ]
 
--- the greatest generation of grants is one that there may be
 greatest_low : (limits : Limits) (xs : List SlotGrant) (slot : ℕ) → list_all (is_grant_of limits) xs ≡ true → greatest_of xs slot ≤ last_generation
 greatest_low limits [] slot all = omega arith
 greatest_low limits (x ∷ xs) slot all =
@@ -150,7 +145,6 @@ greatest_low limits (x ∷ xs) slot all =
     by true is rest low = let here : generation_in slot x ≡ x.generation = rw is refl in omega (arith, here, rest, low)
     by false is rest low = let here : generation_in slot x ≡ 0 = rw is refl in omega (arith, here, rest)
 
--- grants are of slots and generations that there may be, with one more of such a number
 with_grant_of : (limits : Limits) (number : ℕ) (xs : List SlotGrant) → list_all (is_grant_of limits) xs ≡ true → slot_of number < limits.slots →
     0 < generation_of number → generation_of number ≤ last_generation → list_all (is_grant_of limits) (with_grant number xs) ≡ true
 with_grant_of limits number xs all within some low =
@@ -165,7 +159,6 @@ module _ (b : Inside) (kept : IsKept b) (entries : Vec Entry Global) where
   pub reads : ReadsAlike b.permits (unspent (told b)) (running (told b))
   reads = permit_laws.reads_alike b.permits (unspent (told b)) (running (told b)) (greatest_in (told b)) kept.permits
 
-  -- what has ended is held no more
   ends_held : (number : ℕ) (permits : Table) (places : PlaceCounts) → is_nothing (out_under b.permits number) ≡ false → permits ≡ with_out b.permits number Nothing →
       LeavesPlace (held_by b.places) (out_under b.permits number) (held_by places) → (authority : List ℕ) → held_by places authority ≡ held_count permits authority
   ends_held number permits places some is left authority =
@@ -175,7 +168,6 @@ module _ (b : Inside) (kept : IsKept b) (entries : Vec Entry Global) where
       let same = ap (λ (t : Table). held_count t authority) is in
       omega (arith, ended, was, less, same)
 
-  -- an allowed start
   pub started_kept : (moment number : ℕ) (reason : Reason) (permits : Table) → MayFollow (told b) (Started moment number reason) → is_unspent b.permits number ≡ true →
       entries.items ≡ b.entries.items ++ Started moment number reason ∷ [] → vec_capacity entries ≡ vec_capacity b.entries →
       permits ≡ with_out b.permits number (decided true (out_under b.permits number)) → IsKept (after b entries moment (b.starts + 1) permits b.places)
@@ -192,7 +184,6 @@ module _ (b : Inside) (kept : IsKept b) (entries : Vec Entry Global) where
       (λ authority. kept.places authority ∙ (sym (permit_laws.held_started b.permits number authority out) ∙ ap (λ (t : Table). held_count t authority) (sym is)))
       (omega (arith, logged, counts.unspent_are, counts.running_are, counts.flights_are)) (omega (arith, entry_room, room, counts.unspent_are, counts.running_are, counts.flights_are))
 
-  -- a permit that stands is unspent in the table
   pub spends_out : (number moment : ℕ) (outcome : Result Reason Cause) → SpendsAs (told b) number moment outcome → is_unspent b.permits number ≡ true
   spends_out number moment outcome spends = reads.unspent_numbers number ∙ listed (unspent (told b)) spends.1.1.0
     where
@@ -201,7 +192,6 @@ module _ (b : Inside) (kept : IsKept b) (entries : Vec Entry Global) where
           let one = any_passes (λ p. is_numbered number p && is_fetch_of spends.0 spends.1.0 (fetch_of p)) permits is in
           passes_any (is_numbered number) permits one.one one.stands (and_parts (is_numbered number one.one) (is_fetch_of spends.0 spends.1.0 (fetch_of one.one)) one.passes).0
 
-  -- entries are promised to it
   pub spends_some : (number moment : ℕ) (outcome : Result Reason Cause) → SpendsAs (told b) number moment outcome → 0 < length (unspent (told b))
   spends_some number moment outcome spends = some (unspent (told b)) spends.1.1.0
     where
@@ -209,7 +199,6 @@ module _ (b : Inside) (kept : IsKept b) (entries : Vec Entry Global) where
       some [] is = absurd (true≢false (sym is))
       some (p ∷ permits) is = omega arith
 
-  -- a denied start
   pub denied_kept : (moment number : ℕ) (cause : Cause) (permits : Table) (places : PlaceCounts) → MayFollow (told b) (StartDenied moment number cause) → is_unspent b.permits number ≡ true →
       entries.items ≡ b.entries.items ++ StartDenied moment number cause ∷ [] → vec_capacity entries ≡ vec_capacity b.entries →
       permits ≡ with_out b.permits number (decided false (out_under b.permits number)) →
@@ -227,7 +216,6 @@ module _ (b : Inside) (kept : IsKept b) (entries : Vec Entry Global) where
       (ends_held number permits places (unspent_some (out_under b.permits number) out) is left)
       (omega (arith, logged, counts.unspent_are, counts.running_are, counts.flights_are)) (omega (arith, entry_room, room, counts.unspent_are, counts.running_are, counts.flights_are))
 
-  -- a return, which brings no moment
   pub returned_kept : (number : ℕ) (permits : Table) (places : PlaceCounts) → is_unspent b.permits number ≡ true →
       entries.items ≡ b.entries.items ++ Returned number ∷ [] → vec_capacity entries ≡ vec_capacity b.entries →
       permits ≡ with_out b.permits number Nothing →
@@ -246,7 +234,6 @@ module _ (b : Inside) (kept : IsKept b) (entries : Vec Entry Global) where
       (ends_held number permits places (unspent_some (out_under b.permits number) out) is left)
       (omega (arith, logged, counts.unspent_are, counts.running_are, counts.flights_are)) (omega (arith, entry_room, room, counts.unspent_are, counts.running_are, counts.flights_are))
 
-  -- a finish, which brings none either
   pub finished_kept : (number : ℕ) (permits : Table) (places : PlaceCounts) → is_running b.permits number ≡ true →
       entries.items ≡ b.entries.items ++ Finished number ∷ [] → vec_capacity entries ≡ vec_capacity b.entries →
       permits ≡ with_out b.permits number Nothing →
@@ -265,7 +252,6 @@ module _ (b : Inside) (kept : IsKept b) (entries : Vec Entry Global) where
       (ends_held number permits places (running_some (out_under b.permits number) out) is left)
       (omega (arith, logged, counts.unspent_are, counts.running_are, counts.flights_are)) (omega (arith, entry_room, room, counts.unspent_are, counts.running_are, counts.flights_are))
 
-  -- a denied ask
   pub ask_denied_kept : (moment : ℕ) (fetch : Fetch) (cause : Cause) → MayFollow (told b) (AskDenied moment fetch cause) →
       entries.items ≡ b.entries.items ++ AskDenied moment fetch cause ∷ [] → length b.entries.items + 1 + promised (told b) ≤ vec_capacity entries →
       length b.entries.items + promised (told b) + 3 ≤ most_room b.limits b.base → IsKept (after b entries moment b.starts b.permits b.places)
@@ -274,14 +260,12 @@ module _ (b : Inside) (kept : IsKept b) (entries : Vec Entry Global) where
       kept_after b (after b entries moment b.starts b.permits b.places) e kept fit tt refl refl more (late_is moment (now (told b)) fit.0) kept.begins (let few = kept.few_begins in omega arith) kept.starts
       kept.cache refl kept.permits refl refl kept.grants kept.names kept.places (omega (arith, free)) room
 
-  -- the next number of the table is that of the history
   pub next_is : (number : ℕ) → IsNext b.permits number → IsNextBy b.limits.slots b.limits.first_generation (unspent (told b)) (running (told b)) (greatest_in (told b)) number
   next_is number is =
       subst (λ (slots : ℕ). IsNextBy slots b.limits.first_generation (unspent (told b)) (running (told b)) (greatest_in (told b)) number) kept.slots
       (subst (λ (first : ℕ). IsNextBy (length b.permits.slots) first (unspent (told b)) (running (told b)) (greatest_in (told b)) number) kept.first
       ((permit_laws.next_alike b.permits (unspent (told b)) (running (told b)) (greatest_in (told b)) number kept.permits).0 is))
 
-  -- the grants are of slots and generations that there may be, with that of the next number too
   granted_grants : (number : ℕ) → IsNext b.permits number → list_all (is_grant_of b.limits) (with_grant number (grants (told b))) ≡ true
   granted_grants number is =
       let next = next_is number is in
@@ -299,7 +283,6 @@ module _ (b : Inside) (kept : IsKept b) (entries : Vec Entry Global) where
   pub next_new : (number : ℕ) → IsNext b.permits number → was_granted (told b) number ≡ false
   next_new number is = (next_free number is).1
 
-  -- a grant of the next number
   pub granted_kept : (moment number : ℕ) (fetch : Fetch) (permits : Table) (places : PlaceCounts) → MayFollow (told b) (Granted moment number fetch) → IsNext b.permits number →
       entries.items ≡ b.entries.items ++ Granted moment number fetch ∷ [] → length b.entries.items + 3 + promised (told b) ≤ vec_capacity entries →
       length b.entries.items + promised (told b) + 3 ≤ most_room b.limits b.base →
@@ -321,7 +304,6 @@ module _ (b : Inside) (kept : IsKept b) (entries : Vec Entry Global) where
       subst (λ (slots : ℕ). NoneFreeBy slots (unspent (told b)) (running (told b)) (greatest_in (told b))) kept.slots
       ((permit_laws.none_free_alike b.permits (unspent (told b)) (running (told b)) (greatest_in (told b)) kept.permits).0 none)
 
--- what a call that made an entry has added
 pub adds_of : (b : Inside) (g : Gate) (e : Entry) (entries : List Entry) → gate_of b ≡ g → entries ≡ b.entries.items ++ e ∷ [] → MayFollow (told b) e →
     Adds g e (record { limits = b.limits; base = b.base; entries = entries })
 adds_of b g e entries is more fit =
@@ -343,11 +325,10 @@ module _ (b : Inside) (kept : IsKept b) where
   pub running_many : running_count b.permits ≡ length (running (told b))
   running_many = (reads b kept b.entries).running_many
 
-  -- the room that is taken is little
   pub few_promised : length b.entries.items + promised (told b) ≤ 1000000
   few_promised = let logged = kept.logged in let few = kept.limits.entries in omega arith
 
-  -- no more entries were ever made than a number holds, and no more starts than entries
+  -- at most as many entries were ever made as a number holds, and no more starts than entries
   pub entries_many : entry_count (told b) ≡ b.base.entries + length b.entries.items
   entries_many = followed_count (from b.base) b.entries.items
 
@@ -421,7 +402,6 @@ kept_others old new turn name (t ∷ turns) keeps none has =
 itself : (n : ℕ) → (n == n) ≡ true
 itself n = eq-eqb n n refl
 
--- turns that began before are of other numbers
 earlier : (turn begun : ℕ) (turns : List Turn) → begun < turn → ((n : ℕ) → 0 < length (filter (has_number n) turns) → n ≤ begun) → NoneOf turn turns
 earlier turn begun [] less few = λ k d low. absurd (omega (arith, low))
 earlier turn begun (t ∷ turns) less few =
@@ -444,7 +424,6 @@ earlier turn begun (t ∷ turns) less few =
     more : (n : ℕ) → 0 < length (filter (has_number n) turns) → 0 < length (filter (has_number n) (t ∷ turns))
     more n some = more_by n (t.turn == n) some
 
--- a filter for other numbers leaves those of other numbers
 others_left : (turn : ℕ) (turns : List Turn) → NoneOf turn (filter (λ t. not (has_number turn t)) turns)
 others_left turn [] = λ k d low. absurd (omega (arith, low))
 others_left turn (t ∷ turns) = by (t.turn == turn) refl (others_left turn turns)
@@ -466,7 +445,6 @@ module _ (b : Inside) (kept : IsKept b) (entries : Vec Entry Global) (cache : Kn
   once : StandsOnce (told b)
   once = stands_once (told b) kept.legal
 
-  -- a turn has begun
   pub begun_kept : (moment : ℕ) (authority : List ℕ) → now (told b) ≤ moment → is_fetching (told b) authority ≡ false →
       is_flying (site_of b.cache authority) ≡ false → Changes b.cache authority (with_flight (record { turn = b.begins + 1; begun = moment }) (site_of b.cache authority)) cache →
       KeepsName (names_by b.names) (b.begins + 1) (Some authority) (names_by names) →
@@ -489,7 +467,6 @@ module _ (b : Inside) (kept : IsKept b) (entries : Vec Entry Global) (cache : Kn
       kept.places
       (omega (arith, free, counts.unspent_are, counts.running_are, counts.flights_are)) (omega (arith, room, counts.unspent_are, counts.running_are, counts.flights_are))
 
-  -- an answer has arrived, with a life of its kind
   pub arrived_kept : (moment turn : ℕ) (authority : List ℕ) (answer : Timed) → IsOwnLife answer → now (told b) ≤ moment → has_turn turn (site_of b.cache authority) ≡ true →
       Changes b.cache authority (arrived turn answer.says answer.life (site_of b.cache authority)) cache → KeepsName (names_by b.names) turn None (names_by names) →
       entries.items ≡ b.entries.items ++ Arrived moment authority turn answer.says answer.life ∷ [] → vec_capacity entries ≡ vec_capacity b.entries →
@@ -509,7 +486,6 @@ module _ (b : Inside) (kept : IsKept b) (entries : Vec Entry Global) (cache : Kn
       kept.places
       (omega (arith, logged, counts.unspent_are, counts.running_are, counts.flights_are)) (omega (arith, entry_room, room, counts.unspent_are, counts.running_are, counts.flights_are))
 
-  -- answers were swept
   pub swept_kept : (moment count : ℕ) → now (told b) ≤ moment → count ≡ past_count (told b) moment → Sweeps b.cache moment count cache →
       entries.items ≡ b.entries.items ++ Swept moment count ∷ [] → length b.entries.items + 1 + promised (told b) ≤ vec_capacity entries →
       length b.entries.items + promised (told b) + 1 ≤ most_room b.limits b.base → IsKept (after_turn b entries moment b.begins cache b.names)
@@ -519,15 +495,12 @@ module _ (b : Inside) (kept : IsKept b) (entries : Vec Entry Global) (cache : Kn
       (cache_laws.swept_away b.cache cache (standing (told b)) (in_flight (told b)) moment count kept.cache sweeps) sweeps.limit
       kept.permits refl refl kept.grants kept.names kept.places (omega (arith, free)) room
 
--- the moment of a call is no earlier than the history's
 pub late_moment : (b : Inside) (g : Gate) → gate_of b ≡ g → (handed_in moment : ℕ) → moment ≡ at_moment (history g) handed_in → now (told b) ≤ moment
 late_moment b g is handed_in moment same = omega (arith, same, ap (λ (g : Gate). now (history g)) is)
 
--- as many answers are swept as the history says
 pub swept_many : (b : Inside) → IsKept b → (moment count : ℕ) (cache : Known) → Sweeps b.cache moment count cache → IsApart b.cache → count ≡ past_count (told b) moment
 swept_many b kept moment count cache sweeps apart = sweeps.dropped ∙ (cache_laws.counts_alike b.cache (standing (told b)) (in_flight (told b)) kept.cache apart).past moment
 
--- nothing but room for entries and a name for no turn: the book is kept as it was
 pub kept_unchanged : (b : Inside) → IsKept b → (entries : Vec Entry Global) (cache : Known) (names : TurnNames) → entries.items ≡ b.entries.items → vec_capacity b.entries ≤ vec_capacity entries →
     cache ≡ b.cache → HasNames (names_by names) (in_flight (told b)) → IsKept (after_turn b entries b.clock b.begins cache names)
 kept_unchanged b kept entries cache names same room still named =
@@ -557,7 +530,6 @@ kept_unchanged b kept entries cache names same room still named =
       entry_room = omega (arith, entry_room, room, many, ap promised h);
     }
 
--- nothing but room for entries and for a count: the book is kept as it was
 pub kept_refused : (b : Inside) → IsKept b → (entries : Vec Entry Global) (permits : Table) (places : PlaceCounts) → entries.items ≡ b.entries.items → vec_capacity b.entries ≤ vec_capacity entries →
     permits ≡ b.permits → held_by places ≡ held_by b.places → IsKept (after b entries b.clock b.starts permits places)
 kept_refused b kept entries permits places same room still counted =
@@ -583,7 +555,6 @@ kept_refused b kept entries permits places same room still counted =
       entry_room = u.entry_room;
     })
 
--- the turns in flight keep their names where the next turn's is kept too
 pub still_named : (b : Inside) → IsKept b → (names : TurnNames) (name : Option (List ℕ)) → KeepsName (names_by b.names) (b.begins + 1) name (names_by names) →
     HasNames (names_by names) (in_flight (told b))
 still_named b kept names name keeps =
@@ -591,11 +562,9 @@ still_named b kept names name keeps =
     (earlier (b.begins + 1) b.begins (in_flight (told b)) (omega arith)
     (λ n some. let bound = (stands_once (told b) kept.legal).turns.turns_begun n (omega (arith, some)) in let count = kept.begins in omega arith)) kept.names
 
--- as many are counted for an authority as the history says
 pub held_many : (b : Inside) → IsKept b → (authority : List ℕ) → held_by b.places authority ≡ held (told b) authority
 held_many b kept authority = kept.places authority ∙ (reads b kept b.entries).held authority
 
--- a turn in flight has its authority's name, and an entry is promised to it
 pub turn_named : (b : Inside) → IsKept b → (authority : List ℕ) (turn : ℕ) → has_turn turn (site_of b.cache authority) ≡ true → names_by b.names turn ≡ Some authority
 turn_named b kept authority turn flying =
     let stands = sym ((cache_laws.reads_alike b.cache (standing (told b)) (in_flight (told b)) kept.cache).turns authority turn) ∙ flying in

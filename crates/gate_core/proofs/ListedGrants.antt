@@ -1,5 +1,5 @@
--- The list of the slots in which something was granted has of each slot its greatest generation.
--- Cited by `grants_in`.
+-- The list of granted slots has each slot's greatest generation.
+-- Used by `grants_in`.
 use Rattle.std.proofs.Common.{◌≡◌, ℕ, ◌+◌, ◌<◌, ◌≤◌, ◌==◌, zero, suc, Bool, true, false, if◌then◌else◌, List, [], ◌∷◌, ◌++◌, length, filter, take, get_or, inl, inr, refl, sym, ap, ◌∙◌, append_assoc, arith}
 use Rattle.std.proofs.lemmas.Bool.Decides.{eqb_tells}
 use Rattle.std.proofs.lemmas.List.{append-nil, length-take-le, take_more}
@@ -15,14 +15,12 @@ abbrev pub grants_from : ℕ → List Slot → List SlotGrant
 grants_from i [] = []
 grants_from i (s ∷ slots) = grants_at i s.last ++ grants_from (i + 1) slots
 
--- with one slot more
 grants_more : (i : ℕ) (slots : List Slot) (s : Slot) → grants_from i (slots ++ s ∷ []) ≡ grants_from i slots ++ grants_at (i + length slots) s.last
 grants_more i [] s = append-nil (grants_at i s.last) ∙ ap (λ n. grants_at n s.last) (omega arith)
 grants_more i (f ∷ slots) s =
     ap (λ gs. grants_at i f.last ++ gs) (grants_more (i + 1) slots s ∙ ap (λ n. grants_from (i + 1) slots ++ grants_at n s.last) (omega arith))
     ∙ sym (append_assoc (grants_at i f.last) (grants_from (i + 1) slots) (grants_at (i + length (f ∷ slots)) s.last))
 
--- with the slot at a place more
 pub listed-more : (slots : List Slot) (i : ℕ) → i < length slots →
     grants_from 0 (take (i + 1) slots) ≡ grants_from 0 (take i slots) ++ grants_at i (get_or slots i unused).last
 listed-more slots i low =
@@ -30,7 +28,6 @@ listed-more slots i low =
     ∙ (grants_more 0 (take i slots) (get_or slots i unused)
     ∙ ap (λ n. grants_from 0 (take i slots) ++ grants_at n (get_or slots i unused).last) (let long = length-take-le i slots (omega (arith, low)) in omega (arith, long)))
 
--- what was granted in a slot is in it, and in no other
 own : (slot last : ℕ) → filter (is_in slot) (grants_at slot last) ≡ grants_at slot last
 own slot last = by (last == 0)
   where
@@ -45,11 +42,9 @@ other slot i last apart = by (last == 0)
     by true = refl
     by false = rw apart refl
 
--- another place
 apart : (i slot : ℕ) → ((same : i ≡ slot) → ⊥) → (i == slot) ≡ false
 apart i slot other = elim (eqb_tells i slot) [ inl e ↦ absurd (other e.1) | inr d ↦ d.0 ]
 
--- past the slot there is nothing of it
 past : (slot i : ℕ) (slots : List Slot) → slot < i → filter (is_in slot) (grants_from i slots) ≡ []
 past slot i [] low = refl
 past slot i (s ∷ slots) low =
@@ -57,7 +52,6 @@ past slot i (s ∷ slots) low =
     ∙ (ap (λ gs. gs ++ filter (is_in slot) (grants_from (i + 1) slots)) (other slot i s.last (apart i slot (λ same. omega (arith, same, low))))
     ∙ past slot (i + 1) slots (omega (arith, low)))
 
--- from a place on there is what was granted in it
 at : (slot i k : ℕ) (slots : List Slot) → slot ≡ i + k → filter (is_in slot) (grants_from i slots) ≡ grants_at slot (get_or slots k unused).last
 at slot i k [] same = refl
 at slot i zero (s ∷ slots) same =
@@ -70,14 +64,11 @@ at slot i (suc k) (s ∷ slots) same =
     ∙ (ap (λ gs. gs ++ filter (is_in slot) (grants_from (i + 1) slots)) (other slot i s.last (apart i slot (λ is. omega (arith, is, same))))
     ∙ at slot (i + 1) k slots (omega (arith, same)))
 
--- of all slots there is what was granted in each
 pub listed : (t : Table) (slot : ℕ) → filter (is_in slot) (grants_from 0 t.slots) ≡ grants_at slot (last_in t slot)
 listed t slot = at slot 0 slot t.slots (omega arith)
 
--- where something was granted it is listed
 pub some_at : (slot last : ℕ) → 0 < last → grants_at slot last ≡ record { slot = slot; generation = last } ∷ []
 some_at slot last some = elim (eqb_tells last 0) [ inl e ↦ absurd (omega (arith, some, e.1)) | inr d ↦ rw d.0 refl ]
 
--- and where nothing was nothing is
 pub none_at : (slot last : ℕ) → last ≤ 0 → grants_at slot last ≡ []
 none_at slot last none = elim (eqb_tells last 0) [ inl e ↦ rw e.0 refl | inr d ↦ absurd (d.1 (omega (arith, none))) ]

@@ -35,7 +35,6 @@ module _ (b : Inside) (kept : IsKept b) (authority : List ℕ) (moment : ℕ) wh
   pub stands_in_force : (says : Said) → has_past moment state ≡ false → option_map (λ s. s.says) state.standing ≡ Some says → IsInForce (standing_of (told b) authority) moment says
   stands_in_force says is said = subst (λ (o : Option StandingAnswer). IsInForce o moment says) found (in_force_of state.standing authority moment says is said)
 
--- what is found stands so
 pub stands_as_unknown : (found : Option StandingAnswer) (moment : ℕ) → found ≡ None → StandsAs found moment standings.Unknown
 stands_as_unknown None moment is = refl
 stands_as_unknown (Some s) moment is = absurd (true≢false (ap is_some is))

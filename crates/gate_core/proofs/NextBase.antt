@@ -1,5 +1,5 @@
--- A base that is made of what a book's tables list says what its history does.
--- Cited by `Book::next_base` and `Book::seal`.
+-- A base made of a book's tables says what its history does.
+-- Used by `Book::next_base` and `Book::seal`.
 use Rattle.std.proofs.Common.{◌≡◌, ℕ, ◌<◌, ◌≤◌, All, Bool, true, false, true≢false, cond, List, [], ◌∷◌, length, filter, inl, inr, refl, sym, ap, ◌∙◌, arith, eqb-true}
 use Rattle.std.specs.Prelude.{◌&&◌, nat_le, nat_lt}
 use Rattle.std.specs.List.{list_all}
@@ -26,7 +26,6 @@ use Rattle.gate_core.specs.Sealing.{ListsGrants, grants_at}
 use Rattle.gate_core.proofs.Keeping.{told}
 use Rattle.gate_core.proofs.ListedGrants.{none_at, some_at}
 
--- what is listed of no slot has no greatest generation
 none_greatest : (limits : Limits) (slot : ℕ) (xs : List SlotGrant) → length (filter (is_in slot) xs) ≡ 0 → greatest_of xs slot ≡ 0
 none_greatest limits slot [] none = refl
 none_greatest limits slot (x ∷ xs) none = by (is_in slot x) refl (none_greatest limits slot xs) none
@@ -40,7 +39,6 @@ no_elements : {X : Type 0} (xs : List X) → length xs ≡ 0 → xs ≡ []
 no_elements [] none = refl
 no_elements (x ∷ xs) none = absurd (omega (arith, none))
 
--- a slot that is listed once at most is listed with its greatest generation
 listed_once : (limits : Limits) (slot : ℕ) (xs : List SlotGrant) → list_all (is_grant_of limits) xs ≡ true → length (filter (is_in slot) xs) ≤ 1 →
     filter (is_in slot) xs ≡ grants_at slot (greatest_of xs slot)
 listed_once limits slot [] all once = refl
@@ -64,7 +62,6 @@ listed_once limits slot (x ∷ xs) all once =
         let greatest : greatest_of (x ∷ xs) slot ≡ greatest_of xs slot = omega (arith, here) in
         rest once ∙ ap (grants_at slot) (sym greatest)
 
--- a slot past the last is not listed
 not_listed : (limits : Limits) (slot : ℕ) (xs : List SlotGrant) → list_all (is_grant_of limits) xs ≡ true → limits.slots ≤ slot → filter (is_in slot) xs ≡ []
 not_listed limits slot [] all past = refl
 not_listed limits slot (x ∷ xs) all past =
@@ -76,7 +73,6 @@ not_listed limits slot (x ∷ xs) all past =
     ]
 
 module _ (b : Inside) (kept : IsKept b) where
-  -- the grants of the history, by the table
   grants_told : (slot : ℕ) → filter (is_in slot) (grants (told b)) ≡ grants_at slot (last_in b.permits slot)
   grants_told slot = elim (leb_tells (length b.permits.slots) slot) [
     | inl past ↦ not_listed b.limits slot (grants (told b)) kept.grants (omega (arith, kept.slots, past.1))
@@ -85,7 +81,6 @@ module _ (b : Inside) (kept : IsKept b) where
         ∙ ap (grants_at slot) (greatest_is (told b) slot ∙ sym (kept.permits.last slot (omega (arith, low.1))))
   ]
 
-  -- a base of what the tables list says what the history does
   pub given_says : (given : Base) → ListsAnswers b.cache given.standing → ListsTurns b.cache given.in_flight → ListsUnspent b.permits given.unspent →
       ListsRunning b.permits given.running → ListsGrants b.permits given.grants → given.begins ≡ b.begins → given.moment ≡ b.clock →
       given.entries ≡ entry_count (told b) → given.started ≡ b.starts → SaysAs (from given) (told b)
@@ -106,7 +101,6 @@ module _ (b : Inside) (kept : IsKept b) where
       same : SaySame is_in given.grants (grants (told b))
       same = keys_say.grants given.grants (grants (told b)) (λ slot. slots slot ∙ sym (grants_told slot))
 
--- the greatest generations of a base that says what a book's history does are of slots that there may be
 pub grants_fit : (b : Inside) → IsKept b → (base : Base) → SaysAs (from base) (told b) → All IsSlotGrant base.grants
 grants_fit b kept base says = fit base.grants (says-all is_in base.grants (grants (told b)) says.slots (is_grant_of b.limits) kept.grants)
   where

@@ -1,4 +1,4 @@
--- What the tables refuse, as the gate tells it.
+-- What the tables refuse, as replies of the gate.
 -- Used by `Book::grant` and `Book::begin`.
 use Rattle.std.proofs.Common.{◌≡◌, ◌<◌, ◌≤◌, ℕ, false, List, sym, ap, ◌∙◌, subst, arith}
 use Rattle.std.specs.Prelude.{◌&&◌, nat_le, not, IsErr, IsErrAnd, Result, Ok, Err}
@@ -35,7 +35,6 @@ pub same_err : {A E : Type 0} (r : Result A E) (x : E) → IsErr r → IsErrAnd 
 same_err (Ok n) x is and = absurd (true≢false (sym is))
 same_err (Err y) x is and = ap Err and
 
--- an authority has a place where the book counts fewer than the most
 pub has_place : (b : Inside) → IsKept b → (g : Gate) → gate_of b ≡ g → (url : List ℕ) → held_by b.places (authority_of url) < b.limits.places → HasPlace g url
 has_place b kept g is url few = let many = held_many b kept (authority_of url) in subst (λ (g : Gate). HasPlace g url) is (omega (arith, few, many))
 
@@ -48,7 +47,6 @@ refuses_grant b kept g is token url moment ask.Busy none =
     let many = held_many b kept (authority_of url) in (subst (λ (g : Gate). IsBusy g url) is (omega (arith, none, many)), is)
 refuses_grant b kept g is token url moment (ask.Denied d) none = absurd none
 
--- a grant of the next number is legal
 pub grant_fits : (b : Inside) → IsKept b → (g : Gate) → gate_of b ≡ g → (moment number : ℕ) (fetch : Fetch) → now (history g) ≤ moment →
     ((reason : Reason) × Decides (history g) fetch.token fetch.url moment (Ok reason)) → IsNext b.permits number → MayFollow (told b) (Granted moment number fetch)
 grant_fits b kept g is moment number fetch late decided next = (
@@ -57,20 +55,17 @@ grant_fits b kept g is moment number fetch late decided next = (
   subst (λ (g : Gate). (reason : Reason) × Decides (history g) fetch.token fetch.url moment (Ok reason)) (sym is) decided,
 )
 
--- the cache has refused a begin, and has not changed
 pub cache_same : (old : Known) (authority : List ℕ) (flight : Flight) (x : FlightRefusal) (new : Known) → CacheBegins old authority flight (Err x) new → new ≡ old
 cache_same old authority flight cache.InFlight new is = is.1
 cache_same old authority flight cache.AuthoritiesFull new is = is.2
 cache_same old authority flight cache.NoMemory new is = is.2
 
--- whether one authority more would be one too many
 pub cannot_is : (b : Inside) → IsKept b → IsApart b.cache → (authority : List ℕ) → CacheCannot b.cache authority ≡ cannot_know (gate_of b) authority
 cannot_is b kept apart authority =
     let read = cache_laws.reads_alike b.cache (standing (told b)) (in_flight (told b)) kept.cache in
     let count = cache_laws.counts_alike b.cache (standing (told b)) (in_flight (told b)) kept.cache apart in
     λ i. not (read.known authority i) && nat_le (kept.authorities i) (count.known i)
 
--- what the cache answers to a begin of an authority that is idle, as the last step of a begin
 pub opens_refused : (b : Inside) → IsKept b → (g : Gate) → gate_of b ≡ g → IsApart b.cache → (authority : List ℕ) (moment turn : ℕ) (x : FlightRefusal) (new : Known) →
     is_fetching (history g) authority ≡ false → CacheBegins b.cache authority (record { turn = turn; begun = moment }) (Err x) new → OpensTurn g authority moment (Err (begin_refusal x)) (gate_of b)
 opens_refused b kept g is apart authority moment turn cache.InFlight new idle refused =

@@ -1,5 +1,5 @@
--- A book that goes on from a base in which nothing is out keeps what every book keeps.
--- Cited by `Book::resume`.
+-- A book that continues from a base with nothing outstanding keeps the invariant.
+-- Used by `Book::resume`.
 use Rattle.std.proofs.Common.{◌≡◌, ℕ, ◌+◌, ◌<◌, ◌≤◌, Bool, true, false, max, Vec, Global, List, [], ◌∷◌, ◌++◌, length, take, replicate, get_or, refl, sym, ap, subst, ◌∙◌, arith}
 use Rattle.std.specs.List.{list_all}
 use Rattle.std.proofs.lemmas.Bool.{and_parts, leb-true, ltb-true, true≢false}
@@ -29,19 +29,16 @@ use Rattle.gate_core.specs.PlaceCounts.{held_by}
 use Rattle.gate_core.specs.Resuming.{IsBehind}
 use Rattle.gate_core.specs.TurnNames.{HasNames, names_by}
 
--- the greatest generations with one grant more at the end
 greatest_more : (xs : List SlotGrant) (x : SlotGrant) (slot : ℕ) → greatest_of (xs ++ x ∷ []) slot ≡ max (generation_in slot x) (greatest_of xs slot)
 greatest_more [] x slot = refl
 greatest_more (y ∷ ys) x slot = omega (arith, greatest_more ys x slot)
 
--- a grant that fits is in a slot of the limits, and its generation is one that there may be
 pub grant_fits : (limits : Limits) (g : SlotGrant) → is_grant_of limits g ≡ true → (g.slot < limits.slots) × (g.generation ≤ last_generation)
 grant_fits limits g is =
     let parts = and_parts _ _ is in
     let later = and_parts _ _ parts.1 in
     (ltb-true g.slot limits.slots parts.0, leb-true g.generation last_generation later.1)
 
--- each of them does
 pub each_fits : (limits : Limits) (gs : List SlotGrant) (i : ℕ) (d : SlotGrant) → list_all (is_grant_of limits) gs ≡ true → i < length gs → is_grant_of limits (get_or gs i d) ≡ true
 each_fits limits gs i d all low = by (is_grant_of limits (get_or gs i d)) refl
   where
@@ -49,7 +46,6 @@ each_fits limits gs i d all low = by (is_grant_of limits (get_or gs i d)) refl
     by true is = refl
     by false is = absurd (true≢false (sym all ∙ list_all_at (is_grant_of limits) gs i d low is))
 
--- a new table is behind no grants
 pub behind_none : (limits : Limits) (t : Table) → AreLimits limits → t.slots ≡ replicate limits.slots unused → t.first_generation ≡ limits.first_generation → IsBehind limits [] t
 behind_none limits t are slots first =
     let table : t ≡ record { first_generation = limits.first_generation; slots = replicate limits.slots unused } = λ i. record { first_generation = first i; slots = slots i } in
@@ -60,11 +56,9 @@ behind_none limits t are slots first =
       first = first;
     }
 
--- nothing is out in its slots
 pub behind_empty : (limits : Limits) (gs : List SlotGrant) (t : Table) (slot : ℕ) → IsBehind limits gs t → is_nothing (slot_at t slot).out ≡ true
 behind_empty limits gs t slot behind = permit_laws.idle_empty t (greatest_of gs) slot behind.tells
 
--- one grant more is noted
 pub behind_more : (limits : Limits) (gs : List SlotGrant) (i : ℕ) (g d : SlotGrant) (t t' : Table) → IsBehind limits (take i gs) t → i < length gs → g ≡ get_or gs i d →
     is_grant_of limits g ≡ true → t' ≡ noted t g.slot g.generation → IsBehind limits (take (i + 1) gs) t'
 behind_more limits gs i g d t t' behind low read fits is =
@@ -79,11 +73,9 @@ behind_more limits gs i g d t t' behind low read fits is =
       first = behind.first;
     })
 
--- no permit is out for an authority
 none_held : (limits : Limits) (gs : List SlotGrant) (t : Table) → IsBehind limits gs t → (authority : List ℕ) → held_count t authority ≡ 0
 none_held limits gs t behind authority = (permit_laws.reads_alike t [] [] (greatest_of gs) behind.tells).held authority
 
--- the book
 pub resumed_kept : (limits : Limits) (base : Base) (entries : Vec Entry Global) (cache : Known) (permits : Table) (names : TurnNames) (places : PlaceCounts) → AreLimits limits → IsBase base →
     base.in_flight ≡ [] → base.unspent ≡ [] → base.running ≡ [] → base.entries ≤ greatest_number → entries.items ≡ [] →
     TellsCache cache base.standing base.in_flight → cache.limit ≡ limits.authority_limit → list_all (is_grant_of limits) base.grants ≡ true → IsBehind limits base.grants permits →

@@ -1,5 +1,5 @@
--- A book that goes on from a base which says what its history did keeps what it kept beside it.
--- Cited by `Book::seal`.
+-- A book that continues from a base which says what its history did keeps the invariant.
+-- Used by `Book::seal`.
 use Rattle.std.proofs.Common.{◌≡◌, ℕ, ◌<◌, ◌≤◌, Bool, true, false, All, Vec, Global, cond, get_or, List, [], ◌∷◌, length, filter, refl, sym, ap, subst, ◌∙◌, true≢false, arith}
 use Rattle.std.specs.Prelude.{Some, vec_capacity}
 use Rattle.std.specs.List.{list_all}
@@ -25,7 +25,6 @@ use Rattle.gate_core.specs.Sealing.{GoesOn, HandsOut}
 use Rattle.gate_core.specs.TurnNames.{HasNames, names_by}
 use Rattle.gate_core.proofs.Keeping.{entries_many, told}
 
--- what holds of each that passes a test holds of each where it passes
 where_passes : {X : Type 0} (P : X → Type 0) (q : X → Bool) (xs : List X) → All P (filter q xs) → All (λ x. q x ≡ true → P x) xs
 where_passes P q [] all = All-nil (λ x. q x ≡ true → P x)
 where_passes P q (x ∷ xs) all = by (q x) refl all (where_passes P q xs)
@@ -34,7 +33,6 @@ where_passes P q (x ∷ xs) all = by (q x) refl all (where_passes P q xs)
     by true is all rest = All-cons (λ x. q x ≡ true → P x) x xs (λ passes. All-head P x (filter q xs) all) (rest (All-tail P x (filter q xs) all))
     by false is all rest = All-cons (λ x. q x ≡ true → P x) x xs (λ passes. absurd (true≢false (sym passes ∙ is))) (rest all)
 
--- what holds of each turn holds of each in another order
 turns_alike : (P : Turn → Type 0) (xs ys : List Turn) → ((a : List ℕ) → filter (is_turn_of a) ys ≡ filter (is_turn_of a) xs) → All P xs → All P ys
 turns_alike P xs ys each all k d low =
     let t = get_or ys k d in
@@ -102,7 +100,6 @@ module _ (b : Inside) (kept : IsKept b) (next : Base) (room : Vec Entry Global) 
     entry_room = omega (arith, none, same_promise, fits);
   }
 
--- entries that are handed out
 pub handed : (entries : List Entry) (old new : Gate) (sealed : Sealed) → 0 < length entries → sealed ≡ record { base = old.base; entries = old.entries } → GoesOn old new →
     HandsOut entries old sealed new
 handed [] old new sealed some is goes = absurd (omega (arith, some))

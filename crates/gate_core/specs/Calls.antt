@@ -1,4 +1,4 @@
--- What a call that is given as a value may be replied, and what lists of calls are.
+-- The possible replies of calls given as values, alone and in lists.
 -- The contracts of `calls.rt`; the refusals are those of `Replies`.
 use Rattle.std.specs.Prelude.{◌≡◌, ◌<◌, List, [], ◌∷◌}
 use Rattle.gate_core.specs.declared.call.Call.{Call}
@@ -9,12 +9,12 @@ use Rattle.gate_core.specs.Gate.{Gate, Stays}
 use Rattle.gate_core.specs.Replies.{Arrives, Asks, Begins, Finishes, Returns, Starts, Sweeps}
 use Rattle.gate_core.specs.States.{standing_as}
 
--- an answer that is brought has a spare, from which the history's own is made without memory
+-- the answer to bring has a spare, so the history's own needs no allocation
 abbrev pub HasSpare : Call → Type 0
 HasSpare (calls.Arrive authority turn answer m) = 0 < answer.spares
 HasSpare _ = Unit {0}
 
--- a call has a reply of its own kind, which names what its line names
+-- a call has a reply of its kind, which names the same as its line
 abbrev pub Step : Gate → Call → Reply → Gate → Type 0
 Step old (calls.Begin authority m) (replies.Begin named r) new = (named ≡ authority) × Begins old authority m r new
 Step old (calls.Arrive authority turn answer m) (replies.Arrive named brought r) new =
@@ -26,7 +26,7 @@ Step old (calls.Finish number) (replies.Finish named r) new = (named ≡ number)
 Step old (calls.Sweep m) (replies.Sweep r) new = Sweeps old m r new
 Step old _ _ new = ⊥
 
--- a list of calls, in order, and their replies
+-- calls in order, and their replies
 abbrev pub Replies : Gate → List Call → List Reply → Gate → Type 0
 Replies old [] [] new = Stays old new
 Replies old (call ∷ calls) (reply ∷ later) new = (mid : Gate) × (Step old call reply mid × Replies mid calls later new)

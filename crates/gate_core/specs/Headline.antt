@@ -28,7 +28,7 @@ use Rattle.gate_core.specs.declared.refusal.Started.{Started}
 use Rattle.gate_core.specs.Calls.{Step}
 use Rattle.gate_core.specs.Gate.{Gate, history, Stays}
 
--- the answer in force for the URL's authority at this moment, at most 24 hours old, allows a fetch
+-- the answer in force for the URL's authority, at most 24 hours old, allows a fetch now
 pub record Allows (h : History) (token url : List ℕ) (moment : ℕ) : Type 0 where
   pub answer : StandingAnswer
   pub standing : standing_of h (authority_of url) ≡ Some answer
@@ -37,14 +37,13 @@ pub record Allows (h : History) (token url : List ℕ) (moment : ℕ) : Type 0 w
   pub reason : Reason
   pub says : Says answer.says token url (Ok reason)
 
--- a start may begin: an unspent permit of that number for that token and URL stands, and the answer
--- in force at the start's own moment allows the fetch
+-- a start may begin: an unspent permit of that number for that token and URL exists, and the answer in force at the
+-- start's own moment allows it
 pub record MayStart (h : History) (number : ℕ) (token url : List ℕ) (moment : ℕ) : Type 0 where
   pub permit : stands h number token url ≡ true
   pub answer : Allows h token url moment
 
--- what stands for an authority denies a fetch at this moment by this cause: the winning line of the
--- rules in force, or what they are in place of
+-- an authority's answer denies a fetch by this cause: the winning line, or that no rules are in force
 abbrev pub Denies : Option StandingAnswer → List ℕ → List ℕ → ℕ → Cause → Type 0
 Denies standing token url moment causes.Spent = ⊥
 Denies standing token url moment causes.Unknown = standing ≡ None
@@ -57,38 +56,38 @@ Denies standing token url moment (causes.Line line) =
     (s : StandingAnswer) × ((standing ≡ Some s) × ((moment ≤ s.begun + s.life)
     × ((text : List ℕ) × ((s.says ≡ says.Rules text) × IsVerdictOn text token url (Deny line)))))
 
--- the cause of a denied start: spent where no such permit stands, else what denies the fetch
+-- the cause of a denied start: spent without such a permit, else the fetch's
 abbrev pub IsCauseOfStart : History → ℕ → List ℕ → List ℕ → ℕ → Cause → Type 0
 IsCauseOfStart h number token url moment causes.Spent = stands h number token url ≡ false
 IsCauseOfStart h number token url moment cause =
     (stands h number token url ≡ true) × Denies (standing_of h (authority_of url)) token url moment cause
 
--- what a start is told: Started exactly when it may start, at its own moment, and each denial has its
--- URL, and so its authority, and its cause
+-- the reply to a start: Started exactly if it may start, at its own moment; a denial has its URL, and so its
+-- authority, and its cause
 pub record IsStartTold (h : History) (number : ℕ) (token url : List ℕ) (m : ℕ)
     (result : Result Started Denial) : Type 0 where
   pub started : IsOk result ↔ MayStart h number token url (at_moment h m)
   pub permit : IfOk result (λ s. (s.number ≡ number) × (s.url ≡ url))
   pub denied : IfErr result (λ d. (d.url ≡ url) × IsCauseOfStart h number token url (at_moment h m) d.cause)
 
--- why an ask is refused: a denial has its URL and its cause
+-- the reply to a refused ask: a denial has its URL and its cause
 abbrev pub IsRefusalTold : History → List ℕ → List ℕ → ℕ → AskRefusal → Type 0
 IsRefusalTold h token url moment (ask.Denied d) =
     (d.url ≡ url) × Denies (standing_of h (authority_of url)) token url moment d.cause
 IsRefusalTold h token url moment _ = Unit {0}
 
--- what an ask is told: a grant has a number that was never granted, and is allowed
+-- the reply to an ask: a grant has a new number, and is allowed
 pub record IsAskTold (h : History) (token url : List ℕ) (m : ℕ) (result : Result ℕ AskRefusal) : Type 0 where
   pub granted : IfOk result (λ number. (was_granted h number ≡ false) × Allows h token url (at_moment h m))
   pub refused : IfErr result (IsRefusalTold h token url (at_moment h m))
 
--- what a call is told
+-- the reply to a call
 abbrev pub IsTold : History → Call → Reply → Type 0
 IsTold h (calls.Start number token url m) (replies.Start r) = IsStartTold h number token url m r
 IsTold h (calls.Ask token url m) (replies.Ask r) = IsAskTold h token url m r
 IsTold h _ _ = Unit {0}
 
--- a list of calls, in order: each reply is one that its call may have, and tells what it says
+-- calls in order: each has a possible reply, which is true
 abbrev pub RunTells : Gate → List Call → List Reply → Gate → Type 0
 RunTells old [] [] new = Stays old new
 RunTells old (call ∷ later) (reply ∷ rest) new =

@@ -1,4 +1,4 @@
--- What a book keeps beside its history, and what ties each part to it.
+-- What a book keeps beside its history, and how it agrees with that.
 -- The invariant of `book.rt`.
 use Rattle.std.specs.Prelude.{◌≡◌, ℕ, ◌+◌, ◌≤◌, Bool, true, ◌&&◌, nat_le, nat_lt, List, length, vec_capacity}
 use Rattle.std.specs.List.{list_all}
@@ -18,16 +18,16 @@ use Rattle.gate_core.specs.Limits.{AreLimits, greatest_number}
 use Rattle.gate_core.specs.TurnNames.{HasNames, names_by}
 use Rattle.gate_core.specs.PlaceCounts.{held_by}
 
--- the book as its callers see it
+-- the book as callers see it
 abbrev pub gate_of : Inside → Gate
 gate_of b = record { limits = b.limits; base = b.base; entries = b.entries.items }
 
--- the grant is in one of the slots, and of a generation that there may be
+-- the grant has a slot within the limits and a possible generation
 abbrev pub is_grant_of : Limits → SlotGrant → Bool
 is_grant_of limits grant =
     nat_lt grant.slot limits.slots && (nat_lt 0 grant.generation && nat_le grant.generation last_generation)
 
--- what is true of every book
+-- the invariant of every book
 pub record IsKept (b : Inside) : Type 0 where
   pub limits : AreLimits b.limits
   pub legal : IsLegal (history (gate_of b))

@@ -1,4 +1,4 @@
--- What the contracts of the gate cite.
+-- Definitions for the gate's contracts.
 -- RFC 9309, sections 2.2 to 2.4.
 pub mod Limits
 pub mod Gate

@@ -1,4 +1,4 @@
--- The limits of a book as numbers; the code's constants are these.
+-- A book's limits, which the code's constants equal.
 -- RFC 9309, section 2.4, leaves them to the crawler.
 use Rattle.std.specs.Prelude.{ℕ, ◌≤◌}
 use Rattle.permit_book.specs.Numbers.{last_generation, most_slots}
@@ -8,19 +8,19 @@ use Rattle.gate_core.specs.declared.config.Limits.{Limits}
 abbrev pub most_entries : ℕ
 most_entries = 1000000
 
--- the most authorities that are known at a time
+-- the most authorities known at a time
 abbrev pub most_authorities : ℕ
 most_authorities = 65536
 
--- the most permits that are out for an authority at a time
+-- the most outstanding permits of an authority
 abbrev pub most_places : ℕ
 most_places = 65536
 
--- the greatest number that counts entries: that of 64 bits
+-- the greatest count of entries: that of 64 bits
 abbrev pub greatest_number : ℕ
 greatest_number = 18446744073709551615
 
--- the limits that stand where nobody chose others
+-- the default limits
 abbrev pub usual_limits : Limits
 usual_limits =
     record { slots = 1024; first_generation = 1; log_limit = 1000000; authority_limit = 65536; places = 65536 }

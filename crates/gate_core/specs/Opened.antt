@@ -1,5 +1,5 @@
--- The last steps of a begin and of an ask, once all that comes before them was found.
--- Cited by `grant`, and by the proof of `Book::begin`.
+-- The last steps of a begin and of an ask, after all checks.
+-- Used by `grant`, and by the proof of `Book::begin`.
 use Rattle.std.specs.Prelude.{◌≡◌, ℕ, ◌+◌, ◌<◌, ◌≤◌, true, false, List, Result, Ok, Err}
 use Rattle.path_normal.specs.PageText.{authority_of}
 use Rattle.permit_book.specs.declared.out.SlotContent.TheVariants.{Unspent}
@@ -15,7 +15,7 @@ use Rattle.gate_core.specs.Gate.{Adds, Gate, history, Stays}
 use Rattle.gate_core.specs.PlaceCounts.{AddsOne}
 use Rattle.gate_core.specs.Replies.{cannot_know, HasPlace, IsBusy, IsNext, NoneFree}
 
--- the turn begins at this moment of the gate, or the authority may not be known, or memory was refused
+-- the turn begins at this moment, or the authority can't become known, or memory was refused
 abbrev pub OpensTurn : Gate → List ℕ → ℕ → Result ℕ BeginRefusal → Gate → Type 0
 OpensTurn old authority moment (Ok turn) new =
     (cannot_know old authority ≡ false) × (turn ≡ begins (history old) + 1) × Adds old (Begun moment authority turn) new
@@ -23,8 +23,7 @@ OpensTurn old authority moment (Err begin.AuthoritiesFull) new = (cannot_know ol
 OpensTurn old authority moment (Err begin.NoMemory) new = Stays old new
 OpensTurn old authority moment (Err _) new = ⊥
 
--- the permit is granted at this moment of the gate, where the authority has a place; or it has none, or no
--- slot is free, or memory was refused
+-- the permit is granted at this moment; or the authority has no place, or no slot is free, or memory was refused
 abbrev pub Grants : Gate → List ℕ → List ℕ → ℕ → Result ℕ AskRefusal → Gate → Type 0
 Grants old token url moment (Ok number) new =
     HasPlace old url × IsNext old number × Adds old (Granted moment number (record { token = token; url = url })) new
@@ -33,16 +32,14 @@ Grants old token url moment (Err ask.Busy) new = IsBusy old url × Stays old new
 Grants old token url moment (Err ask.NoMemory) new = Stays old new
 Grants old token url moment (Err _) new = ⊥
 
--- why no permit is taken where so many are out for the authority: as many are as may be, or no slot of
--- the table is free, or memory was refused
+-- why no permit is taken: the authority, with this many, is at its limit, or no slot is free, or memory was refused
 abbrev pub RefusesGrant : Table → ℕ → ℕ → AskRefusal → Type 0
 RefusesGrant t held most ask.Busy = most ≤ held
 RefusesGrant t held most ask.PermitsFull = (held < most) × NoneFreeIn t
 RefusesGrant t held most ask.NoMemory = Unit {0}
 RefusesGrant t held most _ = ⊥
 
--- the next permit of a table is granted for the URL under the token, and counted at its authority, which had
--- a place
+-- the table's next permit is granted for the URL and token, and counted at its authority
 pub record TakesPermit (t : Table) (held : List ℕ → ℕ) (most : ℕ) (token url : List ℕ) (number : ℕ)
     (t2 : Table) (held2 : List ℕ → ℕ) : Type 0 where
   pub place : held (authority_of url) < most
@@ -50,7 +47,7 @@ pub record TakesPermit (t : Table) (held : List ℕ → ℕ) (most : ℕ) (token
   pub granted : t2 ≡ with_out t number (Unspent (record { token = token; url = url }))
   pub counted : AddsOne held (authority_of url) held2
 
--- none is granted, for this reason, and nothing is counted
+-- none is granted, for this reason, and none is counted
 pub record TakesNone (t : Table) (held : List ℕ → ℕ) (most : ℕ) (url : List ℕ) (refusal : AskRefusal)
     (t2 : Table) (held2 : List ℕ → ℕ) : Type 0 where
   pub refused : RefusesGrant t (held (authority_of url)) most refusal

@@ -1,5 +1,5 @@
--- A refusal of the cache as the gate tells it.
--- Cited by the conversion in `refusal.rt`.
+-- The gate's refusal for the cache's.
+-- Used by the conversion in `refusal.rt`.
 use Rattle.authority_cache.specs.declared.refusal.FlightRefusal.{FlightRefusal}
 use Rattle.authority_cache.specs.declared.refusal.FlightRefusal.TheVariants as cache
 use Rattle.gate_core.specs.declared.refusal.BeginRefusal.{BeginRefusal}

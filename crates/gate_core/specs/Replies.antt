@@ -1,5 +1,5 @@
--- What each call may reply, and what it leaves: one relation a call, by cases on its reply. A void
--- reply leaves the gate as it was, and NoMemory is such a reply where the relation names it.
+-- The possible replies and effects of each call, by cases on the reply. A void reply leaves the gate unchanged, and
+-- so does NoMemory where the relation names it.
 use Rattle.std.specs.Prelude.{◌≡◌, ℕ, ◌+◌, ◌<◌, ◌≤◌, Bool, true, false, not, ◌&&◌, nat_le, List, Result, Ok, Err, MatchBool}
 use Rattle.path_normal.specs.PageText.{authority_of}
 use Rattle.authority_cache.specs.declared.refusal.Stale.{Stale}
@@ -27,12 +27,12 @@ use Rattle.gate_core.specs.Gate.{Adds, Gate, HasRoom, held, history, IsFull, Sta
 abbrev pub moment_at : Gate → ℕ → ℕ
 moment_at g handed_in = at_moment (history g) handed_in
 
--- the authority is not known, and as many are as may be
+-- the authority is unknown, and the limit is reached
 abbrev pub cannot_know : Gate → List ℕ → Bool
 cannot_know g authority =
     not (is_known (history g) authority) && nat_le g.limits.authority_limit (known_count (history g))
 
--- begin: InFlight; LogFull, where the begin and its arrival have no room; AuthoritiesFull
+-- begin: InFlight; LogFull, without room for the begin and its arrival; AuthoritiesFull
 abbrev pub Begins : Gate → List ℕ → ℕ → Result ℕ BeginRefusal → Gate → Type 0
 Begins old authority m (Ok turn) new =
     (is_fetching (history old) authority ≡ false) × HasRoom old 2 × (cannot_know old authority ≡ false)
@@ -45,7 +45,7 @@ Begins old authority m (Err begin.AuthoritiesFull) new =
 Begins old authority m (Err begin.NoMemory) new =
     (is_fetching (history old) authority ≡ false) × HasRoom old 2 × Stays old new
 
--- arrive: Stale, where that turn is not in flight for the authority
+-- arrive: Stale, unless that turn is in flight for the authority
 abbrev pub Arrives : Gate → List ℕ → ℕ → Timed → ℕ → Result Unit Stale → Gate → Type 0
 Arrives old authority turn answer m (Ok _) new =
     (has_turn (history old) authority turn ≡ true)
@@ -56,11 +56,11 @@ Arrives old authority turn answer m (Err _) new = (has_turn (history old) author
 abbrev pub IsAllowed : Gate → List ℕ → List ℕ → ℕ → Type 0
 IsAllowed g token url m = (reason : Reason) × Decides (history g) token url (moment_at g m) (Ok reason)
 
--- fewer permits than the places are out for the URL's authority
+-- the URL's authority has a free place
 abbrev pub HasPlace : Gate → List ℕ → Type 0
 HasPlace g url = held (history g) (authority_of url) < g.limits.places
 
--- as many permits as the places are out for it
+-- the URL's authority has no free place
 abbrev pub IsBusy : Gate → List ℕ → Type 0
 IsBusy g url = g.limits.places ≤ held (history g) (authority_of url)
 
@@ -73,8 +73,8 @@ IsNext g number = IsNextBy g.limits.slots g.limits.first_generation (unspent (hi
 abbrev pub NoneFree : Gate → Type 0
 NoneFree g = NoneFreeBy g.limits.slots (unspent (history g)) (running (history g)) (greatest_in (history g))
 
--- ask: LogFull, where the grant, its start and its end have no room; the denial, which is an entry;
--- Busy, where it is allowed and the authority has no place; PermitsFull, where it has and no slot is free
+-- ask: LogFull, without room for the grant, its start and its end; the denial, which is an entry; Busy, if it is
+-- allowed and the authority has no place; PermitsFull, if no slot is free for it
 abbrev pub Asks : Gate → List ℕ → List ℕ → ℕ → Result ℕ AskRefusal → Gate → Type 0
 Asks old token url m (Ok number) new =
     HasRoom old 3 × IsAllowed old token url m × HasPlace old url × IsNext old number
@@ -88,8 +88,8 @@ Asks old token url m (Err ask.PermitsFull) new =
     HasRoom old 3 × IsAllowed old token url m × HasPlace old url × NoneFree old × Stays old new
 Asks old token url m (Err ask.NoMemory) new = HasRoom old 3 × Stays old new
 
--- start: Spent, where no such permit stands; else the denial, which is an entry and spends the permit.
--- Nothing else is answered: neither the log nor memory can refuse a start
+-- start: Spent, without such a permit; else the denial, an entry that spends the permit. Neither log nor memory can
+-- refuse a start
 abbrev pub Starts : Gate → ℕ → List ℕ → List ℕ → ℕ → Result Start Denial → Gate → Type 0
 Starts old number token url m (Ok s) new =
     (stands (history old) number token url ≡ true) × (s.number ≡ number) × (s.url ≡ url)
@@ -102,17 +102,17 @@ Starts old number token url m (Err d) new =
     × Adds old (StartDenied (moment_at old m) number d.cause) new)
     ((d.cause ≡ Spent) × Stays old new)
 
--- back: NotOut, where no unspent permit of the number stands
+-- back: NotOut, if the number has no unspent permit
 abbrev pub Returns : Gate → ℕ → Result Unit NotOut → Gate → Type 0
 Returns old number (Ok _) new = (is_unspent (history old) number ≡ true) × Adds old (Returned number) new
 Returns old number (Err _) new = (is_unspent (history old) number ≡ false) × Stays old new
 
--- finish: NotOut, where the number is not running
+-- finish: NotOut, if the number is not running
 abbrev pub Finishes : Gate → ℕ → Result Unit NotOut → Gate → Type 0
 Finishes old number (Ok _) new = (is_running (history old) number ≡ true) × Adds old (Finished number) new
 Finishes old number (Err _) new = (is_running (history old) number ≡ false) × Stays old new
 
--- sweep: LogFull, where its entry has no room
+-- sweep: LogFull, if its entry has no room
 abbrev pub Sweeps : Gate → ℕ → Result ℕ SweepRefusal → Gate → Type 0
 Sweeps old m (Ok count) new =
     HasRoom old 1 × (count ≡ past_count (history old) (moment_at old m))

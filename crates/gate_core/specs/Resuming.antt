@@ -1,4 +1,4 @@
--- What a book goes on from after its end: a base in which nothing is out, whose grants fit its limits.
+-- A base from which a book may continue: nothing outstanding, and grants within its limits.
 -- RFC 9309, sections 2.3.1 and 2.4; cited by `resume.rt`.
 use Rattle.std.specs.Prelude.{◌≡◌, Bool, true, false, List, [], Result, Ok, Err, length}
 use Rattle.std.specs.List.{list_all}
@@ -13,17 +13,17 @@ use Rattle.gate_core.specs.declared.refusal.NotResumed.TheVariants as not_resume
 use Rattle.gate_core.specs.Gate.{Gate}
 use Rattle.gate_core.specs.Kept.{is_grant_of}
 
--- each grant of the base is in a slot of these limits, and of a generation from 1 to the last
+-- each grant has a slot of these limits, and a generation from 1 to the last
 abbrev pub fits_limits : Limits → Base → Bool
 fits_limits limits base = list_all (is_grant_of limits) base.grants
 
--- resume: Slots, where a grant of the base does not fit the limits, and only there
+-- resume: Slots, exactly if a grant does not fit the limits
 abbrev pub Resumes : Limits → Base → Result Gate NotResumed → Type 0
 Resumes limits base (Ok book) = fits_limits limits base ≡ true
 Resumes limits base (Err not_resumed.Slots) = fits_limits limits base ≡ false
 Resumes limits base (Err not_resumed.NoMemory) = fits_limits limits base ≡ true
 
--- the table has the slots of these limits, what was granted in them was granted before, and nothing is out
+-- the table has the slots of these limits and the earlier grants, with nothing outstanding
 pub record IsBehind (limits : Limits) (grants : List SlotGrant) (t : Table) : Type 0 where
   pub tells : TellsPermits t [] [] (greatest_of grants)
   pub slots : length t.slots ≡ limits.slots

@@ -1,4 +1,4 @@
--- Worked rows: short histories of one site, with the replies that they give.
+-- Worked examples: short histories of one site, with replies.
 -- The contracts of `rows.rt`.
 use Rattle.std.specs.Prelude.{ℕ, List, [], ◌∷◌, codes}
 use Rattle.permit_book.specs.declared.refusal.NotOut.{NotOut}
@@ -15,7 +15,7 @@ use Rattle.gate_core.specs.declared.refusal.Started.{Started as Start}
 use Rattle.gate_core.specs.Gate.{Gate}
 use Rattle.gate_core.specs.Limits.{usual_limits}
 
--- a book with this many slots, this first generation and these entries
+-- a book with these slots, first generation and entries
 abbrev pub book : ℕ → ℕ → List Entry → Gate
 book slots first entries = record {
   limits =
@@ -24,11 +24,11 @@ book slots first entries = record {
   entries = entries;
 }
 
--- a book with the usual limits and these entries
+-- a book with default limits and these entries
 abbrev pub usual : List Entry → Gate
 usual entries = record { limits = usual_limits; base = empty_base; entries = entries }
 
--- a book that lets one permit out for an authority
+-- a book that allows one outstanding permit for an authority
 abbrev pub one_place : List Entry → Gate
 one_place entries = record {
   limits = record { slots = 1024; first_generation = 1; log_limit = 1000000; authority_limit = 65536; places = 1 };
@@ -44,7 +44,7 @@ other_page = codes "http://a.example/y"
 abbrev pub barbot : List ℕ
 barbot = codes "barbot"
 
--- the same with its life, as a turn brings it
+-- the missing file's answer with its life
 abbrev pub no_file_brought : Timed
 no_file_brought = record { says = no_file; spares = 2; life = 86400 }
 
@@ -69,7 +69,7 @@ abbrev pub started_at : ℕ → List Entry
 started_at moment =
     Begun 100 site 1 ∷ Arrived 105 site 1 no_file 86400 ∷ grant 110 65536 page ∷ Started moment 65536 reasons.Open ∷ []
 
--- what a start of this permit is answered
+-- the reply to a start of this permit
 abbrev pub go : ℕ → List ℕ → Start
 go number url = record { number = number; url = url; reason = reasons.Open }
 
@@ -82,19 +82,19 @@ abbrev pub two_granted : List Entry
 two_granted =
     Begun 100 site 1 ∷ Arrived 105 site 1 no_file 86400 ∷ grant 110 65536 page ∷ grant 111 65537 other_page ∷ []
 
--- the second one's start came too late
+-- the second permit's start came too late
 abbrev pub one_expired : List Entry
 one_expired =
     Begun 100 site 1 ∷ Arrived 105 site 1 no_file 86400 ∷ grant 110 65536 page ∷ grant 111 65537 other_page
     ∷ StartDenied 86501 65537 causes.Expired ∷ []
 
--- the fetch was started and has ended
+-- the fetch was started and ended
 abbrev pub finished : List Entry
 finished =
     Begun 100 site 1 ∷ Arrived 105 site 1 no_file 86400 ∷ grant 110 65536 page ∷ Started 112 65536 reasons.Open
     ∷ Finished 65536 ∷ []
 
--- no permit of the number is out
+-- the number has no permit
 abbrev pub not_out : NotOut
 not_out = record {}
 

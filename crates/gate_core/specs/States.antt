@@ -1,4 +1,4 @@
--- What is known of an authority at a moment.
+-- What is known of an authority.
 -- RFC 9309, sections 2.3.1 and 2.4.
 use Rattle.std.specs.Prelude.{◌≡◌, ℕ, false, List, Option, Some, None, MatchBool}
 use Rattle.std.specs.Option.{option_map}
@@ -14,32 +14,32 @@ use Rattle.gate_core.specs.declared.state.Standing.{Standing}
 use Rattle.gate_core.specs.declared.state.Standing.TheVariants as standings
 use Rattle.gate_core.specs.declared.state.State.{State}
 
--- what an answer in force is
+-- the state by an answer in force
 abbrev pub standing_as : Said → Standing
 standing_as (says.Rules _) = standings.Rules
 standing_as (says.Open _) = standings.Open
 standing_as (says.Closed _) = standings.Closed
 
--- what stands at this moment: nothing, an answer older than its life, or what the answer in force is
+-- the state at this moment: no answer, one older than its life, or the answer's
 abbrev pub StandsAs : Option StandingAnswer → ℕ → Standing → Type 0
 StandsAs None moment state = state ≡ standings.Unknown
 StandsAs (Some s) moment state =
     MatchBool (is_past_answer moment s) (state ≡ standings.Expired) (state ≡ standing_as s.says)
 
--- what is known of an authority at a moment: what stands, and whether a turn is in flight
+-- what is known of an authority: its answer's state, and whether a turn is in flight
 pub record IsState (h : History) (authority : List ℕ) (moment : ℕ) (state : State) : Type 0 where
   pub standing : StandsAs (standing_of h authority) moment state.standing
   pub fetching : state.fetching ≡ is_fetching h authority
 
--- the rules of this text are in force for the authority at this moment
+-- rules of this text are in force for the authority now
 pub record HasRulesInForce (h : History) (authority : List ℕ) (moment : ℕ) (text : List ℕ) : Type 0 where
   pub answer : StandingAnswer
   pub stands : standing_of h authority ≡ Some answer
   pub in_force : is_past_answer moment answer ≡ false
   pub rules : answer.says ≡ says.Rules text
 
--- the answer as it is cached is the one that stands for the authority: its turn, the moment of that turn's
--- begin, its life and what it says; there is none where none stands
+-- the cached answer is the authority's: its turn, the moment of that turn's begin, its life and content; or none
+-- exists
 abbrev pub IsStanding : History → List ℕ → Option CachedAnswer → Type 0
 IsStanding h authority found =
     option_map (answer_for authority) (option_map said_cached found) ≡ standing_of h authority

@@ -10,8 +10,8 @@ use path_normal::Authority;
 use robots_verdict::Answer;
 
 impl Book {
-    /// Takes the answer of a turn, which from now on stands for the authority in place of an older one.
-    /// It takes no memory, but a spare of the answer; the older one is freed later (`take_replaced`).
+    /// Takes a turn's answer, which now replaces the authority's older one. It allocates nothing except a
+    /// spare of the answer; `take_replaced` gives the older one to free.
     pub fn arrive(
         &mut self,
         authority: &Authority,
@@ -42,7 +42,7 @@ impl Book {
         Ok(())
     }
 
-    /// The answer that the last arrival replaced, to be freed where nobody waits for it.
+    /// The last replaced answer, to be freed outside the lock.
     pub fn take_replaced(&mut self) -> Option<Answer>
         ensures { self.new ≡ self.old }
     {

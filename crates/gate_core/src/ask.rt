@@ -22,7 +22,7 @@ use robots_text::Token;
 use std::alloc::AllocError;
 
 impl Book {
-    /// Asks for a permit. Room is made for its start and its end, which then take no memory.
+    /// Asks for a permit. Room is made for its start and end, which then allocate nothing.
     pub fn ask(&mut self, token: Token, url: PageUrl, moment: u64) -> Result<PermitNo, AskRefusal>
         ensures { Asks self.old token url moment result self.new }
     {
@@ -34,8 +34,8 @@ impl Book {
         self.ask_judged(judged, moment)
     }
 
-    /// Asks for a permit by an ask that was prepared before. Its verdict counts only if the answer in force now has
-    /// the text of the policy that it was judged by.
+    /// Asks with an ask that was prepared before. Its verdict counts only if the answer in force now has
+    /// the text of the policy that gave it.
     pub fn ask_judged(&mut self, judged: Judged, moment: u64) -> Result<PermitNo, AskRefusal>
         ensures { Asks self.old judged.token judged.url moment result self.new }
     {
@@ -60,7 +60,7 @@ impl Book {
         }
     }
 
-    // Lets the rules in force take the index of the policy that was judged by.
+    // Gives the rules in force the index of the policy that judged.
     fn take_index(&mut self, authority: &str, ruling: Option<Ruling>)
         ensures { self.new ≡ self.old }
     {
@@ -69,7 +69,6 @@ impl Book {
         }
     }
 
-    // Enters a denied ask.
     fn deny(&mut self, fetch: FetchText, cause: Cause, moment: u64) -> Result<(), AllocError>
         requires room { HasRoom self.old 3 }
         requires late { now (history self.old) ≤ moment }
@@ -88,7 +87,7 @@ impl Book {
         Ok(())
     }
 
-    // Makes room for the permit, its start and its end, and enters the grant, where the authority has a place.
+    // Makes room for the permit with its start and end, and grants it if the authority has a place.
     fn grant(
         &mut self,
         token: Token,
@@ -117,8 +116,8 @@ impl Book {
     }
 }
 
-// Grants the next permit of the table and counts it, where fewer than the most are out for the authority
-// and a slot is free. The draft leaves the table as it is if memory runs out.
+// Grants and counts the table's next permit, if the authority is below its limit and a slot is free. If
+// memory runs out, dropping the draft leaves the table unchanged.
 fn take_permit(
     permits: &mut Permits,
     places: &mut PlaceCounts,

@@ -13,8 +13,7 @@ use path_normal::Authority;
 use std::alloc::AllocError;
 
 impl Book {
-    /// Begins a fetch of the authority's robots.txt, and gives the number of its turn. Room is
-    /// made for the arrival, which then takes no memory.
+    /// Begins a turn and returns its number. Room is made for the arrival, which then allocates nothing.
     pub fn begin(&mut self, authority: &Authority, moment: u64) -> Result<TurnNo, BeginRefusal>
         ensures { Begins self.old authority.now moment result self.new }
     {
@@ -41,8 +40,8 @@ impl Book {
     }
 }
 
-// Keeps the authority's name for the turn's arrival, makes room for the two entries of the turn, and
-// hands out the name once more for the first of them.
+// Keeps the authority's name for the arrival, makes room for the turn's two entries, and returns a copy for
+// the first.
 fn name_turn(
     names: &mut TurnNames,
     entries: &mut Vec<Entry>,

@@ -1,4 +1,4 @@
-//! The book: the gate's history, and what stands in it in tables.
+//! The book: the gate's history, and its state in tables.
 //! RFC 9309, sections 2.3.1 and 2.4.
 ghost use Rattle.std.specs.Prelude.{◌≡◌, ◌+◌, ◌≤◌, [], ◌↔◌, IfOk, IsTrue};
 ghost use Rattle.gate_history.specs.Base.{empty_base};
@@ -17,20 +17,20 @@ use permit_book::Permits;
 use std::alloc::Global;
 use std::marker::Model;
 
-/// The gate of one process: a history that only grows, and the calls that extend it.
+/// The gate of one process: its history, and the calls that extend it.
 #[derive(Drop)]
 pub struct Book {
     pub(crate) limits: Limits,
     pub(crate) base: Base,
     pub(crate) entries: Vec<Entry>,
-    // The gate's moment, and how many begins and started fetches the history has.
+    // The gate's moment, and the begins and started fetches of the history.
     pub(crate) clock: u64,
     pub(crate) begins: u64,
     pub(crate) starts: u64,
-    // The answers that stand with the turns in flight, and the permits that are out.
+    // The valid answers, the turns in flight, and the outstanding permits.
     pub(crate) cache: Cache,
     pub(crate) permits: Permits,
-    // The names of the turns' authorities once more, and how many permits are out for each authority.
+    // Copies of the turns' authority names, and the outstanding permits of each authority.
     pub(crate) names: TurnNames,
     pub(crate) places: PlaceCounts,
 }
@@ -81,7 +81,7 @@ impl Book {
         self.entries.as_slice()
     }
 
-    /// What the history goes on from.
+    /// What the history continues from.
     pub fn base(&self) -> &Base
         ensures { result.now ≡ self.now.base }
     {
@@ -96,14 +96,14 @@ impl Book {
         self.limits
     }
 
-    /// The moment of a call to which this one was handed in, in seconds.
+    /// The moment of a call that hands in this one, in seconds.
     pub(crate) fn moment_of_call(&self, handed_in: u64) -> u64
         ensures { result ≡ at_moment (history self.now) handed_in }
     {
         handed_in.max(self.clock)
     }
 
-    /// How many entries are promised to what stands open.
+    /// The entries promised to what is open.
     pub(crate) fn promised(&self) -> u64
         ensures value { result ≡ promised (history self.now) }
         ensures bound { room self.now ≤ most_entries }
@@ -111,7 +111,7 @@ impl Book {
         self.cache.flight_count() + 2 * self.permits.unspent_count() + self.permits.running_count()
     }
 
-    /// Whether this many more entries fit under the limit of the log, and with those that were sealed under
+    /// Whether this many more entries fit under the log's limit, and all ever made under
     /// 18,446,744,073,709,551,615.
     pub fn has_room(&self, more: u64) -> bool
         requires { more ≤ 3 }

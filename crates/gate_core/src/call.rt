@@ -1,4 +1,4 @@
-//! The calls of a book as values, and their replies.
+//! The calls of a book and their replies, as values.
 //! RFC 9309, sections 2.2.2, 2.3.1 and 2.4.
 
 use crate::refusal::{AskRefusal, BeginRefusal, Denial, Started, SweepRefusal};
@@ -8,15 +8,15 @@ use path_normal::{Authority, PageUrl};
 use permit_book::{NotOut, PermitNo};
 use robots_text::Token;
 
-/// A call of a book. Moments are seconds, any that a u64 has.
+/// A call of a book. Moments are seconds, any u64.
 #[derive(Drop)]
 pub enum Call {
-    /// Begins a robots fetch.
+    /// Begins a turn.
     Begin {
         authority: Authority,
         moment: u64,
     },
-    /// Brings the answer of a turn, with its life.
+    /// Brings a turn's answer, with its life.
     Arrive {
         authority: Authority,
         turn: TurnNo,
@@ -29,7 +29,7 @@ pub enum Call {
         url: PageUrl,
         moment: u64,
     },
-    /// Spends a permit by the start of its fetch.
+    /// Spends a permit by starting its fetch.
     Start {
         number: PermitNo,
         token: Token,
@@ -44,14 +44,13 @@ pub enum Call {
     Finish {
         number: PermitNo,
     },
-    /// Drops the answers that are older than their lives.
+    /// Drops the answers older than their lives.
     Sweep {
         moment: u64,
     },
 }
 
-/// What a call was answered: the result of the call of the same name, and what of the call its
-/// reply names.
+/// The reply to a call: its result, and the parts of the call that the reply line names.
 #[derive(Drop)]
 pub enum Reply {
     /// To [`Call::Begin`].
@@ -59,7 +58,7 @@ pub enum Reply {
         authority: Authority,
         result: Result<TurnNo, BeginRefusal>,
     },
-    /// To [`Call::Arrive`]; of the answer it names what it is in force.
+    /// To [`Call::Arrive`], with the answer's word.
     Arrive {
         authority: Authority,
         brought: Standing,
@@ -83,7 +82,7 @@ pub enum Reply {
         number: PermitNo,
         result: Result<(), NotOut>,
     },
-    /// To [`Call::Sweep`]: how many answers were dropped.
+    /// To [`Call::Sweep`]: the number of dropped answers.
     Sweep {
         result: Result<u64, SweepRefusal>,
     },

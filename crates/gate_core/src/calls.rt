@@ -1,4 +1,4 @@
-//! A list of calls, answered one after another.
+//! Makes a list of calls in order.
 //! RFC 9309, sections 2.2.2, 2.3.1 and 2.4.
 ghost use Rattle.std.specs.Prelude.{◌≡◌, ◌<◌, All, IfOk, OnErr};
 ghost use Rattle.gate_core.specs.declared.call.Call.TheVariants.{Arrive};
@@ -15,7 +15,7 @@ use path_normal::Authority;
 use std::alloc::Global;
 
 impl Book {
-    /// Makes a call that is given as a value.
+    /// Makes a call given as a value.
     pub fn answer(&mut self, call: Call) -> Reply
         requires { HasSpare call }
         ensures step { Step self.old call result self.new }
@@ -66,7 +66,7 @@ impl Book {
         }
     }
 
-    // Makes an arrival, whose reply says what was brought.
+    // Makes an arrival; the reply names the answer.
     fn bring(
         &mut self,
         authority: Authority,
@@ -87,8 +87,8 @@ impl Book {
     }
 }
 
-/// Makes the calls in order, and gives their replies. Room for all replies is taken first, so
-/// that no call is made where it is refused.
+/// Makes the calls in order, and returns their replies. Room for all replies is allocated first; without it
+/// no call is made.
 #[tactic(auto, using(std::proofs::lemmas::Grind::common_steps, crate::proofs::Headlines::run_told))]
 pub fn run(alloc: Global, book: &mut Book, calls: Vec<Call>) -> Result<Vec<Reply>, NoMemory>
     requires { All HasSpare calls.items }

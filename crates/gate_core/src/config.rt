@@ -1,4 +1,4 @@
-//! The limits of a book, which are fixed when it is made.
+//! The fixed limits of a book.
 //! RFC 9309, section 2.4, leaves them to the crawler.
 ghost use Rattle.std.specs.Prelude.{◌≡◌};
 ghost use Rattle.permit_book.specs.Numbers.{last_generation, most_slots};
@@ -7,13 +7,13 @@ ghost use Rattle.gate_core.specs.Limits.{most_authorities, most_entries, most_pl
 use permit_book::{LAST_GENERATION, MAX_SLOTS};
 use std::hash::RandomState;
 
-/// The most entries that a book's history may have.
+/// The most entries of a book's history.
 pub const MAX_LOG: u64 = 1_000_000;
 
-/// The most authorities that a book may know at a time.
+/// The most authorities known at a time.
 pub const MAX_AUTHORITIES: u64 = 65_536;
 
-/// The most permits that may be out for one authority at a time.
+/// The most outstanding permits of an authority.
 pub const MAX_PLACES: u64 = 65_536;
 
 /// The limits of a book.
@@ -21,17 +21,17 @@ pub const MAX_PLACES: u64 = 65_536;
 pub struct Limits {
     /// Permit slots, from 1 to [`MAX_SLOTS`].
     pub slots: u64,
-    /// The generation of the first permit of each slot, from 1 to [`LAST_GENERATION`].
+    /// The generation of each slot's first permit, from 1 to [`LAST_GENERATION`].
     pub first_generation: u64,
     /// Entries of the history, from 1 to [`MAX_LOG`].
     pub log_limit: u64,
-    /// Authorities that are known at a time, from 1 to [`MAX_AUTHORITIES`].
+    /// Authorities known at a time, from 1 to [`MAX_AUTHORITIES`].
     pub authority_limit: u64,
-    /// Permits that are out for an authority at a time, from 1 to [`MAX_PLACES`].
+    /// Outstanding permits of an authority, from 1 to [`MAX_PLACES`].
     pub places: u64,
 }
 
-/// What a book is made of: its limits, and the keys by which no site can choose its place in a table.
+/// A book's limits, and hash keys that keep sites from choosing their place in a table.
 #[derive(Clone, Copy)]
 pub struct Config {
     /// The limits.
@@ -41,7 +41,7 @@ pub struct Config {
 }
 
 impl Limits {
-    /// The limits that stand where nobody chose others.
+    /// The default limits.
     pub fn usual() -> Limits
         ensures { result ≡ usual_limits }
     {
@@ -55,7 +55,7 @@ impl Limits {
     }
 }
 
-/// The constants are the numbers that the definitions have.
+/// The constants are those of the definitions.
 pub fn limits_are()
     ensures slots { MAX_SLOTS ≡ most_slots }
     ensures generation { LAST_GENERATION ≡ last_generation }

@@ -1,4 +1,4 @@
-//! Whether a fetch is allowed by the history, and why not.
+//! Whether the history allows a fetch, and why not.
 //! RFC 9309, sections 2.2.2, 2.3.1 and 2.4.
 ghost use Rattle.std.specs.Prelude.{IfSome};
 ghost use Rattle.gate_history.specs.Cause.{Decides};
@@ -11,7 +11,7 @@ use path_normal::PageUrl;
 use robots_text::Token;
 
 impl Book {
-    // What stands for the URL's authority says of its fetch at this moment of the gate.
+    // The decision by the URL's authority's answer at this moment of the gate.
     pub(crate) fn decide(
         &self,
         token: &Token,

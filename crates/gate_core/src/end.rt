@@ -1,4 +1,4 @@
-//! `Book::back` and `Book::finish`: the two ends of a permit that a caller brings about.
+//! `Book::back` and `Book::finish`: how a caller ends a permit.
 //! Called for `BACK` and `DONE`, and by a desk whose permit or fetch ends.
 ghost use Rattle.gate_core.specs.Replies.{Finishes, Returns};
 
@@ -7,7 +7,7 @@ use gate_history::Entry;
 use permit_book::{NotOut, PermitNo};
 
 impl Book {
-    /// Gives an unspent permit back. It takes no memory.
+    /// Gives an unspent permit back. It allocates nothing.
     pub fn back(&mut self, number: PermitNo) -> Result<(), NotOut>
         ensures { Returns self.old number result self.new }
     {
@@ -20,7 +20,7 @@ impl Book {
         Ok(())
     }
 
-    /// Ends the fetch that was started under this number. It takes no memory.
+    /// Ends the fetch started under this number. It allocates nothing.
     pub fn finish(&mut self, number: PermitNo) -> Result<(), NotOut>
         ensures { Finishes self.old number result self.new }
     {

@@ -1,4 +1,4 @@
-//! An ask prepared without the book, which another caller may have meanwhile: its copies are made, and its verdict may be.
+//! An ask prepared outside the book's lock: its copies are made, and its verdict may be.
 //! RFC 9309, section 2.2.2.
 ghost use Rattle.std.specs.Prelude.{◌≡◌, IfOk};
 
@@ -10,8 +10,8 @@ use std::alloc::{AllocError, Global};
 use std::marker::Model;
 use std::sync::Arc;
 
-/// A token and a URL to ask for, with the texts of the ask's entry, and with the verdict of the policy that
-/// was thought to be in force, where one was found.
+/// A token and URL to ask for, with the texts for the ask's entry, and the verdict of the policy believed
+/// to be in force, if any.
 #[derive(Drop)]
 pub struct Judged {
     pub(crate) token: Token,
@@ -39,7 +39,7 @@ impl Model for Judged {
 }
 
 impl Judged {
-    /// An ask of which no verdict was found.
+    /// An ask without verdict.
     pub fn new(alloc: Global, token: Token, url: PageUrl) -> Result<Judged, AllocError>
         ensures { IfOk result (λ judged. judged ≡ record { token = token; url = url }) }
     {
@@ -52,7 +52,7 @@ impl Judged {
         })
     }
 
-    /// This ask, judged by a policy. It takes no memory.
+    /// This ask, judged by a policy. It allocates nothing.
     pub fn judged_by(self, policy: Arc<Policy>) -> Judged
         ensures { result ≡ self }
     {
@@ -71,14 +71,14 @@ impl Judged {
         }
     }
 
-    /// The token that is asked for.
+    /// Its token.
     pub fn token(&self) -> &Token
         ensures { result.now ≡ self.now.token }
     {
         &self.token
     }
 
-    /// The URL that is asked for.
+    /// Its URL.
     pub fn url(&self) -> &PageUrl
         ensures { result.now ≡ self.now.url }
     {

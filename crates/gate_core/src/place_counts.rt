@@ -1,4 +1,4 @@
-//! How many permits are out for each authority, counted so that an ask looks at no slot.
+//! Counts of each authority's outstanding permits, so that an ask looks at no slot.
 //! Used by `Book::ask`, and wherever a permit or a fetch ends; `--places` is its limit.
 ghost use Rattle.std.specs.Prelude.{◌≡◌, ◌^◌, ◌<◌, ℕ, List, None, OnErr, OnOk};
 ghost use Rattle.std.specs.HashMap.{get_by_text};
@@ -10,13 +10,13 @@ use permit_book::{PermitNo, Permits};
 use std::alloc::{AllocError, Global};
 use std::hash::RandomState;
 
-/// The counts by the texts of their authorities. Where none is out there is no entry.
+/// The counts by authority, without zeros.
 #[derive(Drop)]
 pub(crate) struct PlaceCounts {
     by_authority: IndexMap<String, u64, RandomState>,
 }
 
-/// Where an authority stands in the counts, until they change, and how many permits are out for it.
+/// An authority's index in the counts, until they change, and its outstanding permits.
 #[derive(Clone, Copy)]
 pub(crate) struct Count {
     pub index: Option<usize>,
@@ -32,7 +32,6 @@ impl PlaceCounts {
         }
     }
 
-    /// Finds an authority among the counts.
     pub(crate) fn find(&self, authority: &str) -> Count
         ensures { IsCount self.now authority.now result }
     {
@@ -48,7 +47,7 @@ impl PlaceCounts {
         }
     }
 
-    /// Counts a permit for the authority that was found.
+    /// Counts a permit of the authority that was found.
     pub(crate) fn add(&mut self, held: Count, authority: &str) -> Result<(), AllocError>
         requires few { held.count < 2 ^ 32 }
         requires held { IsCount self.old authority.now held }
@@ -65,7 +64,7 @@ impl PlaceCounts {
         Ok(())
     }
 
-    /// Counts the permit no more that is out under the number, which ends. It takes no memory.
+    /// Uncounts the numbered permit, which ends. It allocates nothing.
     pub(crate) fn leave(&mut self, permits: &Permits, number: PermitNo)
         ensures { LeavesPlace (held_by self.old) (out_under permits.now number) (held_by self.new) }
     {

@@ -1,5 +1,5 @@
-//! What a caller that shares the book with others looks at while it waits, and what it settles by.
-//! Each reads what the book keeps, and takes no memory.
+//! What a caller that shares the book looks at while it waits, and settles by.
+//! Each only reads and allocates nothing.
 ghost use Rattle.std.specs.Prelude.{◌≡◌, length};
 ghost use Rattle.std.specs.Option.{option_copied};
 ghost use Rattle.gate_history.specs.History.{entry_count, started_count};
@@ -17,14 +17,14 @@ use permit_book::PermitNo;
 use robots_text::Token;
 
 impl Book {
-    /// Whether an unspent permit of this number stands.
+    /// Whether the number has an unspent permit.
     pub fn is_unspent(&self, number: PermitNo) -> bool
         ensures { result ≡ is_unspent (history self.now) number }
     {
         self.permits.is_unspent(number)
     }
 
-    /// The URL of the unspent permit of this number, where one stands.
+    /// The URL of the number's unspent permit, if any.
     pub fn url_of(&self, number: PermitNo) -> Option<&PageUrl>
         ensures { IsPermitUrl (history self.now) number (option_copied result) }
     {
@@ -34,7 +34,7 @@ impl Book {
         self.permits.url_of(number)
     }
 
-    /// Whether an unspent permit of this number for this token and URL stands.
+    /// Whether the number has an unspent permit for this token and URL.
     pub fn stands(&self, number: PermitNo, token: &Token, url: &PageUrl) -> bool
         ensures { result ≡ stands (history self.now) number token.now url.now }
     {
@@ -62,21 +62,21 @@ impl Book {
         self.cache.has_turn(authority, turn)
     }
 
-    /// The answer that stands for an authority, in force or older than its life, or none.
+    /// The authority's answer, in force or older than its life, if any.
     pub fn standing(&self, authority: &str) -> Option<&CachedAnswer>
         ensures { IsStanding (history self.now) authority.now (option_copied result) }
     {
         self.cache.standing(authority)
     }
 
-    /// How many entries the history has, those before its base among them.
+    /// The entries of the history, with those before its base.
     pub fn entry_count(&self) -> u64
         ensures { result ≡ entry_count (history self.now) }
     {
         self.base.entries() + self.entries.len() as u64
     }
 
-    /// How many fetches were started, those before the base among them.
+    /// The started fetches, with those before the base.
     pub fn started_count(&self) -> u64
         ensures { result ≡ started_count (history self.now) }
     {
@@ -90,21 +90,21 @@ impl Book {
         self.cache.known_count()
     }
 
-    /// How many unspent permits are out.
+    /// Unspent permits.
     pub fn unspent_count(&self) -> u64
         ensures { result ≡ length (unspent (history self.now)) }
     {
         self.permits.unspent_count()
     }
 
-    /// How many fetches are running.
+    /// Running fetches.
     pub fn running_count(&self) -> u64
         ensures { result ≡ length (running (history self.now)) }
     {
         self.permits.running_count()
     }
 
-    /// How many turns are in flight.
+    /// Turns in flight.
     pub fn flight_count(&self) -> u64
         ensures { result ≡ length (in_flight (history self.now)) }
     {

@@ -1,4 +1,4 @@
-//! What the calls of the gate answer in place of what was asked.
+//! How the calls of the gate refuse.
 //! RFC 9309, sections 2.2.2, 2.3.1 and 2.4.
 ghost use Rattle.std.specs.Prelude.{◌≡◌};
 ghost use Rattle.path_normal.specs.PageText.{authority_of};
@@ -8,68 +8,67 @@ use path_normal::PageUrl;
 use permit_book::PermitNo;
 use std::alloc::AllocError;
 
-/// A growth of memory was refused, and nothing has changed.
+/// An allocation failed; nothing changed.
 #[derive(Clone, Copy, Debug, PartialEq, Eq)]
 pub struct NoMemory;
 
-/// Why no book goes on from a base.
+/// Why a base can't be resumed.
 #[derive(Clone, Copy, Debug, PartialEq, Eq)]
 pub enum NotResumed {
-    /// A grant of the base does not fit the limits: its slot is past their last one, or its
-    /// generation is 0.
+    /// A grant of the base is beyond the limits' slots, or its generation is 0.
     Slots,
-    /// A growth of memory was refused.
+    /// An allocation failed.
     NoMemory,
 }
 
-/// Why no turn was begun. Nothing has changed.
+/// Why no turn was begun. Nothing changed.
 #[derive(Clone, Copy, Debug, PartialEq, Eq)]
 pub enum BeginRefusal {
     /// A turn of the authority is in flight.
     InFlight,
-    /// The history has no room for the begin and its arrival.
+    /// The history lacks room for the begin and its arrival.
     LogFull,
-    /// The authority is not known, and as many are as may be.
+    /// The authority is unknown, and the limit is reached.
     AuthoritiesFull,
-    /// A growth of memory was refused.
+    /// An allocation failed.
     NoMemory,
 }
 
-/// Why no permit was granted. Nothing has changed, but after `Denied`, which is an entry.
+/// Why no permit was granted. Nothing changed, but `Denied` is an entry.
 #[derive(Drop)]
 pub enum AskRefusal {
-    /// The history has no room for the grant, its start and its end.
+    /// The history lacks room for the grant, its start and its end.
     LogFull,
     /// The robots answer does not allow it.
     Denied(Denial),
-    /// As many permits are out for the URL's authority as may be.
+    /// The URL's authority has its most outstanding permits.
     Busy,
     /// No slot is free.
     PermitsFull,
-    /// A growth of memory was refused.
+    /// An allocation failed.
     NoMemory,
 }
 
-/// Why nothing was swept. Nothing has changed.
+/// Why nothing was swept. Nothing changed.
 #[derive(Clone, Copy, Debug, PartialEq, Eq)]
 pub enum SweepRefusal {
-    /// The history has no room for the entry.
+    /// The history lacks room for the entry.
     LogFull,
-    /// A growth of memory was refused.
+    /// An allocation failed.
     NoMemory,
 }
 
-/// An ask or a start that is denied, with its URL.
+/// A denied ask or start, with its URL.
 #[derive(Drop)]
 pub struct Denial {
-    /// The URL that was asked for.
+    /// The requested URL.
     pub url: PageUrl,
     /// Why it is denied.
     pub cause: Cause,
 }
 
 impl Denial {
-    /// The authority whose answer, or want of one, denies it.
+    /// The authority whose answer, or lack of one, denies it.
     pub fn authority(&self) -> &str
         ensures { result.now ≡ authority_of self.now.url }
     {
@@ -77,10 +76,10 @@ impl Denial {
     }
 }
 
-/// A start that is allowed: the fetch may begin.
+/// An allowed start: the fetch may begin.
 #[derive(Drop)]
 pub struct Started {
-    /// The permit, which is spent.
+    /// The spent permit.
     pub number: PermitNo,
     /// The URL to fetch.
     pub url: PageUrl,

@@ -1,4 +1,4 @@
-//! `Book::resume`: a book goes on from the base of a history of before, in which nothing is out.
+//! `Book::resume`: a book that continues from an earlier history's base, with nothing outstanding.
 //! RFC 9309, sections 2.3.1 and 2.4.
 ghost use Rattle.std.specs.Prelude.{◌≡◌, [], true, IfOk};
 ghost use Rattle.std.specs.List.{list_all};
@@ -18,15 +18,13 @@ use permit_book::{LAST_GENERATION, Permits};
 use std::alloc::{AllocError, Global};
 
 impl Book {
-    /// A book that goes on from the base of an earlier history, with no entries yet. In the base no
-    /// turn is in flight and no permit is out. The cache has the answers that stand in the base; it
-    /// keeps the keys of its own hasher.
+    /// A book without entries that continues from an earlier history's base. The base has no turn in flight
+    /// and no outstanding permit. The cache has the base's valid answers, and keeps its own hash keys.
     ///
-    /// No permit number is granted again: the next grant in a slot has the generation after the
-    /// greatest that was granted there, or the first generation of the limits where none was. A
-    /// slot whose last generation was granted is retired. The cache gets the limit of authorities
-    /// that the limits have; where it knows more, none is added until fewer are known. The book
-    /// takes about a hundred bytes a slot.
+    /// No permit number is granted again: the next grant in a slot has the generation after its greatest,
+    /// or the limits' first if it had none. A slot whose last generation was granted is retired. The cache
+    /// gets the limits' limit of authorities; while it knows more, none is added. The book takes about a
+    /// hundred bytes a slot.
     pub fn resume(
         alloc: Global,
         config: Config,
@@ -63,7 +61,7 @@ impl Book {
     }
 }
 
-// Whether each of the grants is in a slot of these limits, and of a generation that there may be.
+// Whether each grant has a slot within these limits and a possible generation.
 fn fit_limits(limits: Limits, grants: &[SlotGrant]) -> bool
     ensures { result ≡ list_all (is_grant_of limits) grants.now }
 {
@@ -76,7 +74,7 @@ fn fits(limits: Limits, grant: SlotGrant) -> bool
     grant.slot < limits.slots && grant.generation > 0 && grant.generation <= LAST_GENERATION
 }
 
-// A table with nothing out, in which these grants were made before.
+// A table with nothing outstanding, after these earlier grants.
 fn table_behind(alloc: Global, limits: Limits, grants: &[SlotGrant]) -> Result<Permits, AllocError>
     requires limits { AreLimits limits }
     requires fit { list_all (is_grant_of limits) grants.now ≡ true }

@@ -1,4 +1,4 @@
-//! Worked rows, as facts that the check computes from the definitions: no code runs.
+//! Worked examples that the checker computes from the definitions: no code runs.
 #![tactic(auto, unfolding(path_normal::specs::PageText::authority_of))]
 
 ghost use Rattle.std.specs.Prelude.{Ok, Err, []};
@@ -10,7 +10,7 @@ ghost use Rattle.gate_core.specs.Rows.{book, usual, one_place, other_page, barbo
 ghost use Rattle.gate_core.specs.Rows.{begun, open_site, granted, started_at, go, no, two_granted, one_expired};
 ghost use Rattle.gate_core.specs.Rows.{finished, not_out, last_number, last_returned};
 
-/// A site without a robots.txt: its turn, its answer, a permit, and the start of its fetch.
+/// A site without robots.txt: its turn, answer, permit and start.
 pub fn missing_robots()
     ensures begin { Begins (usual []) site 100 (Ok 1) (usual begun) }
     ensures arrive { Arrives (usual begun) site 1 no_file_brought 105 (Ok tt) (usual open_site) }
@@ -19,8 +19,8 @@ pub fn missing_robots()
         (usual (started_at 120)) }
 {}
 
-/// The answer's age at the start decides: 24 hours after the begin it is in force, a second later
-/// it is not, and a denied start has spent its permit.
+/// The answer's age at the start decides: 24 hours after the begin it is in force, a second later not, and
+/// a denied start has spent its permit.
 pub fn expiry_at_start()
     ensures in_force { Starts (usual granted) 65536 foobot page 86500 (Ok (go 65536 page))
         (usual (started_at 86500)) }
@@ -30,7 +30,7 @@ pub fn expiry_at_start()
         (Err (no other_page causes.Spent)) (usual one_expired) }
 {}
 
-/// A permit serves its own token once, and a start with another token spends nothing.
+/// A permit serves its own token once, and another token's start spends nothing.
 pub fn spent_once()
     ensures foreign { Starts (usual granted) 65536 barbot page 111
         (Err (no page causes.Spent)) (usual granted) }
@@ -43,7 +43,7 @@ pub fn spent_once()
     ensures done_again { Finishes (usual finished) 65536 (Err not_out) (usual finished) }
 {}
 
-/// One place for an authority: it is taken from the grant to the end of the fetch.
+/// An authority's one place is taken from the grant to the end of the fetch.
 pub fn one_place_for_a_site()
     ensures unspent { Asks (one_place granted) barbot other_page 111 (Err refusals.Busy)
         (one_place granted) }
@@ -51,7 +51,7 @@ pub fn one_place_for_a_site()
         (one_place (started_at 112)) }
 {}
 
-/// One slot: its next grant has the next generation, and after the last generation there is none.
+/// One slot: each grant has the next generation, until the last.
 pub fn one_slot()
     ensures taken { NoneFree (book 1 1 granted) }
     ensures next { IsNext (book 1 1 finished) 131072 }

@@ -1,4 +1,4 @@
-//! `Book::seal`: the entries since the base are handed out, and the book goes on from the base that they lead to.
+//! `Book::seal`: hands out the entries since the base, and continues from their base.
 //! RFC 9309, sections 2.3.1 and 2.4.
 ghost use Rattle.std.specs.Prelude.{◌≡◌, IfOk};
 ghost use Rattle.gate_history.specs.History.{from};
@@ -14,9 +14,9 @@ use std::alloc::{AllocError, Global};
 use std::mem;
 
 impl Book {
-    /// Hands out the entries since the base, and the base with them. The book goes on from the base that they
-    /// lead to, for which memory is taken first: where it is refused, nothing changes. No entry is copied.
-    /// Where there are none, the segment is empty.
+    /// Hands out the entries since the base, with it. The book continues from the base that they lead to,
+    /// which is allocated first: if that fails, nothing changes. No entry is copied. Without entries, the
+    /// segment is empty.
     pub fn seal(&mut self) -> Result<Segment, NoMemory>
         ensures { Seals self.old result self.new }
     {
@@ -31,7 +31,7 @@ impl Book {
         Ok(Segment::of(base, entries))
     }
 
-    // The base to which the history leads.
+    // The base that the history leads to.
     fn next_base(&self, alloc: Global) -> Result<Base, AllocError>
         ensures { IfOk result (λ base. SaysAs (from base) (history self.now)) }
     {

@@ -1,4 +1,4 @@
-//! `Book::start` and `Book::start_standing`: a permit is spent, and its fetch begins or is denied.
+//! `Book::start` and `Book::start_standing`: spend a permit, whose fetch begins or is denied.
 //! RFC 9309, section 2.4.
 ghost use Rattle.std.specs.Prelude.{◌≡◌, ◌≤◌, Err, IfSome, Ok, true};
 ghost use Rattle.gate_history.specs.declared.entry.Entry.TheVariants.{StartDenied, Started as Allowed};
@@ -17,9 +17,9 @@ use permit_book::PermitNo;
 use robots_text::Token;
 
 impl Book {
-    /// Starts the fetch of an unspent permit. The answer in force at this start decides, not the
-    /// one of the grant, and a denied start spends the permit too. It takes no memory, and neither
-    /// the log nor memory can refuse it.
+    /// Starts the fetch of an unspent permit. The answer in force at this start decides, not the one at the
+    /// grant, and a denied start spends the permit too. It allocates nothing, and a full log can't refuse
+    /// it.
     pub fn start(
         &mut self,
         number: PermitNo,
@@ -38,8 +38,8 @@ impl Book {
         self.start_standing(number, token, url, None, moment)
     }
 
-    /// Starts the fetch of a permit that is known to stand with that token and URL, by a verdict that may be known
-    /// already. That counts only if the answer in force now has the text of the policy that it was judged by.
+    /// Starts the fetch of a permit known to be unspent, with that token and URL, by a verdict that may be
+    /// known. It counts only if the answer in force has the text of the policy that gave it.
     pub fn start_standing(
         &mut self,
         number: PermitNo,
@@ -69,7 +69,6 @@ impl Book {
         }
     }
 
-    // Enters a start that is allowed.
     fn enter_start(&mut self, number: PermitNo, reason: Reason, moment: u64)
         requires late { now (history self.old) ≤ moment }
         requires spends { SpendsAs (history self.old) number moment (Ok reason) }
@@ -85,7 +84,6 @@ impl Book {
         self.starts += 1;
     }
 
-    // Enters a start that is denied.
     fn enter_denial(&mut self, number: PermitNo, cause: Cause, moment: u64)
         requires late { now (history self.old) ≤ moment }
         requires spends { SpendsAs (history self.old) number moment (Err cause) }

@@ -1,4 +1,4 @@
-//! What is known of an authority, and a handle of the policy that is in force for it.
+//! What is known of an authority, and its policy in force.
 //! RFC 9309, sections 2.3.1 and 2.4.
 ghost use Rattle.std.specs.Prelude.{◌≡◌, IfSome};
 ghost use Rattle.std.specs.Arc.{arc_value};
@@ -12,32 +12,32 @@ use authority_cache::Look;
 use robots_verdict::{Answer, Policy};
 use std::sync::Arc;
 
-/// What stands for an authority.
+/// The state of an authority's answer.
 #[derive(Clone, Copy, Debug, PartialEq, Eq)]
 pub enum Standing {
-    /// No answer stands.
+    /// There is no answer.
     Unknown,
-    /// The answer that stands is older than its life.
+    /// The answer is older than its life.
     Expired,
     /// The answer in force is closed.
     Closed,
     /// The answer in force is open.
     Open,
-    /// The rules of the answer in force bind.
+    /// The answer in force has rules.
     Rules,
 }
 
 /// What is known of an authority.
 #[derive(Clone, Copy, Debug, PartialEq, Eq)]
 pub struct State {
-    /// What stands.
+    /// The state of the answer.
     pub standing: Standing,
     /// Whether a turn is in flight.
     pub fetching: bool,
 }
 
 impl Standing {
-    /// What stands while an answer is in force.
+    /// The state while an answer is in force.
     pub fn of(answer: &Answer) -> Standing
         ensures { result ≡ standing_as (said answer.now) }
     {
@@ -50,7 +50,7 @@ impl Standing {
 }
 
 impl Book {
-    /// What is known of an authority at the moment of the call. It takes no memory.
+    /// What is known of an authority at the moment of the call. It allocates nothing.
     pub fn state_of(&self, authority: &str, moment: u64) -> State
         ensures { IsState (history self.now) authority.now (moment_at self.now moment) result }
     {
@@ -67,7 +67,7 @@ impl Book {
         }
     }
 
-    /// A handle of the policy whose rules are in force, where a verdict by it takes long, unless one was refused.
+    /// A handle of the policy in force, if its verdicts are slow. None if a handle was refused.
     pub fn slow_hint(&self, authority: &str, moment: u64) -> Option<Arc<Policy>>
         ensures { IfSome result (λ policy. HasRulesInForce (history self.now) authority.now
             (moment_at self.now moment) (arc_value policy)) }
@@ -76,7 +76,7 @@ impl Book {
         if policy.is_slow() { Some(policy) } else { None }
     }
 
-    /// A handle of the policy whose rules are in force, unless one was refused.
+    /// A handle of the policy in force. None if it was refused.
     pub fn hint(&self, authority: &str, moment: u64) -> Option<Arc<Policy>>
         ensures { IfSome result (λ policy. HasRulesInForce (history self.now) authority.now
             (moment_at self.now moment) (arc_value policy)) }

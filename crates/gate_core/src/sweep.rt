@@ -1,4 +1,4 @@
-//! `Book::sweep`: answers that are older than their lives are dropped.
+//! `Book::sweep`: drops the answers older than their lives.
 //! RFC 9309, section 2.4.
 ghost use Rattle.gate_core.specs.Replies.{Sweeps};
 
@@ -7,7 +7,7 @@ use crate::refusal::SweepRefusal;
 use gate_history::Entry;
 
 impl Book {
-    /// Drops the answers that are older than their lives, and tells how many they were.
+    /// Drops the answers older than their lives, and returns how many.
     pub fn sweep(&mut self, moment: u64) -> Result<u64, SweepRefusal>
         ensures { Sweeps self.old moment result self.new }
     {

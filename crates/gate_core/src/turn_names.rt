@@ -1,5 +1,5 @@
-//! The authorities of the turns in flight, each kept once more for the entry of its arrival, which takes
-//! no memory. RFC 9309, section 2.3.1.
+//! Copies of the authority names of turns in flight, so that their arrivals allocate nothing.
+//! RFC 9309, section 2.3.1.
 ghost use Rattle.std.specs.Prelude.{◌≡◌, Some, None, OnErr, OnOk};
 ghost use Rattle.gate_core.specs.TurnNames.{KeepsName, names_by};
 
@@ -9,7 +9,7 @@ use path_normal::Authority;
 use std::alloc::{AllocError, Global};
 use std::hash::RandomState;
 
-/// The names by the numbers of their turns.
+/// The names by turn number.
 #[derive(Drop)]
 pub(crate) struct TurnNames {
     by_turn: IndexMap<u64, Authority, RandomState>,
@@ -22,7 +22,6 @@ impl TurnNames {
         }
     }
 
-    /// Keeps the name of a turn's authority.
     pub(crate) fn put(&mut self, turn: TurnNo, name: Authority) -> Result<(), AllocError>
         ensures ok { OnOk result
             (KeepsName (names_by self.old) turn (Some name) (names_by self.new)) }
@@ -34,7 +33,7 @@ impl TurnNames {
         }
     }
 
-    /// Hands out the name of a turn's authority.
+    /// Removes and returns the name of a turn's authority.
     pub(crate) fn take(&mut self, turn: TurnNo) -> Option<Authority>
         ensures name { result ≡ names_by self.old turn }
         ensures taken { KeepsName (names_by self.old) turn None (names_by self.new) }

@@ -1,4 +1,4 @@
--- What proofs of other crates cite of this one; all other lemmas of `proofs/` are its own.
+-- The lemmas that proofs of other crates cite; all others are private.
 pub use Rattle.gate_history.proofs.Counting.{all-append, all-filter}
 pub use Rattle.gate_history.proofs.Deciding.{decides_once}
 pub use Rattle.gate_history.proofs.EntryCounts.{each_entry_counts}

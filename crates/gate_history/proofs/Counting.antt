@@ -1,17 +1,15 @@
--- How many elements of a list pass a test, after lists were joined, filtered or mapped.
--- Cited by the laws on histories.
+-- How many elements pass a test, after joining, filtering or mapping.
+-- Used by the laws on histories.
 use Rattle.std.proofs.Common.{◌≡◌, ◌+◌, ◌<◌, ◌≤◌, Bool, true, false, cond, ◌&&◌, ◌||◌, List, [], ◌∷◌, ◌++◌, length, filter, map, refl, sym, ap, ◌∙◌, true≢false, length-append, arith}
 use Rattle.std.specs.List.{list_all, list_any}
 use Rattle.std.proofs.lemmas.List.Elements.{filter-append}
 use Rattle.authority_cache.specs.Calls.{one_if}
 use Rattle.authority_cache.proofs.CallerLemmas.{count-cons}
 
--- a count in two lists that were joined
 pub count-append : {X : Type 0} (p : X → Bool) (xs ys : List X) →
     length (filter p (xs ++ ys)) ≡ length (filter p xs) + length (filter p ys)
 count-append p xs ys = ap length (filter-append p xs ys) ∙ length-append (filter p xs) (filter p ys)
 
--- a count of what a map gives
 pub count-map : {X Y : Type 0} (p : Y → Bool) (f : X → Y) (xs : List X) → length (filter p (map f xs)) ≡ length (filter (λ x. p (f x)) xs)
 count-map p f [] = refl
 count-map p f (x ∷ xs) = by (p (f x)) (count-map p f xs)
@@ -21,7 +19,6 @@ count-map p f (x ∷ xs) = by (p (f x)) (count-map p f xs)
     by true rest = omega arith
     by false rest = rest
 
--- of a list in which a test finds one there are some that pass it
 pub some-found : {X : Type 0} (p : X → Bool) (xs : List X) → list_any p xs ≡ true → 0 < length (filter p xs)
 some-found p [] found = absurd (true≢false (sym found))
 some-found p (x ∷ xs) found = by (p x) (some-found p xs) found
@@ -30,7 +27,6 @@ some-found p (x ∷ xs) found = by (p x) (some-found p xs) found
     by true rest found = omega arith
     by false rest found = rest found
 
--- of one in which it finds none there is none
 pub none-found : {X : Type 0} (p : X → Bool) (xs : List X) → list_any p xs ≡ false → length (filter p xs) ≡ 0
 none-found p [] none = refl
 none-found p (x ∷ xs) none = by (p x) (none-found p xs) none
@@ -39,7 +35,6 @@ none-found p (x ∷ xs) none = by (p x) (none-found p xs) none
     by true rest none = absurd (true≢false none)
     by false rest none = rest none
 
--- a count by tests that say the same
 pub count-alike : {X : Type 0} (p q : X → Bool) (xs : List X) → ((x : X) → p x ≡ q x) → length (filter p xs) ≡ length (filter q xs)
 count-alike p q [] alike = refl
 count-alike p q (x ∷ xs) alike =
@@ -47,7 +42,6 @@ count-alike p q (x ∷ xs) alike =
     let here : one_if (p x) ≡ one_if (q x) = ap one_if (alike x) in
     omega (arith, count-cons p x xs, count-cons q x xs)
 
--- all pass a test that passes all that another one does, which all pass
 pub all-more : {X : Type 0} (p q : X → Bool) (xs : List X) → ((x : X) → p x ≡ true → q x ≡ true) → list_all p xs ≡ true → list_all q xs ≡ true
 all-more p q [] more all = refl
 all-more p q (x ∷ xs) more all = by (p x) refl (all-more p q xs more) all
@@ -56,7 +50,6 @@ all-more p q (x ∷ xs) more all = by (p x) refl (all-more p q xs more) all
     by true passes rest all = rw (more x passes) (rest all)
     by false passes rest all = absurd (true≢false (sym all))
 
--- all of two lists that were joined
 pub all-append : {X : Type 0} (p : X → Bool) (xs ys : List X) → list_all p xs ≡ true → list_all p ys ≡ true → list_all p (xs ++ ys) ≡ true
 all-append p [] ys all others = others
 all-append p (x ∷ xs) ys all others = by (p x) refl (λ rest. all-append p xs ys rest others) all
@@ -65,7 +58,6 @@ all-append p (x ∷ xs) ys all others = by (p x) refl (λ rest. all-append p xs 
     by true passes rest all = rw passes (rest all)
     by false passes rest all = absurd (true≢false (sym all))
 
--- all that a filter keeps
 pub all-filter : {X : Type 0} (p q : X → Bool) (xs : List X) → list_all p xs ≡ true → list_all p (filter q xs) ≡ true
 all-filter p q [] all = refl
 all-filter p q (x ∷ xs) all = by (q x) (p x) refl (all-filter p q xs) all
@@ -76,7 +68,6 @@ all-filter p q (x ∷ xs) all = by (q x) (p x) refl (all-filter p q xs) all
     by false true passes rest all = rest all
     by k false passes rest all = absurd (true≢false (sym all))
 
--- all that a map gives
 pub all-of_map : {X Y : Type 0} (p : Y → Bool) (f : X → Y) (xs : List X) → list_all (λ x. p (f x)) xs ≡ true → list_all p (map f xs) ≡ true
 all-of_map p f [] all = refl
 all-of_map p f (x ∷ xs) all = by (p (f x)) refl (all-of_map p f xs) all
@@ -86,7 +77,6 @@ all-of_map p f (x ∷ xs) all = by (p (f x)) refl (all-of_map p f xs) all
     by true passes rest all = rw passes (rest all)
     by false passes rest all = absurd (true≢false (sym all))
 
--- where two tests have one each at most, and one element passes both, what passes the one passes the other
 pub same-found : {X : Type 0} (p q : X → Bool) (xs : List X) → length (filter p xs) ≤ 1 → length (filter q xs) ≤ 1 →
     list_any (λ x. p x && q x) xs ≡ true → filter p xs ≡ filter q xs
 same-found p q [] one other both = refl

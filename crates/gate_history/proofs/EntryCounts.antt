@@ -1,5 +1,5 @@
 -- What each kind of entry adds to the counts, and what it takes from them.
--- Cited by `each_entry_counts` of `laws.rt`.
+-- Used by `each_entry_counts` of `laws.rt`.
 use Rattle.std.proofs.Common.{◌≡◌, ℕ, ◌+◌, ◌≤◌, Bool, true, false, not, ◌&&◌, List, [], ◌∷◌, length, filter, refl, length-append, arith}
 use Rattle.std.specs.List.{list_any}
 use Rattle.std.proofs.lemmas.List.Filters.{length-filter_both}
@@ -17,33 +17,27 @@ use Rattle.gate_history.specs.Laws.{EachEntryCounts, StandsOnce}
 use Rattle.gate_history.proofs.Counting.{some-found}
 use Rattle.gate_history.proofs.Soundness.{stands_once}
 
--- the permits of other numbers, and those of this one
 without-parts : (number : ℕ) (permits : List GrantedPermit) → length (filter (is_numbered number) permits) + length (without number permits) ≡ length permits
 without-parts number permits = length-filter_both (is_numbered number) (λ p. not (is_numbered number p)) (λ p. refl) permits
 
--- both of two tests
 first-of : (a b : Bool) → (a && b) ≡ true → a ≡ true
 first-of true b is = refl
 first-of false b is = is
 
--- one that is found and does not stand twice is one
 one-permit : (permits : List GrantedPermit) (number : ℕ) → list_any (is_numbered number) permits ≡ true → length (filter (is_numbered number) permits) ≤ 1 →
     length (without number permits) + 1 ≡ length permits
 one-permit permits number found once =
     let some = some-found (is_numbered number) permits found in omega (arith, without-parts number permits)
 
--- a permit that stands is listed
 listed : (h : History) (number : ℕ) (token url : List ℕ) → stands h number token url ≡ true → list_any (is_numbered number) (unspent h) ≡ true
 listed h number token url found =
     list_any-more (λ p. is_numbered number p && is_fetch_of token url (fetch_of p)) (is_numbered number) (unspent h)
     (λ p is. first-of (is_numbered number p) (is_fetch_of token url (fetch_of p)) is) found
 
--- an unspent permit that is found is one
 one-unspent : (h : History) → StandsOnce h → (number : ℕ) → list_any (is_numbered number) (unspent h) ≡ true →
     length (without number (unspent h)) + 1 ≡ length (unspent h)
 one-unspent h once number found = one-permit (unspent h) number found (let few = once.permits.numbers_once number in omega arith)
 
--- each kind of entry
 pub each_entry_counts : EachEntryCounts
 each_entry_counts h (Begun m a turn) legal fit = record {
   entries_are = refl;

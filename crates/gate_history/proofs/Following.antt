@@ -1,21 +1,18 @@
--- One more entry behind those that come after a history.
--- Cited where entries are kept as a list behind a base.
+-- One more entry after others that follow a history.
+-- Used where entries are kept as a list behind a base.
 use Rattle.std.proofs.Common.{◌≡◌, ◌+◌, List, [], ◌∷◌, ◌++◌, length, refl, arith}
 use Rattle.gate_history.specs.declared.entry.Entry.{Entry}
 use Rattle.gate_history.specs.History.{History, ◌▸◌, entry_count, followed_by}
 use Rattle.gate_history.specs.Legal.{AllRise, Rises}
 
--- it is the last one of the history
 pub followed_push : (h : History) (es : List Entry) (e : Entry) → followed_by h (es ++ e ∷ []) ≡ followed_by h es ▸ e
 followed_push h [] e = refl
 followed_push h (first ∷ es) e = followed_push (h ▸ first) es e
 
--- a history whose grants rise, with one more that does
 pub rise_push : (h : History) (es : List Entry) (e : Entry) → AllRise h es → Rises (followed_by h es) e → AllRise h (es ++ e ∷ [])
 rise_push h [] e rises rise = (rise, tt)
 rise_push h (first ∷ es) e rises rise = (rises.0, rise_push (h ▸ first) es e rises.1 rise)
 
--- how many entries there are then
 pub followed_count : (h : History) (es : List Entry) → entry_count (followed_by h es) ≡ entry_count h + length es
 followed_count h [] = omega arith
 followed_count h (first ∷ es) = omega (arith, followed_count (h ▸ first) es)

@@ -1,5 +1,5 @@
 -- What one more grant does to the greatest generations, and which numbers they cover.
--- Cited by `grants_are_covered` of `laws.rt`, and by the laws on seals.
+-- Used by `grants_are_covered` of `laws.rt`, and by the laws on seals.
 use Rattle.std.proofs.Common.{◌≡◌, ◌≢◌, ℕ, ◌+◌, ◌<◌, ◌≤◌, ◌==◌, Bool, true, false, not, nat_le, ◌&&◌, ◌||◌, max, List, [], ◌∷◌, ◌++◌, length, filter, inl, inr, refl, sym, ap, ◌∙◌, true≢false, arith}
 use Rattle.std.specs.List.{list_any}
 use Rattle.std.proofs.lemmas.Bool.{leb-true, le-leb}
@@ -13,13 +13,11 @@ use Rattle.authority_cache.proofs.CallerLemmas.{count-push}
 use Rattle.gate_history.specs.declared.base.SlotGrant.{SlotGrant}
 use Rattle.gate_history.specs.Grants.{generation_in, greatest_of, is_covered, is_in, with_grant}
 
--- the greatest generation of two lists that were joined
 greatest-append : (xs ys : List SlotGrant) (slot : ℕ) → greatest_of (xs ++ ys) slot ≡ max (greatest_of xs slot) (greatest_of ys slot)
 greatest-append [] ys slot = omega arith
 greatest-append (x ∷ xs) ys slot =
     let rest : greatest_of (xs ++ ys) slot ≡ max (greatest_of xs slot) (greatest_of ys slot) = greatest-append xs ys slot in omega arith
 
--- the generations of another slot are none of those that are left out
 greatest-others : (xs : List SlotGrant) (k slot : ℕ) → slot ≢ k → greatest_of (filter (λ g. not (is_in k g)) xs) slot ≡ greatest_of xs slot
 greatest-others [] k slot apart = refl
 greatest-others (x ∷ xs) k slot apart = elim (eqb_tells x.slot k) [
@@ -30,7 +28,6 @@ greatest-others (x ∷ xs) k slot apart = elim (eqb_tells x.slot k) [
   | inr d ↦ rw d.0 (ap (max (generation_in slot x)) (greatest-others xs k slot apart))
 ]
 
--- those of the slot itself are left out
 greatest-gone : (xs : List SlotGrant) (k : ℕ) → greatest_of (filter (λ g. not (is_in k g)) xs) k ≡ 0
 greatest-gone [] k = refl
 greatest-gone (x ∷ xs) k = elim (eqb_tells x.slot k) [
@@ -38,7 +35,6 @@ greatest-gone (x ∷ xs) k = elim (eqb_tells x.slot k) [
   | inr d ↦ (let none : generation_in k x ≡ 0 = rw d.0 refl in let rest = greatest-gone xs k in rw d.0 (omega arith))
 ]
 
--- the greatest generations after one more grant
 pub greatest-granted : (number : ℕ) (xs : List SlotGrant) (slot : ℕ) →
     greatest_of (with_grant number xs) slot ≡ max (granted_in number slot) (greatest_of xs slot)
 greatest-granted number xs slot = elim (eqb_tells (slot_of number) slot) [
@@ -49,19 +45,16 @@ greatest-granted number xs slot = elim (eqb_tells (slot_of number) slot) [
       ∙ rw (d.0, greatest-others xs (slot_of number) slot (λ same. d.1 (sym same))) (omega arith)
 ]
 
--- what two tests that both hold say
 both-true : (a b : Bool) → (a && b) ≡ true → (a ≡ true) × (b ≡ true)
 both-true true b is = (refl, is)
 both-true false b is = absurd (true≢false (sym is))
 
--- a slot is another than one that it is not
 other_slot : (a b c : ℕ) → a ≢ b → (c == a) ≡ true → (c == b) ≡ false
 other_slot a b c apart is = elim (eqb_tells c b) [
   | inl e ↦ elim (eqb_tells c a) [ inl f ↦ absurd (apart (sym f.1 ∙ e.1)) | inr d ↦ absurd (true≢false (sym is ∙ d.0)) ]
   | inr d ↦ d.0
 ]
 
--- a slot in which something was granted has one after one more grant
 still_in : (number : ℕ) (xs : List SlotGrant) (slot : ℕ) → list_any (is_in slot) xs ≡ true → list_any (is_in slot) (with_grant number xs) ≡ true
 still_in number xs slot found = elim (eqb_tells (slot_of number) slot) [
   | inl e ↦ (list_any-append (is_in slot) left _ ∙ rw e.0 (last (list_any (is_in slot) left)))
@@ -82,7 +75,6 @@ still_in number xs slot found = elim (eqb_tells (slot_of number) slot) [
       | inr d ↦ rw d.0 (ap (λ b. is_in slot y || b) (kept ys apart))
     ]
 
--- so does the slot of the grant
 own_in : (number : ℕ) (xs : List SlotGrant) → list_any (is_in (slot_of number)) (with_grant number xs) ≡ true
 own_in number xs = elim (eqb_tells (slot_of number) (slot_of number)) [
   | inl e ↦ (list_any-append (is_in (slot_of number)) (filter (λ g. not (is_in (slot_of number) g)) xs) _ ∙ rw e.0 (last _))
@@ -93,7 +85,6 @@ own_in number xs = elim (eqb_tells (slot_of number) (slot_of number)) [
     last true = refl
     last false = refl
 
--- what was covered is covered after one more grant
 pub still-covered : (number : ℕ) (xs : List SlotGrant) (m : ℕ) → is_covered xs m ≡ true → is_covered (with_grant number xs) m ≡ true
 still-covered number xs m is =
     let parts = both-true (list_any (is_in (slot_of m)) xs) (nat_le (generation_of m) (greatest_of xs (slot_of m))) is in
@@ -102,7 +93,6 @@ still-covered number xs m is =
     greatest-granted number xs (slot_of m) in
     rw (still_in number xs (slot_of m) parts.0) (le-leb _ _ (omega arith))
 
--- the number of a grant is covered
 pub own-covered : (number : ℕ) (xs : List SlotGrant) → is_covered (with_grant number xs) number ≡ true
 own-covered number xs =
     let now : greatest_of (with_grant number xs) (slot_of number) ≡ max (granted_in number (slot_of number)) (greatest_of xs (slot_of number)) =
@@ -111,7 +101,6 @@ own-covered number xs =
     elim (eqb_tells (slot_of number) (slot_of number)) [ inl e ↦ rw e.0 refl | inr d ↦ absurd (d.1 refl) ] in
     rw (own_in number xs) (le-leb _ _ (omega arith))
 
--- a number of a generation above the greatest of its slot is not
 pub above-not_covered : (xs : List SlotGrant) (number : ℕ) → greatest_of xs (slot_of number) < generation_of number → is_covered xs number ≡ false
 above-not_covered xs number above = elim (leb_tells (generation_of number) (greatest_of xs (slot_of number))) [
   | inl e ↦ (let low = e.1 in absurd (omega arith))
@@ -122,7 +111,6 @@ above-not_covered xs number above = elim (leb_tells (generation_of number) (grea
     neither true = refl
     neither false = refl
 
--- each slot has one greatest generation at most after one more grant
 pub slots_once-granted : (number : ℕ) (xs : List SlotGrant) → ((slot : ℕ) → length (filter (is_in slot) xs) ≤ 1) →
     (slot : ℕ) → length (filter (is_in slot) (with_grant number xs)) ≤ 1
 slots_once-granted number xs once slot = elim (eqb_tells (slot_of number) slot) [

@@ -1,5 +1,5 @@
--- How many authorities are known, and how long an answer stands.
--- Cited by `known_are_counted` and `each_stands_once` of `laws.rt`.
+-- The count of known authorities, and the life of answers.
+-- Used by `known_are_counted` and `each_stands_once` of `laws.rt`.
 use Rattle.std.proofs.Common.{◌≡◌, ℕ, suc, ◌+◌, ◌<◌, ◌≤◌, ◌==◌, Bool, true, false, cond, not, ◌&&◌, ◌||◌, max, min, List, [], ◌∷◌, length, filter, map, Some, inl, inr, refl, sym, ap, ◌∙◌, true≢false, length-append, arith}
 use Rattle.std.specs.List.{find, list_all, list_any}
 use Rattle.std.specs.Str.{bytes_eq}
@@ -21,7 +21,6 @@ use Rattle.gate_history.specs.Laws.{KnownAreCounted, LivesAreBounded, NamesAreKn
 use Rattle.gate_history.proofs.Counting.{count-alike, count-append, count-map, none-found, some-found}
 use Rattle.gate_history.proofs.Soundness.{stands_once}
 
--- a life that an answer may have is from 60 seconds to 24 hours
 its_life : (says : Said) (life : ℕ) → (life_of says life == life) ≡ true → (least_life ≤ life) × (life ≤ greatest_life)
 its_life (says.Rules text) life is = elim (eqb_tells (life_of (says.Rules text) life) life) [
   | inl e ↦ (let same : max 60 (min life 86400) ≡ life = e.1 in (omega arith, omega arith))
@@ -36,7 +35,6 @@ its_life (says.Closed closure) life is = elim (eqb_tells (life_of (says.Closed c
   | inr d ↦ absurd (true≢false (sym is ∙ d.0))
 ]
 
--- what is found passes a test that all pass
 found-passes : (p q : StandingAnswer → Bool) (xs : List StandingAnswer) (s : StandingAnswer) → list_all q xs ≡ true → find p xs ≡ Some s → q s ≡ true
 found-passes p q [] s all found = cc
 found-passes p q (x ∷ xs) s all found = by (p x) (q x) refl (found-passes p q xs s) all found
@@ -47,17 +45,15 @@ found-passes p q (x ∷ xs) s all found = by (p x) (q x) refl (found-passes p q 
     by false true passes rest all found = rest all found
     by a false passes rest all found = absurd (true≢false (sym all))
 
--- an answer that stands does so for no longer
 pub lives_bounded : LivesAreBounded
 lives_bounded h authority s legal found =
     its_life s.says s.life (found-passes (is_answer_for authority) has_its_life (standing h) s (stands_once h legal).turns.lives found)
 
--- the list without the first element that is this text
+-- the list without the first occurrence of this text
 abbrev less : List ℕ → List (List ℕ) → List (List ℕ)
 less a [] = []
 less a (x ∷ xs) = cond (bytes_eq a x) xs (x ∷ less a xs)
 
--- it has one less of that text, where there is one, and as many of the others
 less-counts : (a : List ℕ) (xs : List (List ℕ)) → 0 < length (filter (bytes_eq a) xs) → (b : List ℕ) →
     length (filter (bytes_eq b) (less a xs)) + one_if (bytes_eq b a) ≡ length (filter (bytes_eq b) xs)
 less-counts a [] some b = absurd (omega arith)
@@ -73,7 +69,6 @@ less-counts a (x ∷ xs) some b = by (bytes_eq a x) refl (less-counts a xs) some
     by false is rest some =
         let later = rest some b in omega (arith, count-cons (bytes_eq b) x xs, count-cons (bytes_eq b) x (less a xs))
 
--- it is one shorter
 less-length : (a : List ℕ) (xs : List (List ℕ)) → 0 < length (filter (bytes_eq a) xs) → length (less a xs) + 1 ≡ length xs
 less-length a [] some = absurd (omega arith)
 less-length a (x ∷ xs) some = by (bytes_eq a x) (less-length a xs) some
@@ -83,7 +78,6 @@ less-length a (x ∷ xs) some = by (bytes_eq a x) (less-length a xs) some
     by true rest some = omega arith
     by false rest some = let later = rest some in omega arith
 
--- two lists with as many of each text are as long
 same-length : (xs ys : List (List ℕ)) → ((a : List ℕ) → length (filter (bytes_eq a) xs) ≡ length (filter (bytes_eq a) ys)) → length xs ≡ length ys
 same-length [] [] counts = refl
 same-length [] (y ∷ ys) counts =
@@ -99,7 +93,6 @@ same-length (x ∷ xs) ys counts =
     let shorter = less-length x ys some in
     omega arith
 
--- two texts are equal the one way where they are the other way
 turned : (a b : List ℕ) → bytes_eq a b ≡ bytes_eq b a
 turned a b = by (bytes_eq a b) refl
   where
@@ -107,7 +100,6 @@ turned a b = by (bytes_eq a b) refl
     by true is = sym ((bytes_eq-Decides b a).1 (sym ((bytes_eq-Decides a b).0 is)))
     by false is = sym (other_text a b is)
 
--- at most one that passes is one exactly where one is found
 one_found : {X : Type 0} (p : X → Bool) (xs : List X) → length (filter p xs) ≤ 1 → length (filter p xs) ≡ one_if (list_any p xs)
 one_found p xs few = by (list_any p xs) refl
   where
@@ -115,7 +107,6 @@ one_found p xs few = by (list_any p xs) refl
     by true found = let some = some-found p xs found in omega arith
     by false none = none-found p xs none
 
--- none of the turns of an authority lacks an answer where one stands for it, and all do where none does
 alone : (answers : List StandingAnswer) (ts : List Turn) (a : List ℕ) (b : Bool) → list_any (is_answer_for a) answers ≡ b →
     length (filter (is_turn_of a) (filter (lacks_answer answers) ts)) ≡ cond b 0 (length (filter (is_turn_of a) ts))
 alone answers [] a true is = refl
@@ -147,7 +138,6 @@ alone answers (t ∷ ts) a b is = by (bytes_eq t.authority a) refl (alone answer
     by true is_a rest = stays b (lacks_answer answers t) (own is_a) is_a rest
     by false not_a rest = goes (lacks_answer answers t) not_a ∙ rest
 
--- the names of a legal history are those of its known authorities
 pub names_known : NamesAreKnown
 names_known h legal a =
     count-append (bytes_eq a) (map (λ (s : StandingAnswer). s.authority) (standing h)) _
@@ -176,7 +166,6 @@ names_known h legal a =
     both true turn = omega arith
     both false turn = omega arith
 
--- any list of them is as long
 pub known_counted : KnownAreCounted
 known_counted h names legal known =
     same-length names (known_names h) (λ a. known a ∙ sym (names_known h legal a))

@@ -1,5 +1,5 @@
--- What stands is what was opened and no later entry closes.
--- Cited by `no_later_entry_closes` of `laws.rt`.
+-- The open things are those that were opened and no later entry closes.
+-- Used by `no_later_entry_closes` of `laws.rt`.
 use Rattle.std.proofs.Common.{◌≡◌, Bool, true, false, cond, not, ◌||◌, List, [], ◌∷◌, ◌++◌, filter, refl, sym, ap, ◌∙◌, append_assoc}
 use Rattle.std.proofs.lemmas.List.{append-nil}
 use Rattle.std.proofs.lemmas.List.Elements.{filter-append}
@@ -13,7 +13,6 @@ use Rattle.gate_history.specs.LeftOpen.{answers_opened, closes_answer, closes_pe
 use Rattle.gate_history.specs.Laws.{NoLaterEntryCloses}
 
 module _ {X : Type 0} (closes : Entry → X → Bool) where
-  -- what neither one entry nor a later one closes
   two-filters : (e : Entry) (later : List Entry) (xs : List X) →
       filter (λ x. not (is_closed_by closes later x)) (filter (λ x. not (closes e x)) xs) ≡ filter (λ x. not (is_closed_by closes (e ∷ later) x)) xs
   two-filters e later [] = refl
@@ -27,7 +26,7 @@ module _ {X : Type 0} (closes : Entry → X → Bool) where
       by false true is rest = rw is rest
       by false false is rest = rw is (ap (λ ys. x ∷ ys) rest)
 
-  -- what stands after entries is left open, where one entry adds what it opens to what it does not close
+  -- it is enough that one entry keeps what it does not close and adds what it opens
   leaves_open : (has : History → List X) (opens : History → Entry → List X) →
       ((h : History) (e : Entry) → has (h ▸ e) ≡ filter (λ x. not (closes e x)) (has h) ++ opens h e) →
       (h : History) (later : List Entry) → has (followed_by h later) ≡ left_open has opens closes h later
@@ -40,19 +39,15 @@ module _ {X : Type 0} (closes : Entry → X → Bool) where
       ∙ ap (λ xs. xs ++ filter (λ x. not (is_closed_by closes later x)) (opens h e)) (two-filters e later (has h)))
       ∙ append_assoc (filter (λ x. not (is_closed_by closes (e ∷ later) x)) (has h)) (filter (λ x. not (is_closed_by closes later x)) (opens h e)) (opened opens closes (h ▸ e) later)))
 
--- an entry that closes nothing and opens nothing
 idle : {X : Type 0} (xs : List X) → xs ≡ filter (λ _. true) xs ++ []
 idle xs = sym (append-nil (filter (λ _. true) xs) ∙ filter-all xs)
 
--- one that only closes
 shut : {X : Type 0} (p : X → Bool) (xs : List X) → filter p xs ≡ filter p xs ++ []
 shut p xs = sym (append-nil (filter p xs))
 
--- one that only opens
 more : {X : Type 0} (xs ys : List X) → xs ++ ys ≡ filter (λ _. true) xs ++ ys
 more xs ys = ap (λ zs. zs ++ ys) (sym (filter-all xs))
 
--- turns, by each kind of entry
 turns : (h : History) (e : Entry) → in_flight (h ▸ e) ≡ filter (λ t. not (closes_turn e t)) (in_flight h) ++ turns_opened h e
 turns h (Begun m a turn) = more (in_flight h) _
 turns h (Arrived m a turn says life) = shut _ (in_flight h)
@@ -64,7 +59,6 @@ turns h (Returned _) = idle (in_flight h)
 turns h (Finished _) = idle (in_flight h)
 turns h (Swept _ _) = idle (in_flight h)
 
--- answers
 answers : (h : History) (e : Entry) → standing (h ▸ e) ≡ filter (λ s. not (closes_answer e s)) (standing h) ++ answers_opened h e
 answers h (Begun _ _ _) = idle (standing h)
 answers h (Arrived m a turn says life) = refl
@@ -76,7 +70,6 @@ answers h (Returned _) = idle (standing h)
 answers h (Finished _) = idle (standing h)
 answers h (Swept m count) = shut _ (standing h)
 
--- unspent permits
 permits : (h : History) (e : Entry) → unspent (h ▸ e) ≡ filter (λ p. not (closes_permit e p)) (unspent h) ++ permits_opened h e
 permits h (Begun _ _ _) = idle (unspent h)
 permits h (Arrived _ _ _ _ _) = idle (unspent h)
@@ -88,7 +81,6 @@ permits h (Returned n) = shut _ (unspent h)
 permits h (Finished _) = idle (unspent h)
 permits h (Swept _ _) = idle (unspent h)
 
--- running ones
 runs : (h : History) (e : Entry) → running (h ▸ e) ≡ filter (λ p. not (closes_run e p)) (running h) ++ runs_opened h e
 runs h (Begun _ _ _) = idle (running h)
 runs h (Arrived _ _ _ _ _) = idle (running h)
@@ -100,7 +92,6 @@ runs h (Returned _) = idle (running h)
 runs h (Finished n) = shut _ (running h)
 runs h (Swept _ _) = idle (running h)
 
--- each list
 pub no_later_entry_closes : NoLaterEntryCloses
 no_later_entry_closes h later = record {
   turns = leaves_open closes_turn in_flight turns_opened turns h later;

@@ -1,5 +1,5 @@
--- Histories that say the same decide alike, and the same entries are legal after them.
--- Cited by `order_changes_nothing` of `laws.rt`.
+-- Histories that say the same decide alike, and have the same legal entries.
+-- Used by `order_changes_nothing` of `laws.rt`.
 use Rattle.std.proofs.Common.{◌≡◌, ℕ, Bool, true, false, nat_le, List, [], ◌∷◌, refl, sym, subst, ◌∙◌, true≢false, arith}
 use Rattle.std.specs.Prelude.{Option, Result, Ok, Err}
 use Rattle.path_normal.specs.PageText.{authority_of}
@@ -24,7 +24,6 @@ use Rattle.gate_history.proofs.OrderLaws.{answer_alike, one-more}
 use Rattle.gate_history.proofs.Saying.{says-all}
 use Rattle.gate_history.proofs.Soundness.{granted_covered, leads_to_base}
 
--- answers that are answered the other way round
 back : (g h : History) → AnswersAlike g h → AnswersAlike h g
 back g h alike = record {
   standing_of = λ a. sym (alike.standing_of a);
@@ -44,29 +43,25 @@ back g h alike = record {
   is_covered = λ n. sym (alike.is_covered n);
 }
 
--- where the same answer stands a fetch is decided alike
 decides : (g h : History) → AnswersAlike g h → (token url : List ℕ) (moment : ℕ) (outcome : Result Reason Cause) →
     Decides g token url moment outcome → Decides h token url moment outcome
 decides g h alike token url moment outcome =
     subst (λ (o : Option StandingAnswer). Decides g token url moment outcome → Judges o token url moment outcome) (alike.standing_of (authority_of url)) (λ d. d)
 
--- each fetch is decided alike
 pub decide_alike : DecideAlike
 decide_alike g h token url moment outcome same =
     let alike = answer_alike g h same in
     (decides g h alike token url moment outcome, decides h g (back g h alike) token url moment outcome)
 
--- a permit is spent alike
 spends : (g h : History) → AnswersAlike g h → (number moment : ℕ) (outcome : Result Reason Cause) → SpendsAs g number moment outcome → SpendsAs h number moment outcome
 spends g h alike number moment outcome spent =
     (spent.0, (spent.1.0, (sym (alike.stands number spent.0 spent.1.0) ∙ spent.1.1.0, decides g h alike spent.0 spent.1.0 moment outcome spent.1.1.1)))
 
--- the number of a grant was never granted
+-- a grant's number was never granted
 abbrev IsNew : History → Entry → Type 0
 IsNew h (Granted _ number _) = was_granted h number ≡ false
 IsNew h _ = Unit {0}
 
--- an entry that is legal after the one history is legal after the other, where its number is new
 legal-after : (g h : History) (e : Entry) → AnswersAlike g h → now g ≡ now h → begins g ≡ begins h → IsNew h e → MayFollow g e → MayFollow h e
 legal-after g h (Begun m a turn) alike moment count new fit = (rw (← moment) fit.0, sym (alike.is_fetching a) ∙ fit.1, rw (← count) fit.2)
 legal-after g h (Arrived m a turn says life) alike moment count new fit = (rw (← moment) fit.0, sym (alike.has_turn a turn) ∙ fit.1, fit.2)
@@ -79,7 +74,6 @@ legal-after g h (Returned n) alike moment count new fit = sym (alike.is_unspent 
 legal-after g h (Finished n) alike moment count new fit = sym (alike.is_running n) ∙ fit
 legal-after g h (Swept m k) alike moment count new fit = (rw (← moment) fit.0, fit.1 ∙ alike.past_count m)
 
--- a number that is new after the one history is new after the other
 new-behind : (g h : History) (e : Entry) → SaysAs g h → MayFollow g e → IsNew h e
 new-behind g h (Granted m n fetch) same fit = by (was_granted h n) refl
   where
@@ -95,7 +89,6 @@ new-behind g h (Returned _) same fit = tt
 new-behind g h (Finished _) same fit = tt
 new-behind g h (Swept _ _) same fit = tt
 
--- the other way round, where it is above all of its slot
 new-ahead : (g h : History) (e : Entry) → AnswersAlike g h → Rises h e → IsNew g e
 new-ahead g h (Granted m n fetch) alike rises = by (was_granted g n) refl
   where
@@ -111,12 +104,10 @@ new-ahead g h (Returned _) alike rises = tt
 new-ahead g h (Finished _) alike rises = tt
 new-ahead g h (Swept _ _) alike rises = tt
 
--- what is legal after some entries was legal before them
 legal-before : (h : History) (later : List Entry) → IsLegal (followed_by h later) → IsLegal h
 legal-before h [] legal = legal
 legal-before h (e ∷ later) legal = (legal-before (h ▸ e) later legal).0
 
--- entries that are legal after the one history are legal after the other
 pub legal_behind : LegalBehind
 legal_behind g h [] same legal all = legal
 legal_behind g h (e ∷ later) same legal all =
@@ -124,7 +115,6 @@ legal_behind g h (e ∷ later) same legal all =
     legal_behind (g ▸ e) (h ▸ e) later (one-more g h e same)
     (legal, legal-after g h e (answer_alike g h same) same.moment same.begun (new-behind g h e same fit) fit) all
 
--- the other way round, where grants rise
 pub legal_ahead : LegalAhead
 legal_ahead g h [] same legal rise all = legal
 legal_ahead g h (e ∷ later) same legal rise all =
@@ -133,7 +123,6 @@ legal_ahead g h (e ∷ later) same legal rise all =
     legal_ahead (g ▸ e) (h ▸ e) later (one-more g h e same)
     (legal, legal-after h g e (back g h alike) (sym same.moment) (sym same.begun) (new-ahead g h e alike rise.0) fit) rise.1 all
 
--- what says what a legal history does is a base
 pub says_base : SaysBase
 says_base b h legal same = record {
   permits = record {

@@ -47,7 +47,6 @@ in_force_of None authority moment says is said = absurd (true≢false (ap is_som
 in_force_of (Some s) authority moment says is said =
     record { answer = answer_for authority s; stands = refl; in_force = is; said = ap (λ (o : Option Said). unwrap_or o says) said }
 
--- what is found decides
 pub decides_unknown : (found : Option StandingAnswer) (token url : List ℕ) (moment : ℕ) → found ≡ None → Judges found token url moment (Err causes.Unknown)
 decides_unknown None token url moment is = refl
 decides_unknown (Some s) token url moment is = absurd (true≢false (ap is_some is))

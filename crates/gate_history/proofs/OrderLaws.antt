@@ -1,5 +1,5 @@
--- Histories that say the same in whatever order say the same after any entries, and answer alike.
--- Cited by `order_changes_nothing` and `sealing_changes_nothing` of `laws.rt`.
+-- Histories that say the same, in any order, still do after any entries, and answer alike.
+-- Used by `order_changes_nothing` and `sealing_changes_nothing` of `laws.rt`.
 use Rattle.std.proofs.Common.{◌≡◌, ℕ, ◌+◌, ◌==◌, Bool, true, false, cond, not, ◌&&◌, ◌||◌, max, List, [], ◌∷◌, length, filter, refl, sym, ap, ◌∙◌, arith}
 use Rattle.std.specs.Str.{bytes_eq}
 use Rattle.path_normal.specs.PageText.{authority_of}
@@ -23,7 +23,6 @@ use Rattle.gate_history.proofs.SealLaws.{greatest_is}
 use Rattle.gate_history.proofs.Soundness.{granted_covered}
 use Rattle.gate_history.proofs.Saying.{same_on, says-any, says-append, says-filter, says-first, says-itself, says-length, says-map}
 
--- the greatest generation of a slot is that of its grants
 of_slot : (xs : List SlotGrant) (slot : ℕ) → greatest_of xs slot ≡ greatest_of (filter (is_in slot) xs) slot
 of_slot [] slot = refl
 of_slot (x ∷ xs) slot = by (is_in slot x) refl (of_slot xs slot)
@@ -33,11 +32,9 @@ of_slot (x ∷ xs) slot = by (is_in slot x) refl (of_slot xs slot)
     by true is rest = ap (max (generation_in slot x)) rest
     by false is rest = let none : generation_in slot x ≡ 0 = rw is refl in omega arith
 
--- grants that say the same have the same greatest generations
 pub greatest_alike : (xs ys : List SlotGrant) → SaySame is_in xs ys → (slot : ℕ) → greatest_of xs slot ≡ greatest_of ys slot
 greatest_alike xs ys same slot = of_slot xs slot ∙ (ap (λ zs. greatest_of zs slot) (same.each slot) ∙ sym (of_slot ys slot))
 
--- and after one more grant
 grants_alike : (number : ℕ) (xs ys : List SlotGrant) → SaySame is_in xs ys → SaySame is_in (with_grant number xs) (with_grant number ys)
 grants_alike number xs ys same =
     says-append is_in (filter (λ g. not (is_in (slot_of number) g)) xs) (filter (λ g. not (is_in (slot_of number) g)) ys) (one xs) (one ys)
@@ -50,12 +47,10 @@ grants_alike number xs ys same =
     equal : one xs ≡ one ys
     equal = ap (λ n. (let g : SlotGrant = record { slot = slot_of number; generation = max (generation_of number) n } in g) ∷ []) (greatest_alike xs ys same (slot_of number))
 
--- the same numbers are covered
 pub covered_alike : (xs ys : List SlotGrant) → SaySame is_in xs ys → (number : ℕ) → is_covered xs number ≡ is_covered ys number
 covered_alike xs ys same number =
     rw (says-any is_in xs ys same (is_in (slot_of number)), greatest_alike xs ys same (slot_of number)) refl
 
--- what says what a history does that says what another does says that
 pub says_on : (f g h : History) → SaysAs f g → SaysAs g h → SaysAs f h
 says_on f g h one other = record {
   answers = same_on _ (standing f) (standing g) (standing h) one.answers other.answers;
@@ -71,7 +66,6 @@ says_on f g h one other = record {
   started = one.started ∙ other.started;
 }
 
--- what says the same says the same after one more entry
 pub one-more : (g h : History) (e : Entry) → SaysAs g h → SaysAs (g ▸ e) (h ▸ e)
 one-more g h (Begun m a turn) same = record {
   answers = same.answers;
@@ -201,12 +195,10 @@ one-more g h (Swept m count) same = record {
   started = same.started;
 }
 
--- and after any entries
 pub go_on : GoOnAlike
 go_on g h [] same = same
 go_on g h (e ∷ later) same = go_on (g ▸ e) (h ▸ e) later (one-more g h e same)
 
--- the base that a history leads to says what the history does
 pub seal_says : SealSaysAlike
 seal_says h = record {
   answers = says-itself is_answer_for (standing h);
@@ -222,7 +214,6 @@ seal_says h = record {
   started = refl;
 }
 
--- as many authorities are known
 known_alike : (g h : History) → SaysAs g h → known_by (standing g) (in_flight g) ≡ known_by (standing h) (in_flight h)
 known_alike g h same =
     let all = says-length is_answer_for (standing g) (standing h) same.answers in
@@ -232,7 +223,6 @@ known_alike g h same =
     let turns = same.turns.counts (lacks_answer (standing h)) in
     omega arith
 
--- what is asked is answered alike
 pub answer_alike : SayingAnswersAlike
 answer_alike g h same = record {
   standing_of = λ a. says-first is_answer_for (standing g) (standing h) same.answers a;

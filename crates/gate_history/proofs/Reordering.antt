@@ -1,5 +1,5 @@
--- Lists with the same elements, in whatever order, say the same where each key stands once.
--- Cited by `Base::of` and by the laws on histories that say the same.
+-- Lists with the same elements in any order say the same if no key repeats.
+-- Used by `Base::of` and by the laws on histories that say the same.
 use Rattle.std.proofs.Common.{◌≡◌, ◌≤◌, ◌==◌, ℕ, Bool, true, false, cond, List, [], ◌∷◌, All, IsPermutation, length, filter, refl, sym, ap, ◌∙◌, true≢false, arith}
 use Rattle.std.specs.List.{sum_by}
 use Rattle.std.proofs.lemmas.List.Elements.{All-cons, All-filter, All-head, All-nil, filter_passes}
@@ -19,21 +19,17 @@ use Rattle.gate_history.specs.Laws.{KeysSayAlike, ReorderingSaysAlike}
 use Rattle.gate_history.proofs.Saying.{says-each}
 use Rattle.gate_history.proofs.OrderLaws.{covered_alike, greatest_alike}
 
--- a count is a sum
 count-sum : {X : Type 0} (test : X → Bool) (xs : List X) → length (filter test xs) ≡ sum_by (λ x. one_if (test x)) xs
 count-sum test [] = refl
 count-sum test (x ∷ xs) = omega (arith, count-sum test xs, count-cons test x xs, sum_by-cons (λ x. one_if (test x)) x xs)
 
--- as many pass a test in whatever order
 count-moved : {X : Type 0} (p : X → Bool) (xs ys : List X) → IsPermutation xs ys → length (filter p ys) ≡ length (filter p xs)
 count-moved p xs ys moved = count-sum p ys ∙ (sum_by-IsPermutation (λ x. one_if (p x)) xs ys moved ∙ sym (count-sum p xs))
 
--- a list of no element
 none-left : {X : Type 0} (xs : List X) → length xs ≡ 0 → xs ≡ []
 none-left [] none = refl
 none-left (x ∷ xs) none = absurd (omega (arith, none))
 
--- where none passes, each that does is whatever one likes
 none-passes : {X : Type 0} (p : X → Bool) (x : X) (xs : List X) → length (filter p xs) ≡ 0 → All (λ y. p y ≡ true → y ≡ x) xs
 none-passes p x [] none = All-nil (λ y. p y ≡ true → y ≡ x)
 none-passes p x (a ∷ xs) none = by (p a) refl none (none-passes p x xs)
@@ -43,12 +39,10 @@ none-passes p x (a ∷ xs) none = by (p a) refl none (none-passes p x xs)
     by true is none rest = absurd (omega (arith, none))
     by false is none rest = All-cons (λ y. p y ≡ true → y ≡ x) a xs (λ passes. absurd (true≢false (sym passes ∙ is))) (rest none)
 
--- the one element of a list
 only-element : {X : Type 0} (a x : X) (xs : List X) → a ∷ xs ≡ x ∷ [] → (a ≡ x) × (length xs ≡ 0)
 only-element a x [] same = (cc, refl)
 only-element a x (b ∷ xs) same = absurd (let long = ap length same in omega (arith, long))
 
--- where one passes, each that does is that one
 one-passes : {X : Type 0} (p : X → Bool) (x : X) (xs : List X) → filter p xs ≡ x ∷ [] → All (λ y. p y ≡ true → y ≡ x) xs
 one-passes p x [] one = All-nil (λ y. p y ≡ true → y ≡ x)
 one-passes p x (a ∷ xs) one = by (p a) refl one (one-passes p x xs)
@@ -60,32 +54,27 @@ one-passes p x (a ∷ xs) one = by (p a) refl one (one-passes p x xs)
         All-cons (λ y. p y ≡ true → y ≡ x) a xs (λ passes. both.0) (none-passes p x xs both.1)
     by false is one rest = All-cons (λ y. p y ≡ true → y ≡ x) a xs (λ passes. absurd (true≢false (sym passes ∙ is))) (rest one)
 
--- a list of one element, which all that it has are
 one-same : {X : Type 0} (p : X → Bool) (x : X) (zs : List X) → length zs ≡ 1 → All (λ y. p y ≡ true → y ≡ x) zs → All (λ y. p y ≡ true) zs → zs ≡ x ∷ []
 one-same p x [] one same passes = absurd (omega (arith, one))
 one-same p x (z ∷ []) one same passes =
     ap (λ y. y ∷ []) (All-head (λ y. p y ≡ true → y ≡ x) z [] same (All-head (λ y. p y ≡ true) z [] passes))
 one-same p x (z ∷ (y ∷ zs)) one same passes = absurd (omega (arith, one))
 
--- the same one passes in whatever order
 one-moved : {X : Type 0} (p : X → Bool) (xs ys : List X) → IsPermutation xs ys → (kept : List X) → filter p xs ≡ kept → length kept ≤ 1 → filter p ys ≡ kept
 one-moved p xs ys moved [] is few = none-left (filter p ys) (count-moved p xs ys moved ∙ ap length is)
 one-moved p xs ys moved (x ∷ []) is few = one-same p x (filter p ys) (count-moved p xs ys moved ∙ ap length is)
     (All-filter p (λ y. p y ≡ true → y ≡ x) ys (All-permutation (λ y. p y ≡ true → y ≡ x) xs ys moved (one-passes p x xs is))) (filter_passes p ys)
 one-moved p xs ys moved (x ∷ (y ∷ zs)) is few = absurd (omega (arith, few))
 
--- they say the same
 pub says-moved : {K X : Type 0} (is_of : K → X → Bool) (xs ys : List X) → IsPermutation xs ys → ((k : K) → length (filter (is_of k) xs) ≤ 1) → SaySame is_of ys xs
 says-moved is_of xs ys moved once = record {
   each = λ k. one-moved (is_of k) xs ys moved (filter (is_of k) xs) refl (once k);
   counts = λ p. count-moved p xs ys moved;
 }
 
--- a number is itself
 eqb-same : (n : ℕ) → (n == n) ≡ true
 eqb-same n = search arith
 
--- lists of which each key has the same say the same
 pub keys_say : KeysSayAlike
 keys_say = record {
   answers = says-each is_answer_for (λ (s : StandingAnswer). s.authority) (λ s. same_text s.authority);
@@ -94,7 +83,6 @@ keys_say = record {
   grants = says-each is_in (λ (g : SlotGrant). g.slot) (λ g. eqb-same g.slot);
 }
 
--- a base says what it said before it was put in order
 pub reordering_says : ReorderingSaysAlike
 reordering_says given made base moved = record {
   answers = says-moved is_answer_for given.standing made.standing moved.answers base.turns.answers_once;

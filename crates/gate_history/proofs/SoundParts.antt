@@ -1,5 +1,5 @@
--- What each kind of entry does to the permits that are out, to the turns in flight and to the answers
--- that stand, so that nothing of them stands twice. Cited by `Soundness`.
+-- No kind of entry makes a permit, turn in flight or answer occur twice.
+-- Used by `Soundness`.
 use Rattle.std.proofs.Common.{◌≡◌, ℕ, zero, suc, ◌+◌, ◌<◌, ◌≤◌, ◌==◌, Bool, true, false, not, nat_le, ◌&&◌, List, [], ◌∷◌, ◌++◌, length, filter, map, inl, inr, refl, sym, ap, subst, ◌∙◌, true≢false, arith}
 use Rattle.std.specs.List.{list_all, list_any}
 use Rattle.std.specs.Str.{bytes_eq}
@@ -23,26 +23,21 @@ use Rattle.gate_history.specs.Grants.{is_covered, with_grant}
 use Rattle.gate_history.proofs.Counting.{all-append, all-filter, all-more, all-of_map, count-append, count-map, none-found, same-found}
 use Rattle.gate_history.proofs.GrantLaws.{own-covered, slots_once-granted, still-covered}
 
--- how often a number is out after a grant
 pub times-granted : (unspent running : List GrantedPermit) (number : ℕ) (fetch : Fetch) (k : ℕ) →
     times_out (unspent ++ permit_for number fetch ∷ []) running k ≡ times_out unspent running k + one_if (number == k)
 times-granted unspent running number fetch k = omega (arith, count-push (is_numbered k) unspent (permit_for number fetch))
 
--- and after an allowed start, which moves the permit
 pub times-started : (unspent running : List GrantedPermit) (number k : ℕ) →
     times_out (without number unspent) (running ++ filter (is_numbered number) unspent) k ≡ times_out unspent running k
 times-started unspent running number k =
     omega (arith, count-append (is_numbered k) running (filter (is_numbered number) unspent), filter-parts (is_numbered k) (is_numbered number) unspent)
 
--- and after a denied start or a return
 pub times-returned : (unspent running : List GrantedPermit) (number k : ℕ) → times_out (without number unspent) running k ≤ times_out unspent running k
 times-returned unspent running number k = omega (arith, filter-parts (is_numbered k) (is_numbered number) unspent)
 
--- and after a finish
 pub times-finished : (unspent running : List GrantedPermit) (number k : ℕ) → times_out unspent (without number running) k ≤ times_out unspent running k
 times-finished unspent running number k = omega (arith, filter-parts (is_numbered k) (is_numbered number) running)
 
--- permits of which no number is out more often than before
 pub permits-moved : (unspent running unspent' running' : List GrantedPermit) (grants : List SlotGrant) →
     ArePermits unspent running grants → ((k : ℕ) → times_out unspent' running' k ≤ times_out unspent running k) → ArePermits unspent' running' grants
 permits-moved unspent running unspent' running' grants are fewer = record {
@@ -51,7 +46,6 @@ permits-moved unspent running unspent' running' grants are fewer = record {
   slots_once = are.slots_once;
 }
 
--- permits after a grant of a number that was not out
 pub permits-granted : (unspent running : List GrantedPermit) (grants : List SlotGrant) (number : ℕ) (fetch : Fetch) →
     ArePermits unspent running grants → times_out unspent running number ≡ 0 →
     ArePermits (unspent ++ permit_for number fetch ∷ []) running (with_grant number grants)
@@ -82,13 +76,11 @@ permits-granted unspent running grants number fetch are none = record {
         let was : 0 < times_out unspent running k = omega (arith, times-granted unspent running number fetch k) in
         still-covered number grants k (are.numbers_granted k was)
 
--- what began by a moment began by a later one
 begun-later : {X : Type 0} (begun : X → ℕ) (m late : ℕ) (xs : List X) → m ≤ late → list_all (λ x. nat_le (begun x) m) xs ≡ true →
     list_all (λ x. nat_le (begun x) late) xs ≡ true
 begun-later begun m late xs later all = all-more (λ x. nat_le (begun x) m) (λ x. nat_le (begun x) late) xs
     (λ x is. let early = leb-true (begun x) m is in le-leb (begun x) late (omega arith)) all
 
--- turns at a later moment
 pub turns-later : (standing : List StandingAnswer) (in_flight : List Turn) (begins m late : ℕ) → m ≤ late →
     AreTurns standing in_flight begins m → AreTurns standing in_flight begins late
 turns-later standing in_flight begins m late later are = record {
@@ -101,7 +93,6 @@ turns-later standing in_flight begins m late later are = record {
   lives = are.lives;
 }
 
--- turns after the begin of the next one, where its authority has none in flight
 pub turns-begun : (standing : List StandingAnswer) (in_flight : List Turn) (begins m late : ℕ) (authority : List ℕ) →
     m ≤ late → list_any (is_turn_of authority) in_flight ≡ false → AreTurns standing in_flight begins m → (moment : ℕ) → moment ≤ late →
     AreTurns standing (in_flight ++ turn_for authority (record { turn = begins + 1; begun = moment }) ∷ []) (begins + 1) late
@@ -163,7 +154,6 @@ turns-begun standing in_flight begins m late authority later none are moment ear
         let old = are.turns_begun k was in
         omega arith
 
--- one authority is not two others
 apart_text : (a b x : List ℕ) → bytes_eq a b ≡ false → bytes_eq x b ≡ true → bytes_eq x a ≡ false
 apart_text a b x apart is = by (bytes_eq x a) refl
   where
@@ -171,19 +161,16 @@ apart_text a b x apart is = by (bytes_eq x a) refl
     by false not_a = not_a
     by true is_a = absurd (true≢false (sym is ∙ (ap (λ y. bytes_eq y b) ((bytes_eq-Decides x a).0 is_a) ∙ apart)))
 
--- where the same holds of all
 all-same : {X : Type 0} (b : Bool) (xs : List X) → b ≡ true → list_all (λ _. b) xs ≡ true
 all-same b [] is = refl
 all-same b (x ∷ xs) is = rw is (all-same b xs is)
 
--- the turn of its number in flight is the one of its authority
 pub own-turn : (standing : List StandingAnswer) (in_flight : List Turn) (begins m : ℕ) → AreTurns standing in_flight begins m →
     (authority : List ℕ) (turn : ℕ) → list_any (λ t. has_number turn t && is_turn_of authority t) in_flight ≡ true →
     filter (has_number turn) in_flight ≡ filter (is_turn_of authority) in_flight
 own-turn standing in_flight begins m are authority turn found =
     same-found (has_number turn) (is_turn_of authority) in_flight (let once = are.turns_once turn in omega arith) (are.flights_once authority) found
 
--- turns after an arrival
 pub turns-arrived : (standing : List StandingAnswer) (in_flight : List Turn) (begins m late : ℕ) (authority : List ℕ) (turn : ℕ) (says : Said) (life : ℕ) →
     m ≤ late → list_any (λ t. has_number turn t && is_turn_of authority t) in_flight ≡ true → life_of says life ≡ life →
     AreTurns standing in_flight begins m →
@@ -256,7 +243,6 @@ turns-arrived standing in_flight begins m late authority turn says life later fo
           filter-parts (is_of_turn k) (is_answer_for authority) standing,
         )
 
--- turns after a sweep
 pub turns-swept : (standing : List StandingAnswer) (in_flight : List Turn) (begins m late moment : ℕ) → m ≤ late →
     AreTurns standing in_flight begins m → AreTurns (filter (λ s. not (is_past_answer moment s)) standing) in_flight begins late
 turns-swept standing in_flight begins m late moment later are = record {

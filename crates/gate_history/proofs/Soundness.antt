@@ -1,5 +1,5 @@
--- A legal history leads to a base, shown for each kind of entry, and a granted number is covered.
--- Cited by the laws.
+-- A legal history leads to a base, shown for each kind of entry, and covers each granted number.
+-- Used by the laws.
 use Rattle.std.proofs.Common.{◌≡◌, ℕ, zero, suc, ◌+◌, ◌<◌, ◌==◌, Bool, true, false, ◌||◌, max, inl, inr, refl, sym, ap, subst, ◌∙◌, true≢false, arith}
 use Rattle.std.proofs.Math.Nat.{le-max_left, le-max_right}
 use Rattle.std.proofs.lemmas.Bool.Decides.{eqb_tells}
@@ -17,12 +17,11 @@ use Rattle.gate_history.specs.Laws.{EachStandsOnce, GrantedIsCovered, LeadsToBas
 use Rattle.gate_history.proofs.GrantLaws.{own-covered, still-covered}
 use Rattle.gate_history.proofs.SoundParts.{own-turn, permits-granted, permits-moved, times-finished, times-granted, times-returned, times-started, turns-arrived, turns-begun, turns-later, turns-swept}
 
--- a legal history leads to a base, and each number that is out was granted
+-- a legal history leads to a base, and each outstanding number was granted
 record IsSound (h : History) : Type 0 where
   base : IsBase (base_after h)
   granted : (number : ℕ) → 0 < times_out (unspent h) (running h) number → was_granted h number ≡ true
 
--- a granted number is covered
 pub granted_covered : GrantedIsCovered
 granted_covered (from base) n granted = granted
 granted_covered (h ▸ Begun _ _ _) n granted = granted_covered h n granted
@@ -43,7 +42,6 @@ granted_covered (h ▸ Returned _) n granted = granted_covered h n granted
 granted_covered (h ▸ Finished _) n granted = granted_covered h n granted
 granted_covered (h ▸ Swept _ _) n granted = granted_covered h n granted
 
--- a number that was not granted is not out
 not_out : (h : History) → IsSound h → (n : ℕ) → was_granted h n ≡ false → times_out (unspent h) (running h) n ≡ 0
 not_out h sound n new = by (times_out (unspent h) (running h) n) refl
   where
@@ -51,11 +49,9 @@ not_out h sound n new = by (times_out (unspent h) (running h) n) refl
     by zero is = refl
     by (suc k) is = absurd (true≢false (sym (sound.granted n (omega arith)) ∙ new))
 
--- the turns and answers of a history, after an entry that brings only its moment
 later : (h : History) (e : Entry) → IsSound h → AreTurns (standing h) (in_flight h) (begins h) (now (h ▸ e))
 later h e sound = turns-later (standing h) (in_flight h) (begins h) (now h) (now (h ▸ e)) (le-max_right (moment_of e) (now h)) sound.base.turns
 
--- one more legal entry
 step : (h : History) (e : Entry) → IsSound h → MayFollow h e → IsSound (h ▸ e)
 step h (Begun m a turn) sound fit = record {
   base = record {
@@ -138,16 +134,13 @@ step h (Swept m count) sound fit = record {
   granted = sound.granted;
 }
 
--- a legal history is sound
 sound : (h : History) → IsLegal h → IsSound h
 sound (from base) legal = record { base = legal; granted = λ n out. legal.permits.numbers_granted n out }
 sound (h ▸ e) legal = step h e (sound h legal.0) legal.1
 
--- it leads to a base
 pub leads_to_base : LeadsToBase
 leads_to_base h legal = (sound h legal).base
 
--- in it each stands once
 pub stands_once : EachStandsOnce
 stands_once h legal =
     let base = leads_to_base h legal in

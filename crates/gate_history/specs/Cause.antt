@@ -1,4 +1,4 @@
--- Whether a fetch is allowed at a moment, and why not (RFC 9309, 2.2.2, 2.3.1 and 2.4).
+-- Whether a fetch is allowed, and why not (RFC 9309, 2.2.2, 2.3.1 and 2.4).
 use Rattle.std.specs.Prelude.{◌≡◌, ℕ, List, Option, Some, None, Result, Ok, Err, MatchBool}
 use Rattle.path_normal.specs.Normal.{normal_path}
 use Rattle.path_normal.specs.PageText.{authority_of, target_of}
@@ -18,25 +18,25 @@ use Rattle.gate_history.specs.declared.outcome.Cause.TheVariants as causes
 use Rattle.gate_history.specs.History.{History}
 use Rattle.gate_history.specs.Standing.{standing_of}
 
--- the reason or the cause that a verdict is, with its line where there is one
+-- a verdict's reason or cause, with its line if there is one
 abbrev pub outcome_of : Verdict → Result Reason Cause
 outcome_of (Allow (allowed.Line line)) = Ok (reasons.Line line)
 outcome_of (Allow allowed.NoRule) = Ok reasons.NoRule
 outcome_of (Allow allowed.RobotsPath) = Ok reasons.RobotsPath
 outcome_of (Deny line) = Err (causes.Line line)
 
--- the verdict is that of the text on the path of this URL, under this token
+-- the verdict of the text on the URL's path, for this token
 abbrev pub IsVerdictOn : List ℕ → List ℕ → List ℕ → Verdict → Type 0
 IsVerdictOn text token url verdict = IsVerdict (numbered_records text) token (normal_path (target_of url)) verdict
 
--- what an answer in force says of a fetch of this URL under this token: the reason or the cause
+-- the decision of an answer in force on a fetch: the reason or the cause
 abbrev pub Says : Said → List ℕ → List ℕ → Result Reason Cause → Type 0
 Says (says.Rules text) token url outcome =
     (verdict : Verdict) × (IsVerdictOn text token url verdict × (outcome ≡ outcome_of verdict))
 Says (says.Open _) token url outcome = outcome ≡ Ok reasons.Open
 Says (says.Closed _) token url outcome = outcome ≡ Err causes.Closed
 
--- what stands for an authority decides a fetch at this moment: unknown, then expired, then what it says
+-- the decision of an authority's answer now: unknown, then expired, then its own
 abbrev pub Judges : Option StandingAnswer → List ℕ → List ℕ → ℕ → Result Reason Cause → Type 0
 Judges None token url moment outcome = outcome ≡ Err causes.Unknown
 Judges (Some s) token url moment outcome =

@@ -1,22 +1,22 @@
--- A history of the gate: a base and the entries since, the last of them outermost; its moment and its
--- counts. Answers age by its moments (RFC 9309, 2.4).
+-- A history of the gate: a base and the entries since, the last outermost; its counts, and its moment, by which
+-- answers age (RFC 9309, 2.4).
 use Rattle.std.specs.Prelude.{ℕ, ◌+◌, max, Bool, true, false, List, [], ◌∷◌}
 use Rattle.gate_history.specs.declared.entry.Entry.{Entry}
 use Rattle.gate_history.specs.declared.entry.Entry.TheVariants.{Begun, Arrived, Granted, AskDenied, Started, StartDenied, Returned, Finished, Swept}
 use Rattle.gate_history.specs.Base.{Base}
 
 infixl 20 ◌▸◌
--- a history is a base, or a history and one more entry
+-- a base, or a history and one more entry
 pub data History : Type 0 where
   from : Base → History
   ◌▸◌ : History → Entry → History
 
--- a history and the entries that come after it, oldest first
+-- a history and the entries after it, oldest first
 abbrev pub followed_by : History → List Entry → History
 followed_by h [] = h
 followed_by h (e ∷ later) = followed_by (h ▸ e) later
 
--- the moment that an entry brings; a return and a finish bring none
+-- the moment of an entry; returns and finishes have none
 abbrev pub moment_of : Entry → ℕ
 moment_of (Begun moment _ _) = moment
 moment_of (Arrived moment _ _ _ _) = moment
@@ -28,12 +28,12 @@ moment_of (Returned _) = 0
 moment_of (Finished _) = 0
 moment_of (Swept moment _) = moment
 
--- the gate's moment: the greatest that an entry has brought, 0 where there is none
+-- the gate's moment: the greatest of an entry, or 0
 abbrev pub now : History → ℕ
 now (from base) = base.moment
 now (h ▸ e) = max (moment_of e) (now h)
 
--- the moment of a call: the greater of the one handed in and the gate's
+-- the moment of a call: its own or the gate's, whichever is greater
 abbrev pub at_moment : History → ℕ → ℕ
 at_moment h handed_in = max handed_in (now h)
 
@@ -43,12 +43,12 @@ begins (from base) = base.begins
 begins (h ▸ Begun _ _ _) = begins h + 1
 begins (h ▸ _) = begins h
 
--- how many entries there were; an entry's place is how many were before it
+-- the count of entries; an entry's place is the count before it
 abbrev pub entry_count : History → ℕ
 entry_count (from base) = base.entries
 entry_count (h ▸ _) = entry_count h + 1
 
--- the entry is a fetch that was started
+-- the entry is a started fetch
 abbrev pub is_start : Entry → Bool
 is_start (Started _ _ _) = true
 is_start _ = false

@@ -1,4 +1,4 @@
--- The base as its callers see it, and what is true of the texts of a fetch.
+-- The base as callers see it, and the texts of a fetch.
 -- The value of `base.rt`, and the invariant of `fetch_text.rt`.
 use Rattle.std.specs.Prelude.{◌≡◌, ℕ, ◌≤◌, List, Some, drop, length, take}
 use Rattle.path_normal.specs.PageUrl.{IsPage}
@@ -21,7 +21,7 @@ base_with left numbers = record {
   started = numbers.started;
 }
 
--- a token up to this place, and the text of a page from it on
+-- a token up to this place, then a page's text
 pub record IsFetchText (octets : List ℕ) (url_start : ℕ) : Type 0 where
   pub within : url_start ≤ length octets
   pub token : token_of (take url_start octets) ≡ Some (take url_start octets)

@@ -1,4 +1,4 @@
--- What is true of every history, and of every legal one.
+-- Laws of histories, some of legal ones only.
 -- The contracts of `laws.rt`.
 use Rattle.std.specs.Prelude.{◌≡◌, ◌↔◌, ℕ, ◌+◌, ◌<◌, ◌≤◌, true, false, List, [], ◌∷◌, ◌++◌, Some, Result, length, map, filter}
 use Rattle.std.specs.Str.{bytes_eq}
@@ -26,19 +26,18 @@ use Rattle.gate_history.specs.LeftOpen.{answers_opened, closes_answer, closes_pe
 use Rattle.gate_history.specs.Order.{Reorders}
 use Rattle.gate_history.specs.Seal.{AnswersAlike, SaySame, SaysAs, base_after}
 
--- a history with one more entry at the end of its list
+-- a history with one more entry at its end
 abbrev pub OneMore : Type 0
 OneMore = (h : History) (later : List Entry) (e : Entry) → followed_by h (later ++ e ∷ []) ≡ followed_by h later ▸ e
 
--- after these entries, each list is what the history before them had and what they open, without what
--- a later one of them closes
+-- after these entries, each list has its earlier elements and what they open, without what a later one closes
 pub record IsLeftOpen (h : History) (later : List Entry) : Type 0 where
   pub turns : in_flight (followed_by h later) ≡ left_open in_flight turns_opened closes_turn h later
   pub answers : standing (followed_by h later) ≡ left_open standing answers_opened closes_answer h later
   pub permits : unspent (followed_by h later) ≡ left_open unspent permits_opened closes_permit h later
   pub runs : running (followed_by h later) ≡ left_open running runs_opened closes_run h later
 
--- what stands is what was opened and no later entry closes
+-- the lists have what was opened and no later entry closes
 abbrev pub NoLaterEntryCloses : Type 0
 NoLaterEntryCloses = (h : History) (later : List Entry) → IsLeftOpen h later
 
@@ -46,15 +45,15 @@ NoLaterEntryCloses = (h : History) (later : List Entry) → IsLeftOpen h later
 abbrev pub LeadsToBase : Type 0
 LeadsToBase = (h : History) → IsLegal h → IsBase (base_after h)
 
--- the base that a history leads to says what the history does
+-- the base after a history says what the history does
 abbrev pub SealSaysAlike : Type 0
 SealSaysAlike = (h : History) → SaysAs (from (base_after h)) h
 
--- whatever says what a legal history does is a base, in whatever order
+-- whatever says what a legal history does is a base
 abbrev pub SaysBase : Type 0
 SaysBase = (b : Base) (h : History) → IsLegal h → SaysAs (from b) h → IsBase b
 
--- lists of which each key has the same say the same
+-- lists with the same elements of each key say the same
 pub record KeysSayAlike : Type 0 where
   pub answers : (xs ys : List StandingAnswer)
       → ((authority : List ℕ) → filter (is_answer_for authority) xs ≡ filter (is_answer_for authority) ys)
@@ -67,11 +66,11 @@ pub record KeysSayAlike : Type 0 where
   pub grants : (xs ys : List SlotGrant) → ((slot : ℕ) → filter (is_in slot) xs ≡ filter (is_in slot) ys)
       → SaySame is_in xs ys
 
--- a base says what it said before it was put in another order
+-- a base in another order says the same
 abbrev pub ReorderingSaysAlike : Type 0
 ReorderingSaysAlike = (given made : Base) → IsBase given → Reorders given made → SaysAs (from made) (from given)
 
--- histories that say the same say the same after any entries
+-- histories that say the same still do after any entries
 abbrev pub GoOnAlike : Type 0
 GoOnAlike = (g h : History) (later : List Entry) → SaysAs g h → SaysAs (followed_by g later) (followed_by h later)
 
@@ -85,47 +84,47 @@ DecideAlike =
     (g h : History) (token url : List ℕ) (moment : ℕ) (outcome : Result Reason Cause) → SaysAs g h
     → Decides g token url moment outcome ↔ Decides h token url moment outcome
 
--- entries that are legal after the one are legal after the other, which granted no more numbers
+-- entries legal after the one are legal after the other, which granted no more numbers
 abbrev pub LegalBehind : Type 0
 LegalBehind = (g h : History) (later : List Entry) → SaysAs g h → IsLegal h → IsLegal (followed_by g later)
     → IsLegal (followed_by h later)
 
--- the other way round, where each grant is of a generation above all earlier ones of its slot
+-- the converse, if each grant's generation is above all earlier ones of its slot
 abbrev pub LegalAhead : Type 0
 LegalAhead =
     (g h : History) (later : List Entry) → SaysAs g h → IsLegal g → AllRise h later → IsLegal (followed_by h later)
     → IsLegal (followed_by g later)
 
--- a number that was granted is covered by the grants of its slot
+-- the grants of its slot cover a granted number
 abbrev pub GrantedIsCovered : Type 0
 GrantedIsCovered = (h : History) (number : ℕ) → was_granted h number ≡ true → is_covered (grants h) number ≡ true
 
--- a number of a generation above the greatest of its slot is not covered, and was never granted
+-- a number with a generation above its slot's greatest is new and not covered
 abbrev pub AboveIsNew : Type 0
 AboveIsNew =
     (h : History) (number : ℕ) → greatest_in h (slot_of number) < generation_of number
     → (is_covered (grants h) number ≡ false) × (was_granted h number ≡ false)
 
--- the next number of a history, by its permits and its greatest generations, is new
+-- the next number, by permits and greatest generations, is new
 abbrev pub NextIsNew : Type 0
 NextIsNew =
     (h : History) (slots first number : ℕ) → 0 < first
     → IsNextBy slots first (unspent h) (running h) (greatest_in h) number
     → (is_covered (grants h) number ≡ false) × (was_granted h number ≡ false)
 
--- in a legal history no permit stands twice, nor a turn; an authority has one turn in flight and one
--- answer that stands at most, and a turn in flight is the only one of its number and of its authority
+-- in a legal history no permit or turn occurs twice; an authority has at most one turn in flight and one answer, and
+-- a turn in flight is the only one of its number and authority
 pub record StandsOnce (h : History) : Type 0 where
   pub permits : ArePermits (unspent h) (running h) (grants h)
   pub turns : AreTurns (standing h) (in_flight h) (begins h) (now h)
   pub own_turn : (authority : List ℕ) (turn : ℕ) → has_turn h authority turn ≡ true
       → filter (has_number turn) (in_flight h) ≡ filter (is_turn_of authority) (in_flight h)
 
--- in a legal history each stands once
+-- nothing occurs twice in a legal history
 abbrev pub EachStandsOnce : Type 0
 EachStandsOnce = (h : History) → IsLegal h → StandsOnce h
 
--- in a legal history the life of an answer that stands is from 60 seconds to 24 hours
+-- in a legal history an answer's life is from 60 seconds to 24 hours
 abbrev pub LivesAreBounded : Type 0
 LivesAreBounded =
     (h : History) (authority : List ℕ) (s : StandingAnswer) → IsLegal h → standing_of h authority ≡ Some s
@@ -137,25 +136,25 @@ DecidesOnce =
     (h : History) (token url : List ℕ) (moment : ℕ) (one other : Result Reason Cause)
     → Decides h token url moment one → Decides h token url moment other → one ≡ other
 
--- the names are those of the known authorities, each once
+-- these are the known authorities, each once
 abbrev pub AreKnown : History → List (List ℕ) → Type 0
 AreKnown h names = (authority : List ℕ) → length (filter (bytes_eq authority) names) ≡ one_if (is_known h authority)
 
--- the authorities of the answers that stand, and of the turns in flight where no answer stands
+-- the authorities of answers, and of turns in flight without an answer
 abbrev pub known_names : History → List (List ℕ)
 known_names h =
     map (λ s. s.authority) (standing h) ++ map (λ t. t.authority) (filter (lacks_answer (standing h)) (in_flight h))
 
--- in a legal history they are the known authorities
+-- in a legal history `known_names` are the known authorities
 abbrev pub NamesAreKnown : Type 0
 NamesAreKnown = (h : History) → IsLegal h → AreKnown h (known_names h)
 
--- in a legal history each list of the known authorities is as long as their count
+-- each list of the known authorities of a legal history has the counted length
 abbrev pub KnownAreCounted : Type 0
 KnownAreCounted = (h : History) (names : List (List ℕ)) → IsLegal h → AreKnown h names → length names ≡ known_count h
 
--- what one more entry adds to the five counts, and takes from them: so many started; unspent permits
--- more and less; running ones more and less; turns in flight more and less
+-- what one more entry changes: starts; unspent permits more and less; running ones more and less; turns in flight
+-- more and less
 pub record Counts (h : History) (e : Entry)
     (started permits permits_less runs runs_less turns turns_less : ℕ) : Type 0 where
   pub entries_are : entry_count (h ▸ e) ≡ entry_count h + 1
@@ -164,7 +163,7 @@ pub record Counts (h : History) (e : Entry)
   pub running_are : length (running (h ▸ e)) + runs_less ≡ length (running h) + runs
   pub flights_are : length (in_flight (h ▸ e)) + turns_less ≡ length (in_flight h) + turns
 
--- what each kind of entry adds to the counts and takes from them
+-- what each kind of entry adds to and takes from the counts
 abbrev pub CountsOf : History → Entry → Type 0
 CountsOf h (Begun moment authority turn) = Counts h (Begun moment authority turn) 0 0 0 0 0 1 0
 CountsOf h (Arrived moment authority turn says life) = Counts h (Arrived moment authority turn says life) 0 0 0 0 0 0 1
@@ -176,6 +175,6 @@ CountsOf h (Returned number) = Counts h (Returned number) 0 0 1 0 0 0 0
 CountsOf h (Finished number) = Counts h (Finished number) 0 0 0 0 1 0 0
 CountsOf h (Swept moment count) = Counts h (Swept moment count) 0 0 0 0 0 0 0
 
--- each entry of a legal history counts so
+-- each entry of a legal history counts in this way
 abbrev pub EachEntryCounts : Type 0
 EachEntryCounts = (h : History) (e : Entry) → IsLegal h → MayFollow h e → CountsOf h e

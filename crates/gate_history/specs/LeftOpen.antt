@@ -1,5 +1,5 @@
--- What entries open and no later entry closes: the one scheme of turns in flight, standing answers,
--- unspent permits and running ones. The laws say that each of their lists is what is left open so.
+-- What entries open and no later entry closes: turns in flight, answers, unspent permits and running ones. By the
+-- laws these lists are complete.
 use Rattle.std.specs.Prelude.{Bool, false, not, List, [], ◌∷◌, ◌++◌, map, filter}
 use Rattle.std.specs.List.{list_any}
 use Rattle.permit_book.specs.declared.granted_permit.GrantedPermit.{GrantedPermit}
@@ -13,18 +13,17 @@ use Rattle.gate_history.specs.History.{History, ◌▸◌}
 use Rattle.gate_history.specs.Standing.{in_flight}
 use Rattle.gate_history.specs.Outstanding.{unspent}
 
--- some of these entries closes x
+-- one of these entries closes x
 abbrev pub is_closed_by : {X : Type 0} → (Entry → X → Bool) → List Entry → X → Bool
 is_closed_by closes later x = list_any (λ e. closes e x) later
 
--- what the entries after a history open, each with the history before it at hand, and no later one closes
+-- what entries open, given the history before each, and no later one closes
 abbrev pub opened : {X : Type 0} → (History → Entry → List X) → (Entry → X → Bool) → History → List Entry → List X
 opened opens closes h [] = []
 opened opens closes h (e ∷ later) =
     filter (λ x. not (is_closed_by closes later x)) (opens h e) ++ opened opens closes (h ▸ e) later
 
--- what is left open: of what a history has, and of what the entries after it open, that which no later
--- entry closes
+-- what is left open: of a history's and what the entries after it open, all that no later entry closes
 abbrev pub left_open : {X : Type 0} → (History → List X) → (History → Entry → List X) → (Entry → X → Bool) → History
     → List Entry → List X
 left_open has opens closes h later =
@@ -40,12 +39,12 @@ abbrev pub closes_turn : Entry → Turn → Bool
 closes_turn (Arrived _ _ turn _ _) t = has_number turn t
 closes_turn _ t = false
 
--- an arrival opens its answer, for the turn in flight that it closes
+-- an arrival opens its answer, for the turn that it closes
 abbrev pub answers_opened : History → Entry → List StandingAnswer
 answers_opened h (Arrived _ _ turn says life) = map (answered says life) (filter (has_number turn) (in_flight h))
 answers_opened h _ = []
 
--- a later arrival of the authority closes an answer, and a sweep when it is older than its life
+-- an answer is closed by a later arrival, or by a sweep when older than its life
 abbrev pub closes_answer : Entry → StandingAnswer → Bool
 closes_answer (Arrived _ authority _ _ _) s = is_answer_for authority s
 closes_answer (Swept moment _) s = is_past_answer moment s
@@ -56,19 +55,19 @@ abbrev pub permits_opened : History → Entry → List GrantedPermit
 permits_opened h (Granted _ number fetch) = permit_for number fetch ∷ []
 permits_opened h _ = []
 
--- a start, allowed or denied, and a return close the permit of their number
+-- a start, allowed or denied, and a return close their permit
 abbrev pub closes_permit : Entry → GrantedPermit → Bool
 closes_permit (Started _ number _) p = is_numbered number p
 closes_permit (StartDenied _ number _) p = is_numbered number p
 closes_permit (Returned number) p = is_numbered number p
 closes_permit _ p = false
 
--- an allowed start opens the run of the permit that it closes
+-- an allowed start opens the run of its permit
 abbrev pub runs_opened : History → Entry → List GrantedPermit
 runs_opened h (Started _ number _) = filter (is_numbered number) (unspent h)
 runs_opened h _ = []
 
--- a finish closes the run of its number
+-- a finish closes its run
 abbrev pub closes_run : Entry → GrantedPermit → Bool
 closes_run (Finished number) p = is_numbered number p
 closes_run _ p = false

@@ -1,4 +1,4 @@
--- What the contracts of histories cite.
+-- Definitions for the contracts of histories.
 -- RFC 9309, sections 2.2.2, 2.3.1 and 2.4.
 pub mod Grants
 pub mod Base

@@ -1,5 +1,5 @@
--- The order in which a base has what was left open: answers by the octets of their authorities, turns and
--- permits by their numbers, grants by their slots. Used by seals.
+-- The order of a base's lists: answers by their authorities' octets, turns and permits by number, grants by slot.
+-- Used by seals.
 use Rattle.std.specs.Prelude.{◌≡◌, List, IsPermutation, IsSortedByKey}
 use Rattle.std.specs.Ordering.{nat_cmp}
 use Rattle.std.specs.Cmp.Lexicographic.{slice_cmp}
@@ -25,7 +25,7 @@ PermitsRise = IsSortedByKey (λ (p : GrantedPermit). p.number) nat_cmp
 abbrev pub GrantsRise : List SlotGrant → Type 0
 GrantsRise = IsSortedByKey (λ (g : SlotGrant). g.slot) nat_cmp
 
--- each list of the base rises
+-- each list of the base is sorted
 pub record IsInOrder (b : Base) : Type 0 where
   pub answers : AnswersRise b.standing
   pub turns : TurnsRise b.in_flight
@@ -33,7 +33,7 @@ pub record IsInOrder (b : Base) : Type 0 where
   pub runs : PermitsRise b.running
   pub grants : GrantsRise b.grants
 
--- the base has what the given one has, in whatever order
+-- the base has the given one's elements, in any order
 pub record Reorders (given made : Base) : Type 0 where
   pub answers : IsPermutation given.standing made.standing
   pub turns : IsPermutation given.in_flight made.in_flight

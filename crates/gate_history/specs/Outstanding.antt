@@ -1,5 +1,5 @@
--- The permits that are out after a history, and the generations that were granted.
--- Cited by the contracts of the book, of a base and of an audit.
+-- The outstanding permits after a history, and the granted generations.
+-- Used by the contracts of books, bases and audits.
 use Rattle.std.specs.Prelude.{ℕ, ◌==◌, Bool, ◌||◌, max, List, [], ◌∷◌, ◌++◌, filter}
 use Rattle.permit_book.specs.declared.granted_permit.GrantedPermit.{GrantedPermit}
 use Rattle.permit_book.specs.Outstanding.{granted_in, is_listed, is_listed_for, is_numbered, permit_for, without}
@@ -8,8 +8,7 @@ use Rattle.gate_history.specs.declared.entry.Entry.TheVariants.{Granted, Started
 use Rattle.gate_history.specs.Grants.{greatest_of, is_covered, with_grant}
 use Rattle.gate_history.specs.History.{History, from, ◌▸◌}
 
--- the permits that were granted and that no start has spent: a grant adds its permit; a start, allowed
--- or denied, and a return take those of their number away
+-- the unspent permits: a grant adds one; a start, allowed or denied, and a return remove those of their number
 abbrev pub unspent : History → List GrantedPermit
 unspent (from base) = base.unspent
 unspent (h ▸ Granted _ number fetch) = unspent h ++ permit_for number fetch ∷ []
@@ -18,15 +17,14 @@ unspent (h ▸ StartDenied _ number _) = without number (unspent h)
 unspent (h ▸ Returned number) = without number (unspent h)
 unspent (h ▸ _) = unspent h
 
--- the permits whose fetch was started and has not ended: a start adds the unspent ones of its number; a
--- finish takes those of its number away
+-- the running permits: a start adds the unspent ones of its number; a finish removes those of its number
 abbrev pub running : History → List GrantedPermit
 running (from base) = base.running
 running (h ▸ Started _ number _) = running h ++ filter (is_numbered number) (unspent h)
 running (h ▸ Finished number) = without number (running h)
 running (h ▸ _) = running h
 
--- an unspent permit of this number stands
+-- the number has an unspent permit
 abbrev pub is_unspent : History → ℕ → Bool
 is_unspent h number = is_listed (unspent h) number
 
@@ -34,24 +32,23 @@ is_unspent h number = is_listed (unspent h) number
 abbrev pub is_running : History → ℕ → Bool
 is_running h number = is_listed (running h) number
 
--- an unspent permit of this number for this token and URL stands
+-- the number has an unspent permit for this token and URL
 abbrev pub stands : History → ℕ → List ℕ → List ℕ → Bool
 stands h number token url = is_listed_for (unspent h) number token url
 
--- the greatest generation that was granted in the slot, 0 where none was
+-- the greatest generation granted in the slot, or 0
 abbrev pub greatest_in : History → ℕ → ℕ
 greatest_in (from base) slot = greatest_of base.grants slot
 greatest_in (h ▸ Granted _ number _) slot = max (granted_in number slot) (greatest_in h slot)
 greatest_in (h ▸ _) slot = greatest_in h slot
 
--- the slots in which something was granted, each with its greatest generation
+-- the slots with grants, and their greatest generations
 abbrev pub grants : History → List SlotGrant
 grants (from base) = base.grants
 grants (h ▸ Granted _ number _) = with_grant number (grants h)
 grants (h ▸ _) = grants h
 
--- the number was granted: by an entry, or by what the base has for its slot, up to the greatest
--- generation there
+-- the number was granted: by an entry, or by the base, up to its slot's greatest generation
 abbrev pub was_granted : History → ℕ → Bool
 was_granted (from base) number = is_covered base.grants number
 was_granted (h ▸ Granted _ granted _) number = granted == number || was_granted h number

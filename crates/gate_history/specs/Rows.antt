@@ -1,4 +1,4 @@
--- A worked row: one fetch of a site without a robots.txt, and the base that its history leads to.
+-- A worked example: one fetch of a site without robots.txt, and the base that follows.
 -- The contract of `rows.rt`.
 use Rattle.std.specs.Prelude.{ℕ, List, [], ◌∷◌, codes}
 use Rattle.robots_verdict.specs.declared.answer.Opening.TheVariants.{Unavailable}
@@ -21,7 +21,7 @@ page = codes "http://a.example/x"
 abbrev pub foobot : List ℕ
 foobot = codes "foobot"
 
--- the answer of a site without a robots.txt
+-- the answer of a site without robots.txt
 abbrev pub no_file : Said
 no_file = says.Open Unavailable
 

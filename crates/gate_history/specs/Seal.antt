@@ -1,5 +1,5 @@
 -- The base that a history leads to, and histories that say the same.
--- A history may go on from such a base in the place of its entries.
+-- Such a base may replace a history's entries.
 use Rattle.std.specs.Prelude.{◌≡◌, ℕ, Bool, true, List, length, filter}
 use Rattle.permit_book.specs.Outstanding.{is_numbered, listed_for}
 use Rattle.authority_cache.specs.Lists.{is_answer_for, is_turn_of}
@@ -23,12 +23,12 @@ base_after h = record {
   started = started_count h;
 }
 
--- two lists say the same in whatever order: of each key the same, and of each test as many
+-- two lists have the same of each key, and as many of each test
 pub record SaySame {K X : Type 0} (is_of : K → X → Bool) (xs ys : List X) : Type 0 where
   pub each : (key : K) → filter (is_of key) xs ≡ filter (is_of key) ys
   pub counts : (test : X → Bool) → length (filter test xs) ≡ length (filter test ys)
 
--- the lists of the one history say what those of the other do, and the numbers are the same
+-- the lists of both histories say the same, and the numbers are equal
 pub record SaysAs (g h : History) : Type 0 where
   pub answers : SaySame is_answer_for (standing g) (standing h)
   pub turns : SaySame is_turn_of (in_flight g) (in_flight h)
@@ -42,7 +42,7 @@ pub record SaysAs (g h : History) : Type 0 where
   pub entries : entry_count g ≡ entry_count h
   pub started : started_count g ≡ started_count h
 
--- whatever is asked of the lists of two histories is answered alike
+-- all questions on the lists of two histories have equal answers
 pub record AnswersAlike (g h : History) : Type 0 where
   pub standing_of : (authority : List ℕ) → standing_of g authority ≡ standing_of h authority
   pub past_count : (moment : ℕ) → past_count g moment ≡ past_count h moment

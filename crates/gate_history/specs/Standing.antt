@@ -1,4 +1,4 @@
--- The turns in flight and the robots answers that stand after a history (RFC 9309, 2.3.1 and 2.4).
+-- The turns in flight and the answers after a history (RFC 9309, 2.3.1 and 2.4).
 use Rattle.std.specs.Prelude.{ℕ, Bool, not, ◌&&◌, ◌||◌, List, [], ◌∷◌, ◌++◌, length, map, filter, Option}
 use Rattle.std.specs.List.{list_any, find}
 use Rattle.authority_cache.specs.declared.standing_answer.StandingAnswer.{StandingAnswer}
@@ -7,7 +7,7 @@ use Rattle.authority_cache.specs.Lists.{answered, has_number, is_answer_for, is_
 use Rattle.gate_history.specs.declared.entry.Entry.TheVariants.{Begun, Arrived, Swept}
 use Rattle.gate_history.specs.History.{History, from, ◌▸◌}
 
--- the turns in flight: a begin adds its turn, an arrival takes it away
+-- the turns in flight: begins add them, arrivals remove them
 abbrev pub in_flight : History → List Turn
 in_flight (from base) = base.in_flight
 in_flight (h ▸ Begun moment authority turn) =
@@ -15,8 +15,8 @@ in_flight (h ▸ Begun moment authority turn) =
 in_flight (h ▸ Arrived _ _ turn _ _) = filter (λ t. not (has_number turn t)) (in_flight h)
 in_flight (h ▸ _) = in_flight h
 
--- the answers that stand: an arrival puts its answer in the place of its authority's, with its age
--- counted from the begin of its turn; a sweep takes those away that are older than their lives
+-- the answers: an arrival replaces its authority's, whose age counts from the begin of its turn; a sweep removes
+-- those older than their lives
 abbrev pub standing : History → List StandingAnswer
 standing (from base) = base.standing
 standing (h ▸ Arrived _ authority turn says life) =
@@ -33,15 +33,15 @@ has_turn h authority turn = list_any (λ t. has_number turn t && is_turn_of auth
 abbrev pub is_fetching : History → List ℕ → Bool
 is_fetching h authority = list_any (is_turn_of authority) (in_flight h)
 
--- the answer that stands for the authority
+-- the authority's answer
 abbrev pub standing_of : History → List ℕ → Option StandingAnswer
 standing_of h authority = find (is_answer_for authority) (standing h)
 
--- how many standing answers a sweep at this moment ends
+-- how many answers a sweep at this moment ends
 abbrev pub past_count : History → ℕ → ℕ
 past_count h moment = length (filter (is_past_answer moment) (standing h))
 
--- the authority is known: it has a standing answer, or a turn in flight
+-- the authority is known: it has an answer or a turn in flight
 abbrev pub is_known : History → List ℕ → Bool
 is_known h authority = list_any (is_answer_for authority) (standing h) || is_fetching h authority
 

@@ -1,4 +1,4 @@
-//! The base of a history: what the entries before it left open, and their numbers.
+//! The base of a history: what earlier entries left open, and their numbers.
 //! RFC 9309, sections 2.3.1 and 2.4.
 ghost use Rattle.std.specs.Prelude.{◌≡◌, All};
 ghost use Rattle.gate_history.specs.declared.base.Numbers.{Numbers};
@@ -12,7 +12,7 @@ use permit_book::GrantedPermit;
 use std::alloc::Global;
 use std::marker::Model;
 
-/// The greatest generation that was granted in a slot.
+/// A slot's greatest granted generation.
 #[derive(Clone, Copy, Debug, PartialEq, Eq)]
 pub struct SlotGrant {
     /// The slot.
@@ -24,21 +24,21 @@ pub struct SlotGrant {
 /// What a history left open.
 #[derive(Drop)]
 pub struct LeftOpen {
-    /// The answers that stand.
+    /// The valid answers.
     pub standing: Vec<StandingAnswer>,
     /// The turns in flight.
     pub in_flight: Vec<Turn>,
-    /// The permits that no start has spent.
+    /// The permits that are not used yet.
     pub unspent: Vec<GrantedPermit>,
-    /// The permits whose fetch was started and has not ended.
+    /// The permits whose fetch runs.
     pub running: Vec<GrantedPermit>,
-    /// Of each slot in which something was granted, the greatest generation.
+    /// The greatest generation of each granted slot.
     pub grants: Vec<SlotGrant>,
 }
 
 impl LeftOpen {
-    /// Puts each list in its order: answers by the octets of their authorities, turns and permits by their
-    /// numbers, grants by their slots. It takes no memory.
+    /// Sorts each list: answers by their authorities' octets, turns and permits by number, grants by slot.
+    /// It allocates nothing.
     pub fn put_in_order(&mut self)
         ensures same { (numbers : Numbers)
             → Reorders (base_with self.old numbers) (base_with self.new numbers) }
@@ -58,21 +58,20 @@ impl LeftOpen {
     }
 }
 
-/// The numbers of a history.
+/// A history's numbers.
 #[derive(Clone, Copy, Debug, PartialEq, Eq)]
 pub struct Numbers {
-    /// How many begins it has.
+    /// Its begins.
     pub begins: u64,
     /// Its greatest moment, in seconds.
     pub moment: u64,
-    /// How many entries it has.
+    /// Its entries.
     pub entries: u64,
-    /// How many of them are started fetches.
+    /// Its started fetches.
     pub started: u64,
 }
 
-/// What a history goes on from, in the place of entries that were sealed: what they left open, in order,
-/// and their numbers.
+/// Where a history continues, in place of sealed entries: what they left open, in order, and their numbers.
 #[derive(Drop)]
 pub struct Base {
     left: LeftOpen,
@@ -95,7 +94,7 @@ impl Model for Base {
 }
 
 impl Base {
-    /// The base of a history of which nothing was sealed.
+    /// The base of a history without sealed entries.
     pub fn empty(alloc: Global) -> Base
         ensures value { result ≡ empty_base }
         ensures base { IsBase result }
@@ -116,7 +115,7 @@ impl Base {
         Base { left, numbers }
     }
 
-    /// The base of what was left open, which it puts in order, with these numbers. It takes no memory.
+    /// The base of what was left open, which it sorts, with these numbers. It allocates nothing.
     pub fn of(left: LeftOpen, numbers: Numbers) -> Base
         requires base { IsBase (base_with left numbers) }
         requires grants { All IsSlotGrant left.grants.items }
@@ -128,7 +127,7 @@ impl Base {
         Base { left, numbers }
     }
 
-    /// The answers that stand.
+    /// The valid answers.
     pub fn standing(&self) -> &[StandingAnswer]
         ensures { result.now ≡ self.now.standing }
     {
@@ -142,21 +141,21 @@ impl Base {
         self.left.in_flight.as_slice()
     }
 
-    /// The permits that no start has spent.
+    /// The permits that are not used yet.
     pub fn unspent(&self) -> &[GrantedPermit]
         ensures { result.now ≡ self.now.unspent }
     {
         self.left.unspent.as_slice()
     }
 
-    /// The permits whose fetch was started and has not ended.
+    /// The permits whose fetch runs.
     pub fn running(&self) -> &[GrantedPermit]
         ensures { result.now ≡ self.now.running }
     {
         self.left.running.as_slice()
     }
 
-    /// Of each slot in which something was granted, the greatest generation.
+    /// The greatest generation of each granted slot.
     pub fn grants(&self) -> &[SlotGrant]
         ensures value { result.now ≡ self.now.grants }
         ensures fits { All IsSlotGrant self.now.grants }
@@ -165,28 +164,28 @@ impl Base {
         self.left.grants.as_slice()
     }
 
-    /// How many begins were sealed.
+    /// Sealed begins.
     pub fn begins(&self) -> u64
         ensures { result ≡ self.now.begins }
     {
         self.numbers.begins
     }
 
-    /// The greatest moment of what was sealed, in seconds.
+    /// The greatest sealed moment, in seconds.
     pub fn moment(&self) -> u64
         ensures { result ≡ self.now.moment }
     {
         self.numbers.moment
     }
 
-    /// How many entries were sealed.
+    /// Sealed entries.
     pub fn entries(&self) -> u64
         ensures { result ≡ self.now.entries }
     {
         self.numbers.entries
     }
 
-    /// How many of them are started fetches.
+    /// Sealed started fetches.
     pub fn started(&self) -> u64
         ensures { result ≡ self.now.started }
     {

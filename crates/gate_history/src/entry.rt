@@ -1,5 +1,5 @@
-//! The nine entries of a history.
-//! RFC 9309, sections 2.2.2, 2.3.1 and 2.4, of which each is one event.
+//! The nine kinds of entries of a history.
+//! RFC 9309, sections 2.2.2, 2.3.1 and 2.4.
 ghost use Rattle.std.specs.Prelude.{◌≡◌, ◌↔◌, IsTrue};
 
 use crate::fetch_text::FetchText;
@@ -9,16 +9,16 @@ use path_normal::Authority;
 use permit_book::PermitNo;
 use robots_verdict::Said;
 
-/// One event of the gate. Moments are seconds, and never fall along a history.
+/// An event of the gate. Moments are seconds, and never fall along a history.
 #[derive(Drop, PartialEq, Eq)]
 pub enum Entry {
-    /// A robots fetch of the authority began.
+    /// The authority's robots.txt fetch began.
     Begun {
         moment: u64,
         authority: Authority,
         turn: TurnNo,
     },
-    /// That turn brought the authority's answer, which is in force for the seconds of its life.
+    /// That turn brought the authority's answer, in force for its life in seconds.
     Arrived {
         moment: u64,
         authority: Authority,
@@ -38,7 +38,7 @@ pub enum Entry {
         fetch: FetchText,
         cause: Cause,
     },
-    /// A permit was spent by a fetch that may begin.
+    /// A permit was spent, and its fetch may begin.
     Started {
         moment: u64,
         number: PermitNo,
@@ -58,7 +58,7 @@ pub enum Entry {
     Finished {
         number: PermitNo,
     },
-    /// Standing answers that were past their lives were dropped.
+    /// Answers older than their lives were dropped.
     Swept {
         moment: u64,
         count: u64,
@@ -66,7 +66,7 @@ pub enum Entry {
 }
 
 impl Entry {
-    /// Whether the two say the same. Texts are compared octet by octet.
+    /// Whether two entries are equal, octet by octet.
     pub fn is(&self, other: &Entry) -> bool
         ensures { IsTrue result ↔ (self.now ≡ other.now) }
     {

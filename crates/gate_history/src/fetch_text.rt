@@ -1,4 +1,4 @@
-//! The token and the URL of a fetch, as an entry keeps them.
+//! A fetch's token and URL, as an entry keeps them.
 //! RFC 9309, section 2.2.1.
 ghost use Rattle.std.specs.Prelude.{◌≡◌, ◌&&◌, bytes_eq, IfOk, Some};
 ghost use Rattle.std.specs.Cmp.{and_equiv, on_equiv, partial_equiv_from_equiv};
@@ -12,8 +12,7 @@ use robots_text::Token;
 use std::alloc::{AllocError, Global};
 use std::marker::Model;
 
-/// The texts of one fetch's token and URL. They lie one after the other in one piece of memory,
-/// since a history has many of them. A clause sees it as the fetch.
+/// One fetch's token and URL, in one allocation, since a history has many. A clause sees it as the fetch.
 #[derive(Drop)]
 pub struct FetchText {
     octets: Vec<u8>,
@@ -37,7 +36,7 @@ impl Model for FetchText {
 }
 
 impl FetchText {
-    /// The texts of a fetch of this URL under this token.
+    /// The texts of this URL and token.
     pub fn of(alloc: Global, token: &Token, url: &PageUrl) -> Result<FetchText, AllocError>
         ensures { IfOk result (λ text. text ≡ record { token = token.now; url = url.now }) }
     {

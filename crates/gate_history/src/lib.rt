@@ -1,5 +1,5 @@
-//! Histories of the gate: the base that they go on from, their entries, and what each of them says
-//! (RFC 9309, sections 2.2.2, 2.3.1 and 2.4).
+//! Histories of the gate: their bases, their entries, and what they say (RFC 9309, sections 2.2.2, 2.3.1
+//! and 2.4).
 #![tactic(auto)]
 
 mod base;

@@ -6,25 +6,25 @@
 pub enum Reason {
     /// The authority's answer is open.
     Open,
-    /// The line of this number allows it.
+    /// This line allows it.
     Line(u64),
     /// No line for the token matches its path.
     NoRule,
-    /// Its path is that of the robots.txt itself.
+    /// Its path is that of robots.txt.
     RobotsPath,
 }
 
-/// Why an ask or a start is denied. The first that holds is given.
+/// Why an ask or a start is denied: the first cause that holds.
 #[derive(Clone, Copy, Debug, PartialEq, Eq)]
 pub enum Cause {
-    /// No unspent permit of that number stands for that token and URL. Of a start alone.
+    /// Of a start only: the number has no unspent permit for that token and URL.
     Spent,
-    /// No answer stands for the URL's authority.
+    /// The URL's authority has no answer.
     Unknown,
-    /// The answer that stands is older than its life.
+    /// The answer is older than its life.
     Expired,
     /// The answer is closed.
     Closed,
-    /// The line of this number denies it.
+    /// This line denies it.
     Line(u64),
 }

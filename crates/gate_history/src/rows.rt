@@ -1,4 +1,4 @@
-//! A worked row, of which the definitions are computed.
+//! A worked example, computed from the definitions.
 //! RFC 9309, section 2.3.1.3.
 ghost use Rattle.std.specs.Prelude.{◌≡◌};
 ghost use Rattle.gate_history.specs.Legal.{IsLegal};

@@ -1,4 +1,4 @@
-//! Whether a fetch is allowed, and why not, by the answer that stands for its URL's authority.
+//! Whether a fetch is allowed, and why not, by the answer for its URL's authority.
 //! RFC 9309, sections 2.2.2, 2.3.1 and 2.4.
 ghost use Rattle.std.specs.Prelude.{◌≡◌, IfSome, List};
 ghost use Rattle.std.specs.Arc.{arc_value};
@@ -18,8 +18,7 @@ use robots_text::Token;
 use robots_verdict::{Allowed, Answer, Policy, Verdict};
 use std::sync::Arc;
 
-/// The verdict of a policy on a fetch, which was found beforehand. It counts only where the text in force then is
-/// that policy's.
+/// A policy's verdict on a fetch, found in advance. It counts only if that policy's text is in force then.
 #[derive(Drop)]
 pub struct Ruling {
     policy: Arc<Policy>,
@@ -27,7 +26,7 @@ pub struct Ruling {
 }
 
 impl Ruling {
-    /// The policy's verdict on the fetch. It takes no memory.
+    /// The policy's verdict on the fetch. It allocates nothing.
     pub fn of(policy: Arc<Policy>, token: &Token, url: &PageUrl) -> Ruling
         ensures { IsRuling token.now url.now result }
     {
@@ -43,8 +42,8 @@ impl Ruling {
     }
 }
 
-/// What stands for the URL's authority says of its fetch at this moment. A ruling is taken where it counts, and
-/// saves the walk over the rules.
+/// The decision of the authority's answer on the fetch now. A ruling that counts saves the walk over the
+/// rules.
 pub fn decide(
     cache: &Cache,
     token: &Token,
@@ -65,7 +64,7 @@ pub fn decide(
     }
 }
 
-// What an answer in force says of a fetch.
+// The decision of an answer in force.
 fn says(
     answer: &Answer,
     token: &Token,
@@ -82,7 +81,7 @@ fn says(
     }
 }
 
-// The policy's verdict, which is at hand where it was found under an equal text.
+// The policy's verdict, which is known if it was found with an equal text.
 fn verdict_on(policy: &Policy, token: &Token, url: &PageUrl, ruling: Option<&Ruling>) -> Verdict
     requires { IfSome ruling (λ ruling. IsRuling token.now url.now ruling.now) }
     ensures { IsVerdictOn policy.now token.now url.now result }

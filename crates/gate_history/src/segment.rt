@@ -1,4 +1,4 @@
-//! A segment of a history: entries that were sealed, and the base that they follow.
+//! A segment of a history: sealed entries, and the base before them.
 //! RFC 9309, sections 2.3.1 and 2.4.
 ghost use Rattle.std.specs.Prelude.{◌≡◌};
 ghost use Rattle.gate_history.specs.History.{followed_by, from};
@@ -10,8 +10,8 @@ use crate::entry::Entry;
 use std::alloc::Global;
 use std::marker::Model;
 
-/// Entries that were sealed, and the base that they follow: a legal history that can be read alone. Each grant
-/// in it is of a generation above all earlier ones of its slot.
+/// Sealed entries and the base before them: a legal history that can be read alone. Each grant in it has a
+/// generation above all earlier ones of its slot.
 #[derive(Drop)]
 pub struct Segment {
     base: Base,
@@ -35,7 +35,7 @@ impl Model for Segment {
 }
 
 impl Segment {
-    /// The segment of no entries.
+    /// The segment without entries.
     pub fn empty(alloc: Global) -> Segment
         ensures { result ≡ nothing_sealed }
     {
@@ -45,7 +45,8 @@ impl Segment {
         }
     }
 
-    /// The segment of these entries, oldest first, behind the base. It takes them over, and no memory.
+    /// The segment of these entries, oldest first, after the base. It takes ownership and allocates
+    /// nothing.
     pub fn of(base: Base, entries: Vec<Entry>) -> Segment
         requires legal { IsLegal (followed_by (from base) entries.items) }
         requires rises { AllRise (from base) entries.items }
@@ -54,7 +55,7 @@ impl Segment {
         Segment { base, entries }
     }
 
-    /// What the entries follow.
+    /// The base before them.
     pub fn base(&self) -> &Base
         ensures { result.now ≡ self.now.base }
     {

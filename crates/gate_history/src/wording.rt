@@ -1,4 +1,4 @@
-//! The words by which lines name why a fetch is allowed or denied. This is the one table of them.
+//! The words for why a fetch is allowed or denied, in one table.
 //! RFC 9309, sections 2.2.2 and 2.3.1; docs/FORMATS.md.
 ghost use Rattle.std.specs.Prelude.{◌≡◌, [], ◌∷◌, codes, decimal};
 ghost use Rattle.gate_history.specs.Wording.{cause_named, cause_words, reason_named, reason_words};
@@ -6,12 +6,12 @@ ghost use Rattle.gate_history.specs.Wording.{words_in};
 
 use crate::outcome::{Cause, Reason};
 
-/// A reason or a cause in words: `line` has the number of its line behind it.
+/// A reason or cause in words; `line` is followed by the line's number.
 #[derive(Clone, Copy, Debug, PartialEq, Eq)]
 pub struct Wording {
     /// The word.
     pub word: &'static str,
-    /// The number of the line, where it is one.
+    /// The line's number, if there is one.
     pub line: Option<u64>,
 }
 
@@ -45,7 +45,7 @@ impl Reason {
         }
     }
 
-    /// The reason that a word names. The number that stands behind it, if one does, is that of its line.
+    /// The reason for a word, with a line's number if it follows.
     pub fn named(word: &str, line: Option<u64>) -> Option<Reason>
         ensures { result ≡ reason_named word.now line }
     {
@@ -73,7 +73,7 @@ impl Cause {
         }
     }
 
-    /// The cause that a word names. The number that stands behind it, if one does, is that of its line.
+    /// The cause for a word, with a line's number if it follows.
     pub fn named(word: &str, line: Option<u64>) -> Option<Cause>
         ensures { result ≡ cause_named word.now line }
     {

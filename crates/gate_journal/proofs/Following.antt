@@ -1,4 +1,4 @@
--- What is spelled behind what was spelled is the text of both.
+-- Two texts in sequence are the text of both parts.
 -- The answers of `spelling` cite it.
 use Rattle.std.proofs.Common.{◌≡◌, ℕ, List, Bool, true, false, ◌++◌, sym, ap, ◌∙◌, append_assoc, take, drop, take-append-drop}
 use Rattle.std.specs.Prelude.{if◌then◌else◌, ◌==◌}
@@ -11,12 +11,10 @@ use Rattle.history_text.specs.SpellBase.{base_text, spell_segment}
 use Rattle.journal_files.specs.declared.position.JournalPosition.{JournalPosition}
 use Rattle.gate_journal.specs.Follows.{Follows, AreBehind, spelled_count, spelled_of}
 
--- text behind either of two beginnings
 either_behind : (b : Bool) (p q xs ys : List ℕ) → (if b then p ++ xs else q ++ xs) ++ ys ≡ if b then p ++ (xs ++ ys) else q ++ (xs ++ ys)
 either_behind true p q xs ys = append_assoc p xs ys
 either_behind false p q xs ys = append_assoc q xs ys
 
--- the lines of the first entries and of the others
 lines_joined : (count : ℕ) (entries : List Entry) → entry_lines Two (take count entries) ++ entry_lines Two (drop count entries) ≡ entry_lines Two entries
 lines_joined count entries =
     sym (flat_map-append (entry_text Two) (take count entries) (drop count entries)) ∙ ap (entry_lines Two) (take-append-drop count entries)

@@ -1,5 +1,5 @@
--- What is spelled behind what was spelled: together they are the text of the history that was found.
--- The contracts of `spelling` cite it.
+-- Text that follows earlier text: together they are the text of the history.
+-- Used by `spelling`.
 use Rattle.std.specs.Prelude.{◌≡◌, ℕ, ◌-◌, ◌≤◌, List, [], ◌++◌, length, take, drop, Result, Ok, Err, ⊤}
 use Rattle.gate_history.specs.declared.entry.Entry.{Entry}
 use Rattle.gate_history.specs.Segment.{Sealed}
@@ -7,31 +7,31 @@ use Rattle.gate_core.specs.declared.refusal.NoMemory.{NoMemory}
 use Rattle.history_text.specs.SpellBase.{spell_segment}
 use Rattle.journal_files.specs.declared.position.JournalPosition.{JournalPosition}
 
--- how many entries of the last file were spelled, where the text ends at this place
+-- how many entries of the last file are before this place
 abbrev pub spelled_count : JournalPosition → ℕ
 spelled_count place = place.spelled - place.begun
 
--- the part of a segment that was spelled
+-- the part of a segment before this place
 abbrev pub spelled_of : JournalPosition → Sealed → Sealed
 spelled_of place s = record { base = s.base; entries = take (spelled_count place) s.entries }
 
--- the last file began with the segment's base, and the place is behind some of its entries
+-- the last file began with the segment's base, and the place is after some of its entries
 pub record IsPlaceIn (place : JournalPosition) (s : Sealed) : Type 0 where
   pub begun : place.begun ≡ s.base.entries
   pub from : place.begun ≤ place.spelled
   pub within : spelled_count place ≤ length s.entries
 
--- the entries are those of the segment behind the place
+-- the segment's entries after the place
 pub record AreBehind (place : JournalPosition) (s : Sealed) (entries : List Entry) : Type 0 where
   pub place_is : IsPlaceIn place s
   pub entries_are : entries ≡ drop (spelled_count place) s.entries
 
--- behind the text of the entries that were spelled, the text makes that of the whole segment
+-- with the text before the place, this is the whole segment's text
 pub record Follows (place : JournalPosition) (s : Sealed) (text : List ℕ) : Type 0 where
   pub place_is : IsPlaceIn place s
   pub whole : spell_segment (spelled_of place s) ++ text ≡ spell_segment s
 
--- what a seal handed out is ended by the text; nothing ends where nothing was sealed
+-- the text ends what a seal handed out; there is none if nothing was sealed
 abbrev pub EndsFile : Result Sealed NoMemory → JournalPosition → List ℕ → Type 0
 EndsFile (Ok s) place text = Follows place s text
 EndsFile (Err refusal) place text = ⊥

@@ -1,4 +1,4 @@
--- The definitions that contracts cite, one concept a file.
+-- The definitions for contracts, one concept a file.
 -- `crates/gate_journal/src` has the code.
 pub mod Follows
 pub mod Recorded

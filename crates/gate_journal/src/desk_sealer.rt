@@ -1,5 +1,5 @@
-//! `DeskSealer`: a desk of a gate as what ends a journal's file.
-//! What its seal hands out is what the file ends with.
+//! `DeskSealer`: a desk that ends a journal's file.
+//! The file ends with what its seal hands out.
 ghost use Rattle.std.specs.Prelude.{◌≡◌, IfOk};
 ghost use Rattle.gate_lock.specs.Desks.{IsNew, out_of, receipt_of};
 
@@ -12,7 +12,7 @@ use journal_files::{JournalFault, JournalPosition, Sealer};
 use std::alloc::Global;
 use std::sync::Wait;
 
-/// A desk that does nothing but seal, so it has nothing out. It has no `Drop`: `close` makes receipts of it.
+/// A desk that only seals, with nothing outstanding. It has no `Drop`: `close` makes its receipts.
 #[must_use]
 pub struct DeskSealer<'a, 'g, G: Gate, R: Wait> {
     rt: &'a R,
@@ -21,7 +21,7 @@ pub struct DeskSealer<'a, 'g, G: Gate, R: Wait> {
 }
 
 impl<'a, 'g, G: Gate, R: Wait> DeskSealer<'a, 'g, G, R> {
-    /// One at a desk of its own.
+    /// A new desk for it.
     pub fn open(
         rt: &'a R,
         alloc: Global,

@@ -1,4 +1,4 @@
-//! A gate as what a journal records: the text of its history, by which an audit finds it (docs/FORMATS.md).
+//! A gate for a journal: the text of its history, for an audit (docs/FORMATS.md).
 #![tactic(auto)]
 
 mod desk_sealer;

@@ -1,5 +1,5 @@
-//! A gate under its lock as what a journal records.
-//! The lock is held while entries are spelled, and while nothing is written.
+//! A locked gate, for a journal.
+//! The lock is held while entries are formatted, not while they are written.
 ghost use Rattle.std.specs.Prelude.{◌≡◌, [], IfOk};
 ghost use Rattle.gate_journal.specs.Recorded.{BeginsWith, OfSome, SpellsUpTo, place_of};
 
@@ -11,7 +11,7 @@ use journal_files::{Chronicle, JournalFault, JournalPosition, Spelled};
 use std::alloc::Global;
 use std::sync::Wait;
 
-/// A gate, and by what its lock is waited for.
+/// A gate, and the runtime that waits for its lock.
 #[derive(Drop)]
 pub struct Recording<'a, G: Gate, R: Wait> {
     pub alloc: Global,
@@ -43,7 +43,7 @@ impl<'a, G: Gate, R: Wait> Chronicle for Recording<'a, G, R> {
         Ok((text, place_of(book)))
     }
 
-    /// Half of the history's limit is entered.
+    /// Half of the history's limit is used.
     fn is_due(&self) -> bool {
         let held = self.gate.lend(self.rt);
         let book = held.book();
@@ -53,7 +53,7 @@ impl<'a, G: Gate, R: Wait> Chronicle for Recording<'a, G, R> {
     }
 }
 
-// Where the text of a book's whole history ends.
+// The place where the text of a book's whole history ends.
 fn place_of(book: &Book) -> JournalPosition
     ensures { result ≡ place_of book.now }
 {

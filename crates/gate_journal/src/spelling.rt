@@ -1,5 +1,5 @@
-//! Parts of a history as texts in memory: a whole segment, or its entries behind those that were spelled.
-//! docs/FORMATS.md has the texts.
+//! Parts of a history as texts in memory.
+//! See docs/FORMATS.md.
 ghost use Rattle.std.specs.Prelude.{◌≡◌, [], None, IfOk, IfSome, OnOk};
 ghost use Rattle.std.specs.Io.KnownBytes.{Appends};
 ghost use Rattle.history_text.specs.declared.version.Version.TheVariants.{Two};
@@ -15,8 +15,8 @@ use history_text::{export, push_entries};
 use journal_files::{JournalFault, JournalPosition};
 use std::alloc::Global;
 
-/// The text that ends a file behind a seal: the lines of the segment's entries behind those that the file has; none
-/// where nothing was handed out. It fails if memory runs out, and where the segment does not go on from there.
+/// The text that ends a file after a seal: the lines of the segment's entries that the file lacks, if any
+/// were handed out. It fails if memory runs out, or if the segment does not continue there.
 pub fn rest_of(
     alloc: Global,
     sealed: &Result<Segment, NoMemory>,
@@ -37,7 +37,7 @@ pub fn rest_of(
     }
 }
 
-/// The text of the book's present segment. It fails only if memory runs out.
+/// The text of the current segment. It fails only if memory runs out.
 pub(crate) fn segment_text(alloc: Global, book: &Book) -> Result<Vec<u8>, JournalFault>
     ensures { IfOk result (λ text. text.items ≡ spell_segment (present_segment book.now)) }
 {
@@ -49,7 +49,7 @@ pub(crate) fn segment_text(alloc: Global, book: &Book) -> Result<Vec<u8>, Journa
     }
 }
 
-/// The lines of a segment's entries behind those up to a place.
+/// The lines of a segment's entries after a place.
 pub(crate) fn follow(
     alloc: Global,
     base: &Base,
@@ -81,7 +81,7 @@ fn lines(alloc: Global, entries: &[Entry], output: &mut Output) -> Result<Vec<u8
     }
 }
 
-// Writes the lines of entries. Nothing is left pending, also where that fails.
+// Writes the lines of entries. Even on failure nothing stays pending.
 fn write_lines<W: Sink>(
     entries: &[Entry],
     output: &mut Output,
@@ -98,7 +98,7 @@ fn write_lines<W: Sink>(
     flushed
 }
 
-// The entries of a segment behind those up to a place, where it is one of the segment.
+// A segment's entries after a place in it.
 fn entries_behind<'a>(
     base: &Base,
     entries: &'a [Entry],

@@ -1,11 +1,10 @@
 -- Marks of sealed entries: what is kept of the first ones, and what is left.
--- Used by the functions of `mark` and by `Desk::condense`.
+-- Used by `mark` and by `Desk::condense`.
 use Rattle.std.proofs.Common.{◌≡◌, ℕ, zero, suc, ◌+◌, ◌<◌, ◌≤◌, List, [], ◌∷◌, ◌++◌, length, get_or, take, drop, map, Result, Ok, Err, OnOk, OnErr, refl, sym, ap, subst, ◌∙◌, arith}
 use Rattle.std.proofs.lemmas.List.{append-nil, length-append, length-map, take-append-drop}
 use Rattle.gate_lock.specs.declared.mark.Mark.{Mark}
 use Rattle.gate_lock.specs.Marks.{AreSealed, SealedView, sealed_with, starts_in}
 
--- one mark more that is below
 one_more : (count : ℕ) (ms : List Mark) (i : ℕ) (d : Mark) → i < length ms → (get_or ms i d).place < count →
     AreSealed count (map (λ m. m.place) (take i ms)) → AreSealed count (map (λ m. m.place) (take (suc i) ms))
 one_more count [] i d within less so = absurd (omega (arith, within))
@@ -48,7 +47,6 @@ taken_in (Err refused) count n s s2 ms ms2 ok err below =
       sealed_are = err.1 ∙ (λ i. record { before = s.before; places = sym (append-nil s.places) i; starts = starts i; handed = s.handed });
     }
 
--- as many marks are kept, one way or the other, and as many started fetches
 pub keeps_count : (count : ℕ) (s s2 : SealedView) (ms ms2 : List Mark) → TakenIn count s s2 ms ms2 →
     (length s2.places + length ms2 ≡ length s.places + length ms) × (s2.starts + starts_in ms2 ≡ s.starts + starts_in ms) × (length ms2 ≤ length ms)
 keeps_count count s s2 ms ms2 taken =

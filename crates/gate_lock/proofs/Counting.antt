@@ -1,5 +1,5 @@
--- The balance of a gate behind one more entry.
--- Used by the methods of `Round`.
+-- The balance of a gate after one more entry.
+-- Used by `Round`.
 use Rattle.std.proofs.Common.{◌≡◌, ℕ, ◌+◌, ◌≤◌, List, [], ◌∷◌, length, refl, sym, ap, ◌∙◌, subst, arith}
 use Rattle.std.specs.Prelude.{Result, Ok, Err}
 use Rattle.authority_cache.specs.Lists.{is_turn_of}
@@ -19,11 +19,11 @@ use Rattle.gate_core.specs.Sealing.{HandsOut, Seals}
 use Rattle.gate_lock.specs.Balance.{Balance, IsBalanceOf, IsHandedOut, Loses}
 use Rattle.gate_lock.specs.Steps.{handed_by}
 
--- the history behind one more entry
+-- the history after one more entry
 pub grown : OneMore → (old new : Gate) (e : Entry) → Adds old e new → history new ≡ history old ▸ e
 grown more old new e adds = ap history adds.adds ∙ more (from old.base) old.entries e
 
--- an entry that ends something: what was counted is one entry more, and less what it ends
+-- an entry that ends something: one entry more, less what it ends
 pub ended : OneMore → (old new : Gate) (e : Entry) (permits runs turns : ℕ) → Adds old e new → Counts (history old) e 0 0 permits 0 runs 0 turns →
     (b entered left : Balance) → IsBalanceOf (history old) b → entered ≡ record b { entries = b.entries + 1 } → Loses entered left permits runs turns →
     IsBalanceOf (history new) left
@@ -36,7 +36,6 @@ ended more old new e permits runs turns adds counts b entered left is enters los
       turns = omega (arith, ap (λ (b : Balance). b.turns) enters, loses.turns_are, is.turns, counts.flights_are);
     })
 
--- an allowed start: one entry and one started fetch more, which runs, and one unspent permit less
 pub begun : OneMore → (old new : Gate) (e : Entry) → Adds old e new → Counts (history old) e 1 0 1 1 0 0 0 →
     (b entered left now : Balance) → IsBalanceOf (history old) b → entered ≡ record b { entries = b.entries + 1 } → Loses entered left 1 0 0 →
     now ≡ record left { starts = left.starts + 1; running = left.running + 1 } → IsBalanceOf (history new) now
@@ -49,7 +48,6 @@ begun more old new e adds counts b entered left now is enters loses starts =
       turns = omega (arith, ap (λ (b : Balance). b.turns) starts, ap (λ (b : Balance). b.turns) enters, loses.turns_are, is.turns, counts.flights_are);
     })
 
--- a base that says what a history did has its balance
 says_balance : (base : Base) (h : History) (b : Balance) → SaysAs (from base) h → IsBalanceOf h b → IsBalanceOf (from base) b
 says_balance base h b says is = record {
   entries = is.entries ∙ sym says.entries;
@@ -59,23 +57,19 @@ says_balance base h b says is = record {
   turns = is.turns ∙ sym (says-length is_turn_of base.in_flight (in_flight h) says.turns);
 }
 
--- what was sealed leaves the balance as it was
 handed_out : (entries : List Entry) (old new : Gate) (s : Sealed) (b : Balance) → HandsOut entries old s new → IsBalanceOf (history old) b → IsBalanceOf (history new) b
 handed_out [] old new s b hands is = subst (λ (g : Gate). IsBalanceOf (history g) b) (sym hands.1) is
 handed_out (e ∷ later) old new s b hands is =
     subst (λ (es : List Entry). IsBalanceOf (followed_by (from new.base) es) b) (sym hands.1.entries) (says_balance new.base (history old) b hands.1.says is)
 
--- so does a seal, and one that was refused
 pub sealed : (old new : Gate) (result : Result Sealed NoMemory) (b : Balance) → Seals old result new → IsBalanceOf (history old) b → IsBalanceOf (history new) b
 sealed old new (Ok s) b seals is = handed_out old.entries old new s b seals is
 sealed old new (Err refusal) b stays is = subst (λ (g : Gate). IsBalanceOf (history g) b) (sym stays) is
 
--- entries count for themselves
 pub counted : (h : History) (later : List Entry) → entry_count (followed_by h later) ≡ entry_count h + length later
 counted h [] = omega arith
 counted h (e ∷ later) = let more = counted (h ▸ e) later in omega (arith, more)
 
--- what was handed out is as it was behind one more entry
 pub stays_handed : (old new : Gate) (e : Entry) (b entered left : Balance) → Adds old e new → IsHandedOut old.base b.handed → entered.handed ≡ b.handed →
     left.handed ≡ entered.handed → IsHandedOut new.base left.handed
 stays_handed old new e b entered left adds is enters loses =
@@ -85,7 +79,7 @@ stays_handed old new e b entered left adds is enters loses =
       from_start = λ none. base ∙ is.from_start (sym (ap (λ (b : Base). b.entries) base) ∙ none);
     }
 
--- the balance of a history is the same, whatever was handed out
+-- the balance of a history does not depend on what was handed out
 pub hands_more : (h : History) (b b2 : Balance) (handed : ℕ) → b2 ≡ record b { handed = handed } → IsBalanceOf h b → IsBalanceOf h b2
 hands_more h b b2 handed same is = record {
   entries = ap (λ (b : Balance). b.entries) same ∙ is.entries;
@@ -95,7 +89,6 @@ hands_more h b b2 handed same is = record {
   turns = ap (λ (b : Balance). b.turns) same ∙ is.turns;
 }
 
--- what is sealed is handed out
 hands_out : (entries : List Entry) (old new : Gate) (s : Sealed) (b : Balance) → HandsOut entries old s new → entries ≡ old.entries → IsHandedOut old.base b.handed →
     IsHandedOut new.base (b.handed + length s.entries)
 hands_out [] old new s b hands are is =
@@ -113,7 +106,6 @@ hands_out (e ∷ later) old new s b hands are is =
       from_start = λ none. absurd (omega (arith, none, base, all, some));
     }
 
--- so it is by a seal; one that was refused hands out nothing
 pub seals_out : (old new : Gate) (result : Result Sealed NoMemory) (b : Balance) → Seals old result new → IsHandedOut old.base b.handed →
     IsHandedOut new.base (b.handed + handed_by result)
 seals_out old new (Ok s) b seals is = hands_out old.entries old new s b seals refl is
@@ -121,7 +113,6 @@ seals_out old new (Err refusal) b stays is =
     let same : b.handed ≡ b.handed + 0 = omega arith in
     subst (λ (g : Gate). IsHandedOut g.base (b.handed + 0)) (sym stays) (subst (λ (n : ℕ). IsHandedOut old.base n) same is)
 
--- no more was handed out by then than there were entries
 pub handed_few : (old new : Gate) (result : Result Sealed NoMemory) (b : Balance) → Seals old result new → IsHandedOut old.base b.handed →
     b.handed + handed_by result ≤ entry_count (history old)
 handed_few old new (Ok s) b seals is = few old.entries old new s b seals refl is

@@ -1,4 +1,4 @@
--- A start of a permit that stands is never denied as spent.
+-- A start of a good permit is never denied as spent.
 -- Used by `Desk::start`.
 use Rattle.std.proofs.Common.{◌≡◌, ◌≢◌, ℕ, Bool, true, false, List, ap}
 use Rattle.std.specs.Prelude.{IfErr, MatchBool, Option, None, Some, Result, Ok, Err}
@@ -23,32 +23,27 @@ use Rattle.gate_lock.specs.Desks.{DeskView, Pass, Run}
 use Rattle.gate_lock.specs.Steps.{DeskStarts}
 use Rattle.gate_lock.proofs.Replying.{arm}
 
--- no verdict says so
 verdict_says : (verdict : Verdict) (outcome : Result Reason Cause) → outcome ≡ Err Spent → outcome ≡ outcome_of verdict → ⊥
 verdict_says (Allow (allowed.Line line)) outcome spent is = cc
 verdict_says (Allow allowed.NoRule) outcome spent is = cc
 verdict_says (Allow allowed.RobotsPath) outcome spent is = cc
 verdict_says (Deny line) outcome spent is = cc
 
--- no answer in force says so
 answer_says : (said : Said) (token url : List ℕ) (outcome : Result Reason Cause) → outcome ≡ Err Spent → Says said token url outcome → ⊥
 answer_says (says.Rules text) token url outcome spent said = verdict_says said.0 outcome spent said.1.1
 answer_says (says.Open why) token url outcome spent said = cc
 answer_says (says.Closed why) token url outcome spent said = cc
 
--- nor what is past
 past_or_says : (is_past : Bool) (said : Said) (token url : List ℕ) (outcome : Result Reason Cause) → outcome ≡ Err Spent →
     MatchBool is_past (outcome ≡ Err Expired) (Says said token url outcome) → ⊥
 past_or_says true said token url outcome spent past = cc
 past_or_says false said token url outcome spent judges = answer_says said token url outcome spent judges
 
--- nor an unknown authority
 standing_says : (standing : Option StandingAnswer) (token url : List ℕ) (moment : ℕ) (outcome : Result Reason Cause) → outcome ≡ Err Spent →
     Judges standing token url moment outcome → ⊥
 standing_says None token url moment outcome spent unknown = cc
 standing_says (Some s) token url moment outcome spent judges = past_or_says (is_past_answer moment s) s.says token url outcome spent judges
 
--- a permit that stands is not spent
 pub not_spent : (d : DeskView) (old : Gate) (p : Pass) (m : ℕ) (result : Result Run Denial) (new : Gate) (d2 : DeskView) →
     DeskStarts d old p m result new d2 → IfErr result (λ denial. denial.cause ≢ Spent)
 not_spent d old p m (Ok run) new d2 starts = tt

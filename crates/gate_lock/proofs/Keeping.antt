@@ -1,5 +1,5 @@
--- What is kept, with one more and with one less, and what is sought among it.
--- Used by the methods of `Store` and of `Bag`.
+-- What a store keeps, with one more and with one less, and what is sought in it.
+-- Used by `Store` and `Bag`.
 use Rattle.std.proofs.Common.{◌≡◌, ℕ, ◌<◌, ◌==◌, ◌&&◌, ◌||◌, Bool, true, false, eqb, List, [], ◌∷◌, ◌++◌, length, slice_get, get_or, swap_remove, Option, option_map, Some, None, IfNone, is_some, IsSome, slice_index_or, cond, refl, sym, ap, subst, ◌∙◌, append_assoc, All, IsPermutation, true≢false}
 use Rattle.std.proofs.lemmas.Bool.{eqb-true, eqb-false, eq-eqb, ne_eqb}
 use Rattle.std.proofs.lemmas.List.{map-append}
@@ -15,31 +15,26 @@ use Rattle.gate_lock.specs.Bags.{StoreView, is_sought, kept_at, kept_in}
 use Rattle.gate_lock.specs.declared.store.Spot.{Spot}
 use Rattle.gate_lock.specs.declared.store.Spot.TheVariants.{First, Twin}
 
--- a first one is taken out
 pub first_out : {X : Type 0} (es : List (ℕ × X)) (i : ℕ) (e : ℕ × X) (twins : List X) → slice_get es i ≡ Some e →
     IsPermutation (values_of es ++ twins) (e.1 ∷ (values_of (swap_remove es i e) ++ twins))
 first_out es i e twins at =
     IsPermutation-append_left twins _ _ (IsPermutation-map (λ e. e.1) es (e ∷ swap_remove es i e) (IsPermutation-swap_remove es i e (slice_get_within es i e at) (sym (get_or_from_slice_get es i e e at))))
 
--- a twin is taken out
 pub twin_out : {X : Type 0} (first twins : List X) (i : ℕ) (x : X) → i < length twins → x ≡ get_or twins i x →
     IsPermutation (first ++ twins) (x ∷ (first ++ swap_remove twins i x))
 twin_out first twins i x within at =
     IsPermutation-trans _ _ _ (IsPermutation-append_right first _ _ (IsPermutation-swap_remove twins i x within at)) (IsPermutation-middle first x (swap_remove twins i x))
 
--- a first one is put in
 pub first_in : {X : Type 0} (es : List (ℕ × X)) (number : ℕ) (x : X) (twins : List X) →
     IsPermutation (x ∷ (values_of es ++ twins)) (values_of (es ++ (number, x) ∷ []) ++ twins)
 first_in es number x twins =
     let split = ap (λ vs. vs ++ twins) (map-append (λ e. e.1) es ((number, x) ∷ [])) ∙ append_assoc (values_of es) (x ∷ []) twins in
     subst (IsPermutation (x ∷ (values_of es ++ twins))) (sym split) (IsPermutation-sym _ _ (IsPermutation-middle (values_of es) x twins))
 
--- a twin is put in
 pub twin_in : {X : Type 0} (first twins : List X) (x : X) → IsPermutation (x ∷ (first ++ twins)) (first ++ (twins ++ x ∷ []))
 twin_in first twins x =
     subst (IsPermutation (x ∷ (first ++ twins))) (append_assoc first twins (x ∷ [])) (IsPermutation-sym _ _ (IsPermutation-to_front (first ++ twins) x))
 
--- the key that was found passes the test
 passes : {X : Type 0} (test : ℕ → Bool) (es : List (ℕ × X)) (k : ℕ) → lookup_key test es ≡ Some k → test k ≡ true
 passes test [] k found = absurd (true≢false (ap is_some (sym found)))
 passes test (e ∷ es) k found = by (test e.0) refl (passes test es k)
@@ -51,27 +46,22 @@ passes test (e ∷ es) k found = by (test e.0) refl (passes test es k)
         subst (λ n. test n ≡ true) same is
     by false is rest = rest (sym (ap (λ b. cond b (Some e.0) (lookup_key test es)) is) ∙ found)
 
--- one of another number is not sought
 other : (a b : ℕ) (c : Bool) → (a ≡ b → ⊥) → ((a == b) && c) ≡ false
 other a b c apart = ap (λ t. t && c) (ne_eqb a b apart)
 
--- one that is not accepted is not sought
 refused : (b c : Bool) → c ≡ false → (b && c) ≡ false
 refused true c is = is
 refused false c is = refl
 
--- a key that differs from all is not found
 unlisted : {X : Type 0} (k : ℕ) (es : List (ℕ × X)) → AllByRecursion (λ y. eqb k y ≡ false) (keys_of es) → lookup (eqb k) es ≡ None
 unlisted k [] apart = refl
 unlisted k (e ∷ es) apart = ap (λ b. cond b (Some e.1) (lookup (eqb k) es)) apart.0 ∙ unlisted k es apart.1
 
 module _ {X : Type 0} (named : X → ℕ) (accepts : X → Bool) (number : ℕ) where
-  -- neither among these nor among those
   pub neither : (xs ys : List X) → list_any (is_sought named accepts number) xs ≡ false → list_any (is_sought named accepts number) ys ≡ false →
       list_any (is_sought named accepts number) (xs ++ ys) ≡ false
   neither xs ys these those = list_any-append _ xs ys ∙ ap (λ t. t || list_any (is_sought named accepts number) ys) these ∙ those
 
-  -- no key is the number
   pub absent : (es : List (ℕ × X)) → All (λ e. named e.1 ≡ e.0) es → lookup (eqb number) es ≡ None →
       list_any (is_sought named accepts number) (values_of es) ≡ false
   absent [] keyed none = refl
@@ -85,7 +75,6 @@ module _ {X : Type 0} (named : X → ℕ) (accepts : X → Bool) (number : ℕ) 
           (other (named e.1) number (accepts e.1) (λ same. eqb-false number e.0 is (sym same ∙ All-head (λ e. named e.1 ≡ e.0) e es keyed)))
           ∙ rest (sym (ap (λ b. cond b (Some e.1) (lookup (eqb number) es)) is) ∙ none)
 
-  -- the one whose key is the number is not accepted
   pub only : (es : List (ℕ × X)) (x : X) → All (λ e. named e.1 ≡ e.0) es → IsDistinct eqb (keys_of es) → lookup (eqb number) es ≡ Some x → accepts x ≡ false →
       list_any (is_sought named accepts number) (values_of es) ≡ false
   unfolding IsDistinct
@@ -105,7 +94,6 @@ module _ {X : Type 0} (named : X → ℕ) (accepts : X → Bool) (number : ℕ) 
           (other (named e.1) number (accepts e.1) (λ same. eqb-false number e.0 is (sym same ∙ All-head (λ e. named e.1 ≡ e.0) e es keyed)))
           ∙ rest (sym (ap (λ b. cond b (Some e.1) (lookup (eqb number) es)) is) ∙ found)
 
-  -- what was found under the number and is accepted is sought
   pub hit : (es : List (ℕ × X)) (i k : ℕ) (x : X) → All (λ e. named e.1 ≡ e.0) es → slice_get es i ≡ Some (k, x) → lookup_key (eqb number) es ≡ Some k →
       accepts x ≡ true → is_sought named accepts number x ≡ true
   hit es i k x keyed at found taken =
@@ -114,11 +102,9 @@ module _ {X : Type 0} (named : X → ℕ) (accepts : X → Bool) (number : ℕ) 
       let same = key ∙ sym (eqb-true number k (passes (eqb number) es k found)) in
       ap (λ t. t && accepts x) (eq-eqb (named x) number same) ∙ taken
 
--- the value at a place
 pub value_at : {X : Type 0} (es : List (ℕ × X)) (i k : ℕ) (x : X) → slice_get es i ≡ Some (k, x) → slice_get (values_of es) i ≡ Some x
 value_at es i k x at = slice_get-map (λ e. e.1) es i ∙ ap (option_map (λ e. e.1)) at
 
--- where something is, the place is within
 pub within : {X : Type 0} (xs : List X) (i : ℕ) → IsSome (slice_get xs i) → i < length xs
 within xs i there = by (slice_get xs i) refl
   where
@@ -126,12 +112,10 @@ within xs i there = by (slice_get xs i) refl
     by None is = absurd (true≢false (sym (subst IsSome is there)))
     by (Some x) is = slice_get_within xs i x is
 
--- nothing is found, for more reasons
 pub none_too : {T : Type 0} {P Q : Type 0} (o : Option T) → (P → Q) → IfNone o P → IfNone o Q
 none_too None follows is = follows is
 none_too (Some x) follows is = is
 
--- nothing is kept in either part
 pub none_first : {X : Type 0} (es : List (ℕ × X)) (twins : List X) → values_of es ++ twins ≡ [] → es ≡ []
 none_first [] twins is = refl
 none_first (e ∷ es) twins is = cc
@@ -140,7 +124,6 @@ pub none_twin : {X : Type 0} (first twins : List X) → first ++ twins ≡ [] �
 none_twin [] twins is = is
 none_twin (x ∷ first) twins is = cc
 
--- what is kept at a spot and passes the test is found
 pub kept_passes : {X : Type 0} (test : X → Bool) (s : StoreView X) (spot : Spot) (x : X) → kept_at s spot ≡ Some x → test x ≡ true → list_any test (kept_in s) ≡ true
 kept_passes test s (First place) x at is =
     list_any-append test s.first s.twins ∙ ap (λ b. b || list_any test s.twins) (any_passes_from_place test s.first place x at is)

@@ -1,5 +1,5 @@
--- Places that are merged: what it means that one is come by, that none can be, and that nothing is left.
--- Used by the functions of `places`.
+-- Merged places: one is passed, none can be, or nothing is left.
+-- Used by the functions of `merged_marks`.
 use Rattle.std.proofs.Common.{◌≡◌, ℕ, zero, suc, ◌+◌, ◌<◌, ◌≤◌, ◌==◌, ◌⊎◌, inl, inr, nat_lt, Bool, true, false, List, [], ◌∷◌, ◌++◌, length, get_or, take, map, refl, sym, ap, subst, ◌∙◌, arith}
 use Rattle.std.specs.Prelude.{slice_set}
 use Rattle.std.proofs.lemmas.Bool.{cases_lt, eq-eqb, eqb-true, le-ltb, lt-ltb, ne_eqb}
@@ -9,7 +9,6 @@ use Rattle.gate_lock.specs.Marks.{Receipt, places_of}
 use Rattle.gate_lock.specs.Places.{AllAscend, AllEmpty, Ascend, EachOnceFrom, IsNext, IsNextOfNone, Passes, times_in, times_in_all}
 use Rattle.gate_lock.specs.Settling.{EachFits}
 
--- one for a number below another, and nothing for another one
 pub below : (a b : ℕ) → a < b → one_if (nat_lt a b) ≡ 1
 below a b is = ap one_if (lt-ltb a b is)
 
@@ -20,7 +19,6 @@ pub at_most : (b : Bool) → one_if b ≤ 1
 at_most true = omega arith
 at_most false = omega arith
 
--- one more is below the next number: that one
 pub next_below : (place p : ℕ) → one_if (nat_lt p (place + 1)) ≡ one_if (nat_lt p place) + one_if (place == p)
 next_below place p = by (cases_lt p place) (cases_lt place p)
   where
@@ -42,7 +40,6 @@ next_below place p = by (cases_lt p place) (cases_lt place p)
         let c = ap one_if (eq-eqb place p (omega (arith, least, most))) in
         omega (arith, a, b, c)
 
--- a list that begins with the place loses it
 pub passes_at : (lists : List (List ℕ)) (i : ℕ) (d new : List ℕ) (place : ℕ) → i < length lists → get_or lists i d ≡ place ∷ new →
     Passes place lists (slice_set lists i new)
 passes_at [] i d new place within is = absurd (omega (arith, within))
@@ -63,13 +60,11 @@ passes_at (places ∷ lists) (suc i) d new place within is =
       new_is = ap (λ rest. places ∷ rest) later.new_is;
     }
 
--- a list that is put back where it was
 pub same_at : (lists : List (List ℕ)) (i : ℕ) (d new : List ℕ) → i < length lists → new ≡ get_or lists i d → slice_set lists i new ≡ lists
 same_at [] i d new within is = absurd (omega (arith, within))
 same_at (places ∷ lists) zero d new within is = ap (λ first. first ∷ lists) is
 same_at (places ∷ lists) (suc i) d new within is = ap (λ rest. places ∷ rest) (same_at lists i d new (omega (arith, within)) is)
 
--- one list more whose next one it is not
 one_more : (place : ℕ) (lists : List (List ℕ)) (i : ℕ) (d : List ℕ) → i < length lists → (IsNext place (get_or lists i d) → ⊥) →
     IsNextOfNone place (take i lists) → IsNextOfNone place (take (suc i) lists)
 one_more place [] i d within other none = absurd (omega (arith, within))
@@ -86,7 +81,6 @@ times-append : (q : ℕ) (xs ys : List (List ℕ)) → times_in_all q (xs ++ ys)
 times-append q [] ys = omega arith
 times-append q (x ∷ xs) ys = let e = times-append q xs ys in omega (arith, e)
 
--- each place is left as often as it was, but for the one that was come by
 pub passes_times : (place : ℕ) (old new : List (List ℕ)) → Passes place old new → (q : ℕ) →
     times_in_all q old ≡ one_if (place == q) + times_in_all q new
 passes_times place old new p q =
@@ -98,11 +92,9 @@ loses : (place : ℕ) (places : List ℕ) (before behind : List (List ℕ)) → 
 loses place places [] behind all = (all.0.1, all.1)
 loses place places (b ∷ before) behind all = (all.0, loses place places before behind all.1)
 
--- they ascend still
 pub passes_ascend : (place : ℕ) (old new : List (List ℕ)) → Passes place old new → AllAscend old → AllAscend new
 passes_ascend place old new p all = subst AllAscend (sym p.new_is) (loses place p.places p.before p.behind (subst AllAscend p.old_is all))
 
--- what is behind a place is above it
 above : (p q : ℕ) (places : List ℕ) → Ascend (p ∷ places) → 0 < times_in q places → p < q
 above p q [] all there = absurd (omega (arith, there))
 above p q (next ∷ places) all there = by (next == q) refl (above next q places all.1)
@@ -115,7 +107,7 @@ above p q (next ∷ places) all there = by (next == q) refl (above next q places
         let f = all.0 in
         omega (arith, l, f)
 
--- where a place is left that is the next one of none, one before it is left
+-- if a place is left that no list begins with, an earlier one is left
 earlier : (place : ℕ) (places : List ℕ) → Ascend places → 0 < times_in place places → (IsNext place places → ⊥) →
     (h : ℕ) × ((h < place) × (0 < times_in h places))
 earlier place [] all there other = absurd (omega (arith, there))
@@ -142,7 +134,7 @@ earlier_of_all place (places ∷ lists) all there none =
         let l = e.1.1 in
         (e.0, (e.1.0, omega (arith, l)))
 
--- where a place can't be come by, the places are not each once
+-- if a place can't be passed, the places are not each once
 pub stuck : (first count place : ℕ) (old left : List (List ℕ)) → place < count → AllAscend left →
     ((q : ℕ) → times_in_all q old + one_if (nat_lt q first) ≡ times_in_all q left + one_if (nat_lt q place)) → IsNextOfNone place left →
     EachOnceFrom first count old → ⊥
@@ -174,7 +166,7 @@ empty ((p ∷ places) ∷ lists) none =
     let s = ap one_if (eq-eqb p p refl) in
     absurd (omega (arith, e, s))
 
--- behind the last place, they are each once exactly where nothing is left
+-- after the last place, they are each once exactly if nothing is left
 pub ended : (first count place : ℕ) (old left : List (List ℕ)) → place ≤ count → count ≤ place →
     ((q : ℕ) → times_in_all q old + one_if (nat_lt q first) ≡ times_in_all q left + one_if (nat_lt q place)) →
     (AllEmpty left → EachOnceFrom first count old) × (EachOnceFrom first count old → AllEmpty left)
@@ -186,7 +178,6 @@ ended first count place old left most least times =
       (λ once. empty left (λ q. let a = once q in let b = so q in omega (arith, a, b))),
     )
 
--- what fits ascends
 pub fit_ascends : (sealed : ℕ) (entries : List Entry) (rs : List Receipt) → EachFits sealed entries rs → AllAscend (map places_of rs)
 fit_ascends sealed entries [] fits = tt
 fit_ascends sealed entries (r ∷ rs) fits = (fits.0.ascend, fit_ascends sealed entries rs fits.1)

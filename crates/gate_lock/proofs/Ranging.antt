@@ -1,5 +1,5 @@
--- All places below a number: how often each is there, and when they ascend with others behind them.
--- Used by the functions of `places`.
+-- All places below a number: how often each occurs, and when they ascend with others after them.
+-- Used by the functions of `merged_marks`.
 use Rattle.std.proofs.Common.{◌≡◌, ℕ, zero, suc, ◌+◌, ◌<◌, ◌≤◌, ◌⊎◌, inl, inr, nat_lt, List, [], ◌∷◌, ◌++◌, length, get_or, drop, map, sym, ap, subst, ◌∙◌, arith}
 use Rattle.std.specs.Prelude.{IfNone, None, Option, Some}
 use Rattle.std.proofs.lemmas.List.{append_assoc, drop_more}
@@ -12,7 +12,6 @@ times-joined : (q : ℕ) (xs ys : List ℕ) → times_in q (xs ++ ys) ≡ times_
 times-joined q [] ys = omega arith
 times-joined q (x ∷ xs) ys = let e = times-joined q xs ys in omega (arith, e)
 
--- each of them is there once
 times_below : (q count : ℕ) → times_in q (places_below count) ≡ one_if (nat_lt q count)
 times_below q zero = sym (not_below q 0 (omega arith))
 times_below q (suc count) =
@@ -23,14 +22,12 @@ times_below q (suc count) =
     let e = ap (λ (n : ℕ). one_if (nat_lt q n)) d in
     omega (arith, a, b, c, e)
 
--- places of receipts are those below a number and those that are kept
 pub times_of : (q : ℕ) (r : Receipt) → times_in q (places_of r) ≡ one_if (nat_lt q r.sealed.before) + times_in q (kept_places r)
 times_of q r =
     let a = times-joined q (places_below r.sealed.before) (kept_places r) in
     let b = times_below q r.sealed.before in
     omega (arith, a, b)
 
--- no fewer than are kept
 pub times_kept : (q : ℕ) (rs : List Receipt) → times_in_all q (map kept_places rs) ≤ times_in_all q (map places_of rs)
 times_kept q [] = omega arith
 times_kept q (r ∷ rs) =
@@ -38,7 +35,6 @@ times_kept q (r ∷ rs) =
     let b = times_kept q rs in
     omega (arith, a, b)
 
--- a place before others, where these begin behind it
 before_next : (count : ℕ) (places : List ℕ) → BeginsFrom (suc count) places → IsBefore count places
 before_next count [] begins = tt
 before_next count (place ∷ places) begins = omega (arith, begins)
@@ -51,26 +47,22 @@ from_start : (places : List ℕ) → BeginsFrom zero places
 from_start [] = tt
 from_start (place ∷ places) = omega arith
 
--- the places below a number and others ascend where the others do, and begin from it
 pub ascend_below : (count : ℕ) (places : List ℕ) → BeginsFrom count places → Ascend places → Ascend (places_below count ++ places)
 ascend_below zero places begins ascends = ascends
 ascend_below (suc count) places begins ascends =
     subst Ascend (sym (append_assoc (places_below count) (count ∷ []) places))
     (ascend_below count (count ∷ places) (omega arith) (before_next count places begins, ascends))
 
--- only then
 pub below_ascend : (count : ℕ) (places : List ℕ) → Ascend (places_below count ++ places) → BeginsFrom count places × Ascend places
 below_ascend zero places ascends = (from_start places, ascends)
 below_ascend (suc count) places ascends =
     let both = below_ascend count (count ∷ places) (subst Ascend (append_assoc (places_below count) (count ∷ []) places) ascends) in
     (next_from count places both.1.0, both.1.1)
 
--- what is kept ascends where all does
 pub kept_ascend : (rs : List Receipt) → AllAscend (map places_of rs) → AllAscend (map kept_places rs)
 kept_ascend [] all = tt
 kept_ascend (r ∷ rs) all = ((below_ascend r.sealed.before (kept_places r) all.0).1, kept_ascend rs all.1)
 
--- no places are there where there are more before them
 pub too_many : (first count : ℕ) (lists : List (List ℕ)) → count < first → EachOnceFrom first count lists → ⊥
 too_many first count lists less once =
     let a = once count in
@@ -78,14 +70,12 @@ too_many first count lists less once =
     let c = not_below count count (omega arith) in
     omega (arith, a, b, c)
 
--- the places of receipts ascend where those that are kept do, and begin behind the others
 pub ascend_of : (r : Receipt) (first : ℕ) (kept : List ℕ) → first ≡ r.sealed.before → kept ≡ kept_places r → BeginsFrom first kept → Ascend kept →
     Ascend (places_of r)
 ascend_of r first kept is kept_is begins ascends =
     ascend_below r.sealed.before (kept_places r) (subst (λ (n : ℕ). BeginsFrom n (kept_places r)) is (subst (BeginsFrom first) kept_is begins))
     (subst Ascend kept_is ascends)
 
--- only then
 pub of_ascend : (r : Receipt) (first : ℕ) (kept : List ℕ) → first ≡ r.sealed.before → kept ≡ kept_places r → Ascend (places_of r) →
     BeginsFrom first kept × Ascend kept
 of_ascend r first kept is kept_is ascends =
@@ -94,13 +84,13 @@ of_ascend r first kept is kept_is ascends =
       subst Ascend (sym kept_is) both.1,
     )
 
--- of the receipts before these, those that have first places have them once
+-- the receipts before these have the places below a number as a range, once
 abbrev pub HaveFirst : ℕ → List Receipt → List Receipt → Type 0
 HaveFirst first all rs =
     (q : ℕ) → times_in_all q (map places_of all) + times_in_all q (map kept_places rs)
     ≡ times_in_all q (map places_of rs) + times_in_all q (map kept_places all) + one_if (nat_lt q first)
 
--- one of two numbers, where the other is 0
+-- one of two numbers, the other being 0
 abbrev pub OnlyOne : ℕ → ℕ → ℕ → Type 0
 OnlyOne first before one = ((before ≡ 0) × (one ≡ first)) ⊎ ((first ≡ 0) × (one ≡ before))
 
@@ -116,7 +106,6 @@ ones q first before one (inr is) =
     let c = not_below q 0 (omega arith) in
     omega (arith, a, b, c)
 
--- one receipt more
 pub have_more : (first before one : ℕ) (all later : List Receipt) (r : Receipt) → HaveFirst first all (r ∷ later) → before ≡ r.sealed.before →
     OnlyOne first before one → HaveFirst one all later
 have_more first before one all later r have is either = λ q.
@@ -126,7 +115,7 @@ have_more first before one all later r have is either = λ q.
     let d = ap (λ (n : ℕ). one_if (nat_lt q n)) is in
     omega (arith, a, b, c, d)
 
--- where two have the first place, the places are not each once
+-- if two have the first place, the places are not each once
 pub two_first : (first before count : ℕ) (all later : List Receipt) (r : Receipt) → HaveFirst first all (r ∷ later) → before ≡ r.sealed.before →
     0 < first → 0 < before → EachOnce count (map places_of all) → ⊥
 two_first first before count all later r have is some more once =
@@ -140,13 +129,11 @@ two_first first before count all later r have is some more once =
     let h = at_most (nat_lt 0 count) in
     omega (arith, a, b, c, d, e, f, g, h)
 
--- the receipts that are left of a list
 split : (first i : ℕ) (all : List Receipt) (r : Receipt) → HaveFirst first all (drop i all) → i < length all → r ≡ get_or all i r →
     HaveFirst first all (r ∷ drop (i + 1) all)
 split first i all r have within at =
     subst (HaveFirst first all) (drop_more all i r within ∙ ap (λ (x : Receipt). x ∷ drop (i + 1) all) (sym at)) have
 
--- the same of the receipts that are left of a list
 pub have_left : (first before one i : ℕ) (all : List Receipt) (r : Receipt) → HaveFirst first all (drop i all) → i < length all → r ≡ get_or all i r →
     before ≡ r.sealed.before → OnlyOne first before one → HaveFirst one all (drop (i + 1) all)
 have_left first before one i all r have within at = have_more first before one all (drop (i + 1) all) r (split first i all r have within at)
@@ -155,7 +142,6 @@ pub two_left : (first before count i : ℕ) (all : List Receipt) (r : Receipt) �
     before ≡ r.sealed.before → 0 < first → 0 < before → EachOnce count (map places_of all) → ⊥
 two_left first before count i all r have within at = two_first first before count all (drop (i + 1) all) r (split first i all r have within at)
 
--- what is so where there is none
 pub none_at_all : {X : Type 0} (o : Option ℕ) → X → IfNone o X
 none_at_all None x = x
 none_at_all (Some n) x = tt

@@ -1,4 +1,4 @@
--- What the book's replies come to where a permit stands.
+-- The book's replies when a permit is good.
 -- Used by `Round::start` and `Desk::start`, and by `Desk::ask_in` and `ask`.
 use Rattle.std.proofs.Common.{◌≡◌, ℕ, Bool, true, false, List, [], ◌∷◌, ◌++◌, sym, ◌∙◌}
 use Rattle.std.specs.Prelude.{MatchBool, Ok, Err}
@@ -20,12 +20,10 @@ use Rattle.gate_lock.specs.Marks.{mark_at}
 use Rattle.gate_lock.specs.Results.{IsLastEntry, is_denial}
 use Rattle.gate_lock.specs.Steps.{DeskAsks}
 
--- the arm of a test that holds
 pub arm : (b : Bool) (P Q : Type 0) → b ≡ true → MatchBool b P Q → P
 arm true P Q is both = both
 arm false P Q is both = absurd (true≢false (sym is))
 
--- an ask that is refused without an entry
 pub refused : (d : DeskView) (old : Gate) (token url : List ℕ) (m : ℕ) (refusal : AskRefusal) (new : Gate) (d2 : DeskView) →
     Asks old token url m (Err refusal) new → is_denial refusal ≡ false → Looks d old d2 → DeskAsks d old token url m (Err refusal) new d2
 refused d old token url m (ask.Denied denial) new d2 asks none looks = absurd (true≢false none)
@@ -34,12 +32,10 @@ refused d old token url m ask.Busy new d2 asks none looks = (asks, looks)
 refused d old token url m ask.PermitsFull new d2 asks none looks = (asks, looks)
 refused d old token url m ask.NoMemory new d2 asks none looks = (asks, looks)
 
--- a denied start of a permit that stands is an entry
 pub denied : (old new : Gate) (number : ℕ) (token url : List ℕ) (m : ℕ) (d : Denial) → stands (history old) number token url ≡ true →
     Starts old number token url m (Err d) new → Adds old (StartDenied (moment_at old m) number d.cause) new
 denied old new number token url m d out starts = (arm (stands (history old) number token url) _ _ out starts.1).1
 
--- the mark of a grant, behind the others
 pub granted_mark : (old new : Gate) (token url : List ℕ) (m number : ℕ) (last : Last) (fetch : Fetch) (ms ms2 : List Mark) (mark : Mark) →
     Asks old token url m (Ok number) new → IsLastEntry new last → fetch ≡ record { token = token; url = url } →
     mark ≡ mark_at last.place (Granted last.moment number fetch) → ms2 ≡ ms →
@@ -48,7 +44,6 @@ granted_mark old new token url m number last fetch ms ms2 mark asks is_last fetc
     let at = is_last old _ asks.4 in
     λ i. same i ++ (marked ∙ (λ j. mark_at (at.0 j) (Granted (at.2 j) number (fetched j)))) i ∷ []
 
--- that of an ask that was denied
 pub denied_mark : (old new : Gate) (token url : List ℕ) (m : ℕ) (cause : Cause) (last : Last) (fetch : Fetch) (ms ms2 : List Mark) (mark : Mark) →
     Adds old (AskDenied (moment_at old m) (record { token = token; url = url }) cause) new → IsLastEntry new last → fetch ≡ record { token = token; url = url } →
     mark ≡ mark_at last.place (AskDenied last.moment fetch cause) → ms2 ≡ ms →

@@ -1,4 +1,4 @@
--- Where nothing was handed out, the receipts of a settled gate are a whole history.
+-- If nothing was handed out, the receipts of a settled gate are a whole history.
 -- Used by `settle`.
 use Rattle.std.proofs.Common.{◌≡◌, ℕ, List, Result, Ok, Err, sym, ap, ◌∙◌, subst, arith}
 use Rattle.std.specs.Prelude.{IfOk}
@@ -12,7 +12,6 @@ use Rattle.gate_lock.specs.declared.settlement.Settled.{Settled}
 use Rattle.gate_lock.specs.declared.settlement.SettleFault.{SettleFault}
 use Rattle.gate_lock.proofs.Counting.{counted}
 
--- of a gate that began with nothing
 whole : (g : Gate) (rs : List Receipt) (s : Settled) → (g.base.entries ≡ 0 → g.base ≡ empty_base) → HasLegalHistory g → IsSettled g rs s → IsWholeUnlessSealed rs s
 whole g rs s start legal is none =
     let nothing : g.base.entries ≡ 0 = sym is.are.handed ∙ none in
@@ -28,7 +27,6 @@ whole g rs s start legal is none =
       starts_are = is.starts_are ∙ ap (λ (b : Base). started_count (followed_by (from b) g.entries)) base;
     }
 
--- whatever its settlement answers
 pub whole_if_settled : (g : Gate) (rs : List Receipt) (result : Result Settled SettleFault) → (g.base.entries ≡ 0 → g.base ≡ empty_base) → HasLegalHistory g →
     Settles g rs result → IfOk result (IsWholeUnlessSealed rs)
 whole_if_settled g rs (Ok s) start legal is = whole g rs s start legal is

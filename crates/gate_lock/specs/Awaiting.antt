@@ -1,5 +1,5 @@
 -- What a call of a desk waits for before it is made.
--- The contracts of `Awaited` and of the lock.
+-- Cited by `Awaited` and the lock.
 use Rattle.std.specs.Prelude.{◌≡◌, ◌<◌, true, false}
 use Rattle.gate_history.specs.History.{History}
 use Rattle.gate_history.specs.Outstanding.{is_running, is_unspent, stands}
@@ -7,7 +7,7 @@ use Rattle.gate_history.specs.Standing.{has_turn, is_fetching}
 use Rattle.gate_lock.specs.declared.awaited.Awaited.{Awaited}
 use Rattle.gate_lock.specs.declared.awaited.Awaited.TheVariants as awaited
 
--- it is so in a history; of what the desk must spend it has some
+-- the condition holds, and the desk has such a value out
 abbrev pub IsMet : Awaited → History → Type 0
 IsMet awaited.Nothing h = Unit {0}
 IsMet (awaited.Permit out number token url) h = (0 < out) × (stands h number token.now url.now ≡ true)

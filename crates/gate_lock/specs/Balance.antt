@@ -1,13 +1,12 @@
--- The numbers of a gate that its ledgers count, and how the ledgers are cut into parts.
--- Cited by the settlement of a gate, and by what is told of a gate that is idle.
+-- A gate's numbers that ledgers count, and how the ledgers are divided.
+-- Cited by the settlement, and for an idle gate.
 use Rattle.std.specs.Prelude.{◌≡◌, ℕ, ◌+◌, ◌≤◌, length}
 use Rattle.gate_history.specs.Base.{Base, empty_base}
 use Rattle.gate_history.specs.History.{History, entry_count, started_count}
 use Rattle.gate_history.specs.Outstanding.{running, unspent}
 use Rattle.gate_history.specs.Standing.{in_flight}
 
--- entries, started fetches, entries that were handed out, unspent permits, running fetches, turns in flight, and desks
--- that were made
+-- entries, started fetches, entries handed out, unspent permits, running fetches, turns in flight, and desks made
 pub record Balance : Type 0 where
   pub entries : ℕ
   pub starts : ℕ
@@ -17,8 +16,7 @@ pub record Balance : Type 0 where
   pub turns : ℕ
   pub desks : ℕ
 
--- a gate's ledgers, as their names tell them apart: for entries, started fetches, entries that were handed out, unspent
--- permits, running fetches and turns in flight
+-- a gate's ledgers, by their names
 pub record Ledgers : Type 0 where
   pub entries : ℕ
   pub starts : ℕ
@@ -27,7 +25,7 @@ pub record Ledgers : Type 0 where
   pub running : ℕ
   pub turns : ℕ
 
--- those of no gate
+-- the ledgers of no gate
 abbrev pub no_ledgers : Ledgers
 no_ledgers = record { entries = 0; starts = 0; handed = 0; unspent = 0; running = 0; turns = 0 }
 
@@ -35,7 +33,7 @@ no_ledgers = record { entries = 0; starts = 0; handed = 0; unspent = 0; running 
 abbrev pub nothing_counted : Balance
 nothing_counted = record { entries = 0; starts = 0; handed = 0; unspent = 0; running = 0; turns = 0; desks = 0 }
 
--- what is counted of a base of which nothing is out: its entries, all of which were handed out, and its started fetches
+-- a base's balance with nothing out: its entries, all handed out, and its started fetches
 abbrev pub counted_before : Base → Balance
 counted_before base = record {
   entries = base.entries;
@@ -51,15 +49,15 @@ counted_before base = record {
 abbrev pub most_desks : ℕ
 most_desks = 65536
 
--- the parts of a ledger of which each desk has one, what was before all desks another, and the lock at least one
+-- a ledger's parts: one for each desk, one for all before, at least one for the lock
 abbrev pub all_desk_parts : ℕ
 all_desk_parts = 65538
 
--- the parts of a ledger of which each permit, run or turn that is out has one: 2 ^ 40, more than can be out
+-- a ledger's parts for permits, runs or turns out: 2 ^ 40, more than can be out
 abbrev pub all_out_parts : ℕ
 all_out_parts = 1099511627776
 
--- each ledger's parts are those that were handed out and those that are left
+-- each ledger consists of the parts handed out and those left
 pub record AreParts (desks entry_parts start_parts handed_parts unspent unspent_parts : ℕ)
     (running running_parts turns turn_parts : ℕ) : Type 0 where
   pub few_desks : desks ≤ most_desks
@@ -78,12 +76,12 @@ pub record IsBalanceOf (h : History) (b : Balance) : Type 0 where
   pub running : b.running ≡ length (running h)
   pub turns : b.turns ≡ length (in_flight h)
 
--- all entries that were sealed were handed out; where none was, the history began with nothing
+-- all sealed entries were handed out; without any, the history began empty
 pub record IsHandedOut (base : Base) (handed : ℕ) : Type 0 where
   pub handed_are : handed ≡ base.entries
   pub from_start : base.entries ≡ 0 → base ≡ empty_base
 
--- one unspent permit, one running fetch and one turn in flight are less, as told, and all else stays
+-- these numbers of unspent permits, running fetches and turns are gone; all else stays
 pub record Loses (old new : Balance) (permits runs turns_less : ℕ) : Type 0 where
   pub entries_are : new.entries ≡ old.entries
   pub starts_are : new.starts ≡ old.starts

@@ -1,5 +1,5 @@
--- What contracts see of a desk and of the values that must be spent at it, and what an entry does to a desk.
--- Cited by each call of a desk, and by what is built of desks: workers, keepers of sessions, shifts.
+-- What contracts see of a desk and its unspent values, and what an entry does to it.
+-- Cited by a desk's calls, workers, keepers of sessions and shifts.
 use Rattle.std.specs.Prelude.{◌≡◌, ℕ, ◌+◌, ◌*◌, ◌≤◌, List, [], ◌∷◌, ◌++◌, length, map}
 use Rattle.gate_history.specs.declared.entry.Entry.{Entry}
 use Rattle.gate_history.specs.declared.entry.Entry.TheVariants.{Begun, Arrived, Granted, AskDenied, Started, StartDenied, Returned, Finished, Swept}
@@ -10,7 +10,7 @@ use Rattle.gate_core.specs.Gate.{Gate, HasLegalHistory, history}
 use Rattle.gate_lock.specs.declared.mark.Mark.{Mark}
 use Rattle.gate_lock.specs.Marks.{AreSealed, Receipt, SealedView, mark_at, nothing_sealed, sealed_with, starts_in, with_handed}
 
--- a permit, or a started fetch that was made: its number, its token and URL, and the desk that must spend it
+-- a permit or a made fetch: number, token and URL, and the desk that must spend it
 pub record Pass : Type 0 where
   pub number : ℕ
   pub token : List ℕ
@@ -22,22 +22,21 @@ pub record Run : Type 0 where
   pub pass : Pass
   pub reason : Reason
 
--- a turn to fetch an authority's robots.txt, and the desk that must bring its answer
+-- a turn to fetch a robots.txt, and the desk that must bring the answer
 pub record Errand : Type 0 where
   pub authority : List ℕ
   pub turn : ℕ
   pub desk : ℕ
 
--- the shares of a desk: its number, how many entries it made, how many started fetches are among them, and how many
--- entries it handed out
+-- a desk's shares: its number, the entries it made, the fetches it started, the entries it handed out
 pub record Shares : Type 0 where
   pub no : ℕ
   pub entries : ℕ
   pub starts : ℕ
   pub handed : ℕ
 
--- a desk: the limits of its gate; its number; how many entries the history had when it last looked; how many permits,
--- running fetches and turns it must still spend; what it keeps of sealed entries, and the marks behind those
+-- a desk: its gate's limits; its number; the entries seen; the permits, running fetches and turns that it must spend;
+-- what it keeps of sealed entries, and the later marks
 pub record DeskView : Type 0 where
   pub limits : Limits
   pub no : ℕ
@@ -48,24 +47,24 @@ pub record DeskView : Type 0 where
   pub sealed : SealedView
   pub marks : List Mark
 
--- a gate that a lock of these limits kept: its history is legal, and has at least the entries that were seen
+-- a gate of a lock with these limits, with a legal history that has at least the entries seen
 pub record IsGateOf (limits : Limits) (seen : ℕ) (g : Gate) : Type 0 where
   pub limits_are : g.limits ≡ limits
   pub legal : HasLegalHistory g
   pub seen_are : seen ≤ entry_count (history g)
 
--- what a desk must still spend: permits, runs and turns more and less. What it keeps of sealed entries stays
+-- the permits, runs and turns more and less that a desk must spend; what it keeps of sealed entries stays
 pub record HasOut (d d2 : DeskView) (permits permits_less runs runs_less turns turns_less : ℕ) : Type 0 where
   pub permits_are : d2.permits + permits_less ≡ d.permits + permits
   pub runs_are : d2.runs + runs_less ≡ d.runs + runs
   pub turns_are : d2.turns + turns_less ≡ d.turns + turns
   pub sealed_are : d2.sealed ≡ d.sealed
 
--- it must still spend what it had to
+-- it must spend what it had to
 abbrev pub KeepsOut : DeskView → DeskView → Type 0
 KeepsOut d d2 = HasOut d d2 0 0 0 0 0 0
 
--- what the desk that made an entry must still spend behind it
+-- what a desk must spend after it made this entry
 abbrev pub HasOutBy : Entry → DeskView → DeskView → Type 0
 HasOutBy (Begun _ _ _) d d2 = HasOut d d2 0 0 0 0 1 0
 HasOutBy (Arrived _ _ _ _ _) d d2 = HasOut d d2 0 0 0 0 0 1
@@ -77,7 +76,7 @@ HasOutBy (Returned _) d d2 = HasOut d d2 0 1 0 0 0 0
 HasOutBy (Finished _) d d2 = HasOut d d2 0 0 0 1 0 0
 HasOutBy (Swept _ _) d d2 = KeepsOut d d2
 
--- the desk made an entry in a gate: it has seen the history behind it, and has its mark, at its place
+-- the desk made an entry in a gate, has seen the history up to it, and keeps its mark
 pub record Makes (d : DeskView) (g : Gate) (e : Entry) (d2 : DeskView) : Type 0 where
   pub limits_are : d2.limits ≡ d.limits
   pub no_is : d2.no ≡ d.no
@@ -85,7 +84,7 @@ pub record Makes (d : DeskView) (g : Gate) (e : Entry) (d2 : DeskView) : Type 0 
   pub out_is : HasOutBy e d d2
   pub marks_are : d2.marks ≡ d.marks ++ mark_at (entry_count (history g)) e ∷ []
 
--- the desk made no entry, and has seen the history of a gate
+-- the desk saw a gate's history and made no entry
 pub record Looks (d : DeskView) (g : Gate) (d2 : DeskView) : Type 0 where
   pub limits_are : d2.limits ≡ d.limits
   pub no_is : d2.no ≡ d.no
@@ -93,15 +92,15 @@ pub record Looks (d : DeskView) (g : Gate) (d2 : DeskView) : Type 0 where
   pub out_is : KeepsOut d d2
   pub marks_are : d2.marks ≡ d.marks
 
--- the desk handed out so many entries, and all else stays but what it has seen
+-- the desk handed out this many entries; all else but what it has seen stays
 abbrev pub HandsOutMore : DeskView → ℕ → DeskView → Type 0
 HandsOutMore d count d2 = d2 ≡ record d { seen = d2.seen; sealed = with_handed d.sealed count }
 
--- the desk handed out so many entries of a gate, made none, and has seen its history
+-- the desk handed out this many entries of a gate, made none, and saw its history
 abbrev pub Hands : DeskView → Gate → ℕ → DeskView → Type 0
 Hands d g count d2 = HandsOutMore d count d2 × (d2.seen ≡ entry_count (history g))
 
--- the receipts of a desk, once it is closed
+-- the receipts of a closed desk
 abbrev pub receipt_of : DeskView → Receipt
 receipt_of d = record { sealed = d.sealed; marks = d.marks }
 
@@ -109,8 +108,8 @@ receipt_of d = record { sealed = d.sealed; marks = d.marks }
 abbrev pub out_of : DeskView → ℕ
 out_of d = d.permits + d.runs + d.turns
 
--- what is true of every desk: its shares count its marks, and what it handed out; it made no more entries than it has
--- seen; and there is room for the marks of what it must still spend, two for each permit and one for each run and turn
+-- a desk's invariant: its shares count its marks and what it handed out; it made no more entries than it has seen; it
+-- has room for two marks of each permit and one of each run and turn
 pub record IsDesk (seen permits runs turns : ℕ) (sealed : SealedView) (marks : List Mark) (shares : Shares)
     (room : ℕ) : Type 0 where
   pub none_before : sealed.before ≡ 0
@@ -120,7 +119,7 @@ pub record IsDesk (seen permits runs turns : ℕ) (sealed : SealedView) (marks :
   pub few : length sealed.places + length marks ≤ seen
   pub fits : length marks + (2 * permits + runs + turns) ≤ room
 
--- a new desk of a lock of these limits, which has looked at the history of some gate that the lock kept
+-- a new desk of a lock with these limits that has seen some history
 abbrev pub IsNew : Limits → DeskView → Type 0
 IsNew limits d =
     (g : Gate) × (IsGateOf limits 0 g
@@ -135,8 +134,8 @@ IsNew limits d =
       marks = [];
     }))
 
--- the desk keeps of the first of its marks, whose entries were sealed, their places and how many are started
--- fetches; it has seen the history of a gate
+-- of its first marks, with sealed entries, the desk keeps the places and the number of started fetches; it has seen a
+-- gate's history
 pub record Condenses (d : DeskView) (g : Gate) (d2 : DeskView) : Type 0 where
   pub first : List Mark
   pub limits_are : d2.limits ≡ d.limits

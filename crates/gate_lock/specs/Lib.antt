@@ -1,4 +1,4 @@
--- What the contracts of the lock and its desks cite.
+-- Definitions for the contracts of the lock and its desks.
 -- RFC 9309, sections 2.3.1 and 2.4.
 pub mod Balance
 pub mod Results

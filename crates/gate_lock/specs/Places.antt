@@ -1,5 +1,5 @@
 -- Places of a history in several lists: each once, and ascending in each list.
--- What `MarksFit` asks of the marks of all desks; cited by the settlement.
+-- Cited by the settlement, for the marks of all desks.
 use Rattle.std.specs.Prelude.{◌≡◌, ℕ, zero, suc, ◌+◌, ◌<◌, ◌≤◌, ◌==◌, nat_lt, List, [], ◌∷◌, ◌++◌}
 use Rattle.authority_cache.specs.Calls.{one_if}
 
@@ -18,17 +18,17 @@ abbrev pub Ascend : List ℕ → Type 0
 Ascend [] = Unit {0}
 Ascend (place ∷ places) = IsBefore place places × Ascend places
 
--- those of each list do
+-- the places of each list ascend
 abbrev pub AllAscend : List (List ℕ) → Type 0
 AllAscend [] = Unit {0}
 AllAscend (places ∷ lists) = Ascend places × AllAscend lists
 
--- how often the place is among these
+-- how often the place is in the list
 abbrev pub times_in : ℕ → List ℕ → ℕ
 times_in place [] = 0
 times_in place (p ∷ places) = one_if (p == place) + times_in place places
 
--- how often it is among those of all lists
+-- how often it is in all lists together
 abbrev pub times_in_all : ℕ → List (List ℕ) → ℕ
 times_in_all place [] = 0
 times_in_all place (places ∷ lists) = times_in place places + times_in_all place lists
@@ -37,22 +37,22 @@ times_in_all place (places ∷ lists) = times_in place places + times_in_all pla
 abbrev pub EachOnce : ℕ → List (List ℕ) → Type 0
 EachOnce count lists = (place : ℕ) → times_in_all place lists ≡ one_if (nat_lt place count)
 
--- the places are all those below a number that are not below another one, each once
+-- the places are all those from one number up to another, each once
 abbrev pub EachOnceFrom : ℕ → ℕ → List (List ℕ) → Type 0
 EachOnceFrom first count lists =
     (place : ℕ) → times_in_all place lists + one_if (nat_lt place first) ≡ one_if (nat_lt place count)
 
--- the first of the places is not below a number
+-- the first place is not below a number
 abbrev pub BeginsFrom : ℕ → List ℕ → Type 0
 BeginsFrom first [] = Unit {0}
 BeginsFrom first (place ∷ _) = first ≤ place
 
--- the place is the first of these
+-- the place is the list's first
 abbrev pub IsNext : ℕ → List ℕ → Type 0
 IsNext place [] = ⊥
 IsNext place (next ∷ _) = place ≡ next
 
--- it is that of no list
+-- the place is the first of no list
 abbrev pub IsNextOfNone : ℕ → List (List ℕ) → Type 0
 IsNextOfNone place [] = Unit {0}
 IsNextOfNone place (places ∷ lists) = (IsNext place places → ⊥) × IsNextOfNone place lists
@@ -62,7 +62,7 @@ abbrev pub AllEmpty : List (List ℕ) → Type 0
 AllEmpty [] = Unit {0}
 AllEmpty (places ∷ lists) = (places ≡ []) × AllEmpty lists
 
--- the place was the first of one of the lists, which has lost it
+-- one of the lists lost the place, which was its first
 pub record Passes (place : ℕ) (old new : List (List ℕ)) : Type 0 where
   pub before : List (List ℕ)
   pub places : List ℕ

@@ -1,5 +1,5 @@
--- What the changes under the lock give beside what the book replies.
--- The contracts of `round.rt`.
+-- What changes under the lock return beside the book's reply.
+-- Cited by `round.rt`.
 use Rattle.std.specs.Prelude.{◌≡◌, ℕ, ◌+◌, Bool, true, false, Result, Ok, Err}
 use Rattle.gate_history.specs.declared.entry.Entry.{Entry}
 use Rattle.gate_history.specs.History.{entry_count, moment_of}
@@ -18,18 +18,18 @@ abbrev pub is_denial : AskRefusal → Bool
 is_denial (ask.Denied _) = true
 is_denial _ = false
 
--- how many entries an ask made: one where it is granted or denied
+-- an ask's entries: one if granted or denied
 abbrev pub entries_of_ask : {X : Type 0} → Result X AskRefusal → ℕ
 entries_of_ask (Ok _) = 1
 entries_of_ask (Err (ask.Denied _)) = 1
 entries_of_ask (Err _) = 0
 
--- how many entries a call made that makes one where it succeeds
+-- a call's entries: one on success
 abbrev pub entries_of_ok : {X E : Type 0} → Result X E → ℕ
 entries_of_ok (Ok _) = 1
 entries_of_ok (Err _) = 0
 
--- it has the place and the moment of the entry by which a gate came to be, whichever it was
+-- the last entry's place and moment
 abbrev pub IsLastEntry : Gate → Last → Type 0
 IsLastEntry g last =
     (old : Gate) (e : Entry) → Adds old e g

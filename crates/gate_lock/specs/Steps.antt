@@ -1,5 +1,5 @@
--- What each call of a desk does: it makes the book's call of the same name, and what that replies is its
--- reply; an entry that it makes is the desk's. The contracts of the desk.
+-- Each call of a desk makes the book's call of that name and gives its reply; an entry made is
+-- the desk's. Cited by `Desk`.
 use Rattle.std.specs.Prelude.{◌≡◌, ℕ, true, List, length, Result, Ok, Err}
 use Rattle.authority_cache.specs.Lives.{Timed}
 use Rattle.gate_history.specs.declared.entry.Entry.TheVariants.{Begun, Arrived, Granted, AskDenied, Started, StartDenied, Returned, Finished, Swept}
@@ -18,11 +18,11 @@ use Rattle.gate_core.specs.Sealing.{Seals}
 use Rattle.gate_core.specs.States.{IsState}
 use Rattle.gate_lock.specs.Desks.{DeskView, Errand, Hands, IsGateOf, Looks, Makes, Pass, Run}
 
--- a step of a desk at some gate that its lock kept
+-- a step of a desk at some gate of its lock
 abbrev pub Somewhere : DeskView → (Gate → Gate → Type 0) → Type 0
 Somewhere d Step = (old : Gate) × ((new : Gate) × (IsGateOf d.limits d.seen old × Step old new))
 
--- ask: a permit of the number that is granted, for this token and URL and of this desk
+-- ask: this desk's permit of the granted number, for this token and URL
 abbrev pub DeskAsks : DeskView → Gate → List ℕ → List ℕ → ℕ → Result Pass AskRefusal → Gate → DeskView → Type 0
 DeskAsks d old token url m (Ok p) new d2 =
     Asks old token url m (Ok p.number) new
@@ -33,7 +33,7 @@ DeskAsks d old token url m (Err (ask.Denied denial)) new d2 =
     × Makes d old (AskDenied (moment_at old m) (record { token = token; url = url }) denial.cause) d2
 DeskAsks d old token url m (Err refusal) new d2 = Asks old token url m (Err refusal) new × Looks d old d2
 
--- start: the fetch may be made, or is denied; in either case the permit stood, and is spent
+-- start: the fetch may be made, or is denied; the permit was good, and is spent
 abbrev pub DeskStarts : DeskView → Gate → Pass → ℕ → Result Run Denial → Gate → DeskView → Type 0
 DeskStarts d old p m (Ok r) new d2 =
     (stands (history old) p.number p.token p.url ≡ true)
@@ -53,7 +53,7 @@ DeskReturns d old number new d2 = Returns old number (Ok tt) new × Makes d old 
 abbrev pub DeskFinishes : DeskView → Gate → ℕ → Gate → DeskView → Type 0
 DeskFinishes d old number new d2 = Finishes old number (Ok tt) new × Makes d old (Finished number) d2
 
--- begin: the turn that is begun, of this authority and of this desk
+-- begin: a turn of this authority and this desk
 abbrev pub DeskBegins : DeskView → Gate → List ℕ → ℕ → Result Errand BeginRefusal → Gate → DeskView → Type 0
 DeskBegins d old authority m (Ok t) new d2 =
     Begins old authority m (Ok t.turn) new
@@ -61,7 +61,7 @@ DeskBegins d old authority m (Ok t) new d2 =
     × Makes d old (Begun (moment_at old m) authority t.turn) d2
 DeskBegins d old authority m (Err refusal) new d2 = Begins old authority m (Err refusal) new × Looks d old d2
 
--- arrive: the answer that the turn brought stands
+-- arrive: the turn's answer is in force
 abbrev pub DeskArrives : DeskView → Gate → Errand → Timed → ℕ → Gate → DeskView → Type 0
 DeskArrives d old t answer m new d2 =
     Arrives old t.authority t.turn answer m (Ok tt) new
@@ -77,7 +77,7 @@ abbrev pub handed_by : Result Sealed NoMemory → ℕ
 handed_by (Ok sealed) = length sealed.entries
 handed_by (Err refusal) = 0
 
--- seal: the entries since the last seal are handed out with what they follow, which the desk counts, and none is made
+-- seal: the desk hands out and counts the entries since the last seal, with what they follow, and makes none
 abbrev pub DeskSeals : DeskView → Gate → Result Sealed NoMemory → Gate → DeskView → Type 0
 DeskSeals d old result new d2 = Seals old result new × Hands d old (handed_by result) d2
 

@@ -20,8 +20,8 @@ use std::sync::Wait;
 
 #[tactic(auto, using(std::proofs::lemmas::Grind::common_steps, crate::proofs::Starts::starts_in_push))]
 impl<'a, G: Gate> Desk<'a, G> {
-    /// Asks for a permit. A verdict that takes long is found with no lock taken, by the policy that is in
-    /// force before; it counts only where the answer in force under the lock has the same text.
+    /// Asks for a permit. A slow verdict is found outside the lock, by the policy in force before; it
+    /// counts only if the answer in force under the lock has the same text.
     pub fn ask<R: Wait>(
         &mut self,
         rt: &R,
@@ -37,7 +37,7 @@ impl<'a, G: Gate> Desk<'a, G> {
         ensures err { OnErr result (KeepsOut self.old self.new) }
     {
         let alloc: Global = *self.marks.allocator();
-        // The room that `ask_in` asks for; where it is refused here, it is asked for again there.
+        // Room for `ask_in`; if memory is refused here, `ask_in` asks again.
         let promised = self.promised();
         let _ = make_room(&mut self.marks, promised, 3);
         let Ok(ask) = DeskAsk::new(alloc, token, url) else {
@@ -57,8 +57,8 @@ impl<'a, G: Gate> Desk<'a, G> {
         self.ask_in(&mut held, ask, moment)
     }
 
-    /// Asks for a permit while the lock is held. Room is made for the marks of its start and its end,
-    /// which then take no memory.
+    /// Asks for a permit under the lock. Allocates the marks of its start and its end, which then need no
+    /// memory.
     pub fn ask_in(
         &mut self,
         held: &mut Held<'_, G>,

@@ -1,5 +1,5 @@
-//! A bag: the permits and the started fetches of one desk, for a session that names them by number.
-//! For what serves clients: the keeper of a session has one, since its lines name permits by numbers.
+//! A bag: the permits and the started fetches of one desk, found by number.
+//! Used by the keeper of a session, since its clients name permits by numbers.
 ghost use Rattle.std.specs.Prelude.{◌≡◌, ◌+◌, ◌<◌, [], false, IfErr, IfNone, IfOk, IfSome, length, OnErr, OnOk, IsOk};
 ghost use Rattle.std.specs.List.{All};
 ghost use Rattle.std.specs.Option.{option_copied};
@@ -19,8 +19,8 @@ use std::alloc::{AllocError, Global};
 use std::marker::Model;
 use std::sync::Wait;
 
-/// The permits and the started fetches of one desk, each found by its number. It has no `Drop`: `end`
-/// spends it. Dropping one would leave what it holds out forever.
+/// The permits and started fetches of one desk, by number. It has no `Drop`: `end` spends it. Dropping one
+/// would leave its contents out forever.
 #[must_use]
 pub struct Bag<G: Gate> {
     desk: u64,
@@ -64,7 +64,6 @@ impl<G: Gate> Numbered for Running<G> {
     }
 }
 
-// Any one.
 struct Any;
 
 impl<T> Sought<T> for Any {
@@ -77,7 +76,7 @@ impl<T> Sought<T> for Any {
     }
 }
 
-// One for this token and URL.
+// A permit for this token and URL.
 #[derive(Drop)]
 struct For<'a> {
     token: &'a Token,
@@ -116,14 +115,14 @@ impl<G: Gate> Bag<G> {
         }
     }
 
-    /// The number of the desk at which its permits and fetches are spent.
+    /// The desk that must spend its permits and fetches.
     pub fn desk_no(&self) -> u64
         ensures { result ≡ self.now.desk }
     {
         self.desk
     }
 
-    /// Makes room, so that the next `keep` is not refused.
+    /// Makes room, so that the next `keep` succeeds.
     pub fn make_room(&mut self) -> Result<(), AllocError>
         ensures same { HoldsSame self.old self.new }
         ensures desk { self.new.desk ≡ self.old.desk }
@@ -151,7 +150,7 @@ impl<G: Gate> Bag<G> {
         Ok(())
     }
 
-    /// Takes a permit of the number out.
+    /// Takes out a permit of this number.
     pub fn take(&mut self, number: PermitNo) -> Option<Permit<G>>
         ensures some { IfSome result (λ p. (p.number ≡ number) × LosesPermit self.old p self.new) }
         ensures own { IfSome result (λ p. p.desk ≡ self.old.desk) }
@@ -166,7 +165,7 @@ impl<G: Gate> Bag<G> {
         Some(self.permits.remove(spot))
     }
 
-    /// The URL of a permit of the number, where the bag has one.
+    /// The URL of a permit of this number, if the bag has one.
     pub fn url_of(&self, number: PermitNo) -> Option<&PageUrl>
         ensures { IsUrlIn self.now number (option_copied result) }
     {
@@ -179,8 +178,8 @@ impl<G: Gate> Bag<G> {
         }
     }
 
-    /// Starts the fetch of the bag's permit of this number, token and URL at the desk, as `Desk::start`
-    /// does; what may be fetched stays in the bag. `Spent` where it has no such permit. It takes no memory.
+    /// Starts the fetch of the bag's permit of this number, token and URL, as `Desk::start` does; a fetch
+    /// that may be made stays in the bag. `Spent` if it has no such permit. Takes no memory.
     pub fn start<R: Wait>(
         &mut self,
         rt: &R,
@@ -215,7 +214,7 @@ impl<G: Gate> Bag<G> {
         }
     }
 
-    /// Gives a permit of the number back at the desk. It takes no memory.
+    /// Gives back a permit of this number. Takes no memory.
     pub fn back<R: Wait>(
         &mut self,
         rt: &R,
@@ -236,7 +235,7 @@ impl<G: Gate> Bag<G> {
         Ok(())
     }
 
-    /// Ends a fetch of the number at the desk, whether it was made or not. It takes no memory.
+    /// Ends a fetch of this number, made or not. Takes no memory.
     pub fn finish<R: Wait>(
         &mut self,
         rt: &R,
@@ -257,7 +256,7 @@ impl<G: Gate> Bag<G> {
         Ok(())
     }
 
-    /// Gives every permit back at the desk, and ends every fetch. It takes no memory.
+    /// Gives back every permit and ends every fetch. Takes no memory.
     pub fn clear<R: Wait>(&mut self, rt: &R, desk: &mut Desk<'_, G>)
         requires { desk.old.no ≡ self.old.desk }
         ensures step { Clears self.old desk.old desk.new }
@@ -270,7 +269,7 @@ impl<G: Gate> Bag<G> {
         finish_each(rt, &mut self.runs, desk);
     }
 
-    /// Clears the bag and spends it. It takes no memory.
+    /// Clears and spends the bag. Takes no memory.
     pub fn end<R: Wait>(self, rt: &R, desk: &mut Desk<'_, G>)
         requires { desk.old.no ≡ self.desk }
         ensures step { Clears self desk.old desk.new }

@@ -1,4 +1,4 @@
-//! `Desk::condense`: of entries that were sealed a desk keeps their places, and no policy.
+//! `Desk::condense`: of sealed entries a desk keeps only the places.
 ghost use Rattle.std.specs.Prelude.{◌≡◌};
 ghost use Rattle.gate_lock.specs.Desks.{Condenses, out_of};
 ghost use Rattle.gate_lock.specs.Steps.{Somewhere};
@@ -10,14 +10,14 @@ use std::sync::Wait;
 
 #[tactic(auto)]
 impl<'a, G: Gate> Desk<'a, G> {
-    /// Whether the next call may take memory for marks: the time to condense those that there are.
+    /// Whether the next call may allocate for marks: the time to condense.
     pub fn is_full(&self) -> bool {
         self.marks.capacity() - self.marks.len() < self.promised() as usize + 3
     }
 
-    /// Keeps of the first marks, where their entries were sealed meanwhile, eight octets each: their places, and how
-    /// many of them are started fetches. The others stay whole, and all do where the sealed ones are less than half,
-    /// so that the work for each is bounded, or if memory runs out. No desk makes an entry.
+    /// Of the first marks whose entries were sealed, keeps only the place (eight octets) and the count of
+    /// started fetches. The work is bounded: all marks stay whole if fewer than half are sealed, or if
+    /// memory runs out. Makes no entry.
     pub fn condense<R: Wait>(&mut self, rt: &R)
         ensures step { Somewhere self.old
             (λ old new. (new ≡ old) × Condenses self.old old self.new) }

@@ -1,4 +1,5 @@
-//! A desk: one thread's part of a gate. It makes the book's calls, and keeps a mark of each entry that it made.
+//! A desk: one thread's part of a gate. It makes the book's calls and keeps a mark of each entry that it
+//! made.
 //! RFC 9309, sections 2.2 to 2.4.
 ghost use Rattle.std.specs.Prelude.{◌≡◌, ◌+◌, ◌*◌, ◌^◌, ◌<◌, ◌≤◌, IfOk, length, OnOk, vec_capacity};
 ghost use Rattle.gate_core.specs.Gate.{history};
@@ -16,7 +17,7 @@ use std::alloc::{AllocError, Global};
 use std::marker::Model;
 use std::sync::Wait;
 
-/// One thread's part of a gate. It has no `Drop`: `close` makes receipts of it.
+/// One thread's part of a gate. It has no `Drop`: `close` turns it into receipts.
 /// Dropping one would lose its marks, and the gate could never be settled.
 #[must_use]
 pub struct Desk<'a, G: Gate> {
@@ -25,9 +26,9 @@ pub struct Desk<'a, G: Gate> {
     pub(crate) permits: u64,
     pub(crate) runs: u64,
     pub(crate) turns: u64,
-    // What is kept of marks of sealed entries.
+    // What is kept of sealed entries.
     pub(crate) sealed: SealedMarks,
-    // The marks behind those, with room for those of what must still be spent.
+    // The later marks, with room for those of what must still be spent.
     pub(crate) marks: Vec<Mark>,
     pub(crate) mine: Mine<G>,
 }
@@ -54,7 +55,7 @@ impl<'a, G: Gate> Model for Desk<'a, G> {
 }
 
 impl<G: Gate> GateLock<G> {
-    /// One more desk, with a number of its own from 1.
+    /// One more desk, numbered from 1.
     pub fn desk<R: Wait>(&self, rt: &R, alloc: Global) -> Result<Desk<'_, G>, DesksFull>
         ensures new { IfOk result (IsNew self.now) }
         ensures out { IfOk result (λ desk. out_of desk ≡ 0) }
@@ -75,7 +76,7 @@ impl<G: Gate> GateLock<G> {
 }
 
 impl<'a, G: Gate> Desk<'a, G> {
-    /// The number of the desk, from 1.
+    /// Its number, from 1.
     pub fn desk_no(&self) -> u64
         ensures { result ≡ self.now.no }
     {
@@ -90,7 +91,7 @@ impl<'a, G: Gate> Desk<'a, G> {
         (self.sealed.places().len() + self.marks.len()) as u64
     }
 
-    /// How many entries the history had when it last looked, from the first one ever.
+    /// How many entries the history had when it last looked, since the first entry of all.
     pub fn seen(&self) -> u64
         ensures { result ≡ self.now.seen }
     {
@@ -104,7 +105,7 @@ impl<'a, G: Gate> Desk<'a, G> {
         self.permits + self.runs + self.turns
     }
 
-    // How many marks what must still be spent may make.
+    // How many marks its unspent values may still make.
     pub(crate) fn promised(&self) -> u64
         ensures value { result ≡ 2 * self.now.permits + self.now.runs + self.now.turns }
         ensures bound { result < 2 ^ 63 }
@@ -119,7 +120,7 @@ impl<'a, G: Gate> Desk<'a, G> {
         self.lend_when(rt, &Awaited::Nothing)
     }
 
-    // The lock, once what is awaited has happened and the history has the entries that this desk has seen.
+    // The lock, once the awaited condition holds and the history has the entries that this desk has seen.
     pub(crate) fn lend_when<'b, R: Wait>(&self, rt: &R, awaited: &'b Awaited<'b>) -> Held<'a, G>
         ensures gate { IsGateOf self.now.limits self.now.seen result }
         ensures met { IsMet awaited.now (history result) }
@@ -150,7 +151,7 @@ impl<'a, G: Gate> Desk<'a, G> {
     }
 }
 
-// Makes room for more marks beside those that are promised.
+// Makes room for more marks beside the promised ones.
 pub(crate) fn make_room(marks: &mut Vec<Mark>, promised: u64, more: usize) -> Result<(), AllocError>
     requires { (promised < 2 ^ 63) × (more ≤ 3) }
     ensures items { marks.new.items ≡ marks.old.items }

@@ -1,4 +1,4 @@
-//! An ask of a desk, with all its texts copied before the lock is taken.
+//! An ask prepared outside the lock: its texts are already copied.
 //! RFC 9309, section 2.2.2.
 ghost use Rattle.std.specs.Prelude.{◌≡◌, IfOk};
 
@@ -11,7 +11,8 @@ use std::alloc::{AllocError, Global};
 use std::marker::Model;
 use std::sync::Arc;
 
-/// A token and a URL to ask for at a desk: the book's ask, and the texts of the permit and of the desk's mark.
+/// A token and a URL to ask for at a desk: the book's ask, and the texts of the permit and of the desk's
+/// mark.
 #[derive(Drop)]
 pub struct DeskAsk {
     pub(crate) judged: Judged,
@@ -36,7 +37,7 @@ impl Model for DeskAsk {
 }
 
 impl DeskAsk {
-    /// An ask of which no verdict was found.
+    /// An ask without a verdict.
     pub fn new(alloc: Global, token: Token, url: PageUrl) -> Result<DeskAsk, AllocError>
         ensures { IfOk result (λ ask. ask ≡ record { token = token; url = url }) }
     {
@@ -51,7 +52,7 @@ impl DeskAsk {
         })
     }
 
-    /// This ask, judged by a policy. It takes no memory.
+    /// This ask, judged by a policy. Takes no memory.
     pub fn judged_by(self, policy: Arc<Policy>) -> DeskAsk
         ensures { result ≡ self }
     {

@@ -11,9 +11,9 @@ use crate::receipts::{Receipts, agrees_at};
 use gate_history::Entry;
 use std::alloc::{AllocError, Global};
 
-/// Whether the places of all lists are all places of the history, each once and ascending in each list, and each mark is
-/// its entry. `sealed` counts the entries before the history, whose marks have places and are not compared. It takes a
-/// few words for each of the lists, and nothing for an entry.
+/// Whether the places of all lists are all places of the history, each once and ascending in each list, and
+/// each mark is its entry. The first `sealed` entries have places, but their marks are not compared. Takes
+/// a few words of memory for each list, none for an entry.
 pub fn marks_fit(
     alloc: Global,
     sealed: u64,
@@ -30,7 +30,6 @@ pub fn marks_fit(
     each_listed_once(alloc, sealed + history.len() as u64, all)
 }
 
-// Whether the marks of each list fit.
 fn each_list_fits(sealed: u64, history: &[Entry], all: &[&[Mark]]) -> bool
     ensures { IsTrue result
         ↔ EachFits sealed history.now (map (λ marks. alone marks.now) all.now) }
@@ -45,14 +44,14 @@ fn each_list_fits(sealed: u64, history: &[Entry], all: &[&[Mark]]) -> bool
     true
 }
 
-// Whether the places of a list ascend, and each mark is its entry.
 fn list_fits(sealed: u64, history: &[Entry], marks: &[Mark]) -> bool
     ensures { IsTrue result ↔ Fits sealed history.now (alone marks.now) }
 {
     marks_ascend(marks) && are_entries(sealed, history, marks)
 }
 
-/// Whether the receipts of all desks ascend and fit the history. They may have places of sealed entries alone.
+/// Whether the receipts of all desks ascend and fit the history. Of sealed entries they may have the places
+/// only.
 pub fn receipts_fit<G: Gate>(
     alloc: Global,
     sealed: u64,
@@ -68,7 +67,6 @@ pub fn receipts_fit<G: Gate>(
     each_once(alloc, sealed + history.len() as u64, all)
 }
 
-// Whether the receipts of each desk fit.
 fn each_fits<G: Gate>(sealed: u64, history: &[Entry], all: &[Receipts<G>]) -> bool
     ensures { IsTrue result ↔ EachFits sealed history.now all.now }
 {
@@ -82,7 +80,7 @@ fn each_fits<G: Gate>(sealed: u64, history: &[Entry], all: &[Receipts<G>]) -> bo
     true
 }
 
-// Whether the places ascend, each mark is its entry, and no place is kept alone but that of a sealed entry.
+// Whether the places ascend, each mark is its entry, and only sealed entries have a place without a mark.
 fn fits<G: Gate>(sealed: u64, history: &[Entry], receipts: &Receipts<G>) -> bool
     ensures { IsTrue result ↔ Fits sealed history.now receipts.now }
 {
@@ -92,7 +90,6 @@ fn fits<G: Gate>(sealed: u64, history: &[Entry], receipts: &Receipts<G>) -> bool
         && are_entries(sealed, history, receipts.marks())
 }
 
-// Whether each place is one of so many.
 fn are_sealed(sealed: u64, places: &[u64]) -> bool
     ensures { IsTrue result ↔ AreSealed sealed places.now }
 {
@@ -106,7 +103,6 @@ fn are_sealed(sealed: u64, places: &[u64]) -> bool
     true
 }
 
-// Whether each mark is its entry.
 fn are_entries(sealed: u64, history: &[Entry], marks: &[Mark]) -> bool
     ensures { IsTrue result ↔ AreEntries sealed history.now marks.now }
 {
@@ -120,7 +116,8 @@ fn are_entries(sealed: u64, history: &[Entry], marks: &[Mark]) -> bool
     true
 }
 
-// Whether the mark is the entry at its place, unless that is sealed. No entry is at a place behind the history.
+// Whether the mark is the entry at its place, or that place is sealed. Places after the history have no
+// entry.
 fn is_entry(sealed: u64, history: &[Entry], mark: &Mark) -> bool
     ensures { IsTrue result ↔ IsEntryAt sealed history.now mark.now }
 {

@@ -1,11 +1,11 @@
-//! The six ledgers of a gate: what each desk and each value that must be spent counts for.
-//! Each is a type, so that no value of one gate is taken for one of another.
+//! The six ledgers of a gate, which count what desks and unspent values have.
+//! Each is a type, so that values of different gates can't be confused.
 
 use std::marker::{Brand, Model, PhantomData};
 use std::sync::ledger::{Blank, Ledger};
 
-/// A gate, as a type: it names the ledgers by which its entries, its started fetches, the entries that were handed out,
-/// its unspent permits, its running fetches and its turns in flight are counted.
+/// A gate, as a type. It names the ledgers that count its entries, its started fetches, the entries handed
+/// out, its unspent permits, its running fetches and its turns in flight.
 pub trait Gate {
     ghost use Rattle.gate_lock.specs.Balance.{Ledgers};
 
@@ -19,7 +19,7 @@ impl Gate for Brand {
     ghost ledgers = { no_ledgers };
 }
 
-/// The ledgers of a gate that is to be made, by which nothing is counted yet.
+/// The ledgers of a future gate. They count nothing yet.
 pub struct Blanks {
     pub(crate) entries: Blank,
     pub(crate) starts: Blank,
@@ -64,7 +64,7 @@ impl Blanks {
     }
 }
 
-// Counts the entries; each desk has a share, and its receipts after it.
+// Counts the entries; each desk has a share, later its receipts.
 pub(crate) struct EntryLedger<G> {
     gate: PhantomData<G>,
 }
@@ -77,7 +77,7 @@ impl<G: Gate> Ledger for EntryLedger<G> {
     ghost parts = { all_desk_parts };
 }
 
-// Counts the started fetches, alike.
+// Counts the started fetches; each desk has a share, later its receipts.
 pub(crate) struct StartLedger<G> {
     gate: PhantomData<G>,
 }
@@ -90,7 +90,7 @@ impl<G: Gate> Ledger for StartLedger<G> {
     ghost parts = { all_desk_parts };
 }
 
-// Counts the entries that were handed out, alike.
+// Counts the entries handed out; each desk has a share, later its receipts.
 pub(crate) struct HandedLedger<G> {
     gate: PhantomData<G>,
 }
@@ -116,7 +116,7 @@ impl<G: Gate> Ledger for UnspentLedger<G> {
     ghost parts = { all_out_parts };
 }
 
-/// Counts the running fetches; each running one, spent or not, has a share of 1.
+/// Counts the running fetches; each has a share of 1, spent or not.
 pub struct RunningLedger<G> {
     gate: PhantomData<G>,
 }

@@ -1,5 +1,5 @@
-//! The values that must be spent: a permit, a fetch that runs, a fetch that was made, and a turn.
-//! Made and taken back by `Desk`; a program that drops one does not compile.
+//! The values that must be spent: a permit, a running fetch, a made fetch, and a turn.
+//! `Desk` makes them and takes them back; a program that drops one does not compile.
 ghost use Rattle.std.specs.Prelude.{◌≡◌};
 
 use crate::ledgers::{Gate, RunningLedger, TurnLedger, UnspentLedger};
@@ -12,8 +12,8 @@ use robots_text::Token;
 use std::marker::Model;
 use std::sync::ledger::Ledger;
 
-/// A permit, or a fetch that was made: its number, token and URL, and the desk that must spend it. It has no `Drop`, and
-/// counts for one in the ledger `L`.
+/// A permit, or a fetch that was made, and the desk that must spend it. It has no `Drop`, and counts as one
+/// in the ledger `L`.
 #[must_use]
 pub struct Pass<L: Ledger> {
     pub(crate) number: PermitNo,
@@ -36,12 +36,12 @@ impl<L: Ledger> Model for Pass<L> {
     } };
 }
 
-/// A permit for one fetch of a URL under a token. It has no `Drop`: a start spends it, or `back` returns it.
-/// Dropping one would leave it unspent forever, and its slot and its authority's place taken.
+/// A permit for one fetch of a URL under a token. It has no `Drop`: a start spends it, or `back` returns
+/// it. Dropping one would leave it unspent forever, with its slot and its authority's place taken.
 pub type Permit<G> = Pass<UnspentLedger<G>>;
 
 /// A fetch that was made. It has no `Drop`: `finish` ends it.
-/// Dropping one would leave it running forever, and its slot and its authority's place taken.
+/// Dropping one would leave it running forever, with its slot and its authority's place taken.
 pub type Fetched<G> = Pass<RunningLedger<G>>;
 
 impl<L: Ledger> Pass<L> {
@@ -66,14 +66,13 @@ impl<L: Ledger> Pass<L> {
         &self.url
     }
 
-    /// The number of the desk that made it, at which it is spent.
+    /// The desk that made it and must spend it.
     pub fn desk_no(&self) -> u64
         ensures { result ≡ self.now.desk }
     {
         self.desk
     }
 
-    // Its number, and what it counts for.
     pub(crate) fn into_share(self) -> (PermitNo, One<L>)
         ensures { result.0 ≡ self.number }
     {
@@ -88,8 +87,8 @@ impl<L: Ledger> Pass<L> {
     }
 }
 
-/// A fetch that may be made, once. It has no `Drop`: `spend` makes a `Fetched` of it when it is made.
-/// Dropping one would leave it running forever, and its slot and its authority's place taken.
+/// A fetch that may be made once. It has no `Drop`: `spend` makes a `Fetched` of it. Dropping one would
+/// leave it running forever, with its slot and its authority's place taken.
 #[must_use]
 pub struct Running<G: Gate> {
     pub(crate) fetched: Fetched<G>,
@@ -108,14 +107,14 @@ impl<G: Gate> Model for Running<G> {
 }
 
 impl<G: Gate> Running<G> {
-    /// The number of the permit that was spent.
+    /// The number of the spent permit.
     pub fn number(&self) -> PermitNo
         ensures { result ≡ self.now.pass.number }
     {
         self.fetched.number
     }
 
-    /// The token under which the URL is fetched.
+    /// The token of the fetch.
     pub fn token(&self) -> &Token
         ensures { result.now ≡ self.now.pass.token }
     {
@@ -136,14 +135,14 @@ impl<G: Gate> Running<G> {
         self.reason
     }
 
-    /// The number of the desk that started it, at which it is finished.
+    /// The desk that started it and must finish it.
     pub fn desk_no(&self) -> u64
         ensures { result ≡ self.now.pass.desk }
     {
         self.fetched.desk
     }
 
-    /// The fetch is made: its one leave is used up, and what is left is to be finished.
+    /// Marks the fetch as made; it can't be made again, only finished.
     pub fn spend(self) -> Fetched<G>
         ensures { result ≡ self.pass }
     {
@@ -152,8 +151,8 @@ impl<G: Gate> Running<G> {
     }
 }
 
-/// A turn to fetch an authority's robots.txt. It has no `Drop`: `arrive` brings its answer.
-/// Dropping one would leave it in flight forever, and no other turn of the authority could begin.
+/// A turn to fetch an authority's robots.txt. It has no `Drop`: `arrive` brings its answer. Dropping one
+/// would leave it in flight forever and block all later turns of the authority.
 #[must_use]
 pub struct RobotsTurn<G: Gate> {
     pub(crate) authority: Authority,
@@ -175,7 +174,7 @@ impl<G: Gate> Model for RobotsTurn<G> {
 }
 
 impl<G: Gate> RobotsTurn<G> {
-    /// Whose robots.txt is to be fetched.
+    /// The authority of the robots.txt.
     pub fn authority(&self) -> &Authority
         ensures { result.now ≡ self.now.authority }
     {
@@ -189,7 +188,7 @@ impl<G: Gate> RobotsTurn<G> {
         self.turn
     }
 
-    /// The number of the desk that began it, at which its answer is brought.
+    /// The desk that began it and must bring its answer.
     pub fn desk_no(&self) -> u64
         ensures { result ≡ self.now.desk }
     {

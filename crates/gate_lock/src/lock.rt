@@ -1,5 +1,5 @@
-//! The lock of a gate, and the hold of it that can be lent.
-//! Each call here takes the one lock once; none fetches or matches under it.
+//! The lock of a gate, and its guard, which can be lent.
+//! Each call here takes the lock once; none fetches or matches under it.
 ghost use Rattle.std.specs.Prelude.{◌≡◌, ◌^◌, ◌<◌, [], length};
 ghost use Rattle.gate_history.specs.Base.{empty_base};
 ghost use Rattle.gate_history.specs.Outstanding.{unspent};
@@ -21,13 +21,12 @@ use std::alloc::Global;
 use std::marker::Model;
 use std::sync::{Condvar, Mutex, MutexGuard, Wait};
 
-/// One gate for several threads: a book under a lock, with the ledgers of what is out.
+/// A book under a lock, with the ledgers of what is out.
 #[derive(Drop)]
 pub struct GateLock<G: Gate> {
     round: Mutex<Round<G>>,
-    // Those of the book.
     limits: Limits,
-    // Told of each answer that arrives: whoever waits until a turn is over looks again.
+    // Notified of each answer that arrives, for callers that wait until a turn is over.
     moved: Condvar,
 }
 
@@ -39,7 +38,7 @@ impl<G: Gate> Model for GateLock<G> {
     ghost view = { λ lock. lock.limits };
 }
 
-/// The lock, while it lives. A clause sees it as the book that lies under it.
+/// The guard of the lock. A clause sees it as the locked book.
 #[derive(Drop)]
 pub struct Held<'a, G: Gate> {
     pub(crate) guard: MutexGuard<'a, Round<G>>,
@@ -74,8 +73,8 @@ impl<'a, G: Gate> Held<'a, G> {
     }
 }
 
-/// A permit shows that one is unspent in the gate that made it, whatever else is known of that gate: while it
-/// is kept, the gate can't be settled. Neither changes.
+/// A permit proves that one is unspent in its gate: while it is kept, the gate can't be settled. Changes
+/// neither.
 pub fn vouch<G: Gate>(held: &mut Held<'_, G>, permit: &mut Permit<G>)
     ensures same { (held.new ≡ held.old) × (permit.new ≡ permit.old) }
     ensures some { 0 < length (unspent (history held.old)) }
@@ -84,7 +83,7 @@ pub fn vouch<G: Gate>(held: &mut Held<'_, G>, permit: &mut Permit<G>)
 }
 
 impl<G: Gate> GateLock<G> {
-    /// A lock round a book that has made no entry, with new ledgers.
+    /// A lock round a book without entries, with new ledgers.
     pub fn new(book: Book, blanks: Blanks) -> GateLock<G>
         requires book { (book.base ≡ empty_base) × (book.entries ≡ []) }
         requires blanks { blanks ≡ G.ledgers }
@@ -95,9 +94,9 @@ impl<G: Gate> GateLock<G> {
         GateLock::around(book, tally)
     }
 
-    /// A lock round a book that goes on from a base and has made no entry since, with new ledgers; and the receipts of
-    /// what was before, by which, with those of its desks, the gate is settled. Of the base nothing is out, and one
-    /// of no entry is empty. The receipts take no memory, whatever they count.
+    /// A lock round a book that continues a base and has made no entry since, with new ledgers; and the
+    /// receipts of all before, which are needed to settle the gate with those of its desks. The base must
+    /// have nothing out; without entries it must be empty. The receipts take no memory.
     pub fn resume(alloc: Global, book: Book, blanks: Blanks) -> (GateLock<G>, Receipts<G>)
         requires entries { book.entries ≡ [] }
         requires out { (book.base.in_flight ≡ []) × (book.base.unspent ≡ [])
@@ -120,7 +119,6 @@ impl<G: Gate> GateLock<G> {
         (GateLock::around(book, tally), past)
     }
 
-    // A lock round a book with its ledgers.
     fn around(book: Book, tally: Tally<G>) -> GateLock<G>
         requires entries { book.entries ≡ [] }
         requires out { (book.base.in_flight ≡ []) × (book.base.unspent ≡ [])
@@ -137,14 +135,14 @@ impl<G: Gate> GateLock<G> {
         }
     }
 
-    /// The lock, until it is dropped. Whoever has it must not take it again.
+    /// The lock, until it is dropped. Its holder must not take it again.
     pub fn lend<R: Wait>(&self, rt: &R) -> Held<'_, G>
         ensures { IsGateOf self.now 0 result }
     {
         self.lend_when(rt, 0, &Awaited::Nothing)
     }
 
-    // The lock, once the history has so many entries and what is awaited is so.
+    // The lock, once the history has this many entries and the awaited condition holds.
     pub(crate) fn lend_when<'b, R: Wait>(
         &self,
         rt: &R,
@@ -165,7 +163,7 @@ impl<G: Gate> GateLock<G> {
         held
     }
 
-    // Wakes all that wait until a turn is over.
+    // Wakes all callers that wait until a turn is over.
     pub(crate) fn tell(&self) {
         self.moved.notify_all();
     }

@@ -16,21 +16,20 @@ use std::sync::Wait;
 
 #[tactic(auto, using(std::proofs::lemmas::Grind::common_steps, crate::proofs::Starts::starts_in_push))]
 impl<'a, G: Gate> Desk<'a, G> {
-    /// Drops the answers that are older than their lives, and tells how many they were.
+    /// Drops the answers that are older than their lifetimes, and returns how many.
     pub fn sweep<R: Wait>(&mut self, rt: &R, moment: u64) -> Result<u64, SweepRefusal>
         ensures step { Somewhere self.old
             (λ old new. DeskSweeps self.old old moment result new self.new) }
         ensures no { self.new.no ≡ self.old.no }
         ensures out { KeepsOut self.old self.new }
     {
-        // The room that `sweep_in` asks for; where it is refused here, it is asked for again there.
         let promised = self.promised();
         let _ = make_room(&mut self.marks, promised, 1);
         let mut held = self.lend(rt);
         self.sweep_in(&mut held, moment)
     }
 
-    /// Drops them while the lock is held.
+    /// Like `sweep`, while the lock is held.
     pub fn sweep_in(&mut self, held: &mut Held<'_, G>, moment: u64) -> Result<u64, SweepRefusal>
         requires { self.old.seen ≤ entry_count (history held.old) }
         ensures { DeskSweeps self.old held.old moment result held.new self.new }
@@ -56,7 +55,7 @@ impl<'a, G: Gate> Desk<'a, G> {
         }
     }
 
-    /// What is known of an authority at the moment of the call. It takes no memory.
+    /// What is known of an authority at this moment. Takes no memory.
     pub fn state_of<R: Wait>(&mut self, rt: &R, authority: &str, moment: u64) -> State
         ensures step { Somewhere self.old
             (λ old new. DeskReads self.old old authority.now moment result new self.new) }
@@ -67,7 +66,7 @@ impl<'a, G: Gate> Desk<'a, G> {
         self.state_in(&mut held, authority, moment)
     }
 
-    /// What is known of an authority while the lock is held.
+    /// Like `state_of`, while the lock is held.
     pub fn state_in(&mut self, held: &mut Held<'_, G>, authority: &str, moment: u64) -> State
         requires { self.old.seen ≤ entry_count (history held.old) }
         ensures { DeskReads self.old held.old authority.now moment result held.new self.new }
@@ -76,8 +75,8 @@ impl<'a, G: Gate> Desk<'a, G> {
         held.guard.book().state_of(authority, moment)
     }
 
-    /// Waits while a turn of the authority is in flight, and tells what is known of it then. The lock is
-    /// not held meanwhile, and each arrival wakes those that wait.
+    /// Waits while a turn of the authority is in flight, then returns what is known of it. The lock is free
+    /// meanwhile; each arrival wakes all that wait.
     pub fn wait_answer<R: Wait>(&mut self, rt: &R, authority: &str, moment: u64) -> State
         ensures step { Somewhere self.old
             (λ old new. DeskReads self.old old authority.now moment result new self.new) }

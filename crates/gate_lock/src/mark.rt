@@ -1,4 +1,4 @@
-//! What a desk keeps of each entry that it made: a mark, and of an entry that was sealed its place alone.
+//! What a desk keeps of the entries that it made: a mark of each, and of sealed ones the place only.
 ghost use Rattle.std.specs.Prelude.{◌≡◌, ◌+◌, ◌^◌, ◌<◌, ◌≤◌, ◌++◌, [], drop, length, map, OnErr, OnOk, take, vec_capacity};
 ghost use Rattle.gate_history.specs.History.{is_start};
 ghost use Rattle.gate_lock.specs.Marks.{AreSealed, nothing_sealed, sealed_with, starts_in, with_handed};
@@ -7,17 +7,17 @@ use gate_history::Entry;
 use std::alloc::{AllocError, Global};
 use std::marker::Model;
 
-/// An entry that a desk made, and its place: how many entries were before it, from the first one ever.
+/// An entry that a desk made, and its place: the number of all entries before it.
 #[derive(Drop)]
 pub struct Mark {
     /// The place.
     pub place: u64,
-    /// The entry, of which the history keeps another.
+    /// A copy of the history's entry.
     pub entry: Entry,
 }
 
-/// What is kept of sealed entries: by a desk of its own eight octets each, and no policy, and how many it handed out; by
-/// the receipts of what was before all desks how many there were.
+/// What is kept of sealed entries. A desk keeps eight octets for each of its own, no policy, and how many
+/// it handed out; the receipts of all before the desks keep only counts.
 #[derive(Drop)]
 pub struct SealedMarks {
     before: u64,
@@ -44,7 +44,6 @@ impl Model for SealedMarks {
 }
 
 impl SealedMarks {
-    // Nothing yet.
     pub(crate) fn new(alloc: Global) -> SealedMarks
         ensures { result ≡ nothing_sealed }
     {
@@ -56,7 +55,7 @@ impl SealedMarks {
         }
     }
 
-    // Of the first entries ever so many, which were handed out, with so many started fetches among them.
+    // The first entries of all, which were handed out, with this many started fetches among them.
     pub(crate) fn first(alloc: Global, entries: u64, starts: u64) -> SealedMarks
         requires none { entries ≡ 0 → starts ≡ 0 }
         requires few { starts < 2 ^ 63 }
@@ -71,15 +70,14 @@ impl SealedMarks {
         }
     }
 
-    /// How many of the first entries ever are kept without their places. A desk keeps none so, as it makes none of
-    /// those before it.
+    /// How many of the first entries of all are kept without their places. It is 0 for a desk.
     pub fn before(&self) -> u64
         ensures { result ≡ self.now.before }
     {
         self.before
     }
 
-    /// The places of the other entries, the oldest first.
+    /// The places of the other entries, oldest first.
     pub fn places(&self) -> &[u64]
         ensures { result.now ≡ self.now.places }
     {
@@ -94,14 +92,14 @@ impl SealedMarks {
         self.starts
     }
 
-    /// How many entries were handed out, of whatever desk.
+    /// How many entries were handed out, of any desk.
     pub fn handed(&self) -> u64
         ensures { result ≡ self.now.handed }
     {
         self.handed
     }
 
-    // So many entries more were handed out.
+    // Counts more entries as handed out.
     pub(crate) fn hand(&mut self, count: u64)
         requires { self.old.handed + count < 2 ^ 64 }
         ensures { self.new ≡ with_handed self.old count }
@@ -109,7 +107,7 @@ impl SealedMarks {
         self.handed += count;
     }
 
-    // Takes in the first of the marks, which end with it. If memory runs out nothing changes.
+    // Takes in the first marks and removes them from the list. If memory runs out nothing changes.
     pub(crate) fn take_in(&mut self, marks: &mut Vec<Mark>, count: usize) -> Result<(), AllocError>
         requires none { self.old.before ≡ 0 }
         requires count { count ≤ length marks.old.items }
@@ -127,7 +125,6 @@ impl SealedMarks {
     }
 }
 
-// Pushes the places of the marks, for which there is room.
 fn push_places(places: &mut Vec<u64>, marks: &[Mark])
     requires { length places.old.items + length marks.now ≤ vec_capacity places.old }
     ensures { places.new.items ≡ places.old.items ++ map (λ mark. mark.place) marks.now }
@@ -139,7 +136,7 @@ fn push_places(places: &mut Vec<u64>, marks: &[Mark])
     }
 }
 
-// How many of the first marks, one behind another, have places below a number.
+// How many marks at the front have places below a number.
 pub(crate) fn count_below(marks: &[Mark], places: u64) -> usize
     ensures few { result ≤ length marks.now }
     ensures below { AreSealed places (map (λ mark. mark.place) (take result marks.now)) }
@@ -151,7 +148,6 @@ pub(crate) fn count_below(marks: &[Mark], places: u64) -> usize
     count
 }
 
-// How many of the marks are started fetches.
 pub(crate) fn starts_among(marks: &[Mark]) -> u64
     ensures value { result ≡ starts_in marks.now }
     ensures few { result ≤ length marks.now }
@@ -167,7 +163,6 @@ pub(crate) fn starts_among(marks: &[Mark]) -> u64
     count
 }
 
-// Whether the entry is a started fetch.
 fn is_start(entry: &Entry) -> bool
     ensures { result ≡ is_start entry.now }
 {

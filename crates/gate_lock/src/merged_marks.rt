@@ -1,6 +1,7 @@
 //! The places of all receipts, or of all lists of marks, merged: whether each is found once.
-//! In each list they ascend, so that the next one is the first of some list. The first places ever, which the receipts of
-//! what was before all desks have, are passed over at once.
+//! Each list ascends, so the next place is the first of some list. The range of first places, which the
+//! receipts of
+//! all before the desks have, is skipped at once.
 ghost use Rattle.std.specs.Prelude.{◌≡◌, ◌<◌, ◌∷◌, ◌↔◌, ◌⊎◌, ℕ, [], IfOk, IfNone, IfSome, IsTrue, false, map, true};
 ghost use Rattle.gate_lock.specs.Marks.{alone, kept_places, places_of};
 ghost use Rattle.gate_lock.specs.Places.{AllAscend, AllEmpty, Ascend, BeginsFrom, EachOnce, EachOnceFrom, IsBefore, IsNext, IsNextOfNone, Passes};
@@ -12,7 +13,7 @@ use crate::receipts::Receipts;
 use std::alloc::{AllocError, Global};
 use std::marker::Model;
 
-// The places of receipts that are kept one by one and were not passed yet.
+// The single places of receipts that were not passed yet.
 #[derive(Drop)]
 pub(crate) struct MergedMarks<'a> {
     sealed: &'a [u64],
@@ -28,7 +29,6 @@ impl<'a> Model for MergedMarks<'a> {
 }
 
 impl<'a> MergedMarks<'a> {
-    // Those of receipts.
     fn of<G: Gate>(receipts: &'a Receipts<G>) -> MergedMarks<'a>
         ensures { result ≡ kept_places receipts.now }
     {
@@ -38,14 +38,12 @@ impl<'a> MergedMarks<'a> {
         }
     }
 
-    // Those of marks alone.
     fn of_marks(marks: &'a [Mark]) -> MergedMarks<'a>
         ensures { result ≡ places_of (alone marks.now) }
     {
         MergedMarks { sealed: &[], marks }
     }
 
-    // The next one, and those behind it.
     fn split(self) -> Option<(u64, MergedMarks<'a>)>
         ensures some { IfSome result (λ pair. self.entry ≡ pair.0 ∷ pair.1) }
         ensures none { IfNone result (self.entry ≡ []) }
@@ -60,7 +58,6 @@ impl<'a> MergedMarks<'a> {
         Some((mark.place, MergedMarks { sealed, marks }))
     }
 
-    // The next one.
     fn next(&self) -> Option<u64>
         ensures some { IfSome result (λ place. IsNext place self.now) }
         ensures none { IfNone result (self.now ≡ []) }
@@ -74,7 +71,6 @@ impl<'a> MergedMarks<'a> {
         Some(mark.place)
     }
 
-    // Whether the next one is not below a number.
     fn begin_from(&self, first: u64) -> bool
         ensures { IsTrue result ↔ BeginsFrom first self.now }
     {
@@ -84,7 +80,6 @@ impl<'a> MergedMarks<'a> {
         }
     }
 
-    // Whether the place is before the next one.
     fn are_behind(&self, place: u64) -> bool
         ensures { IsTrue result ↔ IsBefore place self.now }
     {
@@ -94,7 +89,6 @@ impl<'a> MergedMarks<'a> {
         }
     }
 
-    // Passes the place, where it is the next one.
     fn pass(&mut self, place: u64) -> bool
         ensures yes { result ≡ true → (self.old ≡ place ∷ self.new) }
         ensures no { result ≡ false → (self.new ≡ self.old) × (IsNext place self.old → ⊥) }
@@ -111,7 +105,6 @@ impl<'a> MergedMarks<'a> {
     }
 }
 
-// Whether the places of receipts ascend.
 pub(crate) fn ascend<G: Gate>(receipts: &Receipts<G>) -> bool
     ensures { IsTrue result ↔ Ascend (places_of receipts.now) }
 {
@@ -119,7 +112,6 @@ pub(crate) fn ascend<G: Gate>(receipts: &Receipts<G>) -> bool
     kept.begin_from(receipts.sealed().before()) && all_ascend(kept)
 }
 
-// Whether the places of marks ascend, where no receipts have ranges.
 pub(crate) fn marks_ascend(marks: &[Mark]) -> bool
     ensures { IsTrue result ↔ Ascend (places_of (alone marks.now)) }
 {
@@ -139,7 +131,7 @@ fn all_ascend(places: MergedMarks<'_>) -> bool
     true
 }
 
-// Whether the places of all receipts, which ascend in each, are all those below a number, each once.
+// Whether the places of all receipts, each ascending, are all those below a number, each once.
 pub(crate) fn each_once<G: Gate>(
     alloc: Global,
     count: u64,
@@ -155,7 +147,7 @@ pub(crate) fn each_once<G: Gate>(
     Ok(merge(&mut left, first, count))
 }
 
-// Whether the places of lists of marks, which ascend in each, are all those below a number, each once.
+// Whether the places of lists of marks, each ascending, are all those below a number, each once.
 pub(crate) fn each_listed_once(
     alloc: Global,
     count: u64,
@@ -169,7 +161,6 @@ pub(crate) fn each_listed_once(
     Ok(merge(&mut left, 0, count))
 }
 
-// The places of all lists of marks.
 fn places_of_lists<'a>(
     alloc: Global,
     all: &'a [&'a [Mark]],
@@ -186,8 +177,8 @@ fn places_of_lists<'a>(
     Ok(left)
 }
 
-// How many of the first places ever receipts have without keeping them one by one. Where two of all receipts have
-// such, the first one is there twice.
+// How many of the first places the receipts have as a range. `None` if two have such a range, since the
+// first place is then there twice.
 fn first_of_all<G: Gate>(all: &[Receipts<G>]) -> Option<u64>
     ensures some { IfSome result (λ first. AreFirst first all.now) }
     ensures none { IfNone result ((count : ℕ) → EachOnce count (map places_of all.now) → ⊥) }
@@ -199,7 +190,7 @@ fn first_of_all<G: Gate>(all: &[Receipts<G>]) -> Option<u64>
     Some(first)
 }
 
-// One of two numbers, where the other is 0.
+// The one that is not 0, if any.
 fn only_one(first: u64, before: u64) -> Option<u64>
     ensures some { IfSome result (λ one.
         ((before ≡ 0) × (one ≡ first)) ⊎ ((first ≡ 0) × (one ≡ before))) }
@@ -214,7 +205,6 @@ fn only_one(first: u64, before: u64) -> Option<u64>
     None
 }
 
-// The places of all receipts that are kept one by one.
 fn kept_of_all<'a, G: Gate>(
     alloc: Global,
     all: &'a [Receipts<G>],
@@ -230,7 +220,7 @@ fn kept_of_all<'a, G: Gate>(
     Ok(left)
 }
 
-// Passes each place from the first one up to a number in turn, and tells whether nothing is left then.
+// Passes each place from the first one up to a number in turn; whether nothing is left then.
 fn merge(left: &mut [MergedMarks<'_>], first: u64, count: u64) -> bool
     requires { AllAscend left.old }
     ensures { IsTrue result ↔ EachOnceFrom first count left.old }
@@ -248,7 +238,6 @@ fn merge(left: &mut [MergedMarks<'_>], first: u64, count: u64) -> bool
     are_empty(left)
 }
 
-// Passes a place in a list whose next one it is.
 fn pass_one(left: &mut [MergedMarks<'_>], place: u64) -> bool
     ensures yes { result ≡ true → Passes place left.old left.new }
     ensures no { result ≡ false → IsNextOfNone place left.old }
@@ -263,7 +252,6 @@ fn pass_one(left: &mut [MergedMarks<'_>], place: u64) -> bool
     false
 }
 
-// Whether nothing is left.
 fn are_empty(left: &[MergedMarks<'_>]) -> bool
     ensures { IsTrue result ↔ AllEmpty left.now }
 {

@@ -1,5 +1,5 @@
-//! The receipts of a desk that was closed.
-//! By those of all desks a gate is settled.
+//! The receipts of a closed desk.
+//! A gate is settled with the receipts of all its desks.
 ghost use Rattle.std.specs.Prelude.{◌≡◌, ◌-◌, ◌<◌, ◌≤◌, ◌↔◌, IfSome, IsTrue};
 ghost use Rattle.std.specs.List.{slice_get};
 ghost use Rattle.std.specs.Option.{option_map};
@@ -12,8 +12,8 @@ use crate::shares::Mine;
 use gate_history::{Entry, Segment};
 use std::marker::Model;
 
-/// The marks of a desk that was closed, the oldest first, and of those before them what the desk kept; or what is kept of
-/// all entries before the base from which a gate goes on. Whoever drops them lets the marks go: the gate can't be
+/// The marks of a closed desk, oldest first, and what it kept of sealed entries before them; or what is
+/// kept of all entries before the base that a gate continues. If they are dropped, the gate can't be
 /// settled any more.
 pub struct Receipts<G: Gate> {
     pub(crate) sealed: SealedMarks,
@@ -51,29 +51,29 @@ impl<G: Gate> Drop for Receipts<G> {
 }
 
 impl<G: Gate> Receipts<G> {
-    /// What was kept of sealed entries, which were before the others.
+    /// What was kept of sealed entries, which precede the marks.
     pub fn sealed(&self) -> &SealedMarks
         ensures { result.now ≡ self.now.sealed }
     {
         &self.sealed
     }
 
-    /// The marks behind those.
+    /// The later marks.
     pub fn marks(&self) -> &[Mark]
         ensures { result.now ≡ self.now.marks }
     {
         self.marks.as_slice()
     }
 
-    /// How many started fetches there are among all these.
+    /// How many of all these are started fetches.
     pub fn starts(&self) -> u64
         ensures { result ≡ starts_of self.now }
     {
         self.sealed.starts() + starts_among(self.marks.as_slice())
     }
 
-    /// Whether each mark whose place lies in the segment is its entry there; of `sealed` no entry is left that could
-    /// differ. It takes no memory.
+    /// Whether each mark whose place lies in the segment is its entry there. `sealed` has no entries to
+    /// compare. Takes no memory.
     pub fn agrees(&self, segment: &Segment) -> bool
         ensures { IsTrue result ↔ Agrees segment.now self.now.marks }
     {
@@ -90,7 +90,8 @@ impl<G: Gate> Receipts<G> {
     }
 }
 
-// Whether the mark is the entry at its place, where that is among these, before which so many were sealed.
+// Whether the mark is the entry at its place, or its place is not among these entries, which follow
+// `sealed` others.
 pub(crate) fn agrees_at(sealed: u64, entries: &[Entry], mark: &Mark) -> bool
     ensures { IsTrue result ↔ AgreesFrom sealed entries.now mark.now }
 {
@@ -100,7 +101,6 @@ pub(crate) fn agrees_at(sealed: u64, entries: &[Entry], mark: &Mark) -> bool
     }
 }
 
-// The entry at a place, where that is among these, before which so many were sealed.
 fn entry_at(sealed: u64, entries: &[Entry], place: u64) -> Option<&Entry>
     ensures below { place < sealed → IfSome result (λ _. ⊥) }
     ensures there { sealed ≤ place → option_map (λ entry. entry.now) result

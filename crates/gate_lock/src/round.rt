@@ -1,4 +1,4 @@
-//! What lies under the lock: the book, and the ledgers that count what is out.
+//! The contents of the lock: the book, and the ledgers that count what is out.
 //! Each change is one call of the book with the shares that it moves; RFC 9309, sections 2.3.1 and 2.4.
 ghost use Rattle.std.specs.Prelude.{◌≡◌, ◌+◌, ◌^◌, ◌<◌, [], Err, IfOk, IfSome, length, List, Ok, OnOk, true, false, ℕ};
 ghost use Rattle.gate_history.specs.Base.{empty_base};
@@ -37,7 +37,6 @@ pub(crate) struct Last {
 }
 
 impl Last {
-    // What a desk keeps of that entry.
     pub fn mark(self, entry: Entry) -> Mark
         ensures { result ≡ record { place = self.place; entry = entry } }
     {
@@ -47,7 +46,6 @@ impl Last {
         }
     }
 
-    // What a desk keeps of a grant.
     pub fn granted(self, number: PermitNo, fetch: FetchText) -> Mark
         ensures { result ≡ mark_at self.place (Granted self.moment number fetch) }
     {
@@ -58,7 +56,6 @@ impl Last {
         })
     }
 
-    // What a desk keeps of an ask that was denied.
     pub fn ask_denied(self, fetch: FetchText, cause: Cause) -> Mark
         ensures { result ≡ mark_at self.place (AskDenied self.moment fetch cause) }
     {
@@ -70,7 +67,7 @@ impl Last {
     }
 }
 
-// The book, and the ledgers by which its numbers are the sums of what desks and values have.
+// The book, and the ledgers whose totals are its numbers.
 #[derive(Drop)]
 pub(crate) struct Round<G: Gate> {
     book: Book,
@@ -90,7 +87,7 @@ impl<G: Gate> Model for Round<G> {
 }
 
 impl<G: Gate> Round<G> {
-    // A book that has made no entry, and of whose base nothing is out.
+    // A book without entries, whose base has nothing out.
     pub fn new(book: Book, tally: Tally<G>) -> Round<G>
         requires entries { book.entries ≡ [] }
         requires out { (book.base.in_flight ≡ []) × (book.base.unspent ≡ [])
@@ -102,7 +99,7 @@ impl<G: Gate> Round<G> {
         Round { book, tally }
     }
 
-    // The book. Where nothing was sealed of it, it began with nothing.
+    // The book. If nothing was sealed, it began empty.
     pub fn book(&self) -> &Book
         ensures value { result.now ≡ self.now }
         ensures start { self.now.base.entries ≡ 0 → self.now.base ≡ empty_base }
@@ -110,7 +107,6 @@ impl<G: Gate> Round<G> {
         &self.book
     }
 
-    // The shares of one more desk.
     pub fn desk(&mut self) -> Result<Mine<G>, DesksFull>
         ensures same { self.new ≡ self.old }
         ensures share { IfOk result
@@ -119,7 +115,6 @@ impl<G: Gate> Round<G> {
         self.tally.desk()
     }
 
-    // Makes the book's ask.
     pub fn ask(
         &mut self,
         judged: Judged,
@@ -150,7 +145,6 @@ impl<G: Gate> Round<G> {
         }
     }
 
-    // Makes the book's start of a permit that stands.
     pub fn start(
         &mut self,
         number: PermitNo,
@@ -183,7 +177,6 @@ impl<G: Gate> Round<G> {
         }
     }
 
-    // Makes the book's back of a permit that stands.
     pub fn back(&mut self, number: PermitNo, one: One<UnspentLedger<G>>, mine: &mut Mine<G>)
         requires { is_unspent (history self.old) number ≡ true }
         ensures reply { Returns self.old number (Ok tt) self.new }
@@ -199,7 +192,6 @@ impl<G: Gate> Round<G> {
         self.tally.spend(one);
     }
 
-    // Makes the book's finish of a number that is running.
     pub fn finish(&mut self, number: PermitNo, one: One<RunningLedger<G>>, mine: &mut Mine<G>)
         requires { is_running (history self.old) number ≡ true }
         ensures reply { Finishes self.old number (Ok tt) self.new }
@@ -215,7 +207,6 @@ impl<G: Gate> Round<G> {
         self.tally.finish(one);
     }
 
-    // Makes the book's begin.
     pub fn begin(
         &mut self,
         authority: &Authority,
@@ -240,7 +231,6 @@ impl<G: Gate> Round<G> {
         }
     }
 
-    // Makes the book's arrive of a turn that is in flight.
     pub fn arrive(
         &mut self,
         authority: &Authority,
@@ -265,14 +255,12 @@ impl<G: Gate> Round<G> {
         self.tally.arrive(one);
     }
 
-    // The answer that the last arrival replaced.
     pub fn take_replaced(&mut self) -> Option<Answer>
         ensures { self.new ≡ self.old }
     {
         self.book.take_replaced()
     }
 
-    // Makes the book's sweep.
     pub fn sweep(&mut self, moment: u64, mine: &mut Mine<G>) -> Result<u64, SweepRefusal>
         ensures reply { Sweeps self.old moment result self.new }
         ensures share { mine.new ≡ record mine.old {
@@ -291,7 +279,7 @@ impl<G: Gate> Round<G> {
         }
     }
 
-    // Makes the book's seal, and counts for the desk what is handed out.
+    // Makes the book's seal, and counts the entries handed out for the desk.
     pub fn seal(&mut self, mine: &mut Mine<G>) -> Result<Segment, NoMemory>
         ensures reply { Seals self.old result self.new }
         ensures share { mine.new ≡ record mine.old {
@@ -310,7 +298,7 @@ impl<G: Gate> Round<G> {
         }
     }
 
-    // The share of a permit shows that a permit is unspent.
+    // The share of a permit proves that a permit is unspent.
     pub fn vouch(&mut self, one: &mut One<UnspentLedger<G>>)
         ensures same { self.new ≡ self.old }
         ensures some { 0 < length (unspent (history self.old)) }
@@ -318,14 +306,12 @@ impl<G: Gate> Round<G> {
         self.tally.vouch(one);
     }
 
-    // How many entries the history has, from the first one ever.
     pub fn entry_count(&self) -> u64
         ensures { result ≡ entry_count (history self.now) }
     {
         self.book.entry_count()
     }
 
-    // The place and the moment of the last entry.
     pub fn last(&self) -> Last
         ensures { IsLastEntry self.now result }
     {
@@ -340,7 +326,7 @@ impl<G: Gate> Round<G> {
         }
     }
 
-    // What an ask is answered for which memory was refused before it was made.
+    // The refusal of a call that ran out of memory before it was made.
     pub fn refuse_ask(&self, moment: u64) -> AskRefusal
         ensures reply { (token url : List ℕ)
             → Asks self.now token url moment (Err result) self.now }
@@ -352,7 +338,6 @@ impl<G: Gate> Round<G> {
         AskRefusal::LogFull
     }
 
-    // What a begin is answered for which memory was refused before it was made.
     pub fn refuse_begin(&self, authority: &Authority, moment: u64) -> BeginRefusal
         ensures { Begins self.now authority.now moment (Err result) self.now }
     {
@@ -365,7 +350,6 @@ impl<G: Gate> Round<G> {
         BeginRefusal::LogFull
     }
 
-    // What a sweep is answered for which memory was refused before it was made.
     pub fn refuse_sweep(&self, moment: u64) -> SweepRefusal
         ensures { Sweeps self.now moment (Err result) self.now }
     {
@@ -376,7 +360,7 @@ impl<G: Gate> Round<G> {
     }
 }
 
-// The moment that an entry brings, 0 where it brings none.
+// The moment of the entry, 0 if it has none.
 fn moment_of(entry: &Entry) -> u64
     ensures { result ≡ moment_of entry.now }
 {

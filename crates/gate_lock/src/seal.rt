@@ -1,5 +1,5 @@
-//! `Desk::seal`: the entries since the last seal are handed out.
-//! RFC 9309, sections 2.3.1 and 2.4: what they left open goes on to hold.
+//! `Desk::seal` hands out the entries since the last seal.
+//! RFC 9309, sections 2.3.1 and 2.4: what they left open still holds.
 ghost use Rattle.std.specs.Prelude.{◌≤◌};
 ghost use Rattle.gate_history.specs.History.{entry_count};
 ghost use Rattle.gate_core.specs.Gate.{history};
@@ -15,10 +15,10 @@ use std::sync::Wait;
 
 #[tactic(auto)]
 impl<'a, G: Gate> Desk<'a, G> {
-    /// Hands out the entries of the gate since the last seal, of whatever desk, with what they follow. The gate
-    /// goes on from what they left open; its places, and what is out, stay as they are. No desk makes an
-    /// entry, and no moment is brought. If memory runs out nothing changes. This desk counts what it
-    /// handed out, so a gate that was sealed is settled only with the receipts of the desks that sealed it.
+    /// Hands out the entries of all desks since the last seal, with what they follow. The gate continues
+    /// from what they left open; its places, and what is out, stay. Makes no entry and brings no moment. If
+    /// memory runs out nothing changes. This desk counts what it handed out, so settling a sealed gate
+    /// needs the receipts of the desks that sealed it.
     pub fn seal<R: Wait>(&mut self, rt: &R) -> Result<Segment, NoMemory>
         ensures step { Somewhere self.old
             (λ old new. DeskSeals self.old old result new self.new) }
@@ -28,7 +28,7 @@ impl<'a, G: Gate> Desk<'a, G> {
         self.seal_in(&mut held)
     }
 
-    /// Hands them out while the lock is held.
+    /// Like `seal`, while the lock is held.
     pub fn seal_in(&mut self, held: &mut Held<'_, G>) -> Result<Segment, NoMemory>
         requires { self.old.seen ≤ entry_count (history held.old) }
         ensures { DeskSeals self.old held.old result held.new self.new }

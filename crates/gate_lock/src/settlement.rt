@@ -1,5 +1,5 @@
 //! `settle`: the end of a gate, when all its desks are closed.
-//! Nothing is out, and the receipts are the whole history: for what ends a gate of several threads.
+//! Nothing is out, and the receipts are the whole history. For programs that end a gate of several threads.
 ghost use Rattle.std.specs.Prelude.{◌≡◌, IfOk};
 ghost use Rattle.gate_lock.specs.Marks.{starts_of_all};
 ghost use Rattle.gate_lock.specs.Settling.{IsWholeUnlessSealed, Settles, SettlesSome};
@@ -12,10 +12,10 @@ use crate::started::{has_handed, has_starts};
 use std::alloc::{AllocError, Global};
 use std::sync::Wait;
 
-/// A gate that was settled.
+/// A settled gate.
 #[derive(Clone, Copy, Debug, PartialEq, Eq)]
 pub struct Settled {
-    /// How many entries its history has, from the first one ever.
+    /// How many entries its history has, since the first one of all.
     pub events: u64,
     /// How many of them are started fetches.
     pub starts: u64,
@@ -26,10 +26,10 @@ pub struct Settled {
 pub enum SettleFault {
     /// An unspent permit, a running fetch or a turn is out.
     StillOut,
-    /// The receipts are not the history: some are missing, those of a desk that sealed it among them, or are those of
-    /// another gate.
+    /// The receipts are not the history: some are missing (perhaps those of a desk that sealed it), or
+    /// belong to another gate.
     Mismatch,
-    /// A growth of memory was refused.
+    /// Out of memory.
     NoMemory,
 }
 
@@ -44,8 +44,8 @@ impl From<AllocError> for SettleFault {
     }
 }
 
-/// Settles a gate by the receipts of its desks. It holds the lock meanwhile, and takes a few words for
-/// each of the desks.
+/// Settles a gate by the receipts of its desks. Holds the lock meanwhile, and allocates a few words for
+/// each desk.
 pub fn settle<G: Gate, R: Wait>(
     rt: &R,
     alloc: Global,

@@ -1,11 +1,11 @@
-//! Shares of the ledgers as desks and values have them.
-//! They take no memory, and only proofs see what they count.
+//! Shares of the ledgers that desks and values have.
+//! They take no memory; only proofs see what they count.
 
 use crate::ledgers::{EntryLedger, Gate, HandedLedger, StartLedger};
 use std::marker::Model;
 use std::sync::ledger::{Ledger, Share};
 
-// The share of a value that must be spent: it counts for one. It has no `Drop`, so that none is lost.
+// The share of a value that must be spent: it counts as one. It has no `Drop`, so that none is lost.
 pub(crate) struct One<L: Ledger> {
     pub share: Share<L>,
 }
@@ -20,9 +20,9 @@ impl<L: Ledger> Model for One<L> {
     ghost invariant = { λ one. (one.share.amount ≡ 1) × (one.share.parts ≡ 1) };
 }
 
-// The shares of a desk, with the number that it got with them, or of what was before all desks, with the number 0. A clause sees how many entries and started
-// fetches they count, and how many entries were handed out. They have no `Drop`: what is made of a book by a
-// desk must be seen in its marks.
+// The shares of a desk with its number, or of all before the desks, with the number 0. A clause sees how
+// many entries and started fetches they count, and how many entries were handed out. They have no `Drop`:
+// what a desk does to a book must be seen in its marks.
 pub(crate) struct Mine<G: Gate> {
     pub no: u64,
     pub entries: Share<EntryLedger<G>>,
@@ -48,7 +48,7 @@ impl<G: Gate> Model for Mine<G> {
 }
 
 impl<G: Gate> Mine<G> {
-    // Lets the shares go: the gate can be settled only where they count nothing.
+    // Drops the shares: the gate can be settled only if they count nothing.
     pub fn let_go(self) {
         let Mine {
             no: _,

@@ -1,4 +1,5 @@
-//! `Desk::start`, `back` and `finish`: how a permit and a fetch are spent. None takes memory or is refused.
+//! `Desk::start`, `back` and `finish`: spending a permit or a fetch. They take no memory and always
+//! succeed.
 //! RFC 9309, section 2.4.
 ghost use Rattle.std.specs.Prelude.{◌≡◌, ◌≢◌, ◌<◌, ◌≤◌, IfErr, IfOk, IfSome, OnErr, true};
 ghost use Rattle.gate_history.specs.declared.outcome.Cause.TheVariants.{Spent};
@@ -20,9 +21,9 @@ use std::sync::Wait;
 
 #[tactic(auto, using(std::proofs::lemmas::Grind::common_steps, crate::proofs::Starts::starts_in_push))]
 impl<'a, G: Gate> Desk<'a, G> {
-    /// Starts the fetch of a permit of this desk. The answer in force at this start decides, and a denied
-    /// start spends the permit too. Its cause is never `Spent`. As for an ask, a verdict that takes long is
-    /// found with no lock taken.
+    /// Starts the fetch of a permit of this desk. The answer in force now decides, and a denied start
+    /// spends the permit too. The cause is never `Spent`. As for an ask, a slow verdict is found outside
+    /// the lock.
     pub fn start<R: Wait>(
         &mut self,
         rt: &R,
@@ -49,7 +50,7 @@ impl<'a, G: Gate> Desk<'a, G> {
         self.start_in(&mut held, permit, Some(&ruling), moment)
     }
 
-    // The lock, once the permit stands and the desk has one out.
+    // The lock, once the permit is good and the desk has one out.
     fn lend_permit<R: Wait>(&self, rt: &R, permit: &Permit<G>) -> Held<'a, G>
         ensures gate { IsGateOf self.now.limits self.now.seen result }
         ensures some { 0 < self.now.permits }
@@ -67,7 +68,7 @@ impl<'a, G: Gate> Desk<'a, G> {
         )
     }
 
-    /// Gives a permit of this desk back.
+    /// Gives back a permit of this desk.
     pub fn back<R: Wait>(&mut self, rt: &R, permit: Permit<G>)
         requires { permit.desk ≡ self.old.no }
         ensures step { Somewhere self.old

@@ -1,11 +1,10 @@
-//! Whether receipts have as many started fetches as a history, and handed out what was sealed of it.
+//! Whether receipts have as many started fetches as a history, and handed out all that was sealed.
 ghost use Rattle.std.specs.Prelude.{◌≡◌, ◌↔◌, IsTrue};
 ghost use Rattle.gate_lock.specs.Marks.{handed_at_all, starts_of_all};
 
 use crate::ledgers::Gate;
 use crate::receipts::Receipts;
 
-// Whether so many of the marks of all lists are started fetches.
 pub(crate) fn has_starts<G: Gate>(all: &[Receipts<G>], count: u64) -> bool
     ensures { IsTrue result ↔ (starts_of_all all.now ≡ count) }
 {
@@ -22,7 +21,6 @@ pub(crate) fn has_starts<G: Gate>(all: &[Receipts<G>], count: u64) -> bool
     left == 0
 }
 
-// Whether so many entries were handed out at all desks.
 pub(crate) fn has_handed<G: Gate>(all: &[Receipts<G>], count: u64) -> bool
     ensures { IsTrue result ↔ (handed_at_all all.now ≡ count) }
 {

@@ -1,5 +1,5 @@
-//! Permits or fetches, each found by its number without a search over the others.
-//! They take memory where room is made for more of them, and nowhere else.
+//! Permits or fetches, each found by its number without a linear search.
+//! Memory is taken only where room is made for more.
 ghost use Rattle.std.specs.Prelude.{◌≡◌, ◌+◌, ◌^◌, ◌<◌, ◌≤◌, ◌++◌, ◌∷◌, [], false, IfNone, IfOk, IfSome, IsOk, length, OnOk, slice_get, Some, true};
 ghost use Rattle.std.specs.List.{list_any};
 ghost use Rattle.std.specs.List.Sorted.{IsPermutation};
@@ -10,40 +10,37 @@ use indexmap::IndexMap;
 use std::alloc::{AllocError, Global};
 use std::marker::Model;
 
-// What has a number by which it is found.
+// A value with a number.
 pub(crate) trait Numbered {
     ghost use Rattle.std.specs.Prelude.{ℕ};
 
-    // Its number.
     ghost named: { Self → ℕ };
 
     fn numbered(&self) -> u64
         ensures { result ≡ named self.now };
 }
 
-// A test of what has the number that is sought.
+// A test for the value sought.
 pub(crate) trait Sought<T> {
     ghost use Rattle.std.specs.Prelude.{Bool};
 
-    // Whether it passes.
     ghost accepts: { Self → T → Bool };
 
     fn is(&self, kept: &T) -> bool
         ensures { result ≡ accepts self.now kept.now };
 }
 
-// Where it is kept, until something is put in or taken out.
+// The place of a value, until something is put in or taken out.
 #[derive(Clone, Copy)]
 pub(crate) enum Spot {
     First(usize),
     Twin(usize),
 }
 
-// What is kept. A gate grants no number twice, so that there are no twins; only the type does not know it.
+// The values. A gate grants no number twice, so there are no twins; but the type does not know that.
 pub(crate) struct Store<T: Numbered> {
-    // By number.
     first: IndexMap<u64, T>,
-    // What has the number of another one.
+    // Values whose number is already in `first`.
     twins: Vec<T>,
 }
 
@@ -65,7 +62,6 @@ impl<T: Numbered> Model for Store<T> {
 }
 
 impl<T: Numbered> Store<T> {
-    // Nothing is kept, and there is memory for a first one.
     pub fn new(alloc: Global) -> Result<Store<T>, AllocError>
         ensures { IfOk result (λ store. kept_in store ≡ []) }
     {
@@ -75,7 +71,6 @@ impl<T: Numbered> Store<T> {
         })
     }
 
-    // How many are the first of their numbers.
     pub fn first_count(&self) -> usize
         ensures count { result ≡ length self.now.first }
         ensures bound { result < 2 ^ 63 }
@@ -83,14 +78,12 @@ impl<T: Numbered> Store<T> {
         self.first.len()
     }
 
-    // The others.
     pub fn twins(&self) -> &[T]
         ensures { result.now ≡ self.now.twins }
     {
         self.twins.as_slice()
     }
 
-    // Makes room for so many more.
     pub fn make_room(&mut self, more: usize) -> Result<(), AllocError>
         ensures first { self.new.first ≡ self.old.first }
         ensures twins { self.new.twins ≡ self.old.twins }
@@ -102,7 +95,7 @@ impl<T: Numbered> Store<T> {
         self.twins.reserve(more)
     }
 
-    // Where one of the number is kept that is sought.
+    // The place of the value sought.
     pub fn find<S: Sought<T>>(&self, number: u64, sought: &S) -> Option<Spot>
         ensures some { IfSome result
             (λ spot. IfSome (kept_at self.now spot)
@@ -121,7 +114,6 @@ impl<T: Numbered> Store<T> {
         self.find_twin(number, sought)
     }
 
-    // Where one of the number is kept that is sought, among those that are not the first of their numbers.
     fn find_twin<S: Sought<T>>(&self, number: u64, sought: &S) -> Option<Spot>
         ensures some { IfSome result
             (λ spot. IfSome (kept_at self.now spot)
@@ -134,7 +126,6 @@ impl<T: Numbered> Store<T> {
         Some(Spot::Twin(place))
     }
 
-    // What is kept there.
     pub fn at(&self, spot: Spot) -> Option<&T>
         ensures { option_copied result ≡ kept_at self.now spot }
     {
@@ -147,7 +138,6 @@ impl<T: Numbered> Store<T> {
         }
     }
 
-    // Takes out what is kept there.
     pub fn remove(&mut self, spot: Spot) -> T
         requires { IsSome (kept_at self.old spot) }
         ensures taken { kept_at self.old spot ≡ Some result }
@@ -163,7 +153,6 @@ impl<T: Numbered> Store<T> {
         }
     }
 
-    // Keeps one more. It takes no memory.
     pub fn put(&mut self, kept: T)
         requires { 0 < self.old.room }
         ensures kept { IsPermutation (kept ∷ kept_in self.old) (kept_in self.new) }
@@ -181,7 +170,6 @@ impl<T: Numbered> Store<T> {
         }
     }
 
-    // Takes out the last one.
     pub fn pop(&mut self) -> Option<T>
         ensures kept { kept_in self.old ≡ kept_in self.new ++ option_to_list result }
         ensures none { IfNone result (kept_in self.new ≡ []) }
@@ -194,7 +182,6 @@ impl<T: Numbered> Store<T> {
         Some(kept)
     }
 
-    // The end of a store that keeps nothing.
     pub fn destroy_empty(self)
         requires { kept_in self ≡ [] }
     {
@@ -205,7 +192,6 @@ impl<T: Numbered> Store<T> {
     }
 }
 
-// The place of one of the number that is sought.
 fn find_among<T: Numbered, S: Sought<T>>(all: &[T], number: u64, sought: &S) -> Option<usize>
     ensures some { IfSome result
         (λ place. IfSome (slice_get all.now place)

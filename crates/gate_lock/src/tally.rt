@@ -1,5 +1,5 @@
-//! The ledgers of a gate with their totals, and what is left of them to hand out.
-//! They take no memory: a share is a value of no octets, and only proofs see its amount.
+//! The ledgers of a gate with their totals, and the parts not yet handed out.
+//! They take no memory: a share has no octets, and only proofs see its amount.
 ghost use Rattle.std.specs.Prelude.{◌≡◌, ◌+◌, ◌<◌, ◌≤◌, IfOk, OnErr};
 ghost use Rattle.gate_lock.specs.Balance.{Loses, all_out_parts, most_desks, nothing_counted};
 
@@ -10,14 +10,14 @@ use crate::shares::{Mine, One};
 use std::marker::Model;
 use std::sync::ledger::{Book, Share};
 
-/// The most desks that are made of one gate.
+/// The most desks of one gate.
 pub const MAX_DESKS: u64 = 65_536;
 
-/// As many desks of the gate were made as may be.
+/// The gate has made the most desks that it may.
 #[derive(Clone, Copy, Debug, PartialEq, Eq)]
 pub struct DesksFull;
 
-// The totals of the ledgers, the parts of them that nobody has, and how many desks were made.
+// The totals of the ledgers, the parts that nobody has, and how many desks were made.
 #[derive(Drop)]
 pub(crate) struct Tally<G: Gate> {
     entries: Book<EntryLedger<G>>,
@@ -60,7 +60,7 @@ impl<G: Gate> Model for Tally<G> {
 }
 
 impl<G: Gate> Tally<G> {
-    // New ledgers, by which nothing is counted yet, and the shares of what was before all desks.
+    // New ledgers that count nothing yet, and the shares of all before the desks.
     pub fn open(blanks: Blanks) -> (Tally<G>, Mine<G>)
         requires { blanks ≡ G.ledgers }
         ensures total { result.0 ≡ nothing_counted }
@@ -104,7 +104,7 @@ impl<G: Gate> Tally<G> {
         (tally, past)
     }
 
-    // So many entries and started fetches were made before, all of which were handed out.
+    // Counts entries and started fetches made before, all handed out.
     pub fn count_past(&mut self, past: &mut Mine<G>, entries: u64, starts: u64)
         ensures total { self.new ≡ record self.old {
           entries = self.old.entries + entries;
@@ -122,7 +122,7 @@ impl<G: Gate> Tally<G> {
         self.handed.add(&mut past.handed, entries);
     }
 
-    // The shares of one more desk, which is numbered from 1.
+    // The shares of a new desk, numbered from 1.
     pub fn desk(&mut self) -> Result<Mine<G>, DesksFull>
         ensures ok { IfOk result
             (λ mine. (mine ≡ record {
@@ -149,7 +149,6 @@ impl<G: Gate> Tally<G> {
         })
     }
 
-    // One more entry, which a desk made.
     pub fn enter(&mut self, mine: &mut Mine<G>)
         ensures total { self.new ≡ record self.old { entries = self.old.entries + 1 } }
         ensures share { mine.new ≡ record mine.old { entries = mine.old.entries + 1 } }
@@ -157,7 +156,6 @@ impl<G: Gate> Tally<G> {
         self.entries.add(&mut mine.entries, 1);
     }
 
-    // So many entries are handed out, by a desk. It has handed out no more than were.
     pub fn hand(&mut self, mine: &mut Mine<G>, count: u64)
         ensures total { self.new ≡ record self.old { handed = self.old.handed + count } }
         ensures share { mine.new ≡ record mine.old { handed = mine.old.handed + count } }
@@ -167,7 +165,6 @@ impl<G: Gate> Tally<G> {
         self.handed.audit(&mut mine.handed);
     }
 
-    // One more unspent permit, and its share.
     pub fn grant(&mut self) -> One<UnspentLedger<G>>
         requires { self.old.unspent + 1 < all_out_parts }
         ensures { self.new ≡ record self.old { unspent = self.old.unspent + 1 } }
@@ -177,7 +174,7 @@ impl<G: Gate> Tally<G> {
         One { share }
     }
 
-    // A share of an unspent permit shows that one is counted.
+    // The share of an unspent permit proves that one is counted.
     pub fn vouch(&mut self, one: &mut One<UnspentLedger<G>>)
         ensures same { self.new ≡ self.old }
         ensures some { 0 < self.old.unspent }
@@ -185,7 +182,6 @@ impl<G: Gate> Tally<G> {
         self.unspent.audit(&mut one.share);
     }
 
-    // One unspent permit less, whose share comes back.
     pub fn spend(&mut self, one: One<UnspentLedger<G>>)
         ensures { Loses self.old self.new 1 0 0 }
     {
@@ -194,7 +190,6 @@ impl<G: Gate> Tally<G> {
         self.unspent_parts.merge(share);
     }
 
-    // One more started fetch of a desk, which runs.
     pub fn start(&mut self, mine: &mut Mine<G>) -> One<RunningLedger<G>>
         requires { self.old.running + 1 < all_out_parts }
         ensures total { self.new ≡ record self.old {
@@ -209,7 +204,6 @@ impl<G: Gate> Tally<G> {
         One { share }
     }
 
-    // One running fetch less, whose share comes back.
     pub fn finish(&mut self, one: One<RunningLedger<G>>)
         ensures { Loses self.old self.new 0 1 0 }
     {
@@ -218,7 +212,6 @@ impl<G: Gate> Tally<G> {
         self.running_parts.merge(share);
     }
 
-    // One more turn in flight, and its share.
     pub fn begin(&mut self) -> One<TurnLedger<G>>
         requires { self.old.turns + 1 < all_out_parts }
         ensures { self.new ≡ record self.old { turns = self.old.turns + 1 } }
@@ -228,7 +221,6 @@ impl<G: Gate> Tally<G> {
         One { share }
     }
 
-    // One turn in flight less, whose share comes back.
     pub fn arrive(&mut self, one: One<TurnLedger<G>>)
         ensures { Loses self.old self.new 0 0 1 }
     {

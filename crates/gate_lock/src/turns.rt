@@ -1,4 +1,4 @@
-//! `Desk::begin` and `arrive`: a turn to fetch a robots.txt, and the answer that it brings.
+//! `Desk::begin` and `arrive`: a turn to fetch a robots.txt, and its answer.
 //! RFC 9309, section 2.3.
 ghost use Rattle.std.specs.Prelude.{◌≡◌, ◌<◌, ◌≤◌, Err, IfOk, OnErr, true};
 ghost use Rattle.gate_history.specs.History.{entry_count};
@@ -35,7 +35,7 @@ impl<'a, G: Gate> Desk<'a, G> {
             × HasOut self.old self.new 0 0 0 0 1 0) }
         ensures err { OnErr result (KeepsOut self.old self.new) }
     {
-        // The room that is asked for under the lock; where it is refused here, it is asked for again there.
+        // Room for the call under the lock; if memory is refused here, that call asks again.
         let promised = self.promised();
         let _ = make_room(&mut self.marks, promised, 2);
         let Ok((named, kept)) = copy_twice(authority) else {
@@ -46,8 +46,7 @@ impl<'a, G: Gate> Desk<'a, G> {
         self.begin_copied(&mut held, named, kept, moment)
     }
 
-    /// Begins a fetch of the authority's robots.txt while the lock is held. Room is made for the mark
-    /// of its arrival, which then takes no memory.
+    /// Like `begin`, while the lock is held. Allocates the mark of its arrival, which then needs no memory.
     pub fn begin_in(
         &mut self,
         held: &mut Held<'_, G>,
@@ -63,7 +62,6 @@ impl<'a, G: Gate> Desk<'a, G> {
         self.begin_copied(held, named, kept, moment)
     }
 
-    // What a begin is answered for which memory was refused before it was made.
     fn refuse_begin(
         &mut self,
         held: &Held<'_, G>,
@@ -77,7 +75,7 @@ impl<'a, G: Gate> Desk<'a, G> {
         held.guard.refuse_begin(authority, moment)
     }
 
-    // Begins a turn with copies of the authority for the mark and for the turn.
+    // Begins a turn with copies of the authority for the mark and the turn.
     fn begin_copied(
         &mut self,
         held: &mut Held<'_, G>,
@@ -116,8 +114,8 @@ impl<'a, G: Gate> Desk<'a, G> {
         }
     }
 
-    /// Brings the answer of a turn of this desk, which stands from now on. It takes no memory, but two spares
-    /// of the answer.
+    /// Brings the answer of a turn of this desk, in force from now on. Takes no memory; uses two spares of
+    /// the answer.
     pub fn arrive<R: Wait>(&mut self, rt: &R, turn: RobotsTurn<G>, answer: TimedAnswer, moment: u64)
         requires own { turn.desk ≡ self.old.no }
         requires spares { 1 < answer.spares }
@@ -127,7 +125,7 @@ impl<'a, G: Gate> Desk<'a, G> {
         ensures out { HasOut self.old self.new 0 0 0 0 0 1 }
     {
         let gate = self.gate;
-        // An index has megabytes: it is freed behind the lock.
+        // An index has megabytes: it is freed outside the lock.
         let _replaced = {
             let mut held = self.lend_when(
                 rt,
@@ -181,7 +179,6 @@ impl<'a, G: Gate> Desk<'a, G> {
     }
 }
 
-// Two copies of an authority.
 fn copy_twice(authority: &Authority) -> Result<(Authority, Authority), AllocError>
     ensures { IfOk result
         (λ copies. (copies.0 ≡ authority.now) × (copies.1 ≡ authority.now)) }

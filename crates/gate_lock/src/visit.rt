@@ -1,5 +1,5 @@
 //! `with_gate`: a new gate, lent to a visitor that knows nothing of its ledgers.
-//! Who hands the gate to threads makes it by itself: see `Blanks`.
+//! To hand the gate to threads, make it directly: see `Blanks`.
 ghost use Rattle.std.specs.Prelude.{◌≡◌, []};
 ghost use Rattle.gate_history.specs.Base.{empty_base};
 
@@ -8,22 +8,22 @@ use crate::lock::GateLock;
 use gate_core::Book;
 use std::marker::Brand;
 
-/// What is done with a gate, whichever it is.
+/// What is done with a gate, for any gate.
 pub trait Visit {
     ghost use Rattle.std.specs.Prelude.{⊤};
 
-    /// What comes of it.
+    /// The result.
     type Output;
 
-    /// Holds of a visitor and what comes of it.
+    /// What holds of a visitor and its result.
     ghost shows: { Self → Self.Output → Type 0 } = { λ _ _. ⊤ };
 
-    /// Does it.
+    /// Visits the gate.
     fn visit<G: Gate>(self, gate: &GateLock<G>) -> Self::Output
         ensures { shows self result };
 }
 
-/// Makes a gate of a book that has made no entry, and lends it.
+/// Makes a gate of a book without entries, and lends it.
 pub fn with_gate<V: Visit>(book: Book, visitor: V) -> V::Output
     requires { (book.base ≡ empty_base) × (book.entries ≡ []) }
     ensures { V.shows visitor result }

@@ -1,5 +1,5 @@
-//! The tests of the gate: of permits, answers, histories, the book and its calls, the lock round it with its
-//! desks and bags, and the audit of a history's text. A crate of tests is proved for them alone.
+//! Tests of the gate: permits, answers, histories, the book and its calls, the lock with its desks and
+//! bags, and the audit of a history's text. Test crates are proved separately.
 #![tactic(auto)]
 
 #[cfg(test)]

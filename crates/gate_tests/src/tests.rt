@@ -1,4 +1,4 @@
-//! Rows over the desks of a gate and its threads. What the gate answers call by call is shown by rows of the built program.
+//! Tests of a gate's desks and threads. Rows of the built program show its replies call by call.
 //! RFC 9309, sections 2.2 to 2.4.
 
 mod bags;

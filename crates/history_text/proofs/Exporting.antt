@@ -1,4 +1,4 @@
--- The entries of a legal history, of which each has its fields, are those of a text.
+-- A legal history whose entries have their fields is a text's.
 -- Used by `export`.
 use Rattle.std.proofs.Common.{◌≡◌, ◌≢◌, ℕ, ◌<◌, ◌≤◌, ◌==◌, All, List, [], ◌∷◌, ◌++◌, ap, cond, false, flat_map, map, inl, inr, refl, subst, ◌∙◌, append_assoc, arith, codes, sym}
 use Rattle.std.specs.Prelude.{OnErr, OnOk, Option, Result, Ok, Err}
@@ -30,12 +30,10 @@ use Rattle.history_text.specs.BaseFields.{HasBaseFields}
 use Rattle.history_text.specs.Spell.{entry_lines, spell}
 use Rattle.history_text.specs.SpellBase.{answer_line, base_text, ended, grant_line, lines_text, numbers_line, open_lines, running_line, spell_segment, turn_line, unspent_line}
 
--- what is legal after some entries was legal before them
 pub legal_before : (h : History) (later : List Entry) → IsLegal (followed_by h later) → IsLegal h
 legal_before h [] legal = legal
 legal_before h (e ∷ later) legal = (legal_before (h ▸ e) later legal).0
 
--- an arrival that is legal has a life that its answer may have
 life_of_legal : (h : History) (e : Entry) → MayFollow h e → HasLife Two e
 life_of_legal h (Begun _ _ _) fit = tt
 life_of_legal h (Arrived _ _ _ _ _) fit = fit.2
@@ -47,7 +45,6 @@ life_of_legal h (Returned _) fit = tt
 life_of_legal h (Finished _) fit = tt
 life_of_legal h (Swept _ _) fit = tt
 
--- so each of them can be spelled
 entries_of_legal : (h : History) (later : List Entry) → IsLegal (followed_by h later) → All HasFields later → All (IsEntry Two) later
 entries_of_legal h [] legal fields = All-nil (IsEntry Two)
 entries_of_legal h (e ∷ later) legal fields =
@@ -55,7 +52,6 @@ entries_of_legal h (e ∷ later) legal fields =
     (record { fields = All-head HasFields e later fields; life = life_of_legal h e (legal_before (h ▸ e) later legal).1 })
     (entries_of_legal (h ▸ e) later legal (All-tail HasFields e later fields))
 
--- the entries of a book of which nothing was sealed
 pub exported : (g : Gate) → HasLegalHistory g → AreLimits g.limits → room g ≤ g.limits.log_limit → All HasFields g.entries → g.base ≡ empty_base → IsExport Two g.entries
 exported g legal limits within fields empty =
     let all : IsLegal (history_of g.entries) = subst (λ (b : Base). IsLegal (followed_by (from b) g.entries)) empty legal in
@@ -65,14 +61,12 @@ exported g legal limits within fields empty =
       within = omega (arith, within, limits.entries);
     }
 
--- what holds anyway holds of a result that is fine
 pub on_ok : {T E P : Type 0} → (r : Result T E) → P → OnOk r P
 on_ok (Ok _) p = p
 on_ok (Err _) p = tt
 
 -- ---- segments
 
--- the segment has the entries and the fields of a text
 pub segment_text : (s : Sealed) → IsLegal (history_in s) → AllRise (from s.base) s.entries → All IsSlotGrant s.base.grants → IsInOrder s.base → (0 < s.base.entries → HasBaseFields s.base) →
     All HasFields s.entries → IsSegmentText s
 segment_text s legal rises grants order base fields =
@@ -112,7 +106,6 @@ later_segment b es some =
     let test : (b.entries == 0) ≡ false = grind (arith, nat_tests) in
     ap (λ t. cond t (spell Two es) (base_text b ++ entry_lines Two es)) test
 
--- a flush that fails leaves a part of what was pushed
 pub flush_cut : {T E : Type 0} (a b c : Option (List ℕ)) (text pending : List ℕ) (result : Result T E) → Passes a b text pending →
     OnErr result (AppendsPrefix b c pending) → OnErr result (AppendsPrefix a c text)
 flush_cut a b c text pending (Ok _) passes cut = tt
@@ -120,20 +113,16 @@ flush_cut a b c text pending (Err _) passes cut = Passes-cut-all a b c text pend
 
 -- ---- the parts of a base
 
--- the text of lines that things have
 lines_map : {X : Type 0} (line : X → List ℕ) (xs : List X) → lines_text (map line xs) ≡ flat_map (λ x. ended (line x)) xs
 lines_map line [] = refl
 lines_map line (x ∷ xs) = ap (λ l. ended (line x) ++ l) (lines_map line xs)
 
--- the same before other lines
 lines_before : {X : Type 0} (line : X → List ℕ) (xs : List X) (later : List (List ℕ)) → lines_text (map line xs ++ later) ≡ flat_map (λ x. ended (line x)) xs ++ lines_text later
 lines_before line xs later = flat_map-append ended (map line xs) later ∙ ap (λ l. l ++ lines_text later) (lines_map line xs)
 
--- the same before two rows of lines
 lines_then : {X : Type 0} (line : X → List ℕ) (xs : List X) (later end : List (List ℕ)) → lines_text ((map line xs ++ later) ++ end) ≡ flat_map (λ x. ended (line x)) xs ++ lines_text (later ++ end)
 lines_then line xs later end = ap lines_text (append_assoc (map line xs) later end) ∙ lines_before line xs (later ++ end)
 
--- the text of what a base left open, list by list
 pub open_parts : (b : Base) (end : List (List ℕ)) → lines_text (open_lines b ++ end)
     ≡ flat_map (λ s. ended (answer_line s)) b.standing
     ++ (flat_map (λ t. ended (turn_line t)) b.in_flight
@@ -150,7 +139,6 @@ open_parts b end =
     ∙ ap (λ l. flat_map (λ g. ended (grant_line g)) b.grants ++ l) (lines_then unspent_line b.unspent (map running_line b.running) end
     ∙ ap (λ l. flat_map (λ p. ended (unspent_line p)) b.unspent ++ l) (lines_before running_line b.running end))))
 
--- the text of a base, part by part, where the parts have what the base has
 pub parts_same : (b : Base) (hs : List StandingAnswer) (is : List Turn) (ls : List SlotGrant) (us ys : List GrantedPermit) →
     hs ≡ b.standing → is ≡ b.in_flight → ls ≡ b.grants → us ≡ b.unspent → ys ≡ b.running →
     ended (codes "V 3") ++ (ended (numbers_line b)
@@ -168,12 +156,10 @@ parts_same b hs is ls us ys h i l u y =
     ++ (flat_map (λ p. ended (running_line p)) (y k) ++ (ended (codes "E") ++ []))))))))
     ∙ sym (ap (λ text. ended (codes "V 3") ++ (ended (numbers_line b) ++ text)) (open_parts b (codes "E" ∷ [])))
 
--- what follows of a fact that holds of a result that is fine
 pub ok_so : {T E P Q : Type 0} → (r : Result T E) → OnOk r P → (P → Q) → OnOk r Q
 ok_so (Ok _) p so = so p
 ok_so (Err _) p so = tt
 
--- what holds of all eight parts holds of the second to the seventh
 pub middle_parts : (P : BasePart → Type 0) (a b c d e f g h : BasePart) → All P (a ∷ b ∷ c ∷ d ∷ e ∷ f ∷ g ∷ h ∷ []) → P b × P c × P d × P e × P f × P g
 middle_parts P a b c d e f g h all =
     let at1 = All-tail P a (b ∷ c ∷ d ∷ e ∷ f ∷ g ∷ h ∷ []) all in

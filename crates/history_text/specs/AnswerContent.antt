@@ -1,5 +1,5 @@
--- What an answer says, with the octets of its rules at hand.
--- Cited by the contracts of all that spells an answer.
+-- What an answer says, with its rules' octets.
+-- Cited by all that writes an answer.
 use Rattle.robots_verdict.specs.declared.said.Said.{Said}
 use Rattle.robots_verdict.specs.declared.said.Said.TheVariants as says
 use Rattle.history_text.specs.declared.kinds.AnswerContent.{AnswerContent}

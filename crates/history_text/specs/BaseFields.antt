@@ -1,5 +1,5 @@
--- What the fields of a base are, wherever it comes from: numbers below 2 to the 64, authorities, bodies, tokens
--- and URLs that read as themselves.
+-- A base's fields: numbers below 2 to the 64, and authorities, bodies, tokens and URLs that read as
+-- themselves.
 -- RFC 9309, sections 2.2.1 and 2.5.
 use Rattle.std.specs.Prelude.{All}
 use Rattle.path_normal.specs.Authority.{IsAuthority}
@@ -11,7 +11,7 @@ use Rattle.gate_history.specs.declared.base.SlotGrant.{SlotGrant}
 use Rattle.gate_history.specs.Base.{Base}
 use Rattle.history_text.specs.Entries.{IsFetch, IsNumber, IsSaid}
 
--- an answer that stands
+-- an answer
 pub record IsAnswerRow (s : StandingAnswer) : Type 0 where
   pub authority : IsAuthority s.authority
   pub turn : IsNumber s.turn
@@ -25,7 +25,7 @@ pub record IsTurnRow (t : Turn) : Type 0 where
   pub turn : IsNumber t.turn
   pub begun : IsNumber t.begun
 
--- a slot with its greatest generation
+-- a slot and its largest generation
 pub record IsGrantRow (g : SlotGrant) : Type 0 where
   pub slot : IsNumber g.slot
   pub generation : IsNumber g.generation

@@ -1,5 +1,5 @@
--- What the fields of an entry are, wherever it comes from: numbers below 2 to the 64, tokens, URLs,
--- authorities and bodies that read as themselves.
+-- An entry's fields: numbers below 2 to the 64, and tokens, URLs, authorities and bodies that read
+-- as themselves.
 -- RFC 9309, sections 2.2.1 and 2.5.
 use Rattle.std.specs.Prelude.{◌≡◌, ◌<◌, ◌≤◌, ◌^◌, ℕ, All, List, Some, length}
 use Rattle.path_normal.specs.Authority.{IsAuthority}
@@ -19,7 +19,7 @@ use Rattle.gate_history.specs.declared.outcome.Reason.TheVariants as reasons
 use Rattle.history_text.specs.declared.version.Version.{Version}
 use Rattle.history_text.specs.declared.version.Version.TheVariants.{One, Two}
 
--- a moment, a turn, a permit's number, a line or a count
+-- a moment, turn, permit's number, line or count
 abbrev pub IsNumber : ℕ → Type 0
 IsNumber n = n < 2 ^ 64
 
@@ -28,7 +28,7 @@ pub record IsFetch (fetch : Fetch) : Type 0 where
   pub token : token_of fetch.token ≡ Some fetch.token
   pub url : IsPage fetch.url
 
--- the octets that are kept of a body
+-- the octets kept of a body
 pub record IsBody (text : List ℕ) : Type 0 where
   pub own : kept text ≡ text
   pub few : length text ≤ text_limit
@@ -50,7 +50,7 @@ abbrev pub IsCause : Cause → Type 0
 IsCause (causes.Line line) = IsNumber line
 IsCause _ = Unit {0}
 
--- the fields of an entry, but for a life
+-- an entry's fields, without a lifetime
 abbrev pub HasFields : Entry → Type 0
 HasFields (Begun moment authority turn) = IsNumber moment × IsAuthority authority × IsNumber turn
 HasFields (Arrived moment authority turn says life) =
@@ -63,17 +63,17 @@ HasFields (Returned number) = IsNumber number
 HasFields (Finished number) = IsNumber number
 HasFields (Swept moment count) = IsNumber moment × IsNumber count
 
--- the life of an answer: in version 1 the greatest, in version 2 one that such an answer may have
+-- an answer's lifetime: the greatest in version 1, any allowed one in version 2
 abbrev pub IsLife : Version → Said → ℕ → Type 0
 IsLife One says life = life ≡ greatest_life
 IsLife Two says life = life_of says life ≡ life
 
--- an arrival has a life of the version
+-- an arrival's lifetime fits the version
 abbrev pub HasLife : Version → Entry → Type 0
 HasLife version (Arrived _ _ _ says life) = IsLife version says life
 HasLife version _ = Unit {0}
 
--- an entry that a text of the version can spell
+-- an entry that the version can spell
 pub record IsEntry (version : Version) (e : Entry) : Type 0 where
   pub fields : HasFields e
   pub life : HasLife version e

@@ -1,4 +1,4 @@
--- Which histories and segments a text can have: legal ones, within the limit.
+-- The histories and segments that texts can have: legal ones, within the limit.
 -- RFC 9309, sections 2.2.2, 2.3.1 and 2.4, by the legality of `gate_history`.
 use Rattle.std.specs.Prelude.{◌≡◌, ◌<◌, ◌≤◌, ◌⊎◌, All, List, length}
 use Rattle.gate_history.specs.declared.entry.Entry.{Entry}
@@ -14,17 +14,17 @@ use Rattle.history_text.specs.BaseFields.{HasBaseFields}
 use Rattle.history_text.specs.Texts.{IsText, Text}
 use Rattle.history_text.specs.Entries.{IsEntry}
 
--- the history of entries before which nothing was
+-- a history that begins with nothing
 abbrev pub history_of : List Entry → History
 history_of entries = followed_by (from empty_base) entries
 
--- the entries are a legal history that a text of the version can spell
+-- a legal history that the version can spell
 pub record IsExport (version : Version) (entries : List Entry) : Type 0 where
   pub spelled : All (IsEntry version) entries
   pub legal : IsLegal (history_of entries)
   pub within : length entries ≤ most_entries
 
--- the segment of a book's history that is not sealed yet
+-- a book's segment not yet sealed
 abbrev pub present_segment : Gate → Sealed
 present_segment g = record { base = g.base; entries = g.entries }
 
@@ -32,18 +32,17 @@ present_segment g = record { base = g.base; entries = g.entries }
 abbrev pub text_of : Sealed → Text
 text_of s = record { version = Two; base = s.base; entries = s.entries }
 
--- the text of entries before which nothing was
+-- a text that begins with nothing
 abbrev pub plain_text : Version → List Entry → Text
 plain_text version entries = record { version = version; base = empty_base; entries = entries }
 
--- the segment is no longer than a text may be, and begins with nothing or behind something
+-- within a text's limit, after nothing or some entries
 pub record CanBeText (s : Sealed) : Type 0 where
   pub begins : (s.base ≡ empty_base) ⊎ (0 < s.base.entries)
   pub within : length s.entries ≤ most_entries
   pub counted : entry_count (history_in s) ≤ greatest_number
 
--- the segment is a legal history, and has the fields of a text of version 2 or 3; it is a right one, where it
--- is no longer than such a text may be
+-- a legal history with the fields of a text of version 2 or 3, and a right text if within the limit
 pub record IsSegmentText (s : Sealed) : Type 0 where
   pub legal : IsLegal (history_in s)
   pub entries : All (IsEntry Two) s.entries

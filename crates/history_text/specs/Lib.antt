@@ -1,5 +1,5 @@
--- What the contracts of all that spells a history cite.
--- docs/FORMATS.md has the text.
+-- Definitions for the contracts of all that writes a history.
+-- See docs/FORMATS.md.
 pub mod BaseFields
 pub mod Entries
 pub mod Exports

@@ -1,5 +1,5 @@
--- The parts of a base's text: single lines, and the lines of a list.
--- The contracts of `parts.rt`.
+-- A base's text in parts: single lines, and the lines of a list.
+-- Cited by `base_parts.rt`.
 use Rattle.std.specs.Prelude.{ℕ, All, List, flat_map}
 use Rattle.history_text.specs.declared.base_parts.BasePart.{BasePart}
 use Rattle.history_text.specs.declared.base_parts.BasePart.TheVariants.{Line, Numbers, Answers, Turns, Grants, Permits}
@@ -15,7 +15,7 @@ part_text (Turns turns) = flat_map (λ t. ended (turn_line t)) turns.now
 part_text (Grants grants) = flat_map (λ g. ended (grant_line g)) grants.now
 part_text (Permits letter permits) = flat_map (λ p. ended (permit_line letter.now p)) permits.now
 
--- the fields of what a list has
+-- the fields of a list's things
 abbrev pub HasPartFields : BasePart → Type 0
 HasPartFields (Line line) = Unit {0}
 HasPartFields (Numbers base) = HasNumbers base.now

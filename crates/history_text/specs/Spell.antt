@@ -1,4 +1,4 @@
--- The spelling of entries, version 1 and version 2: each is one line, its fields with a space between.
+-- Entries in versions 1 and 2: one line each, of fields separated by spaces.
 -- docs/FORMATS.md has both as tables.
 use Rattle.std.specs.Prelude.{◌==◌, ℕ, List, [], ◌∷◌, ◌++◌, codes, decimal, flat_map, if◌then◌else◌, length}
 use Rattle.std.specs.Str.{bytes_eq}
@@ -19,7 +19,7 @@ use Rattle.history_text.specs.declared.version.Version.TheVariants.{One, Two}
 abbrev pub line_end : List ℕ
 line_end = 10 ∷ []
 
--- the word of a body: a hyphen is the empty one, so a body of one hyphen is escaped
+-- a body as a word: a hyphen means empty, so a lone hyphen is escaped
 abbrev pub body_word : List ℕ → List ℕ
 body_word text =
     if length text == 0 then codes "-"
@@ -40,7 +40,7 @@ closure_word closures.Scheme = codes "scheme"
 closure_word closures.Coding = codes "coding"
 closure_word closures.Other = codes "other"
 
--- the body of rules, in version 2 behind their life
+-- rules, after their lifetime in version 2
 abbrev pub rules_fields : Version → List ℕ → ℕ → List (List ℕ)
 rules_fields One text life = codes "R" ∷ body_word text ∷ []
 rules_fields Two text life = codes "R" ∷ decimal life ∷ body_word text ∷ []
@@ -51,7 +51,7 @@ answer_fields version (says.Rules text) life = rules_fields version text life
 answer_fields version (says.Open opening) life = codes "O" ∷ opening_word opening ∷ []
 answer_fields version (says.Closed closure) life = codes "C" ∷ closure_word closure ∷ []
 
--- the letter of an entry's kind
+-- the letter of an entry
 abbrev pub letter_of : Entry → List ℕ
 letter_of (Begun _ _ _) = codes "B"
 letter_of (Arrived _ _ _ _ _) = codes "A"
@@ -63,7 +63,7 @@ letter_of (Returned _) = codes "K"
 letter_of (Finished _) = codes "F"
 letter_of (Swept _ _) = codes "W"
 
--- the fields behind the letter
+-- the fields after the letter
 abbrev pub entry_fields : Version → Entry → List (List ℕ)
 entry_fields version (Begun moment authority turn) = decimal moment ∷ authority ∷ decimal turn ∷ []
 entry_fields version (Arrived moment authority turn says life) =
@@ -77,31 +77,31 @@ entry_fields version (Returned number) = decimal number ∷ []
 entry_fields version (Finished number) = decimal number ∷ []
 entry_fields version (Swept moment count) = decimal moment ∷ decimal count ∷ []
 
--- a field behind a space
+-- a field after a space
 abbrev pub spaced_field : List ℕ → List ℕ
 spaced_field field = 32 ∷ field
 
--- the fields, each behind a space
+-- the fields, each after a space
 abbrev pub spaced_fields : List (List ℕ) → List ℕ
 spaced_fields fields = flat_map spaced_field fields
 
--- the line of an entry, without its end
+-- an entry's line, without its end
 abbrev pub entry_line : Version → Entry → List ℕ
 entry_line version e = letter_of e ++ spaced_fields (entry_fields version e)
 
--- the line of an entry, with its end
+-- an entry's line, with its end
 abbrev pub entry_text : Version → Entry → List ℕ
 entry_text version e = entry_line version e ++ line_end
 
--- the lines of entries, in their order
+-- the lines of entries in order
 abbrev pub entry_lines : Version → List Entry → List ℕ
 entry_lines version entries = flat_map (entry_text version) entries
 
--- what stands before the lines of entries
+-- the text before the lines of entries
 abbrev pub version_line : Version → List ℕ
 version_line One = []
 version_line Two = codes "V 2" ++ line_end
 
--- the text of a history, by its entries
+-- the text of a history
 abbrev pub spell : Version → List Entry → List ℕ
 spell version entries = version_line version ++ entry_lines version entries

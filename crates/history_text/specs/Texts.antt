@@ -1,4 +1,4 @@
--- A text: its lines, and when it is right by itself, whether its entries follow nothing or a base.
+-- A text: its lines, and when it is right on its own, after nothing or a base.
 -- docs/FORMATS.md has the lines; legality is that of `gate_history`.
 use Rattle.std.specs.Prelude.{◌≡◌, ℕ, ◌<◌, ◌≤◌, ◌==◌, ◌⊎◌, All, List, [], ◌∷◌, ◌++◌, codes, if◌then◌else◌, length, map}
 use Rattle.gate_history.specs.declared.entry.Entry.{Entry}
@@ -15,7 +15,7 @@ use Rattle.history_text.specs.Entries.{IsEntry}
 use Rattle.history_text.specs.Spell.{entry_line}
 use Rattle.history_text.specs.SpellBase.{base_lines}
 
--- a text: how its entries are spelled, what they follow, and they
+-- the entries' spelling, what they follow, and the entries
 pub record Text : Type 0 where
   pub version : Version
   pub base : Base
@@ -25,12 +25,12 @@ pub record Text : Type 0 where
 abbrev pub text_history : Text → History
 text_history t = followed_by (from t.base) t.entries
 
--- the lines of a version that stand before those of entries
+-- a version's lines before the entries
 abbrev pub version_lines : Version → List (List ℕ)
 version_lines One = []
 version_lines Two = codes "V 2" ∷ []
 
--- the lines before those of its entries: a text is of version 3 where something was sealed before it
+-- the lines before the entries: version 3 if something was sealed before
 abbrev pub head_lines : Text → List (List ℕ)
 head_lines t = if t.base.entries == 0 then version_lines t.version else base_lines t.base
 
@@ -38,7 +38,7 @@ head_lines t = if t.base.entries == 0 then version_lines t.version else base_lin
 abbrev pub text_lines : Text → List (List ℕ)
 text_lines t = head_lines t ++ map (entry_line t.version) t.entries
 
--- a base that a text can have: of some entries, in order
+-- a text's base: of some entries, in order
 pub record IsTextBase (b : Base) : Type 0 where
   pub fields : HasBaseFields b
   pub slots : All IsSlotGrant b.grants
@@ -46,14 +46,13 @@ pub record IsTextBase (b : Base) : Type 0 where
   pub order : IsInOrder b
   pub some : 0 < b.entries
 
--- the entries follow such a base, are spelled as in version 2, and each grant among them is of a generation
--- above all earlier ones of its slot
+-- the entries follow such a base, in version 2, and each grant has a generation above all earlier ones of its slot
 pub record FollowsBase (t : Text) : Type 0 where
   pub base : IsTextBase t.base
   pub version : t.version ≡ Two
   pub rises : AllRise (from t.base) t.entries
 
--- a text that is right by itself: its entries follow nothing, or a base; they can be spelled, and are legal
+-- right on its own: the entries follow nothing or a base, can be spelled, and are legal
 pub record IsText (t : Text) : Type 0 where
   pub follows : (t.base ≡ empty_base) ⊎ FollowsBase t
   pub spelled : All (IsEntry t.version) t.entries

@@ -1,4 +1,4 @@
-//! The line of each kind of thing that a base left open, by its fields; and that of its numbers.
+//! The line of each kind of thing that a base left open, and that of its numbers.
 //! docs/FORMATS.md has the kinds as a table.
 ghost use Rattle.std.specs.Prelude.{◌≡◌, ◌++◌, [], ◌∷◌, Some, codes, decimal};
 ghost use Rattle.line_text.specs.Pieces.{pieces_text};
@@ -22,7 +22,7 @@ use robots_text::Token;
 
 const SPACE: Piece<'static> = Piece::Text(" ");
 
-/// An answer that stands, behind this word and its space.
+/// An answer, after this word and its space.
 pub fn standing<'a>(
     word: &'static str,
     authority: &'a Authority,
@@ -71,7 +71,7 @@ pub fn in_flight(authority: &Authority, turn: TurnNo, begun: u64) -> Pieces<'_>
     ])
 }
 
-/// The greatest generation of a slot.
+/// The largest generation of a slot.
 pub fn greatest(slot: u64, generation: u64) -> Pieces<'static>
     ensures text { pieces_text result ≡ codes "L"
         ++ spaced_fields (decimal slot ∷ decimal generation ∷ []) }
@@ -86,7 +86,7 @@ pub fn greatest(slot: u64, generation: u64) -> Pieces<'static>
     ])
 }
 
-/// A permit that is out, behind the letter that says how.
+/// A permit that is out, after the letter that says how.
 pub fn permit<'a>(
     letter: &'static str,
     number: PermitNo,

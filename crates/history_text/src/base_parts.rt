@@ -1,5 +1,5 @@
-//! The text of a base, part by part: single lines, and the lines of what was left open.
-//! docs/FORMATS.md has the lines.
+//! The text of a base in parts: single lines, and the lines of what it left open.
+//! See docs/FORMATS.md.
 ghost use Rattle.std.specs.Prelude.{◌≡◌, ◌++◌, All, OnOk, flat_map};
 ghost use Rattle.counted_io.specs.Output.{Pushes};
 ghost use Rattle.line_text.specs.Pieces.{pieces_text};
@@ -19,14 +19,14 @@ use permit_book::GrantedPermit;
 /// A part of a base's text.
 #[derive(Clone, Copy)]
 pub(crate) enum BasePart<'a> {
-    /// A line that is written out.
+    /// A single line.
     Line(&'static str),
     /// The line of a base's numbers.
     Numbers(&'a Base),
     Answers(&'a [StandingAnswer]),
     Turns(&'a [Turn]),
     Grants(&'a [SlotGrant]),
-    /// Permits, behind the letter that says how they are out.
+    /// Permits, after the letter that says how they are out.
     Permits(&'static str, &'a [GrantedPermit]),
 }
 
@@ -72,7 +72,6 @@ pub(crate) fn push_base<W: Sink>(
     push_parts(&parts, output, sink)
 }
 
-// The line of a base's numbers.
 fn numbers_pieces(base: &Base) -> Pieces<'static>
     ensures text { pieces_text result ≡ numbers_line base.now }
     ensures numbers { HasNumbers base.now }
@@ -101,7 +100,7 @@ fn push_parts<W: Sink>(
     Ok(())
 }
 
-/// Pushes the lines of these rows, in their order.
+/// Pushes the lines of these rows in order.
 pub(crate) fn push_rows<T: TextLine, W: Sink>(
     letter: &'static str,
     rows: &[T],
@@ -119,7 +118,6 @@ pub(crate) fn push_rows<T: TextLine, W: Sink>(
     Ok(())
 }
 
-// Pushes a line and its end.
 fn push_line<W: Sink>(
     line: Pieces<'_>,
     output: &mut Output,

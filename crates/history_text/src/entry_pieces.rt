@@ -1,4 +1,4 @@
-//! The line of an entry that a history has, as pieces.
+//! The line of an entry of a history, as pieces.
 //! docs/FORMATS.md has the kinds as a table.
 ghost use Rattle.std.specs.Prelude.{◌≡◌, ◌<◌, All, Some};
 ghost use Rattle.path_normal.specs.PageUrl.{IsPage};
@@ -104,7 +104,7 @@ pub(crate) fn told_in(says: &Said) -> AnswerContent<'_>
     }
 }
 
-// These octets, of which a clause then knows that each is below 256.
+// These octets, each known to a clause to be below 256.
 fn octets(octets: &[u8]) -> &[u8]
     ensures value { result.now ≡ octets.now }
     ensures octets { All (λ octet. octet < 256) octets.now }

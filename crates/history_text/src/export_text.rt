@@ -1,5 +1,5 @@
-//! The export: a segment of a history as a text of version 2 or 3, or the present one of a book.
-//! docs/FORMATS.md has the texts.
+//! The export: a segment of a history, or the present one of a book, as a text of version 2 or 3.
+//! See docs/FORMATS.md.
 ghost use Rattle.std.specs.Prelude.{◌≡◌, ◌++◌, ◌<◌, All, OnErr, OnOk};
 ghost use Rattle.std.specs.Io.KnownBytes.{Appends};
 ghost use Rattle.counted_io.specs.Device.{AppendsPrefix, failures_after};
@@ -19,9 +19,9 @@ use counted_io::{DeviceFault, Output, Sink};
 use gate_core::Book;
 use gate_history::{Base, Entry, Segment};
 
-/// Writes what is pending in the output, and behind it the present segment of the book: its base, where
-/// something was sealed, and the entries since. It takes no memory. After a fault a front of that was
-/// written, and nothing is pending.
+/// Writes the output's pending octets, and then the present segment of the book: its base, if something was
+/// sealed, and the entries since. Takes no memory. After a fault a prefix of that was written, and nothing
+/// is pending.
 pub fn export<W: Sink>(book: &Book, output: &mut Output, sink: &mut W) -> Result<(), DeviceFault>
     ensures ok { OnOk result (Appends (W.written sink.old) (W.written sink.new)
         (output.old ++ spell_segment (present_segment book.now))) }
@@ -36,9 +36,8 @@ pub fn export<W: Sink>(book: &Book, output: &mut Output, sink: &mut W) -> Result
     output.flush(sink)
 }
 
-/// Writes what is pending in the output, and behind it the segment: its base, where something was sealed
-/// before it, and its entries. It takes no memory. After a fault a front of that was written, and nothing
-/// is pending.
+/// Like `export`, for a segment: its base, if something was sealed before it, and its entries. Takes no
+/// memory. After a fault a prefix was written, and nothing is pending.
 pub fn export_segment<W: Sink>(
     segment: &Segment,
     output: &mut Output,
@@ -55,7 +54,7 @@ pub fn export_segment<W: Sink>(
     output.flush(sink)
 }
 
-/// Pushes the text of a segment. It takes no memory. What fits the output stays pending there.
+/// Pushes a segment's text. Takes no memory. What fits stays pending.
 pub fn push_segment_text<W: Sink>(
     segment: &Segment,
     output: &mut Output,
@@ -68,8 +67,7 @@ pub fn push_segment_text<W: Sink>(
     push_segment(segment.base(), segment.entries(), output, sink)
 }
 
-/// Pushes the lines of entries, as they stand behind those of entries before them. It takes no memory. What fits
-/// the output stays pending there.
+/// Pushes the lines of entries that follow others. Takes no memory. What fits stays pending.
 pub fn push_entries<W: Sink>(
     entries: &[Entry],
     output: &mut Output,
@@ -83,7 +81,6 @@ pub fn push_entries<W: Sink>(
     push_rows("", entries, output, sink)
 }
 
-// Pushes the text of a base and the entries that follow it.
 fn push_segment<W: Sink>(
     base: &Base,
     entries: &[Entry],
@@ -106,7 +103,7 @@ fn push_segment<W: Sink>(
     push_rows("", entries, output, sink)
 }
 
-// Pushes the text of a history before which nothing was sealed.
+// Pushes the text of a history that nothing sealed precedes.
 fn push_history<W: Sink>(
     entries: &[Entry],
     output: &mut Output,

@@ -1,5 +1,5 @@
 //! The line of each kind of entry, by its fields.
-//! Only that of an arrival has two spellings. docs/FORMATS.md has the kinds as a table.
+//! Only an arrival's has two spellings. docs/FORMATS.md has the kinds as a table.
 ghost use Rattle.std.specs.Prelude.{◌≡◌, ◌++◌, [], ◌∷◌, codes, decimal};
 ghost use Rattle.path_normal.specs.Authority.{IsAuthority};
 ghost use Rattle.gate_history.specs.Wording.{words_in};
@@ -153,7 +153,7 @@ pub fn swept(moment: u64, count: u64) -> Pieces<'static>
     ])
 }
 
-// A start that spent a permit, and how it was decided.
+// A start that spent a permit, and its verdict.
 fn spent(letter: &'static str, moment: u64, number: PermitNo, decided: Wording) -> Pieces<'static>
     ensures text { pieces_text result ≡ letter.now ++ (decimal moment
         ++ spaced_fields (decimal number ∷ words_in decided)) }
@@ -186,7 +186,7 @@ fn wording_pieces(wording: Wording) -> FourPieces<'static>
     }
 }
 
-/// What an answer says, in the pieces behind its other fields.
+/// What an answer says, as the pieces after its other fields.
 pub(crate) fn answer_pieces(version: Version, told: AnswerContent<'_>, life: u64) -> FourPieces<'_>
     ensures { spaced_fields (answer_fields version (said_content told.entry) life)
         ≡ piece_text result.0 ++ (piece_text result.1 ++ (piece_text result.2

@@ -1,5 +1,6 @@
-//! Histories of the gate as texts: the lines of entries and of bases, and the text of a segment or of a book
-//! (docs/FORMATS.md). What reads such texts is in `crawl_audit`.
+//! Histories of the gate as texts: the lines of entries and of bases, and the text of a segment or of a
+//! book
+//! (docs/FORMATS.md). `crawl_audit` reads such texts.
 #![tactic(auto)]
 
 pub mod base_kinds;

@@ -1,5 +1,5 @@
-//! What is one line of a text: an entry, or a thing that a base left open.
-//! docs/FORMATS.md has the lines.
+//! One line of a text: an entry, or a thing that a base left open.
+//! See docs/FORMATS.md.
 ghost use Rattle.std.specs.Prelude.{◌≡◌, ◌++◌, List, ℕ};
 ghost use Rattle.line_text.specs.Pieces.{pieces_text};
 ghost use Rattle.history_text.specs.declared.version.Version.TheVariants.{Two};
@@ -16,12 +16,12 @@ use gate_history::{Entry, SlotGrant};
 use line_text::Pieces;
 use permit_book::GrantedPermit;
 
-/// What is one line of a text.
+/// One line of a text.
 pub trait TextLine {
-    /// Its line, without its end. A permit's begins with the letter of its list.
+    /// Its line, without its end. A permit's begins with its list's letter.
     ghost line: { List ℕ → Self → List ℕ };
 
-    /// Its fields are those of such a line.
+    /// Whether its fields are valid.
     ghost has_fields: { Self → Type 0 };
 
     /// The pieces of the line.
@@ -50,8 +50,8 @@ impl TextLine for StandingAnswer {
     }
 }
 
-/// The pieces of an answer that stands as a line of a base has it, behind this word in place of the letter and the space
-/// that such a line begins with. They have no line feed.
+/// The pieces of an answer in a base, after this word instead of the line's letter and space. They have no
+/// line feed.
 pub fn standing_pieces<'a>(word: &'static str, answer: &'a StandingAnswer) -> Pieces<'a>
     ensures text { pieces_text result ≡ word.now ++ answer_words answer.now }
     ensures fields { IsAnswerRow answer.now }

@@ -1,11 +1,11 @@
-//! The two spellings that the entries of a text may have.
-//! docs/FORMATS.md has both.
+//! The two spellings of a text's entries.
+//! See docs/FORMATS.md.
 
-/// Which spelling the entries of a text have.
+/// The spelling of a text's entries.
 #[derive(Clone, Copy, Debug, PartialEq, Eq)]
 pub enum Version {
-    /// No line of its own stands first. Rules stand alone, for the greatest life.
+    /// No first line of its own. Rules have no lifetime, which is the greatest.
     One,
-    /// The first line is `V 2`, or that of a base, `V 3`. Rules have their life before them.
+    /// The first line is `V 2`, or that of a base, `V 3`. Rules follow their lifetime.
     Two,
 }

@@ -1,4 +1,4 @@
--- What an exchange writes behind a header, and what it tells of a reader whose octets nobody knows.
+-- What an exchange writes after a header, and its result for a reader with unknown octets.
 use Rattle.std.proofs.Common.{◌≡◌, ℕ, ◌+◌, List, [], ◌++◌, length, take, Option, None, Result, Err, subst, sym}
 use Rattle.std.proofs.Common.{inl, inr}
 use Rattle.std.proofs.KnownBytes.{Appends-trans}
@@ -11,13 +11,11 @@ use Rattle.http_wire.specs.declared.response.HttpReply.{HttpReply}
 use Rattle.http_wire.specs.Response.{Tells}
 use Rattle.http_client.specs.Exchange.{Exchanges}
 
--- a fault of the device is told of any octets
 device_tells : (limit : ℕ) (result : Result HttpReply WireFault) → result ≡ Err Device → Tells None limit result
 device_tells limit result fails =
     let P : Result HttpReply WireFault → Type 0 = λ r. Tells None limit r
     in subst P (sym fails) (record { input = []; whole = tt; answers = tt })
 
--- whether the request is written or not, the result is what some octets give
 pub exchange_tells :
     (request : List ℕ) (limit : ℕ) (written written' : Option (List ℕ)) (writes writes' : ℕ)
     (reads reads' : ℕ) (result : Result HttpReply WireFault)
@@ -28,7 +26,6 @@ exchange_tells request limit written written' writes writes' reads reads' result
 
 -- ---- a header before the request
 
--- a prefix of the request behind the header is one of both
 pub prefix_behind : (old mid new : Option (List ℕ)) (header request : List ℕ) → Appends old mid header → AppendsPrefix mid new request
     → AppendsPrefix old new (header ++ request)
 prefix_behind old mid new header request before part =

@@ -16,13 +16,13 @@ use Rattle.path_normal.specs.PageUrl.{page_of_parts, port_text, IsPage, IsPagePa
 use Rattle.path_normal.proofs.CallerLemmas.{page_kind, page_splits}
 use Rattle.http_client.specs.HostPort.{IsHostPortOf, bare_host, scheme_port}
 
--- what is known of the parts of a text that were cut out of it
+-- the parts cut out of a text
 abbrev pub Cuts : List ℕ → List ℕ → List ℕ → Type 0
 Cuts text host tail =
     (own : Host (List ℕ)) (port : Option ℕ) → IsHostOf SpecialNotFile own
     → text ≡ host_text own ++ port_text port → (host ≡ bare_host own) × (tail ≡ port_text port)
 
--- what is known of the number that was read of a tail
+-- the number read of a tail
 abbrev pub ReadsPort : List ℕ → ℕ → ℕ → Type 0
 ReadsPort tail port default =
     (own : Option ℕ) → IfSome own (λ n. n < 2 ^ 16) → tail ≡ port_text own → port ≡ unwrap_or own default
@@ -70,7 +70,6 @@ server_of_parts url page host tail port parts spelled cuts reads =
       own_port = reads url.port (port_is_small url.scheme url.port parts.valid.head.port) cut.1;
     }
 
--- the parts of a page's host, and the number that was read, are those of its server
 pub page_server :
     (page host tail : List ℕ) (port : ℕ) → IsPage page → Cuts (host_of page) host tail
     → ReadsPort tail port (scheme_port (is_https page)) → IsHostPortOf page host port

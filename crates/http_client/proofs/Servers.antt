@@ -1,5 +1,5 @@
 -- How the text of an authority splits into its host and its port.
--- Used by the answers of `server.rt`.
+-- Used by the answers of `host_port.rt`.
 use Rattle.std.proofs.Common.{◌≡◌, ◌≢◌, ℕ, ◌<◌, ◌≤◌, ◌^◌, List, [], ◌∷◌, ◌++◌, All, length, get_or, take, drop, Option, None, Some, Result, decimal, sym, refl, ap, ◌∙◌, subst, arith, append_assoc, append-nil, inl, inr, ⊎_elim}
 use Rattle.std.specs.Prelude.{IfSome, unwrap_or, MatchOption}
 use Rattle.std.specs.Result.{result_unwrap_or}
@@ -30,7 +30,6 @@ use Rattle.http_client.specs.HostPort.{bare_host}
 abbrev rest_of : List ℕ → List ℕ
 rest_of octets = drop 1 octets
 
--- digits behind a colon are those of the port, and what they read as is the port
 pub port_parsed :
     {E : Type 0} (tail digits : List ℕ) (own : ℕ) (parsed : Result ℕ E) (port : Option ℕ)
     → tail ≡ 58 ∷ digits → ParsesUnsigned 16 10 digits parsed
@@ -41,7 +40,6 @@ port_parsed tail digits own parsed None starts reads small written =
 port_parsed tail digits own parsed (Some port) starts reads small written =
     ap (λ r. result_unwrap_or r own) (parse-decimal 16 port digits parsed small (omega (arith, small)) (ap rest_of (sym starts ∙ written)) reads)
 
--- where no colon stands first no port is written
 pub port_missing :
     (tail : List ℕ) (own : ℕ) (port : Option ℕ) → ((rest : List ℕ) → tail ≢ 58 ∷ rest) → tail ≡ port_text port
     → own ≡ unwrap_or port own
@@ -54,7 +52,7 @@ port_missing tail own (Some port) other written = absurd (other (decimal port) w
 abbrev pub Lacks : ℕ → List ℕ → Type 0
 Lacks octet text = All (IsNot octet) text
 
--- what a host without brackets holds not
+-- the octets that a host without brackets never has
 record IsPlain (text : List ℕ) : Type 0 where
   pub colonless : Lacks 58 text
   pub bracketless : Lacks 91 text
@@ -86,13 +84,12 @@ ipv6_lacks : (address : Ipv6Addr) → IsIpv6Addr address → Lacks 93 (hex_group
 ipv6_lacks address valid =
     All-weaker IsHexOrColon (IsNot 93) hex_differs _ (All-hex_groups_text (ipv6_segments address) valid.1)
 
--- a text that begins with a bracket is that of no other host
 no_bracket : (rest front : List ℕ) (port : Option ℕ) → Lacks 91 front → 91 ∷ rest ≡ front ++ port_text port → ⊥
 no_bracket rest [] None lacks written = omega (arith, ap length written)
 no_bracket rest [] (Some port) lacks written = omega (arith, ap (λ l. get_or l 0 0) written)
 no_bracket rest (b ∷ front) port lacks written = lacks 0 0 (omega arith) (sym (ap (λ l. get_or l 0 0) written))
 
--- the two parts of a text that is cut
+-- the two parts of a cut text
 abbrev Parts2 : Type 0
 Parts2 = Bor (List ℕ) × Bor (List ℕ)
 
@@ -104,7 +101,6 @@ matched : (found : Option Parts2) (default : Parts2) (host tail : List ℕ) → 
 matched None default host tail never = absurd never
 matched (Some parts) default host tail are = are
 
--- what a text that begins with a bracket is cut into at the other one
 pub bracketed_host :
     (rest : List ℕ) (found : Option Parts2) (default parts : Parts2) (host : Host (List ℕ)) (port : Option ℕ)
     → IsSplitOnceResult 93 rest found → parts ≡ unwrap_or found default
@@ -122,7 +118,6 @@ bracketed_host rest found default parts (Ipv6 address) port cut given valid writ
     (ap rest_of written ∙ append_assoc inside (93 ∷ []) tail)
     (λ i lt. ipv6_lacks address valid i 0 lt)))
 
--- the first colon stands behind a text that has none
 first_colon :
     (front digits : List ℕ) (k : ℕ) → Lacks 58 front → get_or (front ++ 58 ∷ digits) k 0 ≡ 58
     → ((i : ℕ) → i < k → get_or (front ++ 58 ∷ digits) i 0 ≢ 58) → k ≡ length front
@@ -158,7 +153,6 @@ plain_whole text front (Some port) written none =
     let within : length front < length text = omega (arith, ap length written, length-append front (58 ∷ digits)) in
     absurd (none (length front) within (ap (λ t. get_or t (length front) 0) written ∙ get_or-append_seam front 58 digits 0))
 
--- what a text that begins with no bracket is cut into at its first colon
 pub cut_host :
     (text : List ℕ) (k : ℕ) (host : Host (List ℕ)) (port : Option ℕ)
     → ((rest : List ℕ) → text ≢ 91 ∷ rest)
@@ -171,7 +165,6 @@ cut_host text k (Ipv4 address) port other colon valid written =
     plain_cut text _ port k (ipv4_plain address valid).colonless written colon.0 colon.1 colon.2
 cut_host text k (Ipv6 address) port other colon valid written = absurd (other _ written)
 
--- a text that begins with no bracket and has no colon is the host
 pub whole_host :
     (text : List ℕ) (host : Host (List ℕ)) (port : Option ℕ)
     → ((rest : List ℕ) → text ≢ 91 ∷ rest) → ((i : ℕ) → i < length text → get_or text i 0 ≢ 58)

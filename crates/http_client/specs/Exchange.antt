@@ -1,5 +1,5 @@
--- What one request and its response come to, at a writer and a reader.
--- The contract of `exchange` cites it.
+-- One request and its response, at a writer and a reader.
+-- Used by `exchange`.
 use Rattle.std.specs.Prelude.{◌≡◌, ◌⊎◌, ℕ, List, Option, Result, Err}
 use Rattle.std.specs.Io.KnownBytes.{Appends}
 use Rattle.counted_io.specs.Device.{one_more, AppendsPrefix}
@@ -8,7 +8,7 @@ use Rattle.http_wire.specs.declared.fault.WireFault.TheVariants.{Device}
 use Rattle.http_wire.specs.declared.response.HttpReply.{HttpReply}
 use Rattle.http_wire.specs.Response.{Tells, Finds, failures_after_reading}
 
--- a write fails in the call: a prefix of the request is written, and nothing is read
+-- a write fails: part of the request is written, and nothing is read
 pub record IsUnsent
     (request : List ℕ) (written written' : Option (List ℕ)) (writes writes' reads reads' : ℕ)
     (result : Result HttpReply WireFault) : Type 0 where
@@ -17,7 +17,7 @@ pub record IsUnsent
   pub write_count : writes' ≡ one_more writes
   pub read_count : reads' ≡ reads
 
--- the request is written, and the result is what the reader's octets give as a response
+-- the request is written, and the reader's octets give the result
 pub record IsAnswered
     (request : List ℕ) (limit : ℕ) (written written' : Option (List ℕ)) (writes writes' : ℕ)
     (left : Option (List ℕ)) (reads reads' : ℕ) (result : Result HttpReply WireFault) : Type 0 where
@@ -27,7 +27,7 @@ pub record IsAnswered
   pub write_count : writes' ≡ writes
   pub read_count : reads' ≡ failures_after_reading reads result
 
--- one or the other
+-- unsent or answered
 abbrev pub Exchanges :
     List ℕ → ℕ → Option (List ℕ) → Option (List ℕ) → ℕ → ℕ → Option (List ℕ) → ℕ → ℕ
     → Result HttpReply WireFault → Type 0

@@ -1,4 +1,4 @@
--- The server of a page.
+-- A page's server.
 -- RFC 3986, sections 3.2.2 and 3.2.3; RFC 9110, section 4.2.1, in the words of the URL Standard.
 use Rattle.std.specs.Prelude.{◌≡◌, ℕ, Bool, List, None, Ok, if◌then◌else◌, unwrap_or}
 use Rattle.std.specs.Net.Addr.{ipv4_octets, ipv6_segments}
@@ -9,7 +9,7 @@ use Rattle.url.specs.declared.host.Host.TheVariants.{Domain, Ipv4, Ipv6}
 use Rattle.url.specs.Parser.{parse_url}
 use Rattle.url.specs.Parts.{Parts, host_or_empty}
 
--- the port of `http`, and that of `https`
+-- the default ports of `http` and `https`
 abbrev pub http_port : ℕ
 http_port = 80
 
@@ -20,13 +20,13 @@ https_port = 443
 abbrev pub scheme_port : Bool → ℕ
 scheme_port https = if https then https_port else http_port
 
--- the host as a URL writes it, but without brackets round an address of IPv6
+-- the host as in the URL, but without brackets
 abbrev pub bare_host : Host (List ℕ) → List ℕ
 bare_host (Domain domain) = domain
 bare_host (Ipv4 address) = ipv4_text (ipv4_octets address)
 bare_host (Ipv6 address) = hex_groups_text (ipv6_segments address)
 
--- the server of a page has the host of its URL, and the port, or that of the scheme where none is written
+-- a page's server: its URL's host, and its port or the scheme's
 pub record IsHostPortOf (page host : List ℕ) (port : ℕ) : Type 0 where
   pub url : Parts
   pub read : parse_url None page ≡ Ok url

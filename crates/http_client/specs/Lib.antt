@@ -1,4 +1,4 @@
--- What contracts say of one fetch of a page, of its server and the way there, and of its limits of time.
+-- Definitions for one fetch of a page, its server and route, and its time limits.
 pub mod Agent
 pub mod Exchange
 pub mod Reach

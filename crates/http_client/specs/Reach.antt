@@ -1,5 +1,5 @@
--- Which addresses are inside: of this machine, of a network of somebody's own, of one link, or of no single host.
--- RFC 6890, section 2.2; RFC 4193; RFC 4291, sections 2.5 and 2.7. The contracts of `Reach` cite it.
+-- Addresses outside the public internet: of this machine, a private network, one link, or no single host.
+-- RFC 6890, section 2.2; RFC 4193; RFC 4291, sections 2.5 and 2.7. Used by `Reach`.
 use Rattle.std.specs.Prelude.{◌≡◌, ℕ, Bool, false, List, ◌&&◌, ◌||◌, ◌==◌, nat_le, slice_index}
 use Rattle.std.specs.Net.Addr.{HoldsIpv4, ipv4_octets, ipv6_segments, low_octets}
 use Rattle.std.specs.declared.net.ip_addr.IpAddr.{IpAddr}
@@ -8,7 +8,7 @@ use Rattle.std.specs.declared.net.ipv6_addr.Ipv6Addr.{Ipv6Addr}
 use Rattle.http_client.specs.declared.reach.Reach.{Reach}
 use Rattle.http_client.specs.declared.reach.Reach.TheVariants.{Anywhere, PublicOnly}
 
--- an address with this first octet, and a second one from the least to the most
+-- an address with this first octet, and its second in this range
 abbrev pub is_in : ℕ → ℕ → ℕ → List ℕ → Bool
 is_in first least most octets =
     (slice_index octets 0 == first) && (nat_le least (slice_index octets 1) && nat_le (slice_index octets 1) most)
@@ -21,18 +21,18 @@ is_inner_v4 octets =
     || (is_in 169 254 254 octets
     || (is_in 172 16 31 octets || (is_in 192 168 168 octets || nat_le 224 (slice_index octets 0)))))))
 
--- an address that holds one of IPv4 (::1 and :: among them) is judged by that one; of the others fc00::/7 and all
--- behind it are inner ones: fe80::/10, ff00::/8
+-- an address that has one of IPv4 in it (::1 and :: do) is judged by that; of others fc00::/7 and all above are
+-- inner: fe80::/10, ff00::/8
 pub record IsInnerV6 (address : Ipv6Addr) (inner : Bool) : Type 0 where
   pub holds : HoldsIpv4 address → inner ≡ is_inner_v4 (low_octets address)
   pub own : ¬ (HoldsIpv4 address) → inner ≡ nat_le 0xfc00 (slice_index (ipv6_segments address) 0)
 
--- whether it is inner
+-- the address is inner, or not
 abbrev pub IsInner : IpAddr → Bool → Type 0
 IsInner (V4 address) inner = inner ≡ is_inner_v4 (ipv4_octets address)
 IsInner (V6 address) inner = IsInnerV6 address inner
 
--- a client that reaches the public internet alone connects to no inner address
+-- a client of the public internet connects to no inner address
 abbrev pub MayReach : Reach → IpAddr → Type 0
 MayReach Anywhere address = Unit {0}
 MayReach PublicOnly address = IsInner address false

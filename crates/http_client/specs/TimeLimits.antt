@@ -1,36 +1,36 @@
--- How long a fetch, and each step of it, may take, in seconds.
+-- The time limits of a fetch and its steps, in seconds.
 -- The contracts of `TimeLimits` tie the code's constants to these.
 use Rattle.std.specs.Prelude.{◌≡◌, ◌≤◌, ℕ, ◌*◌}
 use Rattle.std.specs.Duration.{as_nanos}
 use Rattle.http_client.specs.declared.time_limits.TimeLimits.{TimeLimits}
 
--- the longest that a connection to one address may take
+-- the limit of connecting to one address
 abbrev pub connect_seconds : ℕ
 connect_seconds = 10
 
--- the longest that one read or one write may take
+-- the limit of one read or write
 abbrev pub step_seconds : ℕ
 step_seconds = 30
 
--- the longest that a whole fetch may take
+-- the limit of a whole fetch
 abbrev pub whole_seconds : ℕ
 whole_seconds = 300
 
--- the nanoseconds of so many seconds
+-- the nanoseconds of these seconds
 abbrev nanoseconds : ℕ → ℕ
 nanoseconds seconds = seconds * 1_000_000_000
 
--- limits of so many seconds
+-- limits of these seconds
 pub record AreOfSeconds (connect step whole : ℕ) (limits : TimeLimits) : Type 0 where
   pub connect_is : as_nanos limits.connect ≡ nanoseconds connect
   pub step_is : as_nanos limits.step ≡ nanoseconds step
   pub whole_is : as_nanos limits.whole ≡ nanoseconds whole
 
--- the limits are those above
+-- the standard limits
 abbrev pub AreStandard : TimeLimits → Type 0
 AreStandard limits = AreOfSeconds connect_seconds step_seconds whole_seconds limits
 
--- limits of whole seconds, one at least, and none longer than those above
+-- limits of whole seconds, from one to the standard ones
 pub record AreWithin (limits : TimeLimits) : Type 0 where
   pub connect : ℕ
   pub step : ℕ

@@ -1,4 +1,4 @@
-//! The time that is left of one fetch.
+//! The remaining time of a fetch.
 ghost use Rattle.std.specs.Prelude.{◌≡◌, ◌<◌, ◌≤◌, IfOk};
 ghost use Rattle.std.specs.Duration.{as_nanos};
 ghost use Rattle.std.specs.Time.{instant_nanos};
@@ -16,7 +16,7 @@ pub struct Deadline {
 }
 
 impl Deadline {
-    /// A time that begins now.
+    /// Starts now.
     pub fn begin<R: time::Clock>(rt: &R, whole: Duration) -> io::Result<Deadline>
         ensures { IfOk result (λ deadline. deadline.whole ≡ whole) }
     {
@@ -26,7 +26,7 @@ impl Deadline {
         })
     }
 
-    /// How long a step that has a limit of its own may take at this moment.
+    /// How long a step with its own limit may take at this moment.
     pub fn left_at(&self, now: Instant, step: Duration) -> Option<Duration>
         ensures { IsLeft result (time_left (instant_nanos self.now.begun) (as_nanos self.now.whole)
             (as_nanos step) (instant_nanos now)) }
@@ -36,8 +36,7 @@ impl Deadline {
         if left.is_zero() { None } else { Some(left) }
     }
 
-    /// How long a step that has a limit of its own may take from now on. `TimedOut` where no time is
-    /// left.
+    /// How long a step with its own limit may take from now on; `TimedOut` if no time is left.
     pub fn left<R: time::Clock>(&self, rt: &R, step: Duration) -> io::Result<Duration>
         ensures { IfOk result (λ left. (0 < as_nanos left) × (as_nanos left ≤ as_nanos step)
             × (as_nanos left ≤ as_nanos self.now.whole)) }

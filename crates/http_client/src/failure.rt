@@ -1,38 +1,38 @@
-//! Why no response came over TCP, in as far as the system tells it.
-//! For whoever tells an operator why a site is closed or a page was not fetched.
+//! Why no response came over TCP, as far as the system knows.
+//! For reports to operators on why a site is closed or a page was not fetched.
 use std::io::ErrorKind;
 use std::time::Duration;
 
-/// Why a fetch failed at its device. A limit of time that was passed stands with it.
+/// Why a fetch failed at its device, with the time limit if one was exceeded.
 #[derive(Clone, Copy, Debug, PartialEq, Eq)]
 pub enum Failure {
     /// The host's name has no address, or can't be looked up.
     NoName,
-    /// Nobody takes connections there.
+    /// No server accepts connections there.
     Refused,
-    /// No way leads there.
+    /// There is no route.
     Unreachable,
-    /// The other side broke the connection off.
+    /// The server reset the connection.
     Reset,
-    /// No connection came about within this limit.
+    /// No connection within this limit.
     NotConnected(Duration),
     /// Nothing could be read or written for this long.
     Silent(Duration),
     /// The whole fetch took this long.
     TooLong(Duration),
-    /// No TLS connection came about: the program that opens them ended its own before the first octet came back.
-    /// The site takes no connection, its certificate is bad, or it speaks no TLS.
+    /// No TLS connection: the TLS program closed its connection before the first octet came back. The site
+    /// accepts no connection, its certificate is bad, or it speaks no TLS.
     NoTls,
-    /// Nobody takes connections where the program that opens TLS should be, or there is none.
+    /// The TLS program is missing or accepts no connections.
     NoTlsProgram,
-    /// Its client was told to stop.
+    /// The client was stopped.
     Stopped,
-    /// The system tells another fault.
+    /// Another fault of the system.
     Other,
 }
 
 impl Failure {
-    /// What a fault of the system says. `past` is what it says where a time is over.
+    /// The failure for a fault of the system. `past` is the one for a timeout.
     pub(crate) fn of(kind: ErrorKind, past: Failure) -> Failure {
         match kind {
             ErrorKind::TimedOut | ErrorKind::WouldBlock => past,

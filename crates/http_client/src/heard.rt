@@ -1,8 +1,8 @@
-//! Whether anything came over a connection.
+//! Whether any octet came over a connection.
 use std::io;
 use std::io::Read;
 
-/// A reader that remembers whether an octet came.
+/// A reader that notes whether an octet came.
 #[derive(Drop)]
 pub(crate) struct Heard<S> {
     pub(crate) stream: S,
@@ -10,7 +10,6 @@ pub(crate) struct Heard<S> {
 }
 
 impl<S> Heard<S> {
-    /// Nothing has come yet.
     pub(crate) fn new(stream: S) -> Heard<S> {
         Heard { stream, any: false }
     }

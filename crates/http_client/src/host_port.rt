@@ -1,4 +1,4 @@
-//! Where the server of a page listens.
+//! The host and port where a page's server listens.
 //! RFC 3986, section 3.2; RFC 9110, section 4.2.1.
 ghost use Rattle.std.specs.Prelude.{◌≡◌, ◌++◌, ℕ, List, Option, ◌^◌, ◌<◌, IfSome, unwrap_or};
 ghost use Rattle.url.specs.declared.host.Host.{Host};
@@ -10,16 +10,16 @@ ghost use Rattle.http_client.specs.HostPort.{IsHostPortOf, bare_host, scheme_por
 
 use path_normal::PageUrl;
 
-/// The port of `http`, where none is written.
+/// The default port of `http`.
 const HTTP_PORT: u16 = 80;
 
-/// The port of `https`, where none is written.
+/// The default port of `https`.
 const HTTPS_PORT: u16 = 443;
 
 /// The host and the port of a page.
 #[derive(Clone, Copy, PartialEq, Eq)]
 pub struct HostPort<'a> {
-    /// A name or an address, without the brackets that a URL has round one of IPv6.
+    /// A name or an address, without the brackets of IPv6 in URLs.
     pub host: &'a str,
     pub port: u16,
 }
@@ -35,7 +35,6 @@ pub fn host_port_of(url: &PageUrl) -> HostPort<'_>
     }
 }
 
-// The port of a page's scheme.
 fn scheme_port(url: &PageUrl) -> u16
     ensures { result ≡ scheme_port (is_https url.now) }
 {
@@ -46,7 +45,7 @@ fn scheme_port(url: &PageUrl) -> u16
     }
 }
 
-// The host, without brackets, and what stands behind it.
+// The host, without brackets, and what follows it.
 fn split_host(authority: &str) -> (&str, &str)
     ensures { (host : Host (List ℕ)) (port : Option ℕ) → IsHostOf SpecialNotFile host
         → authority.now ≡ host_text host ++ port_text port
@@ -61,7 +60,7 @@ fn split_host(authority: &str) -> (&str, &str)
     }
 }
 
-// The port that is written behind a host, or that of the scheme.
+// The port after a host, or the scheme's.
 fn port_of(tail: &str, own: u16) -> u16
     ensures { (port : Option ℕ) → IfSome port (λ n. n < 2 ^ 16) → tail.now ≡ port_text port
         → result ≡ unwrap_or port own }

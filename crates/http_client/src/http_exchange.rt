@@ -14,9 +14,9 @@ use http_wire::{HttpReply, WireFault, read_response, write_get};
 use path_normal::PageUrl;
 use std::alloc::Global;
 
-/// Writes the request for a page, as `write_get` does, and reads the response, as `read_response`
-/// does, with at most `limit` octets of its body. `agent` is the value of User-Agent. Where the
-/// request can't be written, nothing is read.
+/// Writes the request for a page, as `write_get` does, and reads the response, as `read_response` does,
+/// with at most `limit` octets of its body. `agent` is the value of User-Agent. If the request can't be
+/// written, nothing is read.
 pub fn exchange<S: Source, W: Sink>(
     alloc: Global,
     reader: &mut S,
@@ -35,7 +35,7 @@ pub fn exchange<S: Source, W: Sink>(
     exchange_behind(alloc, reader, writer, &[], url, agent, limit)
 }
 
-/// `exchange` with a header that is written before the request, as a program between both ends wants it.
+/// `exchange` with a header before the request, for a program between both ends.
 pub fn exchange_behind<S: Source, W: Sink>(
     alloc: Global,
     reader: &mut S,
@@ -45,7 +45,6 @@ pub fn exchange_behind<S: Source, W: Sink>(
     agent: &[u8],
     limit: usize,
 ) -> Result<HttpReply, WireFault>
-    // No octet of the agent ends its line.
     requires { IsAgent agent.now }
     ensures { Exchanges
         (header.now ++ request (target_of url.now) (host_of url.now) agent.now) limit

@@ -1,4 +1,4 @@
-//! Pages fetched over TCP in bounded time, each over a connection of its own.
+//! Fetches pages over TCP in bounded time, each over its own connection.
 //! RFC 9110, section 4.2.1; RFC 9112, sections 2 and 3.
 #![tactic(auto)]
 

@@ -1,4 +1,4 @@
-//! Which addresses a client connects to: each, or those of the public internet alone.
+//! Which addresses a client connects to: all, or only those of the public internet.
 //! RFC 6890, section 2.2.
 ghost use Rattle.std.specs.Prelude.{◌≡◌, IfSome};
 ghost use Rattle.std.specs.Net.Addr.{ipv4_octets};
@@ -7,17 +7,16 @@ ghost use Rattle.http_client.specs.Reach.{IsInner, IsInnerV6, MayReach, is_in, i
 
 use std::net::{IpAddr, Ipv4Addr, Ipv6Addr, SocketAddr};
 
-/// Where a client connects to.
+/// Where a client may connect.
 #[derive(Clone, Copy, Debug, PartialEq, Eq)]
 pub enum Reach {
     /// Each address.
     Anywhere,
-    /// Those of the public internet: none of this machine, of a network of somebody's own, of one link, or of
-    /// several hosts.
+    /// Only the public internet: not this machine, a private network, one link, or several hosts.
     PublicOnly,
 }
 
-/// An address to which a client of some reach may connect.
+/// An address within a client's reach.
 #[derive(Drop)]
 pub(crate) struct Way {
     pub(crate) reach: Reach,
@@ -26,7 +25,7 @@ pub(crate) struct Way {
 }
 
 impl Way {
-    /// The way to an address, if it lies within reach.
+    /// The way to an address, if within reach.
     pub(crate) fn to(reach: Reach, address: SocketAddr) -> Option<Way>
         ensures { IfSome result (λ way. (way.reach ≡ reach) × (way.address ≡ address)) }
     {
@@ -37,7 +36,7 @@ impl Way {
     }
 }
 
-/// Whether an address is inside.
+/// Whether an address is not of the public internet.
 fn is_inner(address: &IpAddr) -> bool
     ensures { IsInner address.now result }
 {
@@ -70,7 +69,7 @@ fn is_inner_v4(address: &Ipv4Addr) -> bool
         || octets[0] >= 224
 }
 
-// Whether an address has this first octet, and a second one from the least to the most.
+// Whether an address has this first octet, and a second one in this range.
 fn is_in(octets: [u8; 4], first: u8, least: u8, most: u8) -> bool
     ensures { result ≡ is_in first least most octets }
 {

@@ -22,8 +22,8 @@ use std::net::{Net, SocketAddr, TcpStream, ToSocketAddrs};
 use std::sync::atomic::{AtomicBool, Ordering};
 use std::{io, time};
 
-/// What fetches pages over TCP. It keeps no connection, and follows no redirect. TLS is another program's: it takes
-/// a header of the PROXY protocol, opens TLS to the address that the header names, and hands octets on.
+/// Fetches pages over TCP. It keeps no connection, and follows no redirect. Another program does TLS: it
+/// reads a PROXY protocol header, opens TLS to the address there, and forwards octets.
 #[derive(Drop)]
 pub struct TcpClient<R: Net<Stream = TcpStream> + time::Clock> {
     rt: R,
@@ -33,7 +33,7 @@ pub struct TcpClient<R: Net<Stream = TcpStream> + time::Clock> {
     stopped: AtomicBool,
 }
 
-/// A page that is asked for: under which agent, how many octets of its body are taken, and in what time.
+/// A request for a page: its agent, its limit of octets, and its time.
 #[derive(Clone, Copy)]
 struct Asked<'a> {
     url: &'a PageUrl,
@@ -51,24 +51,23 @@ impl<R: Net<Stream = TcpStream> + time::Clock> Model for TcpClient<R> {
 }
 
 impl<R: Net<Stream = TcpStream> + time::Clock> TcpClient<R> {
-    /// A client that connects to any address, and whose fetches take no longer than these limits.
+    /// A client that connects to any address, within these time limits.
     pub fn new(rt: R, limits: TimeLimits) -> TcpClient<R>
         ensures { result ≡ limits }
     {
         TcpClient::reaching(rt, limits, Reach::Anywhere)
     }
 
-    /// A client that connects to addresses within this reach, and whose fetches take no longer than these
-    /// limits.
+    /// A client that connects to addresses within this reach, within these time limits.
     pub fn reaching(rt: R, limits: TimeLimits, reach: Reach) -> TcpClient<R>
         ensures { result ≡ limits }
     {
         TcpClient::with_tls(rt, limits, reach, None)
     }
 
-    /// A client like that of `reaching`, which fetches pages of https by way of the TLS program at this address. The
-    /// address has to be one of this machine, since what is sent there is not encrypted, and it is not judged by the
-    /// reach. That the program checks certificates is up to it.
+    /// Like `reaching`, and fetches https pages through the TLS program at this address. That must be on
+    /// this machine, since the connection to it is not encrypted; the reach does not apply to it. Checking
+    /// certificates is up to that program.
     pub fn with_tls(
         rt: R,
         limits: TimeLimits,
@@ -86,30 +85,28 @@ impl<R: Net<Stream = TcpStream> + time::Clock> TcpClient<R> {
         }
     }
 
-    /// Has all fetches fail from now on: those under way within a second, or the time of a connection that
-    /// is being made, and others before they connect.
+    /// Makes all fetches fail: running ones within a second, or the time limit of a connection being made,
+    /// and others before they connect.
     pub fn stop(&self) {
         self.stopped.store(true, Ordering::SeqCst);
     }
 
-    /// The time of a whole fetch, which begins now. Several fetches may have one time in common.
+    /// The time of a whole fetch, from now on. Several fetches may share it.
     pub fn begin(&self) -> io::Result<Deadline>
         ensures { IfOk result (λ deadline. deadline.whole ≡ self.now.whole) }
     {
         Deadline::begin(&self.rt, self.limits.whole)
     }
 
-    /// Fetches a page, and gives at most `limit` octets of its body. `agent` is the value of
-    /// User-Agent.
+    /// Fetches a page, with at most `limit` octets of its body. `agent` is the value of User-Agent.
     ///
-    /// `Device` where the host has no address, none is within reach or takes a connection, a read or a write fails,
-    /// a limit of time is passed or the client was told to stop; `failure` has then which of them. The
-    /// addresses of a name are looked up by the system, whose own limits of time hold there, and are
-    /// tried one after the other.
+    /// `Device` if the host has no address, none is within reach or accepts a connection, a read or write
+    /// fails, a time limit is exceeded or the client was stopped; `failure` then says which. The system
+    /// looks up the addresses of a name, within its own time limits, and they are tried in order.
     ///
-    /// A page of https is fetched by way of the TLS program. Where that ends the connection before an octet has come
-    /// back, the next address of the host is tried, so a request may reach more than one of them (RFC 9110, section
-    /// 9.2.2); `EarlyEnd` where the last one ends so. `Device` where there is no TLS program.
+    /// A page of https is fetched through the TLS program. If that closes the connection before an octet
+    /// has come back, the host's next address is tried, so a request may reach several of them (RFC 9110,
+    /// section 9.2.2); `EarlyEnd` if the last one ends in this way. `Device` if there is no TLS program.
     pub fn fetch(
         &self,
         alloc: Global,
@@ -128,7 +125,7 @@ impl<R: Net<Stream = TcpStream> + time::Clock> TcpClient<R> {
         }
     }
 
-    /// Fetches a page in what is left of a time, as `fetch` does.
+    /// Like `fetch`, within the remaining time.
     pub fn fetch_by(
         &self,
         alloc: Global,
@@ -138,7 +135,6 @@ impl<R: Net<Stream = TcpStream> + time::Clock> TcpClient<R> {
         deadline: Deadline,
         failure: &mut Option<Failure>,
     ) -> Result<HttpReply, WireFault>
-        // No octet of the agent ends its line.
         requires { IsAgent agent.now }
         ensures { Tells None limit result }
     {
@@ -182,7 +178,7 @@ impl<R: Net<Stream = TcpStream> + time::Clock> TcpClient<R> {
         given
     }
 
-    // Fetches from the first address of the page's server that is within reach and from which an octet comes.
+    // Fetches from the first address of the page's server that is within reach and sends an octet.
     fn fetch_by_tls(
         &self,
         alloc: Global,
@@ -213,7 +209,8 @@ impl<R: Net<Stream = TcpStream> + time::Clock> TcpClient<R> {
         Err(last)
     }
 
-    // One exchange with one address. The failure is `NoTls` where the TLS program ended it before an octet came.
+    // One exchange with one address. The failure is `NoTls` if the TLS program ended it before an octet
+    // came.
     fn fetch_over(
         &self,
         alloc: Global,
@@ -256,8 +253,8 @@ impl<R: Net<Stream = TcpStream> + time::Clock> TcpClient<R> {
         given
     }
 
-    // Connects to the first address of the page's server that is within reach and takes a connection. The
-    // address that is judged is the one that is connected to, whatever the name has at another time.
+    // Connects to the first address of the page's server that is within reach and accepts. The address
+    // checked is the one connected to, even if the name changes.
     fn connect(&self, url: &PageUrl, deadline: &Deadline) -> Result<TcpStream, Failure> {
         let server = host_port_of(url);
         let Ok(addresses) = (server.host, server.port).to_socket_addrs(&self.rt) else {
@@ -334,7 +331,7 @@ impl<R: Net<Stream = TcpStream> + time::Clock> TcpClient<R> {
     }
 }
 
-// The fault of a device that fails for this.
+// The device's fault for this failure.
 fn fault_for(why: Failure, failure: &mut Option<Failure>) -> WireFault
     ensures { result ≡ Device }
 {
@@ -342,7 +339,7 @@ fn fault_for(why: Failure, failure: &mut Option<Failure>) -> WireFault
     WireFault::Device
 }
 
-// Why nothing came of an exchange by way of the TLS program, where a connection failed for this or did not fail.
+// Why an exchange through the TLS program gave nothing, after this failure or none.
 fn unheard(given: &Result<HttpReply, WireFault>, told: Option<Failure>) -> Option<Failure> {
     match (given, told) {
         (Err(WireFault::EarlyEnd), None) => Some(Failure::NoTls),

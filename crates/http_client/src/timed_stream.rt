@@ -1,4 +1,4 @@
-//! A connection whose reads and writes end in time, and once they are stopped.
+//! A connection whose reads and writes end in time, and when stopped.
 ghost use Rattle.std.specs.Prelude.{◌≡◌};
 
 use crate::deadline::Deadline;
@@ -9,19 +9,19 @@ use std::sync::atomic::{AtomicBool, Ordering};
 use std::time::{Duration, Instant};
 use std::{io, time};
 
-// How often a read or a write is tried that a signal interrupts, as one is where a process is
-// stopped and goes on, or that has nothing yet. Before each try the time is looked at.
+// The most tries of a read or write that a signal interrupts (as when a process is stopped and continued),
+// or that has nothing yet. Each try checks the time first.
 const MOST_TRIES: u32 = 1_000;
 
-// The most seconds that a try waits, so that a stop is seen.
+// The most seconds of a try, so that a stop is noticed.
 const TRY_SECONDS: u64 = 1;
 
-/// A connection whose reads and writes can be told how long to wait.
+/// A connection with settable timeouts.
 pub trait Waits: Read + Write {
-    /// A read that waits longer fails from now on.
+    /// Limits how long a read waits.
     fn limit_reads(&self, most: Duration) -> io::Result<()>;
 
-    /// A write that waits longer fails from now on.
+    /// Limits how long a write waits.
     fn limit_writes(&self, most: Duration) -> io::Result<()>;
 }
 
@@ -35,28 +35,27 @@ impl Waits for &TcpStream {
     }
 }
 
-/// A connection with a limit of time. A read or a write that would end after it fails, and so does each
-/// within a second of a stop. The octets that it has left, and those that were written, are the
-/// connection's.
+/// A connection with a time limit. A read or write that would exceed it fails, and so does each within a
+/// second of a stop. The unread octets and the written ones are the connection's.
 #[derive(Drop)]
 pub struct TimedStream<'a, R: time::Clock, S: Waits> {
     pub rt: &'a R,
     pub stream: S,
-    /// When the time of the whole fetch is over.
+    /// The time of the whole fetch.
     pub deadline: Deadline,
-    /// The most time for one read or one write.
+    /// The limit of one read or write.
     pub step: Duration,
-    /// Whether it is to stop.
+    /// Whether it was stopped.
     pub stopped: &'a AtomicBool,
-    /// How long reads and writes of the connection wait by now, if that was told to it. It is told again where it changes.
+    /// The connection's current timeout, if set. It is set again only to change it.
     pub read_limit: Option<Duration>,
     pub write_limit: Option<Duration>,
-    /// Why the last read or write that failed did so.
+    /// Why the last failed read or write failed.
     pub failure: Option<Failure>,
 }
 
 impl<'a, R: time::Clock, S: Waits> TimedStream<'a, R, S> {
-    // How long the next try of a step that began at a moment may wait.
+    // How long the next try of a step may wait.
     fn patience(&self, step: &Deadline) -> Result<Duration, Failure> {
         if self.stopped.load(Ordering::SeqCst) {
             return Err(Failure::Stopped);
@@ -70,7 +69,6 @@ impl<'a, R: time::Clock, S: Waits> TimedStream<'a, R, S> {
         step.left_at(now, left).ok_or(Failure::Silent(self.step))
     }
 
-    // Has a read that waits longer fail.
     fn limit_reads(&mut self, most: Duration) -> io::Result<()>
         ensures { self.new.stream ≡ self.old.stream }
     {
@@ -81,7 +79,6 @@ impl<'a, R: time::Clock, S: Waits> TimedStream<'a, R, S> {
         Ok(())
     }
 
-    // Has a write that waits longer fail.
     fn limit_writes(&mut self, most: Duration) -> io::Result<()>
         ensures { self.new.stream ≡ self.old.stream }
     {
@@ -92,7 +89,7 @@ impl<'a, R: time::Clock, S: Waits> TimedStream<'a, R, S> {
         Ok(())
     }
 
-    // Keeps why a read or a write fails.
+    // Keeps the failure of a read or write.
     fn fail(&mut self, failure: Failure) -> io::Error
         ensures { self.new.stream ≡ self.old.stream }
     {
@@ -100,7 +97,7 @@ impl<'a, R: time::Clock, S: Waits> TimedStream<'a, R, S> {
         io::Error::from(ErrorKind::TimedOut)
     }
 
-    // Keeps why a read or a write fails for a fault that the system tells.
+    // Keeps the failure of a read or write for the system's fault.
     fn break_off(&mut self, kind: ErrorKind) -> io::Error
         ensures { self.new.stream ≡ self.old.stream }
     {
@@ -152,7 +149,7 @@ impl<'a, R: time::Clock, S: Waits> Write for TimedStream<'a, R, S> {
     }
 }
 
-// Whether a try that failed so may be made again: a signal came, or the time of a try was over.
+// Whether to try again: a signal came, or only the try's time is over.
 fn has_nothing_yet(kind: ErrorKind) -> bool {
     match kind {
         ErrorKind::Interrupted | ErrorKind::WouldBlock => true,

@@ -1,4 +1,4 @@
-//! What is written to the program that opens TLS, before the request.
+//! The header for the TLS program, before the request.
 //! The PROXY protocol, version 2, sections 2.2 and 2.2.2.
 ghost use Rattle.std.specs.Prelude.{◌≡◌, ◌≤◌, Err, length, IfOk};
 ghost use Rattle.http_client.specs.TlsHeader.{HasLongHost, IsHeaderOf, header_of_family};
@@ -8,7 +8,7 @@ use path_normal::PageUrl;
 use std::alloc::{AllocError, Global};
 use std::net::IpAddr;
 
-/// What begins each header.
+/// The start of each header.
 const SIGNATURE: [u8; 12] = *b"\r\n\r\n\0\r\nQUIT\n";
 
 /// Version 2, and the command PROXY.
@@ -21,11 +21,11 @@ const TCP_OVER_IPV6: u8 = 0x21;
 /// PP2_TYPE_AUTHORITY.
 const AUTHORITY: u8 = 0x02;
 
-/// The longest name that is sent.
+/// The longest name.
 const LONGEST_NAME: usize = 255;
 
-/// How many octets of a header's addresses and names are neither an address nor the name: two ports, and the
-/// type and the length of the name.
+/// The octets of a header's addresses and names besides an address and the name: two ports, and the type
+/// and length of the name.
 const OTHER_OCTETS: usize = 7;
 
 /// Why there is no header.
@@ -33,7 +33,7 @@ const OTHER_OCTETS: usize = 7;
 pub enum TlsHeaderFault {
     /// The host is longer than 255 octets.
     LongName,
-    /// There was no memory for it.
+    /// Out of memory.
     NoMemory,
 }
 
@@ -48,9 +48,9 @@ impl From<AllocError> for TlsHeaderFault {
     }
 }
 
-/// The header that has a page's TLS opened to one address of its server, for the name of its host.
+/// The header to open TLS for a page to one address of its server, with its host's name.
 ///
-/// No source address is of use to the program that reads it, so the target stands for that too.
+/// The reader has no use for a source address, so the target fills that in too.
 pub fn tls_header_of(
     alloc: Global,
     url: &PageUrl,
@@ -84,7 +84,7 @@ pub fn tls_header_of(
     Ok(header)
 }
 
-// The header of a family, for a port of a target.
+// The header of a family, for a target's port.
 fn header_of_family(
     alloc: Global,
     family: u8,

@@ -1,5 +1,5 @@
 -- From the final head and the body to the answer of the whole input.
--- Used by the proof of `read_response`.
+-- Used by `read_response`.
 use Rattle.std.proofs.Common.{◌≡◌, ◌≤◌, ◌+◌, ◌-◌, ℕ, List, [], ◌++◌, length, take, drop, Option, Some, None, Ok, Err, sym, ap, subst, ◌∙◌, arith, inr}
 use Rattle.std.specs.Prelude.{IfSome, option_map}
 use Rattle.std.specs.String.{string_bytes}
@@ -20,17 +20,15 @@ use Rattle.http_wire.specs.declared.response.HttpReply.{HttpReply}
 use Rattle.http_wire.proofs.HeadFacts.{final_append}
 use Rattle.http_wire.proofs.SourceReads.{whole_before}
 
--- where nothing was seen yet, the whole input is what the source has left
 all_left : (left : Option (List ℕ)) (input : List ℕ) → IsWhole left [] input → IfSome left (λ octets. octets ≡ input)
 all_left None input whole = tt
 all_left (Some octets) input whole = whole.known ∙ sym whole.parts
 
--- what the source had left is what was read, and then what is left now
+-- the source had what was read, and then what it has left now
 whole_input : (left left' : Option (List ℕ)) (seen input : List ℕ) → Grows left left' [] seen → IsWhole left' seen input
     → IfSome left (λ octets. octets ≡ input)
 whole_input left left' seen input grows whole = all_left left input (whole_before left left' [] seen input grows whole)
 
--- the final head of what was seen is that of the whole input
 final_of : (seen input more : List ℕ) (found : FinalHead) (is : IsFound seen found) → input ≡ seen ++ more
     → HasFinal input is.head (drop found.end input)
 final_of seen input more found is parts =
@@ -38,7 +36,6 @@ final_of seen input more found is parts =
     subst (λ (t : List ℕ). HasFinal t is.head (drop found.end t)) (sym parts)
     (subst (HasFinal (seen ++ more) is.head) (sym place) (final_append seen is.head (drop found.end seen) more is.final))
 
--- the reply of the whole input
 pub reply_told : (left left' : Option (List ℕ)) (seen : List ℕ) (found : FinalHead) (limit : ℕ) (body : Body) (reply : HttpReply)
     → Grows left left' [] seen → IsFound seen found → ReadsBody found.framing limit found.end left' seen (Ok body)
     → reply_of reply ≡ record { status = found.status; location = option_map string_bytes found.location; max_age = found.max_age; body = body.octets.items; cut = body.cut }
@@ -64,7 +61,6 @@ reply_told left left' seen found limit body reply grows is reads same = record {
   });
 }
 
--- a fact of the body, in the whole input
 in_body : {Fact : Framing → List ℕ → Type 0} (seen input more : List ℕ) (found : FinalHead) → IsFound seen found → input ≡ seen ++ more
     → Fact found.framing (drop found.end input) → InBody Fact input
 in_body seen input more found is parts fact = record {
@@ -76,7 +72,6 @@ in_body seen input more found is parts fact = record {
   fact = fact;
 }
 
--- the fault of the whole input
 pub fault_told : (left left' : Option (List ℕ)) (seen : List ℕ) (found : FinalHead) (limit : ℕ) (fault : WireFault)
     → Grows left left' [] seen → IsFound seen found → length seen ≤ max_raw
     → ReadsBody found.framing limit found.end left' seen (Err fault) → Tells left limit (Err fault)

@@ -11,7 +11,6 @@ use Rattle.http_wire.proofs.ChunkLaws.{gives_unique, gives_used, gives_append, e
 
 -- ---- how long a text is that gives octets
 
--- the octets that are given, one more, and the rest
 first_length : (limit : ℕ) (text given rest : List ℕ) → GivesFirst limit text given rest → length text ≡ limit + 1 + length rest
 first_length limit text given rest first =
     omega (arith, first.full, ap length first.parts, length-append given (first.last ∷ rest))
@@ -42,7 +41,6 @@ end_unique limit text a b true false ra rb x (fits, is, _) =
     absurd (omega (arith, fits, ap length is, first_length limit text a ra x))
 end_unique limit text a b true true ra rb x y = (first_unique limit text a b ra rb x y, refl)
 
--- A text gives one body at most.
 pub body_unique : (framing : Framing) (limit : ℕ) (text a b : List ℕ) (ca cb : Bool) (ra rb : List ℕ) → Gives framing limit text a ca ra → Gives framing limit text b cb rb
     → (a ≡ b) × (ca ≡ cb)
 body_unique (Counted size) limit text a b ca cb ra rb x y = counted_unique size limit text a b ca cb ra rb x y
@@ -59,13 +57,11 @@ counted_ends size limit text given false rest less few (fits, len, parts) =
 counted_ends size limit text given true rest less few (past, first) =
     omega (arith, few, first_length limit text given rest first)
 
--- A text that ends before the body does gives none.
 pub body_ends : (framing : Framing) (limit : ℕ) (text given : List ℕ) (cut : Bool) (rest : List ℕ) → EndsInBody framing limit text → Gives framing limit text given cut rest → ⊥
 body_ends (Counted size) limit text given cut rest (less, few) gives = counted_ends size limit text given cut rest less few gives
 body_ends Chunked limit text given cut rest ends gives = ends_excludes limit text given cut rest ends gives
 body_ends ToEnd limit text given cut rest ends gives = ends
 
--- A text whose body can't be read gives none.
 pub body_bad : (framing : Framing) (limit : ℕ) (text given : List ℕ) (cut : Bool) (rest : List ℕ) → IsBadBody framing limit text → Gives framing limit text given cut rest → ⊥
 body_bad (Counted size) limit text given cut rest bad gives = bad
 body_bad Chunked limit text given cut rest bad gives = refused_excludes limit text given cut rest bad gives
@@ -86,7 +82,6 @@ end_prefix limit n text given false rest few more within (fits, is, none) = omeg
 end_prefix limit n text given true rest few more within first =
     omega (arith, few, within, first_length limit text given rest first)
 
--- a body in chunks that ends within the first octets stands in them
 chunks_within : (limit n : ℕ) (text given : List ℕ) (cut : Bool) (rest : List ℕ) → length text ≤ n + length rest → GivesChunked limit text given cut rest
     → (after : List ℕ) × GivesChunked limit (take n text) given cut after
 chunks_within limit n text given cut rest within gives =
@@ -105,7 +100,7 @@ chunks_prefix limit n text given cut rest prefix within gives =
       | inr long ↦ long_excludes limit (take n text) given cut after long stands
     ]
 
--- A text whose first octets are a prefix of the body gives none that ends within them.
+-- no body ends within its proper prefix
 pub body_prefix : (framing : Framing) (limit n : ℕ) (text given : List ℕ) (cut : Bool) (rest : List ℕ) → IsBodyPrefix framing limit (take n text) → n < length text
     → length text ≤ n + length rest → Gives framing limit text given cut rest → ⊥
 body_prefix (Counted size) limit n text given cut rest (less, few) more within gives =

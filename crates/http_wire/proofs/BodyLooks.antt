@@ -1,5 +1,5 @@
 -- What a look at the octets of a body tells of the whole input.
--- The answers of `BodyDecoder` and of `read_body` cite it.
+-- Used by `BodyDecoder` and `read_body`.
 use Rattle.std.proofs.Common.{◌≡◌, ℕ, suc, ◌<◌, ◌≤◌, Bool, true, false, List, [], ◌∷◌, ◌++◌, length, take, drop, get_or, refl, sym, ap, subst, ◌∙◌, arith, append-nil, length-append, take-append-drop, inl, inr}
 use Rattle.std.proofs.Math.Seq.{drop-cons}
 use Rattle.std.proofs.lemmas.List.{drop-append-le, take-append-le, take_all, length-take-le}
@@ -20,7 +20,6 @@ use Rattle.http_wire.proofs.ChunkLaws.{bad_append}
 
 -- ---- the octets that are given
 
--- a text with more octets than the limit, at its parts
 prefix_parts : (limit : ℕ) (text : List ℕ) → limit < length text → text ≡ take limit text ++ (get_or text limit 0 ∷ drop (suc limit) text)
 prefix_parts limit text past =
     sym (take-append-drop limit text) ∙ ap (λ t. take limit text ++ t) (drop-cons text limit 0 past)
@@ -64,7 +63,6 @@ counted_seen size limit text (Given body) fits stand given last =
 counted_seen size limit text Full fits stand given last = absurd given
 counted_seen size limit text More fits stand given last = absurd given
 
--- chunks that can't be read can't be with more bytes behind
 pub bad_chunks : (limit start limit' start' : ℕ) (bytes : List ℕ) → limit' ≡ limit → start' ≡ start → IsBadChunked limit' (drop start' bytes)
     → Refuses Chunked limit (drop start bytes) BadChunk
 bad_chunks limit start limit' start' bytes same_limit same_start bad =
@@ -72,12 +70,12 @@ bad_chunks limit start limit' start' bytes same_limit same_start bad =
     let all = subst (λ n. IsBadChunked n (drop start bytes)) same_limit here in
     inl (refl, λ more. inl (bad_append limit (drop start bytes) more all))
 
--- ---- what is told of the whole input
+-- ---- the whole input
 
 drop_more : (start : ℕ) (bytes more : List ℕ) → start ≤ length bytes → drop start bytes ++ more ≡ drop start (bytes ++ more)
 drop_more start bytes more within = sym (drop-append-le start bytes more within)
 
--- a body that stands, whatever follows, stands in the bytes with more behind them
+-- a body that is certain whatever follows stays with more bytes after it
 pub given_past : (framing : Framing) (limit start : ℕ) (bytes more : List ℕ) (body : Body) → start ≤ length bytes → length bytes ≤ max_raw
     → GivesBody framing limit (drop start bytes) body → HasBody framing limit start (bytes ++ more) body
 given_past framing limit start bytes more body within few given = record {
@@ -86,7 +84,6 @@ given_past framing limit start bytes more body within few given = record {
   within = omega (arith, few, length-append bytes more, length-append given.rest more);
 }
 
--- what refuses a body, refuses it with more bytes behind
 pub refused_past : (framing : Framing) (limit start : ℕ) (bytes more : List ℕ) (fault : WireFault) → start ≤ length bytes
     → Refuses framing limit (drop start bytes) fault → HasNoBody fault framing limit start (bytes ++ more)
 refused_past framing limit start bytes more fault within refuses =
@@ -95,7 +92,6 @@ refused_past framing limit start bytes more fault within refuses =
       | inr none ↦ subst (λ f. HasNoBody f framing limit start (bytes ++ more)) (sym none) tt
     ]
 
--- the same with nothing behind
 pub given_end : (framing : Framing) (limit start : ℕ) (bytes : List ℕ) (body : Body) → start ≤ length bytes → length bytes ≤ max_raw
     → GivesBody framing limit (drop start bytes) body → HasBody framing limit start bytes body
 given_end framing limit start bytes body within few given =
@@ -106,7 +102,6 @@ pub refused_end : (framing : Framing) (limit start : ℕ) (bytes : List ℕ) (fa
 refused_end framing limit start bytes fault within refuses =
     subst (HasNoBody fault framing limit start) (append-nil bytes) (refused_past framing limit start bytes [] fault within refuses)
 
--- what is open or full is a prefix of the body
 open_prefix : (framing : Framing) (limit : ℕ) (text : List ℕ) → IsOpen framing limit text → IsBodyPrefix framing limit text
 open_prefix (Counted size) limit text open' = open'
 open_prefix Chunked limit text open' = inl open'
@@ -126,12 +121,11 @@ goes_on framing limit start bytes more full some prefix =
       prefix = subst (λ t. IsBodyPrefix framing limit (drop start t)) whole prefix;
     }
 
--- an open body goes on behind the last octet that a response may have
+-- an open body goes on after the last octet that a response may have
 pub open_past : (framing : Framing) (limit start : ℕ) (bytes more : List ℕ) → length bytes ≡ max_raw → 0 < length more
     → IsOpen framing limit (drop start bytes) → GoesOn framing limit start (bytes ++ more)
 open_past framing limit start bytes more full some open' = goes_on framing limit start bytes more full some (open_prefix framing limit (drop start bytes) open')
 
--- and so does one with as many lines as trailers may have
 pub full_past : (framing : Framing) (limit start : ℕ) (bytes more : List ℕ) → length bytes ≡ max_raw → 0 < length more
     → HasFullTrailers framing limit (drop start bytes) → GoesOn framing limit start (bytes ++ more)
 full_past framing limit start bytes more full some lines = goes_on framing limit start bytes more full some (full_prefix framing limit (drop start bytes) lines)

@@ -1,5 +1,5 @@
 -- What the reading of a body tells at each of its ends.
--- The answers of `read_body` cite it.
+-- Used by `read_body`.
 use Rattle.std.proofs.Common.{◌⊎◌, inl, inr, ◌≡◌, ℕ, ◌<◌, ◌≤◌, List, ◌++◌, length, drop, sym, subst, Option, Result, Ok, Err}
 use Rattle.http_wire.specs.declared.body.Body.{Body}
 use Rattle.http_wire.specs.declared.body_decoder.BodyDecoder.{BodyDecoder}
@@ -12,13 +12,13 @@ use Rattle.http_wire.specs.Seeing.{GivesBody, Refuses, framing_in}
 use Rattle.http_wire.proofs.BodyLooks.{given_past, refused_past}
 use Rattle.http_wire.proofs.SourceReads.{ahead, whole_now, whole_before, whole_ended, whole_past}
 
--- the decoder is one of the body that is read
+-- the decoder is for the body that is read
 pub record IsFor (framing : Framing) (limit start : ℕ) (decoder : BodyDecoder) : Type 0 where
   pub framing_is : framing_in decoder ≡ framing
   pub limit_is : decoder.limit ≡ limit
   pub start_is : decoder.start ≡ start
 
--- the octets give the body behind the decoder's start, or are refused there
+-- the octets give the body from the decoder's start, or refuse it
 abbrev pub GivesThere : BodyDecoder → List ℕ → Body → Type 0
 GivesThere decoder seen body = (decoder.start ≤ length seen) × GivesBody (framing_in decoder) decoder.limit (drop decoder.start seen) body
 
@@ -32,7 +32,6 @@ tells_for framing limit start decoder input result is tells =
     (subst (λ n. TellsBody (framing_in decoder) n start input result) is.limit_is
     (subst (λ s. TellsBody (framing_in decoder) decoder.limit s input result) is.start_is tells))
 
--- what is told of the whole input behind what was read, is told of it behind what was there at first
 reads_for : (framing : Framing) (limit start : ℕ) (left left' : Option (List ℕ)) (old seen input : List ℕ) (decoder : BodyDecoder) (result : Result Body WireFault)
     → IsFor framing limit start decoder → Grows left left' old seen → IsWhole left' seen input
     → TellsBody (framing_in decoder) decoder.limit decoder.start input result → ReadsBody framing limit start left old result
@@ -42,7 +41,6 @@ reads_for framing limit start left left' old seen input decoder result is grows 
   tells = tells_for framing limit start decoder input result is tells;
 }
 
--- A look gave the body.
 pub found_read : (framing : Framing) (limit start : ℕ) (left left' : Option (List ℕ)) (old new : List ℕ) (decoder : BodyDecoder) (body : Body)
     → IsFor framing limit start decoder → IsFoundIn (λ seen _ body. GivesThere decoder seen body) left left' old new body
     → ReadsBody framing limit start left old (Ok body)
@@ -50,14 +48,12 @@ found_read framing limit start left left' old new decoder body is found =
     reads_for framing limit start left left' old found.seen (found.seen ++ ahead left') decoder (Ok body) is found.grows (whole_now left' found.seen)
     (given_past (framing_in decoder) decoder.limit decoder.start found.seen (ahead left') body found.given.0 found.few found.given.1)
 
--- The input ended before the body did.
 pub ended_read : (framing : Framing) (limit start : ℕ) (left left' : Option (List ℕ)) (old new : List ℕ) (waits : List ℕ → Type 0) (decoder : BodyDecoder) (result : Result Body WireFault)
     → IsFor framing limit start decoder → EndsWaiting waits left left' old new
     → TellsBody (framing_in decoder) decoder.limit decoder.start new result → ReadsBody framing limit start left old result
 ended_read framing limit start left left' old new waits decoder result is ends tells =
     reads_for framing limit start left ends.before old new new decoder result is ends.came (whole_ended ends.before new ends.ended) tells
 
--- The input goes on behind the last octet that a response may have.
 pub past_read : (framing : Framing) (limit start : ℕ) (left : Option (List ℕ)) (old new : List ℕ) (waits : List ℕ → Type 0) (decoder : BodyDecoder) (result : Result Body WireFault)
     → IsFor framing limit start decoder → GoesOnWaiting waits left old new
     → ((more : List ℕ) → 0 < length more → TellsBody (framing_in decoder) decoder.limit decoder.start (new ++ more) result)
@@ -73,7 +69,6 @@ no_cause framing limit start input fault stops =
       | inr none ↦ subst (λ f. HasNoBody f framing limit start input) (sym none) tt
     ]
 
--- A look refused the body, a read failed, or there was no memory for it.
 pub broken_read : (framing : Framing) (limit start : ℕ) (left : Option (List ℕ)) (old : List ℕ) (decoder : BodyDecoder) (fault : WireFault)
     → IsFor framing limit start decoder → Breaks (RefusesThere decoder) left old fault → ReadsBody framing limit start left old (Err fault)
 broken_read framing limit start left old decoder fault is breaks =

@@ -1,5 +1,5 @@
--- What a look at a counted body tells where it finds nothing.
--- Used by the proof of `BodyDecoder::see`.
+-- What a look at a counted body tells if it finds nothing.
+-- Used by `BodyDecoder::see`.
 use Rattle.std.proofs.Common.{◌≡◌, ℕ, Bool, true, List, Result, Ok, refl, subst}
 use Rattle.http_wire.specs.Seeing.{IsShort, SeesBody}
 use Rattle.http_wire.specs.declared.body_decoder.BodySeen.{BodySeen}
@@ -7,7 +7,6 @@ use Rattle.http_wire.specs.declared.body_decoder.BodySeen.TheVariants.{More}
 use Rattle.http_wire.specs.declared.fault.WireFault.{WireFault}
 use Rattle.http_wire.specs.declared.framing.Framing.TheVariants.{Counted}
 
--- fewer octets stand there than the body has, and no more than the limit
 pub counted_short : (size limit : ℕ) (text : List ℕ) (seen : BodySeen) → ((last : Bool) → SeesBody (Counted size) limit text last seen)
     → ◌≡◌ {A = Result BodySeen WireFault} (Ok seen) (Ok More) → IsShort (Counted size) limit text
 counted_short size limit text seen sees more =

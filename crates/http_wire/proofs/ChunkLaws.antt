@@ -22,7 +22,7 @@ pub record ReadsPast (room : ℕ) (text prefix rest : List ℕ) : Type 0 where
   pub within : length prefix ≤ chunk_size line
   pub past : length prefix ≡ room + 1
 
--- what follows the chunks of a body that is given, and the octets of it that stand there
+-- what follows the chunks of a body, and its octets
 abbrev pub GivesAt : ℕ → List ℕ → List ℕ → Bool → List ℕ → Type 0
 GivesAt room text prefix false rest = (prefix ≡ []) × AfterLast (λ after. ReadsTrailers after rest) text
 GivesAt room text prefix true rest = ReadsPast room text prefix rest
@@ -90,7 +90,7 @@ parts limit text given true rest g =
       given_is = g.given_is;
     }
 
--- ---- no further chunk stands there
+-- ---- no further chunk
 
 pub last_no_chunk : (P : List ℕ → Type 0) (room : ℕ) (text : List ℕ) → AfterLast P text → HasNoChunk room text
 last_no_chunk P room text (line, after, reads, zero, p) = record {
@@ -190,7 +190,6 @@ take_within n prefix rest fits =
     let whole : length prefix + (n - length prefix) ≡ n = omega arith in
     subst (λ m. take m (prefix ++ rest) ≡ prefix ++ take (n - length prefix) rest) whole (take-append-add prefix rest (n - length prefix))
 
--- trailers within their limits stand in the first bytes of the text
 trailers_prefix : (text rest : List ℕ) (t : ReadsTrailers text rest)
     → ReadsSection (take max_trailer_bytes text) t.fields t.last (take (max_trailer_bytes - length (print_section t.fields t.last)) rest)
 trailers_prefix text rest t =
@@ -215,24 +214,20 @@ against P limit text given cut rest (chunks, after, reads, p) gives stops never 
     let same = same_chunks limit text chunks g.chunks after g.middle reads g.reads (stops _ _ p) (gives_no_chunk _ _ _ cut rest g.at) in
     never (limit - length (joined g.chunks)) g.middle g.prefix (subst (λ cs. P (limit - length (joined cs)) g.middle) same.0 (subst (P (limit - length (joined chunks))) same.1 p)) g.at
 
--- A text that ends inside a body gives none.
 pub ends_excludes : (limit : ℕ) (text given : List ℕ) (cut : Bool) (rest : List ℕ) → EndsInChunked limit text → GivesChunked limit text given cut rest → ⊥
 ends_excludes limit text given cut rest ends gives =
     against EndsAt limit text given cut rest ends gives ends_no_chunk (λ room t prefix p g. ends_at room t prefix cut rest p g)
 
--- A text that can't be read gives none.
 pub bad_excludes : (limit : ℕ) (text given : List ℕ) (cut : Bool) (rest : List ℕ) → IsBadChunked limit text → GivesChunked limit text given cut rest → ⊥
 bad_excludes limit text given cut rest bad gives =
     against IsBadAt limit text given cut rest bad gives bad_no_chunk (λ room t prefix p g. bad_at room t prefix cut rest p g)
 
--- A text that ends with too many lines gives none.
 pub long_excludes : (limit : ℕ) (text given : List ℕ) (cut : Bool) (rest : List ℕ) → EndsTooLong limit text → GivesChunked limit text given cut rest → ⊥
 long_excludes limit text given cut rest long gives =
     against (λ room. AfterLast HasTooManyLines) limit text given cut rest long gives
     (λ room t p. last_no_chunk HasTooManyLines room t p)
     (λ room t prefix p g. last_against HasTooManyLines room t prefix cut rest p (λ after q s. q.none s.fields s.last rest s.reads) g)
 
--- More bytes after a body change nothing of what it gives.
 pub gives_append : (limit : ℕ) (text given : List ℕ) (cut : Bool) (rest more : List ℕ) → GivesChunked limit text given cut rest
     → GivesChunked limit (text ++ more) given cut (rest ++ more)
 gives_append limit text given false rest more g = record {
@@ -249,7 +244,6 @@ gives_append limit text given true rest more g = record {
   given_is = g.given_is;
 }
 
--- What was used of the text gives the same by itself.
 pub gives_used : (limit : ℕ) (text given : List ℕ) (cut : Bool) (rest : List ℕ) → GivesChunked limit text given cut rest
     → (used : List ℕ) × (text ≡ used ++ rest) × GivesChunked limit used given cut []
 gives_used limit text given false rest g = (
@@ -291,7 +285,6 @@ unique_at room text a b true true r q x y =
     let prefixes = prefixes_same a b r q (x.past ∙ sym y.past) same.1 in
     (prefixes.0, refl, prefixes.1)
 
--- A text gives one body at most.
 pub gives_unique : (limit : ℕ) (text a b : List ℕ) (ca cb : Bool) (ra rb : List ℕ) → GivesChunked limit text a ca ra → GivesChunked limit text b cb rb
     → (a ≡ b) × (ca ≡ cb) × (ra ≡ rb)
 gives_unique limit text a b ca cb ra rb x y =
@@ -351,11 +344,9 @@ bad_more room text more (bad_end x) = bad_end (octets_append _ room text more x 
 bad_more room text more (bad_trailers x) = bad_trailers (last_append _ text more x (λ t p. over_append max_trailers t more p))
 bad_more room text more (too_long x) = too_long (last_append IsTooLong text more x (λ t p. long_append t more p))
 
--- More bytes make nothing readable that can't be read.
 pub bad_append : (limit : ℕ) (text more : List ℕ) → IsBadChunked limit text → IsBadChunked limit (text ++ more)
 bad_append limit text more bad = after_append IsBadAt limit text more bad (λ room t p. bad_more room t more p)
 
--- A refused text gives none.
 pub refused_excludes : (limit : ℕ) (text given : List ℕ) (cut : Bool) (rest : List ℕ) → IsRefusedChunked limit text → GivesChunked limit text given cut rest → ⊥
 refused_excludes limit text given cut rest (inl bad) gives = bad_excludes limit text given cut rest bad gives
 refused_excludes limit text given cut rest (inr long) gives = long_excludes limit text given cut rest long gives

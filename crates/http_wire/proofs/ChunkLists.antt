@@ -1,4 +1,4 @@
--- A text begins with one list of chunks only, before what is no chunk within the limit.
+-- A text begins with only one list of chunks, before what is no chunk within the limit.
 -- Used by `ChunkLaws`.
 use Rattle.std.proofs.Common.{◌≡◌, ℕ, ◌-◌, ◌≤◌, List, [], ◌∷◌, ◌++◌, length, refl, sym, ap, subst, ◌∙◌, arith, append_assoc, length-append}
 use Rattle.std.proofs.lemmas.List.Elements.{All-head, All-tail}
@@ -7,7 +7,6 @@ use Rattle.httparse.specs.Grammar.{print_chunk_line, chunk_size, ReadsChunkLine}
 use Rattle.httparse.proofs.ChunkLemmas.{chunk_line_unique}
 use Rattle.http_wire.specs.Chunks.{Chunk, print_chunk, IsChunk, print_chunks, joined, ReadsChunks}
 
--- two prefixes of one length of the same text
 pub prefixes_same : (a b r q : List ℕ) → length a ≡ length b → a ++ r ≡ b ++ q → (a ≡ b) × (r ≡ q)
 prefixes_same [] [] r q len e = (refl, e)
 prefixes_same [] (y ∷ b) r q len e = absurd (omega arith)
@@ -19,7 +18,6 @@ prefixes_same (x ∷ a) (y ∷ b) r q len e =
 pub regroup : (a b c r : List ℕ) → (a ++ (b ++ c)) ++ r ≡ a ++ (b ++ (c ++ r))
 regroup a b c r = simp append_assoc
 
--- a chunk at the front begins with its line
 pub line_of : (text rest : List ℕ) (c : Chunk) → IsChunk c → text ≡ print_chunk c ++ rest
     → ReadsChunkLine text c.line (c.octets ++ (crlf_bytes ++ rest))
 line_of text rest c valid e =
@@ -33,11 +31,10 @@ same_chunk text c d r q x y e f =
     (x.size ∙ ap chunk_size lines.0 ∙ sym y.size) lines.1 in
     (λ i. record { line = lines.0 i; octets = octets.0 i }, cc (octets.1))
 
--- no chunk of at most room octets stands at the front
+-- the text begins with no chunk of at most room octets
 pub record HasNoChunk (room : ℕ) (text : List ℕ) : Type 0 where
   pub none : (c : Chunk) (rest : List ℕ) → IsChunk c → length c.octets ≤ room → text ≡ print_chunk c ++ rest → ⊥
 
--- the first chunk, and the others
 first_of_list : (limit : ℕ) (text : List ℕ) (c : Chunk) (cs : List Chunk) (rest : List ℕ) → ReadsChunks limit text (c ∷ cs) rest
     → IsChunk c × (length c.octets ≤ limit) × (text ≡ print_chunk c ++ (print_chunks cs ++ rest))
     × ReadsChunks (limit - length c.octets) (print_chunks cs ++ rest) cs rest
@@ -55,7 +52,7 @@ room_of_rest limit c cs rest none =
     let same : limit - length (joined (c ∷ cs)) ≡ limit - length c.octets - length (joined cs) = omega (arith, length-append c.octets (joined cs)) in
     subst (λ n. HasNoChunk n rest) same none
 
--- Two lists of chunks of one text, with no further chunk after either, are one.
+-- two lists of chunks of one text, with no further chunk after either, are equal
 pub same_chunks : (limit : ℕ) (text : List ℕ) (cs ds : List Chunk) (r q : List ℕ)
     → ReadsChunks limit text cs r → ReadsChunks limit text ds q
     → HasNoChunk (limit - length (joined cs)) r → HasNoChunk (limit - length (joined ds)) q

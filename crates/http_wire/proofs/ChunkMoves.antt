@@ -1,5 +1,5 @@
 -- How the decoder's place moves over the bytes.
--- The answers of `ChunkDecoder` cite it.
+-- Used by `ChunkDecoder`.
 use Rattle.std.proofs.Common.{◌≡◌, ℕ, ◌+◌, ◌-◌, ◌<◌, ◌≤◌, Bool, List, ◌++◌, length, take, drop, sym, ap, subst, ◌∙◌, arith, length-append}
 use Rattle.std.proofs.lemmas.List.{drop-drop, take_rest, length-drop}
 use Rattle.httparse.specs.Grammar.{ChunkLine, print_chunk_line, IsChunkLine, ReadsChunkLine, chunk_size, print_extension, print_end, crlf}
@@ -12,7 +12,6 @@ use Rattle.http_wire.specs.declared.chunked.ChunkDecoder.{ChunkDecoder}
 use Rattle.http_wire.specs.Decoding.{TrailersTell, Decoded, Stands, Decodes}
 use Rattle.http_wire.proofs.ChunkPlaces.{trailers_whole, trailers_bad, trailers_full, trailers_end}
 
--- what a decoder stands for at a place that is known
 pub at_place : (decoder : ChunkDecoder) (bytes : List ℕ) (place : ChunkState) → Stands decoder bytes → decoder.place ≡ place
     → Decoded decoder.limit (drop decoder.start bytes) decoder.octets.items place (drop decoder.at bytes)
 at_place decoder bytes place s is =
@@ -43,13 +42,12 @@ moved old new bytes len place octets s m kept some fits d =
       },
     )
 
--- a chunk line has octets
 line_some : (line : ChunkLine) → IsChunkLine line → 0 < length (print_chunk_line line)
 unfolding print_chunk_line
 line_some line valid =
     omega (arith, valid.digits.0, length-append line.digits line.pad, length-append (line.digits ++ line.pad) (print_extension line.extension), length-append (line.digits ++ line.pad ++ print_extension line.extension) (print_end crlf))
 
--- a chunk line that stands at the place
+-- a chunk line at the place
 pub record LineFound (text : List ℕ) (len size : ℕ) : Type 0 where
   pub line : ChunkLine
   pub reads : ReadsChunkLine text line (drop len text)
@@ -57,7 +55,6 @@ pub record LineFound (text : List ℕ) (len size : ℕ) : Type 0 where
   pub some : 0 < len
   pub within : len ≤ length text
 
--- a chunk line that was read from a slice
 pub line_found : (bytes : List ℕ) (at len size : ℕ) → ((line : ChunkLine) × IsChunkLineAt (take (length bytes - at) (drop at bytes)) len size line)
     → LineFound (drop at bytes) len size
 line_found bytes at len size (line, read) =
@@ -72,14 +69,12 @@ line_found bytes at len size (line, read) =
       within = omega (arith, found.len_is, whole, ap length found.reads.1);
     }
 
--- what is said of a slice of the rest is said of the rest behind it
 pub text_behind : (P : List ℕ → Type 0) (bytes : List ℕ) (at size : ℕ)
     → P (take (length (take (length bytes - at) (drop at bytes)) - size) (drop size (take (length bytes - at) (drop at bytes)))) → P (drop size (drop at bytes))
 text_behind P bytes at size p =
     let behind = subst (λ t. P (take (length t - size) (drop size t))) (take_rest bytes at) p in
     subst P (take_rest (drop at bytes) size) behind
 
--- what the trailers tell of the body
 pub end_decodes : (decoder : ChunkDecoder) (bytes : List ℕ) (last : Bool) (look : PartSeen) → Stands decoder bytes → decoder.place ≡ places.Trailers
     → TrailersTell (drop decoder.at bytes) last look → Decodes bytes last decoder look
 end_decodes decoder bytes last Whole s is tells =

@@ -1,5 +1,5 @@
 -- What each place of a body tells, over plain lists.
--- The answers of `ChunkDecoder` cite it.
+-- Used by `ChunkDecoder`.
 use Rattle.std.proofs.Common.{◌≡◌, ℕ, ◌+◌, ◌-◌, ◌<◌, ◌≤◌, List, [], ◌∷◌, ◌++◌, length, take, drop, refl, sym, ap, subst, ◌∙◌, arith, append_assoc, append-nil, length-append, take-append-drop, inl, inr}
 use Rattle.std.specs.Prelude.{◌⊎◌}
 use Rattle.std.proofs.Math.Seq.{take-append-add}
@@ -50,7 +50,6 @@ line_last limit text octets rest after line d reads zero = record {
 
 -- ---- in the octets of a chunk
 
--- fewer octets of a chunk stand there than it has, and the limit has room for them
 pub octets_end : (limit size : ℕ) (text octets rest : List ℕ) → Decoded limit text octets (places.Octets size) rest
     → length rest < size → length rest + length octets ≤ limit → EndsInChunked limit text
 octets_end limit size text octets rest d less fits =
@@ -86,7 +85,6 @@ octets_cut limit size room text octets rest d full past more =
       given_is = ap (λ t. t ++ take room rest) d.octets_are ∙ ap (λ t. joined d.chunks ++ t) (sym same) ∙ sym cut;
     }
 
--- all octets of the chunk stand there, and P holds behind them
 after_octets : (P : List ℕ → Type 0) (limit size : ℕ) (text octets rest : List ℕ) (d : Decoded limit text octets (places.Octets size) rest)
     → size + length octets ≤ limit → size ≤ length rest → P (drop size rest) → AfterOctets (limit - length (joined d.chunks)) P d.middle
 after_octets P limit size text octets rest d fits stand p =
@@ -118,7 +116,6 @@ print_one_more cs c = flat_map-append print_chunk cs (c ∷ []) ∙ ap (λ t. pr
 join_one_more : (cs : List Chunk) (c : Chunk) → joined (cs ++ c ∷ []) ≡ joined cs ++ c.octets
 join_one_more cs c = flat_map-append (λ (k : Chunk). k.octets) cs (c ∷ []) ∙ ap (λ t. joined cs ++ t) (append-nil c.octets)
 
--- a chunk and its end
 pub chunk_read : (limit size : ℕ) (text octets rest after : List ℕ) → Decoded limit text octets (places.Octets size) rest
     → size + length octets ≤ limit → size ≤ length rest → drop size rest ≡ crlf_bytes ++ after
     → Decoded limit text (octets ++ take size rest) places.Line after
@@ -206,7 +203,6 @@ decoded_append limit text octets place rest more d = record {
   at = stands_at_append place d.middle rest more d.at;
 }
 
--- What a decoder stands for, it stands for with more bytes behind.
 pub stands_append : (decoder : ChunkDecoder) (bytes more : List ℕ) → Stands decoder bytes → Stands decoder (bytes ++ more)
 stands_append decoder bytes more s = record {
   started = s.started;
@@ -219,7 +215,6 @@ stands_append decoder bytes more s = record {
       (subst (Decoded decoder.limit (drop decoder.start bytes ++ more) decoder.octets.items decoder.place) rest d);
 }
 
--- What stands in a prefix of a text stands in a longer one.
 pub stands_longer : (decoder : ChunkDecoder) (text : List ℕ) (n m : ℕ) → n ≤ m → Stands decoder (take n text) → Stands decoder (take m text)
 stands_longer decoder text n m le s =
     let whole : take n text ++ drop n (take m text) ≡ take m text = ap (λ t. t ++ drop n (take m text)) (sym (take-take n m text le)) ∙ take-append-drop n (take m text) in

@@ -1,5 +1,5 @@
--- What a read into the room behind a buffer's octets leaves.
--- Used by the proof of `Buffer::fill`.
+-- What a read after a buffer's octets leaves.
+-- Used by `Buffer::fill`.
 use Rattle.std.proofs.Common.{Option, Result, Ok, Err, ◌≡◌, ◌≤◌, ◌+◌, ◌∙◌, ◌++◌, ℕ, List, length, take, sym, ap, arith}
 use Rattle.std.specs.Prelude.{IfOk}
 use Rattle.std.specs.Io.KnownBytes.{ReadConsumes}
@@ -14,13 +14,11 @@ filled end count room buffer tail inside fits =
     ∙ take-append-add (take end room) (buffer ++ tail) count
     ∙ ap (λ octets. take end room ++ octets) (take-append-le count buffer tail fits)
 
--- the read octets lie in the room
 filled_fits : (end count : ℕ) (room buffer tail : List ℕ) → end ≤ length room → count ≤ length buffer
     → end + count ≤ length (take end room ++ (buffer ++ tail))
 filled_fits end count room buffer tail inside fits =
     omega (arith, length-append (take end room) (buffer ++ tail), length-append buffer tail, length-take-le end room inside)
 
--- what a read into the room behind the first octets leaves
 pub read_filled : {E : Type 0} (result : Result ℕ E) (left left' : Option (List ℕ)) (end : ℕ) (room buffer tail : List ℕ) → end ≤ length room
     → IfOk result (λ count. count ≤ length buffer) → ReadConsumes left left' result buffer
     → IfOk result (λ count. (end + count ≤ length (take end room ++ (buffer ++ tail))) × Grows left left' (take end room) (take (end + count) (take end room ++ (buffer ++ tail))))

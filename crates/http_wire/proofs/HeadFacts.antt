@@ -1,5 +1,5 @@
 -- What a look at a head tells of the input, whatever follows.
--- Used by the proofs of `HeadFinder`.
+-- Used by `HeadFinder`.
 use Rattle.std.proofs.Common.{◌≡◌, ℕ, ◌+◌, ◌*◌, ◌<◌, ◌≤◌, ◌-◌, false, List, [], ◌∷◌, ◌++◌, length, map, take, drop, sym, ap, subst, ◌∙◌, arith, append_assoc, length-append, length-take, length-drop, take-append-drop, inl, inr}
 use Rattle.std.proofs.Math.Seq.{take-append-add, drop-append_seam}
 use Rattle.std.specs.Prelude.{IsTrue, ◌||◌}
@@ -22,7 +22,7 @@ use Rattle.http_wire.specs.declared.head.HeadFinder.{HeadFinder}
 use Rattle.http_wire.specs.Limits.{max_header_lines, max_head, max_interim_heads}
 use Rattle.http_wire.proofs.LineEnds.{lines_in_prefix, exceeds_lines}
 
--- ---- more octets behind a text
+-- ---- more octets after a text
 
 pub parts_append : (text prefix rest more : List ℕ) → text ≡ prefix ++ rest → text ++ more ≡ prefix ++ (rest ++ more)
 parts_append text prefix rest more parts = ap (λ (t : List ℕ). t ++ more) parts ∙ append_assoc prefix rest more
@@ -37,7 +37,6 @@ pub interims_append : (heads : List ResponseHead) (text rest more : List ℕ) �
 interims_append heads text rest more has =
     record { are = has.are; parts = parts_append text (flat_map print_response heads) rest more has.parts }
 
--- a fact of what follows the heads that were passed over
 pub after_passed : {Fact : List ℕ → Type 0} (finder : HeadFinder) (bytes more : List ℕ) → Passes finder bytes
     → Fact (drop finder.at bytes ++ more) → AfterInterims Fact (bytes ++ more)
 after_passed finder bytes more passes fact = record {
@@ -53,14 +52,12 @@ after_passed finder bytes more passes fact = record {
 pub prefix_split : (text : List ℕ) (n : ℕ) (more : List ℕ) → text ++ more ≡ take n text ++ (drop n text ++ more)
 prefix_split text n more = parts_append text (take n text) (drop n text) more (sym (take-append-drop n text))
 
--- what never becomes a head never does with more behind it
 pub never_prefix : (text more : List ℕ) → NeverHasResponse (take max_head text) → NeverHasResponse (text ++ more)
 never_prefix text more never later head rest reads =
     never (drop max_head text ++ (more ++ later)) head rest
     (subst (λ (t : List ℕ). ReadsResponse t head rest)
     (append_assoc text more later ∙ prefix_split text max_head (more ++ later)) reads)
 
--- a head that stands in a text of a full prefix stands in that prefix
 in_prefix : (text more : List ℕ) (head : ResponseHead) (rest : List ℕ) → max_head ≤ length text → HasHead (text ++ more) head rest
     → (tail : List ℕ) × ReadsResponse (take max_head text) head tail
 in_prefix text more head rest full has =
@@ -72,14 +69,12 @@ in_prefix text more head rest full has =
     ap (take max_head) has.parts ∙ ap (λ n. take n (print ++ rest)) (sym whole) ∙ take-append-add print rest room in
     (take room rest, (has.is.valid, sym same ∙ prefix))
 
--- no head in a full prefix
 pub long_open : (text more : List ℕ) → max_head ≤ length text → HasNoResponse (take max_head text) → IsLongHead (text ++ more)
 long_open text more full none = record {
   none = λ head rest has. let inside = in_prefix text more head rest full has in none head inside.0 inside.1;
   long = inl (omega (arith, full, length-append text more));
 }
 
--- too many lines in a prefix that is full, or is the whole text
 pub long_many : (text more : List ℕ) → ResponseOverflows max_header_lines (take max_head text)
     → ResponseExceeds max_header_lines (take max_head text) → IsLongHead (text ++ more)
 long_many text more over exceeds = record {
@@ -99,7 +94,6 @@ long_many text more over exceeds = record {
 
 -- ---- a head that was parsed
 
--- the head that the spans tell, in the whole text
 pub head_found : (text : List ℕ) (headers : List HeaderSpan) (spans : ResponseSpans) (head : ResponseHead)
     → IsHeadAt (take max_head text) headers spans head → HasHead text head (drop spans.len text)
 head_found text headers spans head found =
@@ -112,7 +106,6 @@ head_found text headers spans head found =
     ap (λ n. drop n text) len ∙ ap (drop (length print)) split ∙ drop-append_seam print (drop spans.len prefix ++ drop max_head text) in
     record { is = found.is; parts = split ∙ ap (λ (t : List ℕ). print ++ t) (sym tail) }
 
--- one interim head more
 pub interims_push : (heads : List ResponseHead) (head : ResponseHead) (text middle rest : List ℕ)
     → HasInterims heads text middle → HasHead middle head rest → IsTrue (is_interim (status_code head))
     → HasInterims (heads ++ head ∷ []) text rest
@@ -124,7 +117,6 @@ interims_push heads head text middle rest has next interim = record {
       ∙ ap (λ (t : List ℕ). t ++ rest) (flat_map_more print_response [] heads head);
 }
 
--- the finder passes over an interim head
 pub passes_next : (finder new : HeadFinder) (bytes : List ℕ) (headers : List HeaderSpan) (spans : ResponseSpans) (head : ResponseHead)
     → Passes finder bytes → IsHeadAt (take max_head (drop finder.at bytes)) headers spans head
     → IsTrue (is_interim spans.code) → finder.passed < max_interim_heads
@@ -148,7 +140,6 @@ passes_next finder new bytes headers spans head passes found interim few at pass
 
 -- ---- what a status tells
 
--- a ninth interim head
 pub too_many : (finder : HeadFinder) (bytes more : List ℕ) (headers : List HeaderSpan) (spans : ResponseSpans) (head : ResponseHead)
     → Passes finder bytes → IsHeadAt (take max_head (drop finder.at bytes)) headers spans head
     → IsTrue (is_interim spans.code) → max_interim_heads ≤ finder.passed → HasTooManyInterim (bytes ++ more)
@@ -164,7 +155,6 @@ too_many finder bytes more headers spans head passes found interim many =
           (interims_push passes.heads head bytes text (drop spans.len text) passes.passed has status);
     }
 
--- a status that is neither interim nor final
 pub strange : (finder : HeadFinder) (bytes more : List ℕ) (headers : List HeaderSpan) (spans : ResponseSpans) (head : ResponseHead)
     → Passes finder bytes → IsHeadAt (take max_head (drop finder.at bytes)) headers spans head
     → (is_interim spans.code || is_final spans.code) ≡ false → AfterInterims IsBadHead (bytes ++ more)
@@ -177,7 +167,6 @@ strange finder bytes more headers spans head passes found status =
       status = subst (λ code. (is_interim code || is_final code) ≡ false) found.at.code status;
     }))
 
--- the final head
 final_found : (finder : HeadFinder) (bytes : List ℕ) (headers : List HeaderSpan) (spans : ResponseSpans) (head : ResponseHead)
     → Passes finder bytes → IsHeadAt (take max_head (drop finder.at bytes)) headers spans head
     → IsTrue (is_final spans.code) → HasFinal bytes head (drop (finder.at + spans.len) bytes)
@@ -205,14 +194,12 @@ final_append text head after more final = record {
   fact = record { has = head_append final.rest head after more final.fact.has; status = final.fact.status };
 }
 
--- the fields that the spans cover, and the status
 told : (Fact : ℕ → List Pair → Type 0) (prefix : List ℕ) (headers : List HeaderSpan) (spans : ResponseSpans) (head : ResponseHead) → IsHeadAt prefix headers spans head
     → Fact spans.code (map (header_bytes prefix) (take spans.headers headers))
     → Fact (status_code head) (head_fields head)
 told Fact prefix headers spans head found fact =
     subst (λ code. Fact code (head_fields head)) found.at.code (subst (Fact spans.code) found.at.fields fact)
 
--- what was read off the final head
 pub planned : (finder : HeadFinder) (bytes : List ℕ) (headers : List HeaderSpan) (spans : ResponseSpans) (head : ResponseHead)
     (plan : FinalHead) → Passes finder bytes → IsHeadAt (take max_head (drop finder.at bytes)) headers spans head
     → IsTrue (is_final spans.code)
@@ -234,7 +221,6 @@ planned finder bytes headers spans head plan passes found final is =
       max_age = own.max_age;
     }
 
--- why nothing was read off it
 pub unplanned : (finder : HeadFinder) (bytes : List ℕ) (headers : List HeaderSpan) (spans : ResponseSpans) (head : ResponseHead)
     (fault : WireFault) → Passes finder bytes → IsHeadAt (take max_head (drop finder.at bytes)) headers spans head
     → IsTrue (is_final spans.code)
@@ -264,11 +250,9 @@ unplanned finder bytes headers spans head fault passes found final none more lim
 
 -- ---- what the parser tells
 
--- a prefix that is short is the whole text
 short_prefix : (text : List ℕ) → length (take max_head text) < max_head → length text < max_head
 short_prefix text short = omega (arith, length-take max_head text, short)
 
--- an unfinished head, short of the longest
 pub prefix_open : (finder new : HeadFinder) (bytes prefix : List ℕ) → prefix ≡ take max_head (drop finder.at bytes)
     → new.at ≡ finder.at → HasNoResponse prefix → MayBecomeResponse prefix → length prefix < max_head
     → IsHeadPrefix (drop new.at bytes)
@@ -282,7 +266,6 @@ prefix_open finder new bytes prefix is at none unfinished short =
       octets = less;
     })
 
--- the finder stays where it is
 pub passes_same : (finder new : HeadFinder) (bytes : List ℕ) → new.at ≡ finder.at → new.passed ≡ finder.passed
     → Passes finder bytes → Passes new bytes
 passes_same finder new bytes at passed passes = record {
@@ -294,7 +277,6 @@ passes_same finder new bytes at passed passes = record {
   soon = subst (λ n. n ≤ new.passed * max_head) (sym at) (subst (λ n. finder.at ≤ n * max_head) (sym passed) passes.soon);
 }
 
--- fewer octets are there than a head may have
 pub short_of : (finder new : HeadFinder) (bytes prefix : List ℕ) → prefix ≡ take max_head (drop finder.at bytes)
     → new.at ≡ finder.at → Passes finder bytes → length prefix < max_head → length bytes < new.at + max_head
 short_of finder new bytes prefix is at passes short =
@@ -320,7 +302,6 @@ pub never_bad : (finder : HeadFinder) (bytes prefix more : List ℕ) → prefix 
 never_bad finder bytes prefix more is passes never =
     after_passed finder bytes more passes (inl (never_prefix (drop finder.at bytes) more (subst NeverHasResponse is never)))
 
--- the same with too many lines
 pub ends_long : (finder : HeadFinder) (bytes : List ℕ) → Passes finder bytes → IsHeadPrefix (drop finder.at bytes)
     → max_header_lines < line_ends (drop finder.at bytes) → AfterInterims IsLongHead bytes
 ends_long finder bytes passes prefix many =

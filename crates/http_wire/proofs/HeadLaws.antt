@@ -33,7 +33,6 @@ first head heads text rest has =
       others = record { are = All-tail IsInterim head heads has.are; parts = refl };
     }
 
--- no status is both interim and final
 not_both : (status : ℕ) → IsTrue (is_interim status) → IsTrue (is_final status) → ⊥
 not_both status interim final = grind (arith, nat_tests)
 
@@ -43,7 +42,7 @@ clash text g h r q has interim final =
     let same = head_unique text g h r q has final.has in
     not_both (status_code h) (subst (λ k. IsTrue (is_interim (status_code k))) same.0 interim) final.status
 
--- interim heads that were passed over are among those before the final head
+-- interim heads that were skipped are among those before the final head
 record Left (hs ks : List ResponseHead) (after before : List ℕ) : Type 0 where
   heads : List ResponseHead
   passed : HasInterims heads after before
@@ -82,7 +81,7 @@ final_unique text h k r q a b =
 
 -- ---- no fault of a head beside a final one
 
--- the text begins with a head that is passed over or taken
+-- the text begins with a head that is skipped or taken
 record IsTaken (text : List ℕ) : Type 0 where
   head : ResponseHead
   rest : List ℕ

@@ -1,5 +1,5 @@
 -- What a fault of the heads tells of the input.
--- Used by the proof of `read_final`.
+-- Used by `read_final`.
 use Rattle.std.proofs.Common.{ℕ, List, [], ◌++◌, Option, sym, subst, inl, inr}
 use Rattle.http_wire.specs.Finding.{Fails, Faults}
 use Rattle.http_wire.specs.Parts.{Breaks}
@@ -7,7 +7,6 @@ use Rattle.http_wire.specs.Response.{Cause}
 use Rattle.http_wire.specs.declared.fault.WireFault.{WireFault}
 use Rattle.http_wire.proofs.SourceReads.{ahead, whole_now, whole_before}
 
--- a fault that stands whatever follows what was read, or one of the device or of memory
 pub fails_to_read : (left : Option (List ℕ)) (fault : WireFault) → Breaks Faults left [] fault → Fails left [] fault
 fails_to_read left fault breaks = record {
   input = breaks.seen ++ ahead breaks.before;

@@ -1,5 +1,5 @@
 -- How many lines end in a head.
--- Used where a head has more header lines than the parser takes.
+-- Used when a head has more header lines than the parser takes.
 use Rattle.std.proofs.Common.{◌≡◌, ℕ, ◌+◌, ◌-◌, ◌<◌, ◌≤◌, ◌==◌, List, [], ◌∷◌, ◌++◌, length, take, refl, sym, ap, ◌∙◌, arith, cond}
 use Rattle.std.proofs.Math.Seq.{take-append-add}
 use Rattle.std.specs.List.{flat_map}
@@ -43,7 +43,6 @@ head_has head =
     line_ends-append before (print_end head.line_end) in
     omega (arith, all, line, section_has head.fields head.last, end_has head.line_end)
 
--- a text whose prefix and an empty line are a head of too many lines has that many line ends
 pub exceeds_lines : (text : List ℕ) → ResponseExceeds max_header_lines text → max_header_lines < line_ends text
 exceeds_lines text (prefix, rest, split, head, reads, many) =
     omega (
@@ -58,7 +57,6 @@ exceeds_lines text (prefix, rest, split, head, reads, many) =
       end_has lf,
     )
 
--- line ends of a short text are among those of its continuations that a head may have
 pub lines_in_prefix : (text more : List ℕ) → length text ≤ max_head → line_ends text ≤ line_ends (take max_head (text ++ more))
 lines_in_prefix text more short =
     let room = max_head - length text in

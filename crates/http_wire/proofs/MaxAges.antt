@@ -1,5 +1,5 @@
 -- The max-age of a member, and the first of several.
--- Used by the proofs of `max_age_of` and its parts, and of the one reply that an input gives.
+-- Used by `max_age_of` and its parts, and by the proof that an input gives one reply.
 use Rattle.std.proofs.Common.{◌≡◌, ◌+◌, ◌-◌, ◌⊎◌, inl, inr, ℕ, Bool, true, false, cond, List, [], ◌∷◌, ◌++◌, All, length, take, drop, map, Option, Some, None, refl, sym, ap, subst, ◌∙◌, arith, length-append, take-append-drop}
 use Rattle.std.specs.Prelude.{◌&&◌, MatchOption, codes, min, nat_lt}
 use Rattle.std.specs.Borrow.{Bor}
@@ -20,14 +20,12 @@ no_and : (test : Bool) → (test && false) ≡ false
 no_and true = refl
 no_and false = refl
 
--- what is quoted is no number
 quoted_none : (argument text : List ℕ) → IsQuoted argument text → delta_seconds argument ≡ None
 quoted_none argument text quoted =
     ap delta_seconds quoted
     ∙ ap (λ test. cond test (Some (min (digits_value 10 (quotation_mark ∷ (text ++ quotation_mark ∷ []))) max_seconds)) None)
     (no_and (nat_lt 0 (length (quotation_mark ∷ (text ++ quotation_mark ∷ [])))))
 
--- what stands between the quotation marks is one text
 pub quoted_same : (argument a b : List ℕ) → IsQuoted argument a → IsQuoted argument b → a ≡ b
 quoted_same argument a b x y = append_cancel_right a b (quotation_mark ∷ []) (ap (drop 1) (sym x ∙ y))
 
@@ -37,7 +35,6 @@ not_both seconds n none some = let both : ◌≡◌ {A = Option ℕ} None (Some 
 same_seconds : (seconds : Option ℕ) (a b : ℕ) → seconds ≡ Some a → seconds ≡ Some b → a ≡ b
 same_seconds seconds a b x y = let both : ◌≡◌ {A = Option ℕ} (Some a) (Some b) = sym x ∙ y in cc
 
--- a quoted argument writes what stands between the quotation marks
 pub written_quoted : (argument text : List ℕ) (seconds : ℕ) → IsQuoted argument text → WritesSeconds argument seconds → delta_seconds text ≡ Some seconds
 written_quoted argument text seconds quoted writes =
     elim writes.form [
@@ -45,7 +42,6 @@ written_quoted argument text seconds quoted writes =
       | inr own ↦ ap delta_seconds (quoted_same argument text writes.digits quoted own) ∙ writes.value
     ]
 
--- any other writes what it is
 pub written_plain : (argument : List ℕ) (seconds : ℕ) → ((text : List ℕ) → ¬ (IsQuoted argument text)) → WritesSeconds argument seconds → delta_seconds argument ≡ Some seconds
 written_plain argument seconds plain writes =
     elim writes.form [
@@ -53,14 +49,12 @@ written_plain argument seconds plain writes =
       | inr own ↦ absurd (plain writes.digits own)
     ]
 
--- what an argument is found to write, it writes
 pub seconds_told : (argument digits : List ℕ) (found : Option ℕ) → (argument ≡ digits) ⊎ IsQuoted argument digits → found ≡ delta_seconds digits
     → ((seconds : ℕ) → WritesSeconds argument seconds → delta_seconds digits ≡ Some seconds)
     → MatchOption found ((seconds : ℕ) → ¬ (WritesSeconds argument seconds)) (WritesSeconds argument)
 seconds_told argument digits None form is own = λ seconds writes. not_both (delta_seconds digits) seconds (sym is) (own seconds writes)
 seconds_told argument digits (Some n) form is own = record { digits = digits; form = form; value = sym is }
 
--- what is found behind a quotation mark
 pub found_quoted : (argument opened : List ℕ) (found : Option (Bor (List ℕ))) → bytes_eq (take 1 argument) (quotation_mark ∷ []) ≡ true → opened ≡ drop 1 argument
     → MatchOption found (bytes_eq (drop (length opened - 1) opened) (quotation_mark ∷ []) ≡ false)
     (λ text. (bytes_eq (drop (length opened - 1) opened) (quotation_mark ∷ []) ≡ true) × (text.now ≡ take (length opened - 1) opened) × (length text.now + 1 ≡ length opened))
@@ -78,7 +72,6 @@ found_quoted argument opened (Some text) mark behind some =
     ∙ ap (λ (back : List ℕ). take (length opened - 1) opened ++ back) ((bytes_eq-Decides (drop (length opened - 1) opened) (quotation_mark ∷ [])).0 some.0)
     ∙ ap (λ (front : List ℕ). front ++ quotation_mark ∷ []) (sym some.1))
 
--- an argument writes one number of seconds
 written_unique : (argument : List ℕ) (a b : ℕ) → WritesSeconds argument a → WritesSeconds argument b → a ≡ b
 written_unique argument a b x y =
     elim x.form [
@@ -91,7 +84,6 @@ written_unique argument a b x y =
 
 -- ---- the seconds of a member
 
--- the same words are of one length
 same_length : (a b : List ℕ) → is_same_word a b ≡ true → length a ≡ length b
 same_length a b same =
     sym (length-map a to_ascii_lowercase)
@@ -108,7 +100,6 @@ argument_of member seconds is =
     sym (drop-append_seam is.name is.argument) ∙ ap (λ n. drop n (is.name ++ is.argument)) (same_length is.name (codes "max-age=") is.name_is)
     ∙ ap (drop 8) (sym is.parts)
 
--- what the argument behind the name writes, the member tells
 pub max_age_told : (member name argument : List ℕ) (found : Option ℕ) → member ≡ name ++ argument → argument ≡ drop 8 member
     → is_same_word name (codes "max-age=") ≡ true
     → MatchOption found ((seconds : ℕ) → ¬ (WritesSeconds argument seconds)) (WritesSeconds argument)
@@ -118,7 +109,6 @@ max_age_told member name argument None parts behind same none =
 max_age_told member name argument (Some seconds) parts behind same writes =
     record { name = name; argument = argument; parts = parts; name_is = same; writes = writes }
 
--- a member is a max-age of one number of seconds
 member_unique : (member : List ℕ) (a b : ℕ) → IsMaxAge member a → IsMaxAge member b → a ≡ b
 member_unique member a b x y =
     written_unique (drop 8 member) a b
@@ -161,7 +151,6 @@ first_or_later first members seconds (other ∷ before) member after parts none 
       record { before = before; member = member; after = after; parts = rest; none = All-tail IsNoMaxAge other before none; is = is },
     )
 
--- the first member is a max-age, or the others tell
 tells_parts : (first : List ℕ) (members : List (List ℕ)) (seconds : Option ℕ) → TellsMaxAge (first ∷ members) seconds
     → ((n : ℕ) × (seconds ≡ Some n) × IsMaxAge first n) ⊎ (IsNoMaxAge first × TellsMaxAge members seconds)
 tells_parts first members None none = inr (All-head IsNoMaxAge first members none, All-tail IsNoMaxAge first members none)
@@ -171,7 +160,6 @@ tells_parts first members (Some n) is =
       | inr later ↦ inr later
     ]
 
--- members tell one number of seconds, or none
 pub tells_unique : (members : List (List ℕ)) (a b : Option ℕ) → TellsMaxAge members a → TellsMaxAge members b → a ≡ b
 tells_unique [] None None x y = refl
 tells_unique [] (Some a) b x y = absurd (none_in_nothing x.before x.after x.member x.parts)

@@ -1,5 +1,5 @@
 -- A text that is no UTF-8 writes no number.
--- Used by the proof of `number_in`.
+-- Used by `number_in`.
 use Rattle.std.proofs.Common.{◌≡◌, ◌<◌, true, false, ℕ, List, All, Bool, get_or, None, refl, arith}
 use Rattle.std.specs.Prelude.{IsUtf8}
 use Rattle.std.specs.Char.{is_ascii_digit}
@@ -15,7 +15,6 @@ digits_ascii member digits = λ k d inside.
     let digit : is_ascii_digit (get_or member k d) ≡ true = AllPass-from_list_all is_ascii_digit member digits k d inside in
     grind (arith, nat_tests)
 
--- a numeral is a text
 numeral_is_text : (member : List ℕ) → is_numeral member ≡ true → IsUtf8 member
 numeral_is_text member numeral =
     let digits : list_all is_ascii_digit member ≡ true = grind (arith, nat_tests) in
@@ -25,6 +24,5 @@ no_number_by : (tested : Bool) (member : List ℕ) → is_numeral member ≡ tes
 no_number_by true member numeral no_text = absurd (no_text (numeral_is_text member numeral))
 no_number_by false member numeral no_text = let number : is_number member ≡ false = grind (arith, nat_tests) in rw number refl
 
--- what is no text writes no number
 pub no_number : (member : List ℕ) → ¬ (IsUtf8 member) → None ≡ number_of member
 no_number member no_text = no_number_by (is_numeral member) member refl no_text

@@ -1,5 +1,5 @@
--- The pieces of a request, and what of them is written where a write fails.
--- The answers of `write_get` and `write_pieces` cite it.
+-- The pieces of a request, and what is written of them if a write fails.
+-- Used by `write_get` and `write_pieces`.
 use Rattle.std.proofs.Common.{◌≡◌, ℕ, suc, ◌+◌, ◌<◌, List, [], ◌∷◌, ◌++◌, length, take, drop, get_or, min, sym, ap, subst, ◌∙◌, arith, append_assoc, take-append-drop, Option}
 use Rattle.std.specs.Prelude.{codes}
 use Rattle.std.specs.Borrow.{Bor}
@@ -14,7 +14,7 @@ use Rattle.http_wire.specs.Request.{joined_pieces, request, field_line}
 
 -- ---- the pieces
 
--- the lines behind that of the agent, and what follows the agent's value
+-- the lines after the agent's, and what follows the agent's value
 abbrev pub last_lines : List ℕ
 last_lines =
     field_line (codes "Accept") (codes "*/*")
@@ -24,14 +24,13 @@ last_lines =
 abbrev pub after_agent : List ℕ
 after_agent = crlf_bytes ++ last_lines
 
--- what stands between the target and the authority, and between the authority and the agent's value
+-- the text between the target and the authority, and between the authority and the agent's value
 abbrev pub before_authority : List ℕ
 before_authority = codes " HTTP/1.1" ++ (crlf_bytes ++ codes "Host: ")
 
 abbrev pub before_agent : List ℕ
 before_agent = crlf_bytes ++ codes "User-Agent: "
 
--- the lists are those of a request's pieces, whose target and authority are these
 pub request_joined : (target authority agent t a : List ℕ) → t ≡ target → a ≡ authority
     → codes "GET " ++ (t ++ (before_authority ++ (a ++ (before_agent ++ (agent ++ (after_agent ++ []))))))
     ≡ request target authority agent
@@ -47,20 +46,18 @@ request_joined target authority agent t a is_target is_authority =
 
 -- ---- a write that fails
 
--- the pieces before one of them, that one, and those after it
 pieces_at : (pieces : List (Bor (List ℕ))) (i : ℕ) (d : Bor (List ℕ)) → i < length pieces
     → joined_pieces pieces ≡ joined_pieces (take i pieces) ++ ((get_or pieces i d).now ++ joined_pieces (drop (suc i) pieces))
 pieces_at pieces i d inside =
     let split : pieces ≡ take i pieces ++ (get_or pieces i d ∷ drop (suc i) pieces) = sym (take-append-drop i pieces) ∙ ap (λ t. take i pieces ++ t) (drop-cons pieces i d inside) in
     ap joined_pieces split ∙ flat_map-append (λ (piece : Bor (List ℕ)). piece.now) (take i pieces) (get_or pieces i d ∷ drop (suc i) pieces)
 
--- a prefix of the second text behind the first is a prefix of all
 prefix_more : (first second rest : List ℕ) (n : ℕ) → take (length first + min n (length second)) (first ++ (second ++ rest)) ≡ first ++ take n second
 prefix_more first second rest n =
     take-append-add first (second ++ rest) (min n (length second))
     ∙ ap (λ t. first ++ t) (take-append-le (min n (length second)) second rest (omega arith) ∙ take_min n second)
 
--- What was written where a piece was not written whole is a prefix of all the pieces.
+-- what was written up to a failed piece is a prefix of all the pieces
 pub cut_piece : (old mid new : Option (List ℕ)) (pieces : List (Bor (List ℕ))) (i : ℕ) (d : Bor (List ℕ)) → i < length pieces
     → Appends old mid (joined_pieces (take i pieces)) → AppendsPrefix mid new (get_or pieces i d).now → AppendsPrefix old new (joined_pieces pieces)
 cut_piece old mid new pieces i d inside before part =

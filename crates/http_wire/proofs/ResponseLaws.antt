@@ -1,5 +1,5 @@
--- An input gives one reply, and no fault but the device's and memory's beside it.
--- Used by the proof of `read_response`.
+-- An input gives one reply, and no fault besides but the device's and memory's.
+-- Used by `read_response`.
 use Rattle.std.proofs.Common.{◌≡◌, ◌⊎◌, ℕ, List, [], ◌∷◌, ◌++◌, length, take, drop, Option, Some, None, Result, Ok, Err, refl, sym, ap, subst, ◌∙◌, arith, length-append, length-take, take-append-drop, inl, inr}
 use Rattle.std.proofs.lemmas.Bool.{false≢true}
 use Rattle.std.proofs.Math.Seq.{take-append_seam}
@@ -29,7 +29,6 @@ first_text_unique (value ∷ values) None (Some b) x y = absurd (x y.0)
 first_text_unique (value ∷ values) (Some a) None x y = absurd (y x.0)
 first_text_unique (value ∷ values) (Some a) (Some b) x y = ap Some (x.1 ∙ sym y.1)
 
--- the framing that one final head tells
 same_framing : (h k : ResponseHead) (f e : Framing) → h ≡ k → framing_of (status_code h) (head_fields h) ≡ Ok f
     → framing_of (status_code k) (head_fields k) ≡ Ok e → f ≡ e
 same_framing h k f e same x y =
@@ -57,7 +56,6 @@ reply_unique input limit a b x y =
 
 -- ---- no fault beside a reply
 
--- a fact of the body beside a reply holds of the reply's own body
 own_body : {Fact : Framing → List ℕ → Type 0} (input : List ℕ) (limit : ℕ) (reply : Reply) (rest : List ℕ) (gives : GivesReply input limit reply rest)
     → InBody Fact input → Fact gives.framing gives.text
 own_body {Fact} input limit reply rest gives body =
@@ -65,7 +63,6 @@ own_body {Fact} input limit reply rest gives body =
     let framing = same_framing body.head gives.head body.framing gives.framing heads.0 body.framed gives.framed in
     subst (Fact gives.framing) heads.1 (subst (λ f. Fact f body.text) framing body.fact)
 
--- a fact of the final head beside a reply holds of the reply's own head
 own_head : {Fact : ResponseHead → Type 0} (input : List ℕ) (limit : ℕ) (reply : Reply) (rest : List ℕ) (gives : GivesReply input limit reply rest)
     → AtFinal Fact input → Fact gives.head
 own_head {Fact} input limit reply rest gives at =
@@ -75,7 +72,6 @@ not_unframed : (result : Result Framing Unframed) (framing : Framing) (why : Unf
 not_unframed result framing why ok err =
     let both : ◌≡◌ {A = Result Framing Unframed} (Ok framing) (Err why) = sym ok ∙ err in cc
 
--- the reply ends where the input is said to go on
 too_much_excludes : (input : List ℕ) (limit : ℕ) (reply : Reply) → Response input limit reply → IsTooMuch input limit → ⊥
 too_much_excludes input limit reply response much =
     let gives = response.gives in
@@ -100,7 +96,7 @@ too_much_excludes input limit reply response much =
     (omega (arith, response.within, much.more, lengths, sum, total, parts, taken))
     gives.gives
 
--- beside a reply stands no cause but those that memory and the device may bring at any time
+-- beside a reply only memory and the device can fail
 pub cause_excludes : (input : List ℕ) (limit : ℕ) (reply : Reply) (fault : WireFault) → Response input limit reply → Cause fault input limit
     → (fault ≡ Device) ⊎ (fault ≡ NoMemory)
 cause_excludes input limit reply EarlyEnd response (inl ends) =
@@ -137,7 +133,6 @@ gives_or_stops : (input : List ℕ) (limit : ℕ) (reply : Reply) (result : Resu
 gives_or_stops input limit reply (Ok given) response answers = reply_unique input limit (reply_of given) reply answers response
 gives_or_stops input limit reply (Err fault) response cause = cause_excludes input limit reply fault response cause
 
--- an answer of what the source has left is the reply that stands there
 pub finds : (left : Option (List ℕ)) (limit : ℕ) (result : Result HttpReply WireFault) → Tells left limit result → Finds left limit result
 finds None limit result tells = tt
 finds (Some octets) limit result tells = λ reply response.

@@ -1,5 +1,5 @@
--- What the first octets of a text, as many as trailers may have, tell of the text.
--- The answers of `look_full` cite it.
+-- What as many octets as trailers may have tell of the text.
+-- Used by `look_full`.
 use Rattle.std.proofs.Common.{◌≢◌, ℕ, ◌<◌, ◌≤◌, List, [], ◌++◌, length, take, drop, sym, refl, subst, append-nil, take-append-drop}
 use Rattle.httparse.specs.Grammar.{ReadsSection, NeverHasSection, LineEnd, Field}
 use Rattle.httparse.specs.Spans.{SectionOverflows}
@@ -19,7 +19,6 @@ prefix_whole n text rest t = record {
   short = t.short;
 }
 
--- what never becomes trailers never has few lines
 pub never_over : (room : ℕ) (text : List ℕ) → NeverHasSection text → SectionOverflows room text
 never_over room text never more fields last rest reads = absurd (never more fields last rest reads)
 
@@ -27,7 +26,6 @@ over_now : (room : ℕ) (text : List ℕ) → SectionOverflows room text → (fi
 over_now room text over fields last rest reads =
     over [] fields last rest (subst (λ s. ReadsSection s fields last rest) (sym (append-nil text)) reads)
 
--- no trailers stand in the octets that they may have
 pub prefix_bad : (text : List ℕ) (section : TrailerSection) → max_trailer_bytes ≤ length text
     → SectionTells (take max_trailer_bytes text) section → section ≢ sections.Whole → IsTooLong text
 prefix_bad text sections.Whole long tells other = absurd (other refl)

@@ -1,4 +1,4 @@
--- What a body of each framing gives, where it ends too early, and where it can't be read.
+-- Bodies of each framing: what they give, when they end too early, and when they can't be read.
 -- RFC 9112, section 6.3.
 use Rattle.std.specs.Prelude.{◌≡◌, ℕ, ◌<◌, ◌≤◌, ◌⊎◌, Bool, true, false, List, [], ◌∷◌, ◌++◌, length, Ok}
 use Rattle.httparse.specs.Grammar.{ResponseHead, status_code}
@@ -8,47 +8,47 @@ use Rattle.http_wire.specs.Chunks.{GivesChunked, EndsInChunked, EndsTooLong, IsR
 use Rattle.http_wire.specs.declared.framing.Framing.{Framing}
 use Rattle.http_wire.specs.declared.framing.Framing.TheVariants.{Counted, Chunked, ToEnd}
 
--- the first octets of the text, as many as the limit, with one more behind them
+-- the text's first octets up to the limit, followed by one more
 pub record GivesFirst (limit : ℕ) (text given rest : List ℕ) : Type 0 where
   pub last : ℕ
   pub parts : text ≡ given ++ last ∷ rest
   pub full : length given ≡ limit
 
--- so many octets, or the first of them where they are more than the limit
+-- this many octets, at most the limit
 abbrev pub GivesCounted : ℕ → ℕ → List ℕ → List ℕ → Bool → List ℕ → Type 0
 GivesCounted size limit text given false rest = (size ≤ limit) × (length given ≡ size) × (text ≡ given ++ rest)
 GivesCounted size limit text given true rest = (limit < size) × GivesFirst limit text given rest
 
--- the whole text, or the first octets of it where it has more than the limit
+-- the whole text up to the limit
 abbrev pub GivesToEnd : ℕ → List ℕ → List ℕ → Bool → List ℕ → Type 0
 GivesToEnd limit text given false rest = (length given ≤ limit) × (text ≡ given) × (rest ≡ [])
 GivesToEnd limit text given true rest = GivesFirst limit text given rest
 
--- what the text after a head gives as the body, whether that is cut, and the rest
+-- the text's body, whether it is cut, and the rest
 abbrev pub Gives : Framing → ℕ → List ℕ → List ℕ → Bool → List ℕ → Type 0
 Gives (Counted size) limit text given cut rest = GivesCounted size limit text given cut rest
 Gives Chunked limit text given cut rest = GivesChunked limit text given cut rest
 Gives ToEnd limit text given cut rest = GivesToEnd limit text given cut rest
 
--- the text ends before the body does, with no more octets of it than the limit
+-- the text ends before the body, after at most limit octets
 abbrev pub EndsInBody : Framing → ℕ → List ℕ → Type 0
 EndsInBody (Counted size) limit text = (length text < size) × (length text ≤ limit)
 EndsInBody Chunked limit text = EndsInChunked limit text
 EndsInBody ToEnd limit text = ⊥
 
--- the text is a prefix of the body, with no more octets of it than the limit, and what follows belongs to it
+-- the text is a prefix of the body, with at most limit octets, and can go on
 abbrev pub IsBodyPrefix : Framing → ℕ → List ℕ → Type 0
 IsBodyPrefix (Counted size) limit text = (length text < size) × (length text ≤ limit)
 IsBodyPrefix Chunked limit text = EndsInChunked limit text ⊎ EndsTooLong limit text
 IsBodyPrefix ToEnd limit text = length text ≤ limit
 
--- the body can't be read, and no more octets than the limit come before
+-- the body can't be read, after at most limit octets
 abbrev pub IsBadBody : Framing → ℕ → List ℕ → Type 0
 IsBadBody (Counted size) limit text = ⊥
 IsBadBody Chunked limit text = IsRefusedChunked limit text
 IsBadBody ToEnd limit text = ⊥
 
--- the fact holds of the framing that the final head tells and of the text after it
+-- the fact holds of the final head's framing and the text after it
 pub record InBody (Fact : Framing → List ℕ → Type 0) (input : List ℕ) : Type 0 where
   pub head : ResponseHead
   pub text : List ℕ

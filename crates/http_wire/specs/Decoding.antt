@@ -1,5 +1,5 @@
--- What the decoder of bodies in chunks knows of the octets that have come.
--- The contracts of `ChunkDecoder` cite it.
+-- What the decoder of bodies in chunks knows of the octets received.
+-- Cited by `ChunkDecoder`.
 use Rattle.std.specs.Prelude.{◌≡◌, ℕ, ◌<◌, ◌≤◌, ◌⊎◌, Bool, true, false, List, ◌++◌, length, drop, IsTrue, Option, Some, None}
 use Rattle.httparse.specs.Ascii.{crlf_bytes}
 use Rattle.httparse.specs.Grammar.{ChunkLine, ReadsChunkLine, chunk_size, HasNoSection, NeverHasSection, MayBecomeSection}
@@ -18,25 +18,25 @@ use Rattle.http_wire.specs.Chunks.{Chunk, joined, ReadsChunks, ReadsTrailers, Gi
 
 -- ---- the end of a chunk, and the trailers
 
--- what the octets after those of a chunk are
+-- what follows the octets of a chunk
 abbrev pub EndTells : List ℕ → ChunkEnd → Type 0
 EndTells text ends.Whole = (rest : List ℕ) × (text ≡ crlf_bytes ++ rest)
 EndTells text ends.Open = IsOpenEnd text
 EndTells text ends.Bad = NeverHasEnd text
 
--- so many octets stand there, and the end of a chunk behind them
+-- text begins with this many octets and a chunk's end
 pub record StandsWhole (size : ℕ) (text : List ℕ) : Type 0 where
   pub within : size ≤ length text
   pub ends : EndTells (drop size text) ends.Whole
 
--- what octets that trailers may have are
+-- what octets of trailers are
 abbrev pub SectionTells : List ℕ → TrailerSection → Type 0
 SectionTells text sections.Whole = (rest : List ℕ) × ReadsTrailers text rest
 SectionTells text sections.Open = HasNoSection text × MayBecomeSection text
 SectionTells text sections.Over = SectionOverflows max_trailers text × SectionExceeds max_trailers text
 SectionTells text sections.Bad = NeverHasSection text
 
--- what the octets after the last chunk's line are
+-- what follows the last chunk's line
 abbrev pub TrailersTell : List ℕ → Bool → PartSeen → Type 0
 TrailersTell text last Whole = (rest : List ℕ) × ReadsTrailers text rest
 TrailersTell text last Cut = ⊥
@@ -46,7 +46,7 @@ TrailersTell text last More = IsTrue last → EndsInTrailers text
 
 -- ---- the body
 
--- middle is what was read at the place, and then rest
+-- middle was read at the place, then comes rest
 abbrev pub StandsAt : ChunkState → List ℕ → List ℕ → Type 0
 StandsAt places.Line middle rest = middle ≡ rest
 StandsAt (places.Octets size) middle rest =
@@ -54,7 +54,7 @@ StandsAt (places.Octets size) middle rest =
 StandsAt places.Trailers middle rest =
     (line : ChunkLine) × ReadsChunkLine middle line rest × (chunk_size line ≡ 0)
 
--- text is chunks, whose octets were collected, then what was read at the place, and then rest
+-- text is chunks (octets collected), then what was read at the place, then rest
 pub record Decoded (limit : ℕ) (text octets : List ℕ) (place : ChunkState) (rest : List ℕ) : Type 0 where
   pub chunks : List Chunk
   pub middle : List ℕ
@@ -62,19 +62,19 @@ pub record Decoded (limit : ℕ) (text octets : List ℕ) (place : ChunkState) (
   pub octets_are : octets ≡ joined chunks
   pub at : StandsAt place middle rest
 
--- the decoder has read the bytes from its start to its place
+-- the decoder has read from start to place
 pub record Stands (decoder : ChunkDecoder) (bytes : List ℕ) : Type 0 where
   pub started : decoder.start ≤ decoder.at
   pub within : decoder.at ≤ length bytes
   pub decoded : Decoded decoder.limit (drop decoder.start bytes) decoder.octets.items decoder.place
       (drop decoder.at bytes)
 
--- the body still begins at the same place, and gives at most as many octets
+-- the start of the body and its limit stay
 pub record KeepsBounds (old new : ChunkDecoder) : Type 0 where
   pub limit : new.limit ≡ old.limit
   pub start : new.start ≡ old.start
 
--- what a look at the bytes from the decoder's start on tells, with the octets that it holds then
+-- the result of a look from the decoder's start on, with the octets collected
 abbrev pub Decodes : List ℕ → Bool → ChunkDecoder → PartSeen → Type 0
 Decodes bytes last decoder Whole =
     (rest : List ℕ) × GivesChunked decoder.limit (drop decoder.start bytes) decoder.octets.items false rest

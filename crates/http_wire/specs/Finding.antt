@@ -1,5 +1,5 @@
--- What the reader of heads finds in the octets that have come.
--- The contracts of its parts cite it.
+-- What the reader of heads finds in the octets received.
+-- Cited by `head`.
 use Rattle.std.specs.Prelude.{◌≡◌, ℕ, ◌*◌, ◌+◌, ◌<◌, ◌≤◌, ◌⊎◌, Bool, ◌||◌, false, true, IsTrue, List, ◌++◌, length, take, drop, Option, Some, None, option_map, Ok, Err, ⊤}
 use Rattle.std.specs.String.{string_bytes}
 use Rattle.httparse.specs.Grammar.{ResponseHead, status_code, HasNoResponse, NeverHasResponse, MayBecomeResponse}
@@ -24,27 +24,27 @@ use Rattle.http_wire.specs.declared.head.Seen.{Seen}
 use Rattle.http_wire.specs.declared.head.Seen.TheVariants as seen
 use Rattle.http_wire.specs.Limits.{max_head, max_header_lines, max_interim_heads}
 
--- a head within the limits stands at the front, and the spans cover its parts
+-- the text begins with a head within the limits, whose parts the spans cover
 pub record IsHeadAt (text : List ℕ) (headers : List HeaderSpan) (spans : ResponseSpans)
     (head : ResponseHead) : Type 0 where
   pub is : IsHead head
   pub at : IsResponseAt text headers spans head
   pub within : IsResponseWithin text headers spans
 
--- what the parser tells of the text
+-- what the parser finds in the text
 abbrev pub Parses : List ℕ → List HeaderSpan → Parsed → Type 0
 Parses text headers (parsed.Head spans) = (head : ResponseHead) × IsHeadAt text headers spans head
 Parses text headers parsed.Open = HasNoResponse text × MayBecomeResponse text
 Parses text headers parsed.TooMany = ResponseOverflows max_header_lines text × ResponseExceeds max_header_lines text
 Parses text headers parsed.Bad = NeverHasResponse text
 
--- what the status makes of its head
+-- the class of the status
 abbrev pub IsClass : ℕ → Class → Type 0
 IsClass status classes.Interim = IsTrue (is_interim status)
 IsClass status classes.Final = IsTrue (is_final status)
 IsClass status classes.Strange = (is_interim status || is_final status) ≡ false
 
--- the finder stands behind as many interim heads as it has passed over
+-- the finder's place follows the interim heads skipped
 pub record Passes (finder : HeadFinder) (bytes : List ℕ) : Type 0 where
   pub heads : List ResponseHead
   pub passed : HasInterims heads bytes (drop finder.at bytes)
@@ -53,18 +53,18 @@ pub record Passes (finder : HeadFinder) (bytes : List ℕ) : Type 0 where
   pub within : finder.at ≤ length bytes
   pub soon : finder.at ≤ finder.passed * max_head
 
--- the finder looks at the text from where it stands, so far as a head may reach
+-- the text from the finder's place on, up to the longest head
 pub record LooksAt (finder : HeadFinder) (bytes text : List ℕ) : Type 0 where
   pub passes : Passes finder bytes
   pub prefix : text ≡ take max_head (drop finder.at bytes)
 
--- the text is a prefix of a head, and short of the longest
+-- the text is a prefix of a head, shorter than the longest
 pub record IsHeadPrefix (text : List ℕ) : Type 0 where
   pub none : HasNoResponse text
   pub unfinished : MayBecomeResponse text
   pub octets : length text < max_head
 
--- the finder has found this final head in the bytes
+-- the finder found this final head in the bytes
 pub record IsFound (bytes : List ℕ) (found : FinalHead) : Type 0 where
   pub head : ResponseHead
   pub final : HasFinal bytes head (drop found.end bytes)
@@ -75,11 +75,11 @@ pub record IsFound (bytes : List ℕ) (found : FinalHead) : Type 0 where
   pub location : IsLocation (head_fields head) (option_map string_bytes found.location)
   pub max_age : HasMaxAge (head_fields head) found.max_age
 
--- the fault's cause stands, whatever follows the bytes and whatever the limit
+-- the fault's cause, whatever follows and whatever the limit
 abbrev pub Faults : List ℕ → WireFault → Type 0
 Faults bytes fault = (more : List ℕ) (limit : ℕ) → Cause fault (bytes ++ more) limit
 
--- what one look at the bytes sees
+-- the result of one look at the bytes
 abbrev pub SeesHead : List ℕ → Bool → ℕ → HeadFinder → Seen → Type 0
 SeesHead bytes last passed finder (seen.Final found) = IsFound bytes found
 SeesHead bytes last passed finder seen.Interim = Passes finder bytes × (finder.passed ≡ passed + 1)
@@ -87,20 +87,20 @@ SeesHead bytes last passed finder seen.More =
     Passes finder bytes × (length bytes < finder.at + max_head)
     × (IsTrue last → IsHeadPrefix (drop finder.at bytes))
 
--- what looks at the bytes find: the final head, or that more octets are needed
+-- what looks find: the final head, or that octets are missing
 abbrev pub FindsHead : List ℕ → Bool → HeadFinder → Option FinalHead → Type 0
 FindsHead bytes last finder (Some found) = IsFound bytes found
 FindsHead bytes last finder None =
     Passes finder bytes × (length bytes < finder.at + max_head)
     × (IsTrue last → IsHeadPrefix (drop finder.at bytes))
 
--- the fault of some input that the source gives, whatever the limit
+-- the fault of some input of the source, whatever the limit
 pub record Fails (left : Option (List ℕ)) (seen : List ℕ) (fault : WireFault) : Type 0 where
   pub input : List ℕ
   pub whole : IsWhole left seen input
   pub cause : (limit : ℕ) → Cause fault input limit
 
--- what is read off a final head of this status and these fields
+-- the plan by this status and these fields
 pub record IsPlan (code : ℕ) (fields : List Pair) (end : ℕ) (found : FinalHead) : Type 0 where
   pub framed : framing_of code fields ≡ Ok found.framing
   pub uncoded : is_coded code fields ≡ false
@@ -109,7 +109,7 @@ pub record IsPlan (code : ℕ) (fields : List Pair) (end : ℕ) (found : FinalHe
   pub max_age : HasMaxAge fields found.max_age
   pub end_is : found.end ≡ end
 
--- why nothing is read off it
+-- why there is no plan
 abbrev pub HasNoPlan : ℕ → List Pair → WireFault → Type 0
 HasNoPlan status fields BadLength = framing_of status fields ≡ Err Unframed.BadLength
 HasNoPlan status fields Coding =

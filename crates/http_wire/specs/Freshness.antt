@@ -1,4 +1,4 @@
--- How long a response may be used, by the members of its Cache-Control fields.
+-- How long a response may be used, by its Cache-Control fields.
 -- RFC 9111, sections 1.2.2, 5.2 and 5.2.2.1.
 use Rattle.std.specs.Prelude.{◌≡◌, ℕ, ◌-◌, ◌^◌, ◌⊎◌, IsTrue, if◌then◌else◌, List, [], ◌∷◌, ◌++◌, All, Option, None, Some, codes, min}
 use Rattle.std.specs.Str.Parse.{digits_value}
@@ -6,11 +6,11 @@ use Rattle.line_text.specs.Number.{is_numeral}
 use Rattle.http_wire.specs.Fields.{Pair, members_of}
 use Rattle.robots_text.specs.Words.{is_same_word}
 
--- the greatest count of seconds, which all greater ones count as
+-- the largest count of seconds, even for larger ones
 abbrev pub max_seconds : ℕ
 max_seconds = 2 ^ 64 - 1
 
--- delta-seconds = 1*DIGIT: the seconds that the digits write, if they are digits
+-- delta-seconds = 1*DIGIT: the seconds that the digits write
 abbrev pub delta_seconds : List ℕ → Option ℕ
 delta_seconds digits = if is_numeral digits then Some (min (digits_value 10 digits) max_seconds) else None
 
@@ -18,11 +18,11 @@ delta_seconds digits = if is_numeral digits then Some (min (digits_value 10 digi
 abbrev pub quotation_mark : ℕ
 quotation_mark = 34
 
--- the text stands between two quotation marks
+-- the text is between two quotation marks
 abbrev pub IsQuoted : List ℕ → List ℕ → Type 0
 IsQuoted argument text = argument ≡ quotation_mark ∷ (text ++ quotation_mark ∷ [])
 
--- the argument is digits, as they are or quoted, and they write these seconds
+-- the argument is these seconds in digits, bare or quoted
 pub record WritesSeconds (argument : List ℕ) (seconds : ℕ) : Type 0 where
   pub digits : List ℕ
   pub form : (argument ≡ digits) ⊎ IsQuoted argument digits
@@ -40,7 +40,7 @@ pub record IsMaxAge (member : List ℕ) (seconds : ℕ) : Type 0 where
 abbrev pub IsNoMaxAge : List ℕ → Type 0
 IsNoMaxAge member = (seconds : ℕ) → ¬ (IsMaxAge member seconds)
 
--- one of the members is a max-age of these seconds, and none before it is one
+-- the first max-age among the members has these seconds
 pub record IsFirstMaxAge (members : List (List ℕ)) (seconds : ℕ) : Type 0 where
   pub before : List (List ℕ)
   pub member : List ℕ
@@ -49,11 +49,11 @@ pub record IsFirstMaxAge (members : List (List ℕ)) (seconds : ℕ) : Type 0 wh
   pub none : All IsNoMaxAge before
   pub is : IsMaxAge member seconds
 
--- what the members say of the seconds, if one of them does
+-- the seconds that the members give, if any
 abbrev pub TellsMaxAge : List (List ℕ) → Option ℕ → Type 0
 TellsMaxAge members None = All IsNoMaxAge members
 TellsMaxAge members (Some seconds) = IsFirstMaxAge members seconds
 
--- what the fields say of them
+-- the seconds that the fields give, if any
 abbrev pub HasMaxAge : List Pair → Option ℕ → Type 0
 HasMaxAge fields seconds = TellsMaxAge (members_of (codes "cache-control") fields) seconds

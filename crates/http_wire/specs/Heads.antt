@@ -1,4 +1,4 @@
--- Heads of responses: interim heads, which are passed over, and the final one.
+-- Heads of responses: interim heads, which are skipped, and the final one.
 -- RFC 9112, sections 2 to 5; RFC 9110, section 15.2.
 use Rattle.std.specs.Prelude.{◌≡◌, ℕ, ◌+◌, ◌<◌, ◌≤◌, ◌⊎◌, Bool, ◌&&◌, ◌||◌, nat_lt, nat_le, ◌==◌, IsTrue, false, List, ◌++◌, length, map, take, All, count_by, flat_map}
 use Rattle.httparse.specs.Ascii.{line_feed}
@@ -40,7 +40,7 @@ pub record HasInterims (heads : List ResponseHead) (text rest : List ℕ) : Type
   pub are : All IsInterim heads
   pub parts : text ≡ flat_map print_response heads ++ rest
 
--- the fact holds of what follows some interim heads, no more than the limit
+-- the fact holds after interim heads, at most the limit
 pub record AfterInterims (Fact : List ℕ → Type 0) (text : List ℕ) : Type 0 where
   pub heads : List ResponseHead
   pub rest : List ℕ
@@ -53,38 +53,38 @@ pub record BeginsFinal (head : ResponseHead) (after text : List ℕ) : Type 0 wh
   pub has : HasHead text head after
   pub status : IsTrue (is_final (status_code head))
 
--- the final head of the text, and what follows it
+-- the text's final head, and what follows it
 abbrev pub HasFinal : List ℕ → ResponseHead → List ℕ → Type 0
 HasFinal text head after = AfterInterims (BeginsFinal head after) text
 
--- the text begins with a head whose status is neither interim nor final
+-- the first head's status is neither interim nor final
 pub record HasStrangeStatus (text : List ℕ) : Type 0 where
   pub head : ResponseHead
   pub rest : List ℕ
   pub has : HasHead text head rest
   pub status : (is_interim (status_code head) || is_final (status_code head)) ≡ false
 
--- no head that can be taken stands here, whatever follows
+-- no acceptable head begins the text, whatever follows
 abbrev pub IsBadHead : List ℕ → Type 0
 IsBadHead text = NeverHasResponse text ⊎ HasStrangeStatus text
 
--- how many lines have ended
+-- the number of line ends
 abbrev pub line_ends : List ℕ → ℕ
 line_ends text = count_by (λ octet. octet == line_feed) text
 
--- no head within the limits stands here, and so many octets or lines do
+-- no head within the limits begins the text, which has too many octets or lines
 pub record IsLongHead (text : List ℕ) : Type 0 where
   pub none : (head : ResponseHead) (rest : List ℕ) → ¬ (HasHead text head rest)
   pub long : (max_head ≤ length text) ⊎ (max_header_lines < line_ends (take max_head text))
 
--- the text ends inside a head that may still end within the limits
+-- the text ends in a head that may yet be within the limits
 pub record EndsInHead (text : List ℕ) : Type 0 where
   pub none : HasNoResponse text
   pub unfinished : MayBecomeResponse text
   pub octets : length text < max_head
   pub lines : line_ends text ≤ max_header_lines
 
--- the text begins with one interim head more than the limit
+-- one interim head more than the limit
 pub record HasTooManyInterim (text : List ℕ) : Type 0 where
   pub heads : List ResponseHead
   pub rest : List ℕ

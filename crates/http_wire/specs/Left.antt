@@ -1,5 +1,5 @@
--- What the iterators over a head's fields have still to give.
--- Their `next` cites it.
+-- What the iterators over a head's fields have left.
+-- Cited by their `next`.
 use Rattle.std.specs.Prelude.{List, [], ◌++◌, ℕ, map, drop, flat_map, All, ◌≡◌, ◌==◌, ◌∷◌, false, Option, None, Some}
 use Rattle.std.specs.Borrow.{Bor}
 use Rattle.httparse.specs.Ascii.{comma}
@@ -16,24 +16,24 @@ pair field = (field.name.now, field.value.now)
 abbrev pub pairs : List Field → List Pair
 pairs fields = map pair fields
 
--- the values of the fields that are left
+-- the values of the remaining fields
 abbrev pub values_left : Values → List (List ℕ)
 values_left values = values_of values.name.now (pairs (drop values.seen values.fields.now))
 
--- the members of what stands after a comma, if there was one
+-- the members after a comma, if there was one
 abbrev pub members_after : Option (Bor (List ℕ)) → List (List ℕ)
 members_after None = []
 members_after (Some rest) = members rest.now
 
--- the members of the value that was begun, and of the values that are left
+-- the members of the current and the remaining values
 abbrev pub members_left : Members → List (List ℕ)
 members_left list = members_after list.rest ++ flat_map members (values_left list.values)
 
--- no comma stands in the text
+-- the text has no comma
 abbrev pub HasNoComma : List ℕ → Type 0
 HasNoComma text = All (λ octet. (octet == comma) ≡ false) text
 
--- the first comma of the list stands between the member and the rest
+-- the list's first comma is between the member and the rest
 pub record IsSplitAtComma (list member rest : List ℕ) : Type 0 where
   pub plain : HasNoComma member
   pub parts : list ≡ member ++ comma ∷ rest

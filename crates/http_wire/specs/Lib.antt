@@ -1,4 +1,4 @@
--- What contracts say of requests and responses of HTTP/1.1, one concept a file.
+-- Definitions for the contracts of HTTP/1.1 requests and responses.
 -- RFC 9110 and RFC 9112.
 pub mod Bodies
 pub mod Chunks

@@ -1,9 +1,9 @@
 -- The limits of a response, in octets, lines and heads.
--- `read_response` says that the code's constants are these.
+-- `read_response` ensures that the code's constants are these.
 use Rattle.std.specs.Prelude.{◌≡◌, ℕ}
 use Rattle.http_wire.specs.declared.limits.TheConstants.{MAX_HEAD, MAX_HEADER_LINES, MAX_INTERIM_HEADS, MAX_TRAILERS, MAX_TRAILER_BYTES, MAX_RAW}
 
--- the octets of a head, its empty line and the empty lines before it included
+-- a head's octets, with its empty line and the empty lines before it
 abbrev pub max_head : ℕ
 max_head = 65536
 
@@ -19,11 +19,11 @@ max_interim_heads = 8
 abbrev pub max_trailers : ℕ
 max_trailers = 100
 
--- the octets of the trailers, their empty line included
+-- the trailers' octets, with their empty line
 abbrev pub max_trailer_bytes : ℕ
 max_trailer_bytes = 65536
 
--- the octets of a response in all, its heads included
+-- a response's octets in all, with its heads
 abbrev pub max_raw : ℕ
 max_raw = 8388608
 

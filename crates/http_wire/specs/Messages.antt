@@ -1,5 +1,5 @@
 -- The text of each fault.
--- `Display` of the faults cites it.
+-- Cited by `Display`.
 use Rattle.std.specs.Prelude.{ℕ, List, codes}
 use Rattle.http_wire.specs.declared.fault.WireFault.{WireFault}
 use Rattle.http_wire.specs.declared.fault.WireFault.TheVariants.{EarlyEnd, BadHead, HeadTooLong, TooManyInterim, BadLength, BadChunk, Coding, Device, NoMemory, TooMuch}

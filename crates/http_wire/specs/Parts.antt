@@ -1,5 +1,5 @@
--- Where the reading of a part of a response stops: heads, or a body.
--- The contract of `fill_until` cites it, and leaves to the part what it waits for, gives and refuses.
+-- How the reading of a part of a response ends: heads, or a body.
+-- Cited by `fill_until`; each part defines what it waits for, gives and refuses.
 use Rattle.std.specs.Prelude.{◌≡◌, ℕ, ◌<◌, ◌≤◌, ◌⊎◌, List, length, Option, IfSome}
 use Rattle.std.specs.Io.KnownBytes.{IsAtEnd}
 use Rattle.http_wire.specs.Limits.{max_raw}
@@ -9,7 +9,7 @@ use Rattle.http_wire.specs.declared.fault.WireFault.TheVariants.{Device, NoMemor
 use Rattle.http_wire.specs.declared.part.Reached.{Reached}
 use Rattle.http_wire.specs.declared.part.Reached.TheVariants.{Parsed, Ended, Past}
 
--- the octets that came give this, with the others left in the buffer
+-- the octets received give this and leave the others in the buffer
 pub record IsFoundIn {T : Type 0}
     (gives : List ℕ → List ℕ → T → Type 0) (left left' : Option (List ℕ)) (old new : List ℕ) (found : T) : Type 0 where
   pub seen : List ℕ
@@ -17,7 +17,7 @@ pub record IsFoundIn {T : Type 0}
   pub few : length seen ≤ max_raw
   pub given : gives seen new found
 
--- the input ended where the part still waits
+-- the input ended while the part still waits
 pub record EndsWaiting (waits : List ℕ → Type 0) (left left' : Option (List ℕ)) (old new : List ℕ) : Type 0 where
   pub before : Option (List ℕ)
   pub came : Grows left before old new
@@ -26,7 +26,7 @@ pub record EndsWaiting (waits : List ℕ → Type 0) (left left' : Option (List 
   pub few : length new ≤ max_raw
   pub waiting : waits new
 
--- the buffer is full and the input goes on where the part still waits
+-- the buffer is full, the part still waits, and the input goes on
 pub record GoesOnWaiting (waits : List ℕ → Type 0) (left : Option (List ℕ)) (old new : List ℕ) : Type 0 where
   pub before : Option (List ℕ)
   pub came : Grows left before old new
@@ -34,14 +34,14 @@ pub record GoesOnWaiting (waits : List ℕ → Type 0) (left : Option (List ℕ)
   pub full : length new ≡ max_raw
   pub waiting : waits new
 
--- what stands where the reading of a part stops
+-- the state when the reading of a part ends
 abbrev pub Stops : {T : Type 0} → (List ℕ → Type 0) → (List ℕ → List ℕ → T → Type 0) → Option (List ℕ) → Option (List ℕ)
     → List ℕ → List ℕ → Reached T → Type 0
 Stops waits gives left left' old new (Parsed found) = IsFoundIn gives left left' old new found
 Stops waits gives left left' old new Ended = EndsWaiting waits left left' old new
 Stops waits gives left left' old new Past = GoesOnWaiting waits left old new
 
--- why it breaks off: the part refuses the octets that came, a read failed, or there was no memory
+-- why it breaks off: the part refuses, a read failed, or memory ran out
 pub record Breaks (refuses : List ℕ → WireFault → Type 0) (left : Option (List ℕ)) (old : List ℕ)
     (fault : WireFault) : Type 0 where
   pub before : Option (List ℕ)

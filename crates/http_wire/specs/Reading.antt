@@ -1,5 +1,5 @@
--- What reads of a source leave, and what the parts of the reader answer of the whole input.
--- The contracts of the reader's parts cite it.
+-- What reads of a source leave, and what the reader's parts answer for the whole input.
+-- Cited by their contracts.
 use Rattle.std.specs.Prelude.{◌≡◌, ℕ, ◌+◌, ◌<◌, ◌≤◌, List, ◌++◌, length, drop, take, Option, IfSome, Result, Ok, Err, ⊤}
 use Rattle.std.specs.Io.KnownBytes.{Consumes, IsAtEnd}
 use Rattle.http_wire.specs.Bodies.{Gives, EndsInBody, IsBodyPrefix, IsBadBody}
@@ -11,37 +11,37 @@ use Rattle.http_wire.specs.declared.fault.WireFault.TheVariants.{EarlyEnd, BadHe
 use Rattle.http_wire.specs.declared.framing.Framing.{Framing}
 use Rattle.http_wire.specs.Limits.{max_raw}
 
--- the buffer has grown by what the source gave
+-- the buffer grew by what the source gave
 pub record Grows (left left' : Option (List ℕ)) (old new : List ℕ) : Type 0 where
   pub piece : List ℕ
   pub read : Consumes left left' piece
   pub grown : new ≡ old ++ piece
 
--- what a call that fills the buffer did, by its answer
+-- the effect of a call that fills the buffer, by its answer
 abbrev pub Fills : Option (List ℕ) → Option (List ℕ) → List ℕ → List ℕ → Fill → Type 0
 Fills left left' old new More = Grows left left' old new × (length old < length new)
 Fills left left' old new Ended = IsAtEnd left × (new ≡ old) × Grows left left' old new
 Fills left left' old new Past =
     IfSome left (λ octets. 0 < length octets) × (length old ≡ max_raw) × (new ≡ old)
 
--- the input is what was seen and then what the source has left, where that is known
+-- the input is what was seen and any known rest of the source
 pub record IsWhole (left : Option (List ℕ)) (seen input : List ℕ) : Type 0 where
   pub more : List ℕ
   pub parts : input ≡ seen ++ more
   pub known : IfSome left (λ octets. octets ≡ more)
 
--- a body that the input has from a place on, within as many octets as a response may have
+-- a body in the input from a place on, within the longest response
 pub record HasBody (framing : Framing) (limit start : ℕ) (input : List ℕ) (body : Body) : Type 0 where
   pub rest : List ℕ
   pub gives : Gives framing limit (drop start input) body.octets.items body.cut rest
   pub within : length input ≤ max_raw + length rest
 
--- the input goes on where the body from a place on would have to have ended
+-- the input goes on where the body should have ended
 pub record GoesOn (framing : Framing) (limit start : ℕ) (input : List ℕ) : Type 0 where
   pub more : max_raw < length input
   pub prefix : IsBodyPrefix framing limit (drop start (take max_raw input))
 
--- why the input gives no body from a place on, by the fault
+-- the fault's cause: no body from a place on
 abbrev pub HasNoBody : WireFault → Framing → ℕ → ℕ → List ℕ → Type 0
 HasNoBody EarlyEnd framing limit start input = EndsInBody framing limit (drop start input)
 HasNoBody BadHead framing limit start input = ⊥
@@ -54,12 +54,12 @@ HasNoBody Device framing limit start input = ⊤
 HasNoBody NoMemory framing limit start input = ⊤
 HasNoBody TooMuch framing limit start input = GoesOn framing limit start input
 
--- what a call answers of the body that the input has from a place on
+-- the answer for the input's body from a place on
 abbrev pub TellsBody : Framing → ℕ → ℕ → List ℕ → Result Body WireFault → Type 0
 TellsBody framing limit start input (Ok body) = HasBody framing limit start input body
 TellsBody framing limit start input (Err fault) = HasNoBody fault framing limit start input
 
--- the same, of some input that begins with what was seen
+-- the answer for the body of some input that begins as seen
 pub record ReadsBody
     (framing : Framing) (limit start : ℕ) (left : Option (List ℕ)) (seen : List ℕ)
     (result : Result Body WireFault) : Type 0 where

@@ -13,8 +13,7 @@ request_line target = codes "GET " ++ (target ++ (codes " HTTP/1.1" ++ crlf_byte
 abbrev pub field_line : List ℕ → List ℕ → List ℕ
 field_line name value = name ++ (codes ": " ++ (value ++ crlf_bytes))
 
--- the request for a target of a host, with its port where one is written: any media type, no content coding, and no
--- request after it
+-- a GET for a target of a host with any port: any media type, no content coding, no further request
 abbrev pub request : List ℕ → List ℕ → List ℕ → List ℕ
 request target host agent =
     request_line target

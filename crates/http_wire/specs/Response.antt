@@ -1,4 +1,4 @@
--- What a response gives, and the cause of each fault, both of the whole input.
+-- What a response gives, and the cause of each fault, by the whole input.
 -- RFC 9112, sections 2 and 6.
 use Rattle.std.specs.Prelude.{◌≡◌, ℕ, ◌+◌, ◌<◌, ◌≤◌, ◌⊎◌, Bool, false, true, List, length, take, Option, IfSome, Result, Ok, Err, ⊤, option_map}
 use Rattle.httparse.specs.Grammar.{ResponseHead, status_code}
@@ -15,7 +15,7 @@ use Rattle.http_wire.specs.declared.framing.Unframed.TheVariants as Unframed
 use Rattle.http_wire.specs.Limits.{max_raw}
 use Rattle.http_wire.specs.declared.response.HttpReply.{HttpReply}
 
--- what a reader of the response is told
+-- what a reader of the response gets
 pub record Reply : Type 0 where
   pub status : ℕ
   pub location : Option (List ℕ)
@@ -23,7 +23,7 @@ pub record Reply : Type 0 where
   pub body : List ℕ
   pub cut : Bool
 
--- the input is interim heads, a final head, a body that gives the reply's, and the rest
+-- the input is interim heads, a final head, the reply's body, and the rest
 pub record GivesReply (input : List ℕ) (limit : ℕ) (reply : Reply) (rest : List ℕ) : Type 0 where
   pub head : ResponseHead
   pub text : List ℕ
@@ -36,7 +36,7 @@ pub record GivesReply (input : List ℕ) (limit : ℕ) (reply : Reply) (rest : L
   pub location : IsLocation (head_fields head) reply.location
   pub max_age : HasMaxAge (head_fields head) reply.max_age
 
--- the reply stands within as many octets as a response may have
+-- the reply is within the longest response
 pub record Response (input : List ℕ) (limit : ℕ) (reply : Reply) : Type 0 where
   pub rest : List ℕ
   pub gives : GivesReply input limit reply rest
@@ -49,28 +49,28 @@ pub record AtFinal (Fact : ResponseHead → Type 0) (input : List ℕ) : Type 0 
   pub final : HasFinal input head text
   pub fact : Fact head
 
--- the fields of the head tell no length
+-- the fields of the head give no length
 abbrev pub HasBadLength : ResponseHead → Type 0
 HasBadLength head = framing_of (status_code head) (head_fields head) ≡ Err Unframed.BadLength
 
--- the body is in a coding that is not read
+-- the body has a coding that is not read
 abbrev pub IsInCoding : ResponseHead → Type 0
 IsInCoding head =
     (is_coded (status_code head) (head_fields head) ≡ true)
     ⊎ (framing_of (status_code head) (head_fields head) ≡ Err Unframed.OtherCoding)
 
--- the input ends inside a head, or before the body does
+-- the input ends inside a head or a body
 abbrev pub EndsEarly : List ℕ → ℕ → Type 0
 EndsEarly input limit =
     AfterInterims EndsInHead input
     ⊎ InBody (λ framing after. EndsInBody framing limit after) input
 
--- the input goes on where a response would have to have ended
+-- the input goes on where a response should have ended
 pub record IsTooMuch (input : List ℕ) (limit : ℕ) : Type 0 where
   pub more : max_raw < length input
   pub prefix : InBody (λ framing after. IsBodyPrefix framing limit after) (take max_raw input)
 
--- why no reply is given, by the fault
+-- the cause of the fault
 abbrev pub Cause : WireFault → List ℕ → ℕ → Type 0
 Cause EarlyEnd input limit = EndsEarly input limit
 Cause BadHead input limit = AfterInterims IsBadHead input
@@ -83,7 +83,7 @@ Cause Device input limit = ⊤
 Cause NoMemory input limit = ⊤
 Cause TooMuch input limit = IsTooMuch input limit
 
--- the reply that the code's value writes
+-- the code's value as a reply
 abbrev pub reply_of : HttpReply → Reply
 reply_of reply = record {
   status = reply.status;
@@ -94,33 +94,33 @@ reply_of reply = record {
   cut = reply.cut;
 }
 
--- what a call answers of this input: its reply, or a fault whose cause stands
+-- the answer for this input: its reply, or a fault with its cause
 abbrev pub AnswersRead : List ℕ → ℕ → Result HttpReply WireFault → Type 0
 AnswersRead input limit (Ok reply) = Response input limit (reply_of reply)
 AnswersRead input limit (Err fault) = Cause fault input limit
 
--- the call answers of some input, which is what the source has left where that is known
+-- the answer for some input, which is what the source has left, if known
 pub record Tells (left : Option (List ℕ)) (limit : ℕ) (result : Result HttpReply WireFault) : Type 0 where
   pub input : List ℕ
   pub whole : IfSome left (λ octets. octets ≡ input)
   pub answers : AnswersRead input limit result
 
--- the call gives this reply, or neither memory nor the device sufficed
+-- this reply, or a failure of memory or the device
 abbrev pub GivesOrStops : Reply → Result HttpReply WireFault → Type 0
 GivesOrStops reply (Ok given) = reply_of given ≡ reply
 GivesOrStops reply (Err fault) = (fault ≡ Device) ⊎ (fault ≡ NoMemory)
 
--- a reply that stands in what the source has left is given
+-- a reply in what the source has left is given
 abbrev pub Finds : Option (List ℕ) → ℕ → Result HttpReply WireFault → Type 0
 Finds left limit result =
     IfSome left (λ input. (reply : Reply) → Response input limit reply → GivesOrStops reply result)
 
--- one failure more at a fault of the device
+-- one failure more after a device fault
 abbrev pub failures_after_fault : ℕ → WireFault → ℕ
 failures_after_fault failures Device = one_more failures
 failures_after_fault failures _ = failures
 
--- the count of the device's failures after a call that gave this
+-- the device's failures after this result
 abbrev pub failures_after_reading : {T : Type 0} → ℕ → Result T WireFault → ℕ
 failures_after_reading failures (Ok _) = failures
 failures_after_reading failures (Err fault) = failures_after_fault failures fault

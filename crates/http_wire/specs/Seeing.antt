@@ -1,5 +1,5 @@
 -- What looks at the octets of a body see.
--- The contracts of `BodyDecoder` cite it.
+-- Cited by `BodyDecoder`.
 use Rattle.std.specs.Prelude.{◌≡◌, ℕ, ◌<◌, ◌≤◌, ◌⊎◌, Bool, true, IsTrue, List, ◌++◌, length, ⊤}
 use Rattle.http_wire.specs.Bodies.{Gives, GivesFirst, IsBadBody}
 use Rattle.http_wire.specs.Chunks.{EndsInChunked, EndsTooLong}
@@ -18,34 +18,34 @@ use Rattle.http_wire.specs.declared.framing.Framing.TheVariants.{Counted, Chunke
 
 -- ---- the decoder
 
--- the framing of a body that is decoded so
+-- the framing of this form of decoding
 abbrev pub framing_by : Form → Framing
 framing_by (forms.Counted size) = Counted size
 framing_by (forms.Chunked chunks) = Chunked
 framing_by forms.ToEnd = ToEnd
 
--- the framing of the body that the decoder reads
+-- the framing that the decoder reads by
 abbrev pub framing_in : BodyDecoder → Framing
 framing_in decoder = framing_by decoder.form
 
--- a decoder of the chunks from this place on to this limit, which has read the bytes up to its place
+-- a decoder of chunks with this start and limit, read up to its place
 pub record ChunksStand (limit start : ℕ) (chunks : ChunkDecoder) (bytes : List ℕ) : Type 0 where
   pub limit_is : chunks.limit ≡ limit
   pub start_is : chunks.start ≡ start
   pub stands : Stands chunks bytes
 
--- what was decoded so far is what the bytes have
+-- the decoded part agrees with the bytes
 abbrev pub FormStands : ℕ → ℕ → Form → List ℕ → Type 0
 FormStands limit start (forms.Counted size) bytes = ⊤
 FormStands limit start (forms.Chunked chunks) bytes = ChunksStand limit start chunks bytes
 FormStands limit start forms.ToEnd bytes = ⊤
 
--- the body begins among the bytes, and what the decoder knows of them is so
+-- the body begins among the bytes, which agree with the decoder's state
 pub record BodyStands (decoder : BodyDecoder) (bytes : List ℕ) : Type 0 where
   pub within : decoder.start ≤ length bytes
   pub form : FormStands decoder.limit decoder.start decoder.form bytes
 
--- it still reads the same body: by its framing, from its start, to its limit
+-- its framing, its start and its limit stay
 pub record KeepsBody (old new : BodyDecoder) : Type 0 where
   pub framing : framing_in new ≡ framing_in old
   pub start : new.start ≡ old.start
@@ -58,55 +58,55 @@ pub record GivesBody (framing : Framing) (limit : ℕ) (text : List ℕ) (body :
   pub rest : List ℕ
   pub gives : (more : List ℕ) → Gives framing limit (text ++ more) body.octets.items body.cut (rest ++ more)
 
--- the text has as many lines as trailers may have, and no end of them
+-- as many lines as trailers may have, without an end
 abbrev pub HasFullTrailers : Framing → ℕ → List ℕ → Type 0
 HasFullTrailers (Counted size) limit text = ⊥
 HasFullTrailers Chunked limit text = EndsTooLong limit text
 HasFullTrailers ToEnd limit text = ⊥
 
--- the text is a prefix of the body, and more octets of the body can follow
+-- a prefix of the body, which can go on
 abbrev pub IsOpen : Framing → ℕ → List ℕ → Type 0
 IsOpen (Counted size) limit text = (length text < size) × (length text ≤ limit)
 IsOpen Chunked limit text = EndsInChunked limit text
 IsOpen ToEnd limit text = length text ≤ limit
 
--- the text gives no body yet; of chunks no look but the last tells
+-- no body yet; for chunks only the last look tells
 abbrev pub IsShort : Framing → ℕ → List ℕ → Type 0
 IsShort (Counted size) limit text = (length text < size) × (length text ≤ limit)
 IsShort Chunked limit text = ⊤
 IsShort ToEnd limit text = length text ≤ limit
 
--- what a look sees in the text: of an open one the last look alone tells
+-- the result of a look; only the last sees a body that can go on
 abbrev pub SeesBody : Framing → ℕ → List ℕ → Bool → BodySeen → Type 0
 SeesBody framing limit text last (Given body) = GivesBody framing limit text body
 SeesBody framing limit text last Full = IsTrue last × HasFullTrailers framing limit text
 SeesBody framing limit text last More = IsTrue last → IsOpen framing limit text
 
--- the body is the first octets of the text up to the limit, and more stand there
+-- the body is the first limit octets of a longer text
 pub record GivesPrefix (limit : ℕ) (text : List ℕ) (body : Body) : Type 0 where
   pub cut : body.cut ≡ true
   pub rest : List ℕ
   pub first : (more : List ℕ) → GivesFirst limit (text ++ more) body.octets.items (rest ++ more)
 
--- whether more octets stand there than the limit
+-- whether the text is longer than the limit
 abbrev pub SeesPrefix : ℕ → List ℕ → BodySeen → Type 0
 SeesPrefix limit text (Given body) = GivesPrefix limit text body
 SeesPrefix limit text Full = ⊥
 SeesPrefix limit text More = length text ≤ limit
 
--- it is a body of these octets
+-- a body of these octets
 abbrev pub IsGiven : List ℕ → Bool → BodySeen → Type 0
 IsGiven octets cut (Given body) = (body.octets.items ≡ octets) × (body.cut ≡ cut)
 IsGiven octets cut Full = ⊥
 IsGiven octets cut More = ⊥
 
--- a look that gives nothing leaves the buffer as it was
+-- a look without a result leaves the buffer
 abbrev pub LeavesBuffer : List ℕ → List ℕ → BodySeen → Type 0
 LeavesBuffer old new (Given body) = ⊤
 LeavesBuffer old new Full = new ≡ old
 LeavesBuffer old new More = new ≡ old
 
--- why a look gives nothing: the text can't be read, whatever follows, or there was no memory
+-- why a look gives nothing: the text is unreadable, whatever follows, or memory ran out
 abbrev pub Refuses : Framing → ℕ → List ℕ → WireFault → Type 0
 Refuses framing limit text fault =
     ((fault ≡ BadChunk) × ((more : List ℕ) → IsBadBody framing limit (text ++ more)))

@@ -13,16 +13,16 @@ use crate::part::{Reached, fill_until};
 use counted_io::Source;
 use std::alloc::Global;
 
-/// What was read of a body.
+/// A body as read.
 #[derive(Drop)]
 pub(crate) struct Body {
     pub octets: Vec<u8>,
-    /// Whether the body has more octets than that.
+    /// Whether the body has more octets.
     pub cut: bool,
 }
 
-/// Reads the body that begins at `start`, and gives at most `limit` octets of it. The buffer may be
-/// handed out with them.
+/// Reads the body that begins at `start`, at most `limit` octets of it. May hand out the buffer's memory
+/// with them.
 pub(crate) fn read_body<S: Source>(
     alloc: Global,
     source: &mut S,

@@ -1,4 +1,4 @@
-//! A body, decoded by its framing from all the octets that have come.
+//! A body, decoded by its framing from all octets received.
 //! RFC 9112, section 6.3.
 ghost use Rattle.std.specs.Prelude.{◌≡◌, ◌≤◌, ◌<◌, ◌+◌, ◌++◌, ℕ, List, Bool, true, None, Ok, IfOk, IfErr, drop, length, take};
 ghost use Rattle.http_wire.specs.Reading.{TellsBody};
@@ -17,29 +17,29 @@ use crate::part::Part;
 use crate::part_seen::PartSeen;
 use std::alloc::Global;
 
-/// A body by its framing, as far as it was decoded.
+/// A body by its framing, as far as it is decoded.
 #[derive(Drop)]
 enum Form {
-    /// It has so many octets.
+    /// A known number of octets.
     Counted(u64),
-    /// It comes in chunks.
+    /// Chunks.
     Chunked(ChunkDecoder),
-    /// It ends with the input.
+    /// Up to the end of the input.
     ToEnd,
 }
 
 /// What the octets of a body are.
 #[derive(Drop)]
 pub(crate) enum BodySeen {
-    /// They give a body, whatever follows them.
+    /// A body, whatever follows.
     Given(Body),
-    /// They have as many lines as trailers may have, and no end of them.
+    /// The most lines that trailers may have, without an end.
     Full,
-    /// They are a part of a body, to which more octets can come.
+    /// A body that can go on.
     More,
 }
 
-/// A decoder of one body. After an answer it is done.
+/// A decoder of one body. It is done after an answer.
 #[derive(Drop)]
 pub(crate) struct BodyDecoder {
     start: usize,
@@ -63,7 +63,7 @@ impl BodyDecoder {
         BodyDecoder { start, limit, form }
     }
 
-    /// The last look, where nothing follows what has come.
+    /// The last look, at the end of the input.
     pub(crate) fn end(&mut self, alloc: Global, buffer: &mut Buffer) -> Result<Body, WireFault>
         requires stands { BodyStands self.old buffer.old }
         requires within { length buffer.old ≤ MAX_RAW }
@@ -78,7 +78,7 @@ impl BodyDecoder {
         }
     }
 
-    /// The last look, where more follows than a response may have.
+    /// The last look, when more follows than a response may have.
     pub(crate) fn past(&mut self, alloc: Global, buffer: &mut Buffer) -> Result<Body, WireFault>
         requires stands { BodyStands self.old buffer.old }
         requires full { length buffer.old ≡ MAX_RAW }
@@ -94,7 +94,6 @@ impl BodyDecoder {
         }
     }
 
-    // What the octets from the body's start on are.
     fn see(&mut self, alloc: Global, buffer: &mut Buffer, last: bool) -> Result<BodySeen, WireFault>
         requires { BodyStands self.old buffer.old }
         ensures body { KeepsBody self.old self.new }
@@ -113,7 +112,6 @@ impl BodyDecoder {
         }
     }
 
-    // The answer to a part of a body, where nothing follows it.
     fn end_open(&self, alloc: Global, buffer: &mut Buffer) -> Result<Body, WireFault>
         requires stands { BodyStands self.now buffer.old }
         requires within { length buffer.old ≤ MAX_RAW }
@@ -189,7 +187,7 @@ fn see_counted(
     give(alloc, buffer, start, size as usize, false)
 }
 
-// The first octets up to the limit, where one more stands there.
+// The first `limit` octets, if there is one more.
 fn see_prefix(alloc: Global, buffer: &mut Buffer, start: usize, limit: usize) -> BodySeen
     requires { start ≤ length buffer.old }
     ensures sees { SeesPrefix limit (drop start buffer.old) result }
@@ -230,7 +228,6 @@ fn see_chunked(
     }
 }
 
-// Gives octets of the buffer.
 fn give(alloc: Global, buffer: &mut Buffer, start: usize, len: usize, cut: bool) -> BodySeen
     requires { start + len ≤ length buffer.old }
     ensures { IsGiven (take len (drop start buffer.old)) cut result }

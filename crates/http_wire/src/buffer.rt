@@ -1,5 +1,5 @@
-//! The octets that have come, and reads of more.
-//! A response is read into one buffer, so that what was read can be looked at again.
+//! The octets received, and reads of more.
+//! A response is read into one buffer, so its octets can be looked at again.
 ghost use Rattle.std.specs.Io.KnownBytes.{IsAtEnd};
 ghost use Rattle.std.specs.Prelude.{◌≡◌, ◌≤◌, ◌<◌, ◌+◌, Ok, ◌⊎◌, [], Err, length, drop, take, IfOk, OnOk, OnErr, vec_len};
 ghost use Rattle.counted_io.specs.Device.{failures_after};
@@ -16,18 +16,18 @@ use std::mem;
 /// How many octets the first read asks for.
 const FIRST_READ: usize = 16_384;
 
-/// What a read gave.
+/// The result of a read.
 #[derive(Clone, Copy, PartialEq, Eq)]
 pub(crate) enum Fill {
     /// More octets.
     More,
     /// The end of the input.
     Ended,
-    /// An octet past the last that a response may have. It is not among the octets.
+    /// An octet past the last that a response may have; it is not kept.
     Past,
 }
 
-/// The octets that have come, at most `MAX_RAW`. Behind them is room for the next read.
+/// The octets received, at most `MAX_RAW`, followed by room for the next read.
 #[derive(Drop)]
 pub(crate) struct Buffer {
     room: Vec<u8>,
@@ -57,7 +57,7 @@ impl Buffer {
         }
     }
 
-    /// The octets that have come.
+    /// The octets received.
     pub(crate) fn octets(&self) -> &[u8]
         ensures value { result.now ≡ self.now }
         ensures within { length self.now ≤ MAX_RAW }
@@ -65,7 +65,7 @@ impl Buffer {
         &self.room[..self.end]
     }
 
-    /// Reads more octets behind those that have come, as many as one read gives.
+    /// Appends what one read gives.
     pub(crate) fn fill<S: Source>(&mut self, source: &mut S) -> Result<Fill, WireFault>
         ensures ok { IfOk result (λ fill.
             Fills (S.left source.old) (S.left source.new) self.old self.new fill) }
@@ -88,7 +88,7 @@ impl Buffer {
         }
     }
 
-    /// Hands out `len` of the octets from `start` on, in the memory that held all of them.
+    /// Hands out `len` octets from `start` on, in the memory of the buffer.
     pub(crate) fn hand_out(&mut self, alloc: Global, start: usize, len: usize) -> Vec<u8>
         requires { start + len ≤ length self.old }
         ensures { result.items ≡ take len (drop start self.old) }
@@ -100,7 +100,6 @@ impl Buffer {
         octets
     }
 
-    // Whether the input goes on behind a full buffer.
     fn look_past<S: Source>(&self, source: &mut S) -> Result<Fill, WireFault>
         requires { length self.now ≡ MAX_RAW }
         ensures ok { IfOk result (λ fill.
@@ -116,7 +115,7 @@ impl Buffer {
     }
 }
 
-// Room for at least one octet behind the first `end`, twice as much as before where it was full.
+// Room for an octet after the first `end`; doubles a full buffer.
 fn make_room(room: &mut Vec<u8>, end: usize) -> Result<(), AllocError>
     requires within { end ≤ vec_len room.old }
     requires not_full { end < MAX_RAW }
@@ -131,7 +130,6 @@ fn make_room(room: &mut Vec<u8>, end: usize) -> Result<(), AllocError>
     Ok(())
 }
 
-// Reads into the room behind the first `end` octets, and says how many octets came.
 fn read_behind<S: Source>(source: &mut S, room: &mut [u8], end: usize) -> Result<usize, DeviceFault>
     requires { end < length room.old }
     ensures ok { IfOk result (λ count. end + count ≤ length room.new

@@ -1,4 +1,4 @@
-//! Bodies in chunks, decoded from all the octets that have come.
+//! Bodies in chunks, decoded from all octets received.
 //! RFC 9112, section 7.1.
 ghost use Rattle.std.specs.Prelude.{◌≡◌, ◌+◌, ◌-◌, ◌<◌, ◌≤◌, ℕ, List, IfOk, drop, length, vec_len};
 ghost use Rattle.http_wire.specs.Decoding.{Decodes, EndTells, KeepsBounds, Stands, StandsWhole, DecodesOrMoves};
@@ -11,29 +11,30 @@ use httparse::{Status, parse_chunk_size};
 use std::alloc::{AllocError, Global};
 use std::mem;
 
-/// Where the decoding of a body stands.
+/// The state of the decoding.
 #[derive(Clone, Copy, PartialEq, Eq)]
 enum ChunkState {
     /// Before a chunk line.
     Line,
-    /// After a chunk line, before as many octets as it says.
+    /// After a chunk line, with this many octets of the chunk to come.
     Octets(u64),
     /// After the last chunk line.
     Trailers,
 }
 
-/// What the octets after those of a chunk are.
+/// What follows the octets of a chunk.
 #[derive(Clone, Copy, PartialEq, Eq)]
 enum ChunkEnd {
     /// CR LF.
     Whole,
-    /// A part of CR LF, to which more octets can come.
+    /// A prefix of CR LF that can go on.
     Open,
     /// Something else, whatever follows.
     Bad,
 }
 
-/// A body in chunks, *chunk last-chunk trailer-section CRLF, as far as it was decoded. After an answer other than `More` it is done.
+/// A body in chunks, *chunk last-chunk trailer-section CRLF, as far as it is decoded. It is done after an
+/// answer other than `More`.
 #[derive(Drop)]
 pub(crate) struct ChunkDecoder {
     limit: usize,
@@ -41,7 +42,7 @@ pub(crate) struct ChunkDecoder {
     octets: Vec<u8>,
     place: ChunkState,
     at: usize,
-    // Up to where a line end was looked for: it saves time, and no answer rests on it.
+    // Up to where a line end was searched for. Only saves time; no answer depends on it.
     scanned: usize,
 }
 
@@ -62,7 +63,7 @@ impl ChunkDecoder {
         }
     }
 
-    /// Looks at what has come. `last`: no look follows, so what has come is parsed in any case.
+    /// Looks at the octets received. `last`: no look follows, so they are parsed anyway.
     pub(crate) fn look(&mut self, bytes: &[u8], last: bool) -> Result<PartSeen, AllocError>
         requires stands { Stands self.old bytes.now }
         ensures bounds { KeepsBounds self.old self.new }
@@ -75,7 +76,7 @@ impl ChunkDecoder {
         }
     }
 
-    /// Hands out the octets that the body gave.
+    /// Hands out the body's octets.
     pub(crate) fn take_octets(&mut self, alloc: Global) -> Vec<u8>
         ensures bounds { KeepsBounds self.old self.new }
         ensures octets { result ≡ self.old.octets }
@@ -83,7 +84,6 @@ impl ChunkDecoder {
         mem::replace(&mut self.octets, Vec::new(alloc))
     }
 
-    // One step of `look`, which reads at most one part.
     fn step(&mut self, bytes: &[u8], last: bool) -> Result<Option<PartSeen>, AllocError>
         requires stands { Stands self.old bytes.now }
         ensures bounds { KeepsBounds self.old self.new }
@@ -140,7 +140,7 @@ impl ChunkDecoder {
         self.look_chunk(size as usize, bytes, last)
     }
 
-    // chunk-data, which has more octets than the limit has room for.
+    // chunk-data with more octets than the limit has room for.
     fn look_past(
         &mut self,
         room: usize,
@@ -161,7 +161,7 @@ impl ChunkDecoder {
         Ok(Some(PartSeen::Cut))
     }
 
-    // chunk-data CRLF, where the limit has room for the octets.
+    // chunk-data CRLF, if the limit has room for the octets.
     fn look_chunk(
         &mut self,
         size: usize,
@@ -188,7 +188,6 @@ impl ChunkDecoder {
         }
     }
 
-    // Collects the octets of a chunk, and moves behind its end.
     fn take_chunk(&mut self, size: usize, bytes: &[u8]) -> Result<(), AllocError>
         requires stands { Stands self.old bytes.now }
         requires place { self.old.place ≡ ChunkState.Octets size }
@@ -217,13 +216,12 @@ impl ChunkDecoder {
             self.scanned = self.scanned.max(bytes.len());
             return PartSeen::More;
         }
-        // More is wanted behind an empty line only where too many lines stand before it, and then
-        // no other empty line helps.
+        // After an empty line, more is needed only if too many lines precede it; another empty line won't
+        // help.
         self.scanned = self.at.saturating_add(MAX_TRAILER_BYTES);
         look_trailers(text, last)
     }
 
-    // Moves the place on by `len` octets.
     fn pass(&mut self, len: usize, place: ChunkState)
         requires { self.old.at + len ≤ usize.MAX }
         ensures bounds { KeepsBounds self.old self.new }

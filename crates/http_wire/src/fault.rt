@@ -7,23 +7,23 @@ use std::fmt;
 /// Why a request was not written, or no response read.
 #[derive(Clone, Copy, Debug, PartialEq, Eq)]
 pub enum WireFault {
-    /// The input ended before the response did.
+    /// The input ended before the response.
     EarlyEnd,
-    /// A head can't be read, or has the status 101 or one below 100.
+    /// A head can't be parsed, or has the status 101 or one below 100.
     BadHead,
     /// A head is longer than `MAX_HEAD` octets or `MAX_HEADER_LINES` header lines.
     HeadTooLong,
-    /// More than `MAX_INTERIM_HEADS` interim heads came.
+    /// More than `MAX_INTERIM_HEADS` interim heads.
     TooManyInterim,
     /// The members of Content-Length are not all the same number below 2 to the 64.
     BadLength,
-    /// A chunk's line, its end or a trailer can't be read, or the trailers are too long.
+    /// A chunk's line, its end or a trailer can't be parsed, or the trailers are too long.
     BadChunk,
-    /// The body is in a transfer coding other than `chunked`, or a content coding.
+    /// The body has a transfer coding other than `chunked`, or a content coding.
     Coding,
     /// The device failed.
     Device,
-    /// There was no memory for the octets of the response.
+    /// No memory for the octets of the response.
     NoMemory,
     /// The response is longer than `MAX_RAW` octets.
     TooMuch,

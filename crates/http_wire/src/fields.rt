@@ -1,4 +1,4 @@
-//! The fields of a head: their values and the members of those, by name.
+//! The fields of a head: their values and list members, by name.
 //! RFC 9110, sections 5.1 and 5.6.1.
 ghost use Rattle.std.specs.Prelude.{◌≡◌, ◌≤◌, ◌∷◌, ◌++◌, [], flat_map, All, length, map, reverse, take, MatchOption};
 ghost use Rattle.std.specs.Iterator.{YieldsFirstRef, item_count};
@@ -16,17 +16,17 @@ use robots_text::is_same_word;
 #[derive(Clone, Copy)]
 pub(crate) struct Field<'h> {
     name: &'h [u8],
-    // Without the white space around it.
+    // Without surrounding white space.
     value: &'h [u8],
 }
 
-/// A field of nothing, to fill an array with.
+/// An empty field, to fill an array with.
 pub(crate) const EMPTY_FIELD: Field<'static> = Field {
     name: b"",
     value: b"",
 };
 
-/// Puts the fields that the spans cover into the front of `fields`.
+/// Puts the fields that the spans cover at the front of `fields`.
 pub(crate) fn cover<'h>(head: &'h [u8], spans: &[HeaderSpan], fields: &mut [Field<'h>])
     requires within { All (IsHeaderWithin (length head.now)) spans.now }
     requires room { length spans.now ≤ length fields.old }
@@ -82,8 +82,7 @@ impl<'h> Iterator for Values<'h> {
     }
 }
 
-/// The members of the lists that the fields with one name are, without the white space around
-/// each. An empty member is one.
+/// The list members of the fields with one name, without surrounding white space. An empty member counts.
 #[derive(Drop)]
 pub(crate) struct Members<'h> {
     values: Values<'h>,
@@ -91,7 +90,7 @@ pub(crate) struct Members<'h> {
 }
 
 impl<'h> Members<'h> {
-    /// The members of the values of the fields with this name.
+    /// The members of the fields with this name.
     pub(crate) fn of(fields: &'h [Field<'h>], name: &'static [u8]) -> Members<'h>
         ensures { members_left result ≡ members_of name.now (pairs fields.now) }
     {
@@ -101,7 +100,6 @@ impl<'h> Members<'h> {
         }
     }
 
-    // The rest of the value that was begun, or the next value.
     fn next_list(&mut self) -> Option<&'h [u8]>
         ensures { MatchOption result
             ((members_left self.old ≡ []) × (members_left self.new ≡ []))
@@ -130,7 +128,8 @@ impl<'h> Iterator for Members<'h> {
     }
 }
 
-// [ element ] *( OWS "," OWS [ element ] ): the first member of a list, and what stands after its comma, where there is one.
+// [ element ] *( OWS "," OWS [ element ] ): the first member of a list, and the text after its comma, if
+// any.
 fn split_member(list: &[u8]) -> (&[u8], Option<&[u8]>)
     ensures { members list.now ≡ result.0.now ∷ members_after result.1 }
 {

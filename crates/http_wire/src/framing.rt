@@ -9,23 +9,23 @@ use crate::fields::{Field, Members, Values};
 use crate::numbers::number_in;
 use robots_text::is_same_word;
 
-/// What tells where a body ends.
+/// How the end of a body is found.
 #[derive(Clone, Copy, PartialEq, Eq)]
 pub(crate) enum Framing {
-    /// It has so many octets.
+    /// By its number of octets.
     Counted(u64),
-    /// Its chunks do.
+    /// By its chunks.
     Chunked,
-    /// The end of the input does.
+    /// By the end of the input.
     ToEnd,
 }
 
-/// Why the fields of a head tell no framing.
+/// Why the fields of a head give no framing.
 #[derive(Clone, Copy, PartialEq, Eq)]
 pub(crate) enum Unframed {
     /// The members of Content-Length are not all the same number below 2 to the 64.
     BadLength,
-    /// The body is in another transfer coding than `chunked`.
+    /// The body has a transfer coding other than `chunked`.
     OtherCoding,
 }
 
@@ -47,7 +47,7 @@ pub(crate) fn framing_of(status: u16, fields: &[Field<'_>]) -> Result<Framing, U
     }
 }
 
-// Transfer-Encoding = #transfer-coding: the framing by a first coding and the others.
+// Transfer-Encoding = #transfer-coding: the framing by the first coding and the others.
 fn chunked(coding: &[u8], mut others: Members<'_>) -> Result<Framing, Unframed>
     ensures { result ≡ chunked coding.now (members_left others.entry) }
 {
@@ -58,7 +58,6 @@ fn chunked(coding: &[u8], mut others: Members<'_>) -> Result<Framing, Unframed>
     }
 }
 
-// The framing by a first length and the others.
 fn counted(length: &[u8], others: Members<'_>) -> Result<Framing, Unframed>
     ensures { result ≡ counted length.now (members_left others.entry) }
 {
@@ -80,7 +79,7 @@ fn is_number_of(number: u64, member: &[u8]) -> bool
     number_in(member) == Some(number)
 }
 
-/// Whether the body would be used and is in a content coding.
+/// Whether the body would be used and has a content coding.
 pub(crate) fn is_coded(status: u16, fields: &[Field<'_>]) -> bool
     ensures { result ≡ is_coded status (pairs fields.now) }
 {
@@ -99,7 +98,7 @@ fn is_unencoded(coding: &[u8]) -> bool
     coding.is_empty() || is_same_word(coding, b"identity")
 }
 
-/// The text of the first Location field, where that is UTF-8.
+/// The first Location field, if it is UTF-8.
 pub(crate) fn location_of<'h>(fields: &'h [Field<'h>]) -> Option<&'h str>
     ensures { IsLocation (pairs fields.now) (text_of result) }
 {

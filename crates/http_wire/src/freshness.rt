@@ -9,10 +9,10 @@ use crate::numbers::number_in;
 use line_text::is_numeral;
 use robots_text::is_same_word;
 
-/// The directive that is read, with what stands before its argument.
+/// The directive, up to its argument.
 const MAX_AGE: &[u8] = b"max-age=";
 
-/// The seconds of the first member of Cache-Control that is a max-age.
+/// The seconds of the first max-age in Cache-Control.
 pub(crate) fn max_age_of(fields: &[Field<'_>]) -> Option<u64>
     ensures { HasMaxAge (pairs fields.now) result }
 {
@@ -35,7 +35,6 @@ fn max_age(member: &[u8]) -> Option<u64>
     }
 }
 
-// The seconds of an argument, bare or quoted.
 fn seconds_in(argument: &[u8]) -> Option<u64>
     ensures { MatchOption result ((seconds : ℕ) → ¬ (WritesSeconds argument.now seconds))
         (WritesSeconds argument.now) }
@@ -46,7 +45,7 @@ fn seconds_in(argument: &[u8]) -> Option<u64>
     }
 }
 
-// quoted-string = DQUOTE *( qdtext / quoted-pair ) DQUOTE: what stands between the two.
+// quoted-string = DQUOTE *( qdtext / quoted-pair ) DQUOTE: the text between the quotation marks.
 fn unquoted(argument: &[u8]) -> Option<&[u8]>
     ensures { MatchOption result ((text : List ℕ) → ¬ (IsQuoted argument.now text))
         (λ text. IsQuoted argument.now text.now) }
@@ -57,7 +56,7 @@ fn unquoted(argument: &[u8]) -> Option<&[u8]>
     opened.strip_suffix(b"\"")
 }
 
-// delta-seconds = 1*DIGIT: too great a number counts as the greatest.
+// delta-seconds = 1*DIGIT: too large a number counts as the largest.
 fn delta_seconds(digits: &[u8]) -> Option<u64>
     ensures { result ≡ delta_seconds digits.now }
 {

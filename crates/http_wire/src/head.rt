@@ -1,4 +1,4 @@
-//! Heads of responses, found in the octets that have come.
+//! Heads of responses, found in the octets received.
 //! RFC 9112, sections 2 to 5.
 ghost use Rattle.std.specs.Prelude.{◌≡◌, ◌≤◌, ◌<◌, ◌≢◌, ◌+◌, ℕ, List, Err, drop, take, map, length, IfOk, IfErr, IsTrue, Bool, option_map, false};
 ghost use Rattle.std.specs.String.{string_bytes};
@@ -29,35 +29,35 @@ pub(crate) struct FinalHead {
     pub framing: Framing,
     pub location: Option<String>,
     pub max_age: Option<u64>,
-    /// Where the body begins, counted from the first octet of the input.
+    /// Where the body begins, counted from the start of the input.
     pub end: usize,
 }
 
-/// What the parser tells of a text.
+/// What the parser finds in a text.
 #[derive(Clone, Copy)]
 pub(crate) enum Parsed {
-    /// It begins with a head.
+    /// A head at the front.
     Head(ResponseSpans),
-    /// It is a prefix of a head.
+    /// A prefix of a head.
     Open,
-    /// It has more header lines than a head may have.
+    /// More header lines than a head may have.
     TooMany,
-    /// No head begins so.
+    /// No head begins like this.
     Bad,
 }
 
-/// What one look at the octets sees.
+/// The result of one look at the octets.
 #[derive(Drop)]
 pub(crate) enum Seen {
     /// The final head.
     Final(FinalHead),
-    /// An interim head, which is passed over.
+    /// An interim head, which is skipped.
     Interim,
     /// Nothing yet.
     More,
 }
 
-/// What a status makes of its head.
+/// The class of a status.
 #[derive(Clone, Copy, PartialEq, Eq)]
 pub(crate) enum Class {
     Interim,
@@ -78,12 +78,12 @@ impl Class {
     }
 }
 
-/// The place behind the interim heads that were passed over.
+/// The place after the interim heads skipped so far.
 #[derive(Clone, Copy)]
 pub(crate) struct HeadFinder {
     at: usize,
     passed: usize,
-    // When to parse: no answer rests on it.
+    // When to parse; no answer depends on it.
     scan: HeadScan,
 }
 
@@ -115,7 +115,7 @@ impl HeadFinder {
         }
     }
 
-    /// Looks for the final head where nothing more will come.
+    /// Looks for the final head at the end of the input.
     pub(crate) fn end(mut self, alloc: Global, bytes: &[u8]) -> Result<FinalHead, WireFault>
         requires { Passes self bytes.now }
         ensures found { IfOk result (IsFound bytes.now) }
@@ -131,7 +131,7 @@ impl HeadFinder {
         }
     }
 
-    // Looks for the final head. `last`: no look follows, so what has come is parsed in any case.
+    // Looks for the final head. `last`: no look follows, so the octets are parsed in any case.
     fn find(
         &mut self,
         alloc: Global,
@@ -152,7 +152,6 @@ impl HeadFinder {
         }
     }
 
-    // Looks at one head.
     fn step(&mut self, alloc: Global, bytes: &[u8], last: bool) -> Result<Seen, WireFault>
         requires { Passes self.old bytes.now }
         ensures sees { IfOk result (SeesHead bytes.now last self.old.passed self.new) }
@@ -177,7 +176,6 @@ impl HeadFinder {
         }
     }
 
-    // Whether more octets are to come before the text is parsed.
     fn waits(&mut self, text: &[u8], last: bool) -> bool
         ensures short { IsTrue result → (last ≡ false) × (length text.now < MAX_HEAD) }
         ensures at { self.new.at ≡ self.old.at }
@@ -186,7 +184,6 @@ impl HeadFinder {
         !last && text.len() < MAX_HEAD && !self.scan.may_tell(text)
     }
 
-    // Takes a head that was parsed, by its status.
     fn take(
         &mut self,
         alloc: Global,
@@ -244,7 +241,6 @@ impl Part for HeadFinder {
     }
 }
 
-// The octets from a place on that a head may have.
 fn prefix_of(bytes: &[u8], at: usize) -> &[u8]
     requires { at ≤ length bytes.now }
     ensures { result.now ≡ take MAX_HEAD (drop at bytes.now) }
@@ -257,7 +253,6 @@ fn prefix_of(bytes: &[u8], at: usize) -> &[u8]
     }
 }
 
-// Reads off a final head what its reader needs. Its body begins at `end`.
 fn plan(
     alloc: Global,
     text: &[u8],
@@ -277,7 +272,6 @@ fn plan(
     plan_of(alloc, spans.code, &slots[..spans.headers], end)
 }
 
-// The plan of a body that begins at `end`, by the status and the fields of its head.
 fn plan_of(
     alloc: Global,
     status: u16,

@@ -1,24 +1,24 @@
-//! When a head is to be parsed.
+//! When to parse a head.
 //! RFC 9112, section 2.2. A head that comes octet by octet is parsed twice: at the end of its first
-//! line, so that what is no head is told there, and where an empty line may end it.
+//! line, to reject what is no head, and where an empty line may end it.
 
 use crate::line_ends::{has_empty_line, has_line_end};
 use std::mem;
 
-/// Up to what part of a head a scan has come.
+/// How much of a head a scan has seen.
 #[derive(Clone, Copy, PartialEq, Eq)]
 enum ScanState {
-    /// Nothing but empty lines has come.
+    /// Nothing but empty lines.
     Before,
-    /// The first line that isn't empty has begun.
+    /// The beginning of the first nonempty line.
     StartLine,
-    /// That line has ended.
+    /// The end of that line.
     Fields,
-    /// More header lines have come than a head may have.
+    /// More header lines than a head may have.
     Over,
 }
 
-/// A scan for the ends of lines that a head may have. No answer rests on it.
+/// A scan for the line ends of a head. No answer depends on it.
 #[derive(Clone, Copy, PartialEq, Eq)]
 pub(crate) struct HeadScan {
     stage: ScanState,
@@ -34,7 +34,7 @@ impl HeadScan {
         }
     }
 
-    /// Whether the text is to be parsed. It begins with the text that was scanned before.
+    /// Whether to parse the text, which begins with the text scanned before.
     pub(crate) fn may_tell(&mut self, text: &[u8]) -> bool {
         let seen = mem::replace(&mut self.seen, text.len());
         match self.stage {
@@ -50,7 +50,6 @@ impl HeadScan {
         self.stage = ScanState::Over;
     }
 
-    // Nothing but empty lines had come.
     fn begins(&mut self, text: &[u8], seen: usize) -> bool {
         match first_of_line(text, seen) {
             Some(first) => self.ends_start_line(text, first),
@@ -58,7 +57,6 @@ impl HeadScan {
         }
     }
 
-    // The first line has begun before octet `from`.
     fn ends_start_line(&mut self, text: &[u8], from: usize) -> bool {
         let ends = has_line_end(text, from);
         self.stage = if ends {
@@ -70,7 +68,6 @@ impl HeadScan {
     }
 }
 
-// The place of the first octet from a place on that ends no line.
 fn first_of_line(text: &[u8], from: usize) -> Option<usize> {
     (from..text.len()).find(|place| !matches!(text[*place], b'\r' | b'\n'))
 }

@@ -1,4 +1,4 @@
-//! The ends of lines in the octets that have come.
+//! Line ends in the octets received.
 //! RFC 9112, section 2.2: a line ends with CR LF, or with LF alone.
 ghost use Rattle.std.specs.Prelude.{◌≡◌};
 ghost use Rattle.http_wire.specs.Heads.{line_ends};
@@ -20,9 +20,9 @@ pub(crate) fn has_line_end(text: &[u8], from: usize) -> bool {
     }
 }
 
-/// Whether an empty line that follows another ends after the first `from` octets.
+/// Whether an empty line after another one ends after the first `from` octets.
 pub(crate) fn has_empty_line(text: &[u8], from: usize) -> bool {
-    // The end of the line before it may stand among the octets that were seen.
+    // The line end before it may have been seen.
     match text.get(from.saturating_sub(2)..) {
         Some(new) => memmem::find(new, b"\n\n").is_some() || memmem::find(new, b"\n\r\n").is_some(),
         None => false,

@@ -1,4 +1,4 @@
-//! The parts of a response, each found by looks at the octets that have come.
+//! The parts of a response, each found by looks at the octets received.
 //! RFC 9112, section 2.2. Between two looks lies one read.
 ghost use Rattle.std.specs.Prelude.{◌≡◌, ◌≢◌, ◌≤◌, ◌++◌, ℕ, List, Err, length, IfErr, IfOk, MatchOption};
 ghost use Rattle.http_wire.specs.Parts.{Breaks, Stops};
@@ -10,14 +10,14 @@ use crate::limits::MAX_RAW;
 use counted_io::Source;
 use std::alloc::Global;
 
-/// A part of a response, which is looked for in the octets that have come.
+/// A part of a response, searched for in the octets received.
 pub(crate) trait Part {
     ghost use Rattle.http_wire.specs.declared.fault.WireFault.{WireFault};
 
-    /// What it gives.
+    /// What the part gives.
     type Parsed;
 
-    // What no look changes: its type, and that of a part.
+    // What no look changes.
     ghost Kept: { Type 0 };
 
     ghost kept: { Self → Self.Kept };
@@ -28,13 +28,13 @@ pub(crate) trait Part {
     // What is known of them after a look that found nothing.
     ghost waits: { Self → List ℕ → Type 0 };
 
-    // What was found in the octets that are named first, where the second are left in the buffer.
+    // What was found in the first octets; the second are left in the buffer.
     ghost gives: { Self.Kept → List ℕ → List ℕ → Self.Parsed → Type 0 };
 
-    // Why the octets give nothing, whatever follows them.
+    // Why the octets give nothing, whatever follows.
     ghost refuses: { Self.Kept → List ℕ → WireFault → Type 0 };
 
-    /// Looks at what has come, and gives what stands there whatever follows.
+    /// Looks at the octets received, and gives what is certain whatever follows.
     fn look(
         &mut self,
         alloc: Global,
@@ -51,18 +51,18 @@ pub(crate) trait Part {
         ensures no_device { result ≢ Err WireFault.Device };
 }
 
-/// Where the reading of a part stops.
+/// How the reading of a part ends.
 #[derive(Drop)]
 pub(crate) enum Reached<T> {
     /// The part was found.
     Parsed(T),
-    /// The input ends, and nothing was found.
+    /// The input ends before the part does.
     Ended,
-    /// As many octets stand there as a response may have, and more follow; nothing was found.
+    /// The part was not found in as many octets as a response may have, and more follow.
     Past,
 }
 
-/// Looks for a part, and reads more for as long as it is not found.
+/// Looks for a part, and reads more until it is found.
 pub(crate) fn fill_until<S: Source, P: Part>(
     alloc: Global,
     source: &mut S,

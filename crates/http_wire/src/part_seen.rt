@@ -1,17 +1,17 @@
-//! What a look at the octets that have come can tell.
-//! Each part of a response is read by looks, with a read of the source between two of them.
+//! The result of a look at the octets received.
+//! Each part of a response is read by looks, with a read of the source between them.
 
-/// What the octets so far say of one part of a response.
+/// What the octets so far are of one part of a response.
 #[derive(Clone, Copy, PartialEq, Eq)]
 pub(crate) enum PartSeen {
-    /// The part is whole.
+    /// The whole part.
     Whole,
-    /// The octet after the last that is wanted has come.
+    /// The octet after the last one to give has come.
     Cut,
-    /// No octets that may follow make it a part that can be read.
+    /// No part, whatever follows.
     Bad,
-    /// As many lines as trailers may have stand there, and no end of them.
+    /// The most lines that trailers may have, without an end.
     Full,
-    /// More octets are needed to tell.
+    /// Undecided without more octets.
     More,
 }

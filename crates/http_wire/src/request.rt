@@ -10,13 +10,12 @@ use crate::fault::WireFault;
 use counted_io::{DeviceFault, Sink, write_all};
 use path_normal::PageUrl;
 
-/// How many octets of a request are gathered, so that they go out in one write: those of the longest
-/// page, and as many of an agent.
+/// How many octets of a request are gathered for one write: enough for the longest page, and as many again
+/// for the agent.
 const REQUEST_ROOM: usize = 8_192;
 
 /// Writes a GET request for the page, after which the connection closes. `agent` is the value of
-/// User-Agent. It is one write, where the device takes that whole and all is at most 8,192 octets.
-/// Takes no memory.
+/// User-Agent. Up to 8,192 octets are one write, if the device takes it whole. Takes no memory.
 pub fn write_get<W: Sink>(writer: &mut W, url: &PageUrl, agent: &[u8]) -> Result<(), WireFault>
     // No octet of the agent ends its line.
     requires { All (λ octet. (32 ≤ octet) × (octet ≤ 126)) agent.now }
@@ -39,7 +38,6 @@ pub fn write_get<W: Sink>(writer: &mut W, url: &PageUrl, agent: &[u8]) -> Result
     write_gathered(writer, &pieces)
 }
 
-// Writes the pieces as one octets' text, where there is room to gather them.
 fn write_gathered<W: Sink>(writer: &mut W, pieces: &[&[u8]]) -> Result<(), WireFault>
     ensures ok { OnOk result (Appends (W.written writer.old) (W.written writer.new)
         (joined_pieces pieces.now)) }
@@ -56,8 +54,7 @@ fn write_gathered<W: Sink>(writer: &mut W, pieces: &[&[u8]]) -> Result<(), WireF
     Ok(())
 }
 
-// Puts the pieces into the room, one behind the other, and says how many octets they have. None
-// where they don't fit.
+// Copies the pieces into the room, and returns their length. None if they don't fit.
 fn gather(pieces: &[&[u8]], room: &mut [u8]) -> Option<usize>
     ensures { IfSome result (λ len. (take len room.new ≡ joined_pieces pieces.now)
         × (len ≤ length room.new)) }
@@ -74,7 +71,6 @@ fn gather(pieces: &[&[u8]], room: &mut [u8]) -> Option<usize>
     Some(end)
 }
 
-// Writes one piece after the other, and stops at the first write that fails.
 fn write_pieces<W: Sink>(writer: &mut W, pieces: &[&[u8]]) -> Result<(), DeviceFault>
     ensures ok { OnOk result (Appends (W.written writer.old) (W.written writer.new)
         (joined_pieces pieces.now)) }

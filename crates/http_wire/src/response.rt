@@ -15,28 +15,26 @@ use crate::part::{Reached, fill_until};
 use counted_io::Source;
 use std::alloc::Global;
 
-/// What a server answered.
+/// A server's response.
 #[derive(Drop)]
 pub struct HttpReply {
     /// The status of the final head, 200 to 999.
     pub status: u16,
-    /// The value of the first Location field, where that is UTF-8.
+    /// The first Location field, if it is UTF-8.
     pub location: Option<String>,
-    /// The seconds of the first `max-age` among the members of Cache-Control, where there is one.
+    /// The seconds of the first `max-age` in Cache-Control, if any.
     pub max_age: Option<u64>,
-    /// The octets of the body, no more than the limit.
+    /// The octets of the body, at most the limit.
     pub body: Vec<u8>,
-    /// Whether the body has more octets than the limit.
+    /// Whether the body is longer than the limit.
     pub cut: bool,
 }
 
-/// Reads one response, and gives at most `limit` octets of its body. It asks for no more once the
-/// response or its fault stands; octets that follow may have come with the last read. It may wait
-/// for the source. The octets that came are held in one buffer of 16,384 octets, which doubles up to
-/// `MAX_RAW`; a body that is counted or goes to the end is handed out in that memory, and one in
-/// chunks takes as much memory again as it has octets, at most `limit`, and the room of a growing
-/// list. Beside these there is the text of Location. While the buffer grows, the old and the new one
-/// may both be held.
+/// Reads one response, at most `limit` octets of its body. Stops reading once the response or its fault is
+/// certain; the last read may bring later octets. May wait for the source. The octets are in one buffer of
+/// 16,384 octets, which doubles up to `MAX_RAW`; while it grows, old and new may both be held. A counted
+/// body, or one to the end of the input, is handed out in that memory. One in chunks allocates its octets
+/// again, at most `limit`, and the spare room of a growing list. The text of Location is allocated besides.
 pub fn read_response<S: Source>(
     alloc: Global,
     source: &mut S,
@@ -50,7 +48,7 @@ pub fn read_response<S: Source>(
     read_reply(alloc, source, limit)
 }
 
-// `read_response` without the law that what stands in the input is found.
+// `read_response` without the contract that a response is found.
 fn read_reply<S: Source>(
     alloc: Global,
     source: &mut S,
@@ -88,7 +86,7 @@ fn read_final<S: Source>(
     match fill_until(alloc, source, buffer, &mut finder)? {
         Reached::Parsed(head) => Ok(head),
         Reached::Ended => finder.end(alloc, buffer.octets()),
-        // More octets than eight interim heads and a final one may have are in the buffer.
+        // More octets than eight interim heads and a final one may have.
         Reached::Past => Err(WireFault::TooMuch),
     }
 }

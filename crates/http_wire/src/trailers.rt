@@ -10,12 +10,12 @@ use crate::part_seen::PartSeen;
 use httparse::spans::{EMPTY_HEADER_SPAN, parse_headers};
 use httparse::{Error, Status};
 
-/// What octets that trailers may have are.
+/// What these octets of trailers are.
 #[derive(Clone, Copy, PartialEq, Eq)]
 enum TrailerSection {
-    /// Trailers, and what follows them.
+    /// The whole trailers, and what follows.
     Whole,
-    /// A part of trailers, to which more octets can come.
+    /// A part of trailers that can go on.
     Open,
     /// More lines than trailers may have.
     Over,
@@ -34,7 +34,6 @@ pub(crate) fn look_trailers(text: &[u8], last: bool) -> PartSeen
     }
 }
 
-// Fewer octets stand there than trailers may have.
 fn look_short(text: &[u8], last: bool) -> PartSeen
     requires { length text.now < MAX_TRAILER_BYTES }
     ensures { TrailersTell text.now last result }
@@ -49,7 +48,6 @@ fn look_short(text: &[u8], last: bool) -> PartSeen
     }
 }
 
-// All the octets stand there that trailers may have.
 fn look_full(text: &[u8]) -> PartSeen
     requires { MAX_TRAILER_BYTES ≤ length text.now }
     ensures { (last : Bool) → TrailersTell text.now last result }

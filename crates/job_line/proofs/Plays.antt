@@ -1,4 +1,4 @@
--- The steps as the table asks for them: whatever it is when a step is made, the rule is kept.
+-- Each step keeps the rule in any state of the table.
 -- Used by the answers of `JobLine`.
 use Rattle.std.proofs.Common.{◌≡◌, ℕ, zero, suc, ◌+◌, ◌%◌, ◌^◌, ◌<◌, ◌≤◌, Bool, true, false, List, [], ◌∷◌, ◌++◌, length, replicate, sym, refl, ap, ◌∙◌, subst, arith}
 use Rattle.std.specs.Prelude.{nat_lt, slice_set, slice_index}
@@ -17,7 +17,6 @@ use Rattle.job_line.proofs.SumLemmas.{total-put, total-push, total-owner, weigh-
 use Rattle.job_line.proofs.SiteLemmas.{at_most-all, at_most-whole, at_most-within, firsts-none, firsts-whole, word-none}
 use Rattle.job_line.proofs.Steps.{All-at, after_draw, drawn_fit, drew, found_end, hand_drew, hand_ended, small}
 
--- a hand that is put in is there
 put_here : (hands : List Hand) (id : ℕ) (old new : Hand) → get_elem? hands id ≡ some old → get_elem? (slice_set hands id new) id ≡ some new
 put_here [] id old new at = absurd (some-ne-none old (sym at))
 put_here (first ∷ hands) zero old new at = refl
@@ -27,7 +26,6 @@ put_here (first ∷ hands) (suc id) old new at = put_here hands id old new at
 abbrev after_word : State (Unit {0}) Hand → ℕ → ℕ → ℕ → Hand → State (Unit {0}) Hand
 after_word s site word id hand = record { words = slice_set s.words site word; homes = s.homes; views = slice_set s.views id hand }
 
--- a draw at a site keeps the rule
 pub allows_draw : (counts : List ℕ) (slots id site : ℕ) (me : Me (Unit {0}) Hand) → 0 < me.0.parts → site < length me.0.counts → ends_at site me.0 ≡ 0
     → Allows (Holds counts) slots id me site (λ n. (n + 1) % 2 ^ 64) (Draws (step slots site 1 0 none) me)
 allows_draw counts slots id site me some_part inside goes s holds homes at bound = cases (nat_lt (slice_index s.words site) (slice_index me.0.counts site)) refl
@@ -61,7 +59,6 @@ allows_draw counts slots id site me some_part inside goes s holds homes at bound
         let most = ltb-false (slice_index s.words site) (slice_index me.0.counts site) is in
         done (hand_ended me.0 site) (sym (cond-false (nat_lt (slice_index s.words site) (slice_index me.0.counts site)) _ _ is)) (found_end counts s site id me.0 holds at some_part goes (omega (arith, most, same_count)))
 
--- a split keeps the rule, of a seat that has found no end
 pub splits_deal : (counts : List ℕ) (id : ℕ) (hand : Hand) → 1 < hand.parts → ((site : ℕ) → ends_at site hand ≡ 0) → Splits (Holds counts) id hand (hand_left hand) (hand_dealt hand)
 splits_deal counts id hand more goes s holds at =
     let own = All-at counts s.words s.views id hand at holds.each in
@@ -95,12 +92,10 @@ splits_deal counts id hand more goes s holds at =
     sum_same : (f : Hand → ℕ) → f (hand_left hand) ≡ f hand → f (hand_dealt hand) ≡ 0 → total f (slice_set s.views id (hand_left hand) ++ hand_dealt hand ∷ []) ≡ total f s.views
     sum_same f left dealt = let put = total-put f s.views id hand (hand_left hand) at in let push = total-push f (slice_set s.views id (hand_left hand)) (hand_dealt hand) in omega (arith, put, push, left, dealt)
 
--- of two numbers one is some
 pub one_of : (n m : ℕ) (P : Type 0) → 0 < n + m → (0 < n → P) → (0 < m → P) → P
 one_of zero m P some_of one other = other (omega (arith, some_of))
 one_of (suc n) m P some_of one other = one (omega arith)
 
--- a join keeps the rule
 pub joins_take_in : (counts : List ℕ) (id other : ℕ) (one taken : Hand) → 0 < one.parts → Joins (Holds counts) id one other taken (hand_of_both one taken) spent_hand
 joins_take_in counts id other one taken some_part s holds at apart_from there =
     let both = hand_of_both one taken in
@@ -139,7 +134,6 @@ joins_take_in counts id other one taken some_part s holds at apart_from there =
         let taken_out = total-put f (slice_set s.views id (hand_of_both one taken)) other taken spent_hand there in
         omega (arith, put, taken_out, sums, spent)
 
--- what who has all parts learns
 is_all : (counts : List ℕ) (s : State (Unit {0}) Hand) (id : ℕ) (hand : Hand) → Holds counts s → get_elem? s.views id ≡ some hand → hand.parts ≡ 16 → hand.counts ≡ counts → IsAll hand
 is_all counts s id hand holds at all_parts same = subst IsAllOf (sym same) all_of
   where
@@ -161,7 +155,6 @@ is_all counts s id hand holds at all_parts same = subst IsAllOf (sym same) all_o
       all_sites = λ found weight. each_one weight ∙ ap (weigh_firsts weight counts) (at_most-whole counts s.words (λ site there. own.ends site (found site there))) ∙ firsts-whole weight counts;
     }
 
--- a look changes nothing
 pub allows_learn : (counts : List ℕ) (slots id : ℕ) (me : Me (Unit {0}) Hand) → Allows (Holds counts) slots id me 0 (λ n. n) (Learns (step slots 0 0 0 none) me)
 allows_learn counts slots id me s holds homes at bound =
     (me.0, keeps, tt, kept, (refl, λ all_parts. is_all counts s id me.0 holds at all_parts ((All-at counts s.words s.views id me.0 at holds.each).same (omega (arith, all_parts)))))
@@ -169,7 +162,6 @@ allows_learn counts slots id me s holds homes at bound =
     kept : Holds counts (after_word s 0 (slice_index s.words 0) id me.0)
     kept = subst (λ (t : State (Unit {0}) Hand). Holds counts t) (λ i. record { words = sym (set-get_or s.words 0 0) i; homes = s.homes; views = sym (set_again s.views id me.0 at) i }) holds
 
--- a new line keeps the rule
 pub opens : (counts : List ℕ) (n : ℕ) → jobs_in counts ≤ 4096 → length counts ≤ n → Holds counts (opening (replicate n 0) [] (first_hand counts))
 opens counts n limit many = record {
   limit = limit;

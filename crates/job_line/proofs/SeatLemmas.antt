@@ -1,4 +1,4 @@
--- Seats in a list: one more, the parts that all have, and what who took them all in knows.
+-- Lists of seats: one more, all their parts, and what is known when all are taken in.
 -- Used by the answers of `JobLine`.
 use Rattle.std.proofs.Common.{◌≡◌, ℕ, zero, suc, ◌+◌, ◌<◌, ◌∙◌, Bool, true, false, List, [], ◌∷◌, ◌++◌, length, refl, sym, ap, subst, arith}
 use Rattle.std.specs.Prelude.{All, ◌||◌, nat_lt, slice_index, slice_index_or}
@@ -20,7 +20,6 @@ use Rattle.job_line.proofs.SumLemmas.{weigh-append}
 use Rattle.job_line.proofs.SiteLemmas.{begins-at, length-begins}
 use Rattle.job_line.proofs.Steps.{apart}
 
--- the parts of one seat more
 pub parts_of-push : (seats : List SeatView) (seat : SeatView) → parts_of (seats ++ seat ∷ []) ≡ parts_of seats + seat.parts
 parts_of-push [] seat = omega arith
 parts_of-push (first ∷ seats) seat = let later = parts_of-push seats seat in omega (arith, later)
@@ -37,35 +36,29 @@ either_true : (a b : Bool) (P : Type 0) → (a || b) ≡ true → (a ≡ true �
 either_true true b P e one other = one refl
 either_true false b P e one other = other e
 
--- the lists of one seat more
 pub lists_of-push : (seats : List SeatView) (seat : SeatView) → lists_of (seats ++ seat ∷ []) ≡ lists_of seats ++ seat.drawn ∷ []
 lists_of-push [] seat = refl
 lists_of-push (first ∷ seats) seat = ap (λ lists. first.drawn ∷ lists) (lists_of-push seats seat)
 
--- what is true of all is true of the first ones
 All-front : (P : SeatView → Type 0) (xs ys : List SeatView) → All P (xs ++ ys) → All P xs
 All-front P [] ys all = All-nil P
 All-front P (x ∷ xs) ys all = All-cons P x xs (All-head P x (xs ++ ys) all) (All-front P xs ys (All-tail P x (xs ++ ys) all))
 
--- what is true of all is true of one in the middle
 pub All-middle : (P : SeatView → Type 0) (xs : List SeatView) (x : SeatView) (ys : List SeatView) → All P (xs ++ x ∷ ys) → P x
 All-middle P [] x ys all = All-head P x ys all
 All-middle P (first ∷ xs) x ys all = All-middle P xs x ys (All-tail P first (xs ++ x ∷ ys) all)
 
--- where all are true, so is each
 each_true : (ended : List Bool) (site : ℕ) → list_all (λ ended. ended) ended ≡ true → site < length ended → slice_index_or ended site false ≡ true
 each_true [] site all there = absurd (omega (arith, there))
 each_true (true ∷ ended) zero all there = refl
 each_true (true ∷ ended) (suc site) all there = each_true ended site all (omega (arith, there))
 each_true (false ∷ ended) site all there = absurd (apart all)
 
--- a seat that found the end of each site knows so
 knows_each : (s : Inside) (counts : List ℕ) → IsSeated s → s.counts.items ≡ counts → has_ended (seat_view s) ≡ true → (site : ℕ) → site < length counts → 0 < ends_at site s.seat.me.0
 knows_each s counts seated same all site there =
     let many = ap length same in
     seated.ends site (each_true s.ended.items site all (omega (arith, there, seated.sites, many)))
 
--- a seat has taken itself
 pub takes_itself : (line : TableId) (s : Inside) → IsSeated s → s.seat.table_id ≡ line → HasTaken line s.seat.table_id s.seat.me (seat_view s ∷ [])
 takes_itself line s seated its_line = record {
   its_line = its_line;
@@ -78,7 +71,6 @@ takes_itself line s seated its_line = record {
   counts = λ counts same. seated.counts ∙ All-head (λ (seat : SeatView). seat.counts ≡ counts) (seat_view s) [] same;
 }
 
--- it takes in another
 pub takes_more : (line id : TableId) (me : Me (Unit {0}) Hand) (taken : List SeatView) (s : Inside) → HasTaken line id me taken → IsSeated s
     → HasTaken line id (hand_of_both me.0 s.seat.me.0, me.1) (taken ++ seat_view s ∷ [])
 takes_more line id me taken s has seated = record {
@@ -109,7 +101,6 @@ takes_more line id me taken s has seated = record {
         → weigh weight (me.0.drawn ++ s.seat.me.0.drawn) ≡ weigh_all weight (lists_of (taken ++ seat_view s ∷ []))
     more weight so_far this = omega (arith, so_far, this, weigh-append weight me.0.drawn s.seat.me.0.drawn, weigh_all-push weight taken (seat_view s))
 
--- what all seats of a line drew together
 pub covers_all : (line id : TableId) (me : Me (Unit {0}) Hand) (seats : List SeatView) (counts : List ℕ) → HasTaken line id me seats → (me.0.parts ≡ max_workers → IsAll me.0)
     → All (λ seat. seat.counts ≡ counts) seats → parts_of seats ≡ max_workers → Covers counts seats
 covers_all line id me seats counts has learned same all_parts = subst (λ counts. Covers counts seats) (has.counts counts same) covers
@@ -127,11 +118,9 @@ covers_all line id me seats counts has learned same all_parts = subst (λ counts
       one_ended = λ one weight. sym (has.drawn weight) ∙ all.all_sites (λ site there. has.one_ended counts same one site (let many = ap length (has.counts counts same) in omega (arith, there, many))) weight;
     }
 
--- what a place of a list has was read
 pub read_at : (xs : List ℕ) (site read : ℕ) → site < length xs → read ≡ slice_index_or xs site read → slice_index xs site ≡ read
 read_at xs site read there is = sym (is ∙ get_or_default_zero xs site read there)
 
--- where a site begins was read
 pub begin_read : (begins counts : List ℕ) (site read : ℕ) → begins ≡ begins_from 0 counts → site < length counts → read ≡ slice_index_or begins site read → read ≡ begin_of counts site
 begin_read begins counts site read are there is =
     let many = ap length are in
@@ -141,7 +130,6 @@ begin_read begins counts site read are there is =
     let begin = begins-at 0 counts site there in
     omega (arith, at, same, begin)
 
--- a hand after a draw that found a job
 pub hand_gains : (hand new : Hand) (counts : List ℕ) (site found begin : ℕ) → new ≡ hand_after hand site found → hand.counts ≡ counts → found < slice_index counts site → begin ≡ begin_of counts site
     → new ≡ record hand { drawn = hand.drawn ++ (begin + found) ∷ [] }
 hand_gains hand new counts site found begin is same less begins =

@@ -1,4 +1,4 @@
--- Indexes of several sites, and the words of the sites before and after a draw.
+-- Indexes of several sites, and the words before and after a draw.
 -- Used by `Steps`, `Plays` and the answers of `JobLine`.
 use Rattle.std.proofs.Common.{◌≡◌, ℕ, zero, suc, ◌+◌, ◌<◌, ◌≤◌, Bool, true, false, List, [], ◌∷◌, ◌++◌, length, replicate, take, take-suc, ◌≢◌, ◌⊎◌, inl, inr, eqb, sym, refl, ap, ◌∙◌, arith}
 use Rattle.std.specs.Prelude.{nat_lt, slice_index, slice_index_or, slice_set}
@@ -9,14 +9,12 @@ use Rattle.job_line.specs.Sums.{begin_of, begins_from, jobs_in, weigh_below, wei
 use Rattle.job_line.specs.Rule.{at_most, is_site, smaller}
 use Rattle.job_line.proofs.SumLemmas.{weigh_below-one}
 
--- the smaller of two numbers
 pub smaller-left : (n m : ℕ) → n < m → smaller n m ≡ n
 smaller-left n m less = cond-true (nat_lt n m) n m (lt-ltb n m less)
 
 pub smaller-right : (n m : ℕ) → m ≤ n → smaller n m ≡ m
 smaller-right n m not_less = cond-false (nat_lt n m) n m (le-ltb n m not_less)
 
--- the smaller is at most the second
 pub smaller-most : (n m : ℕ) → smaller n m ≤ m
 smaller-most n m = step (nat_lt n m) refl
   where
@@ -24,7 +22,6 @@ smaller-most n m = step (nat_lt n m) refl
     step true is = let less = ltb-true n m is in let same = cond-true (nat_lt n m) n m is in omega (arith, less, same)
     step false is = let same = cond-false (nat_lt n m) n m is in omega (arith, same)
 
--- one number more was drawn
 below-next : (weight : ℕ → ℕ) (word jobs : ℕ) → word < jobs → weigh_below weight (smaller (word + 1) jobs) ≡ weigh_below weight (smaller word jobs) + weight word
 below-next weight word jobs less =
     let next : smaller (word + 1) jobs ≡ suc word = step (nat_lt (word + 1) jobs) refl in
@@ -38,7 +35,6 @@ below-next weight word jobs less =
 abbrev pub next_words : List ℕ → ℕ → List ℕ
 next_words words site = slice_set words site (slice_index words site + 1)
 
--- no word falls
 pub word_grows : (words : List ℕ) (site other : ℕ) → slice_index words other ≤ slice_index (next_words words site) other
 word_grows [] site other = omega arith
 word_grows (word ∷ words) zero zero = omega arith
@@ -46,7 +42,6 @@ word_grows (word ∷ words) zero (suc other) = omega arith
 word_grows (word ∷ words) (suc site) zero = omega arith
 word_grows (word ∷ words) (suc site) (suc other) = word_grows words site other
 
--- and none rises by more than one
 word_most : (words : List ℕ) (site other : ℕ) → slice_index (next_words words site) other ≤ slice_index words other + 1
 word_most [] site other = omega arith
 word_most (word ∷ words) zero zero = omega arith
@@ -54,7 +49,6 @@ word_most (word ∷ words) zero (suc other) = omega arith
 word_most (word ∷ words) (suc site) zero = omega arith
 word_most (word ∷ words) (suc site) (suc other) = word_most words site other
 
--- the site's word alone rises, by one
 pub word_next : (words : List ℕ) (site other : ℕ) → slice_index (next_words words site) other ≤ slice_index words other + is_site other site
 word_next words site other = tells (eqb_tells other site)
   where
@@ -64,7 +58,6 @@ word_next words site other = tells (eqb_tells other site)
         let same : slice_index (next_words words site) other ≡ slice_index words other = get_or-set_other words site other (slice_index words site + 1) 0 is.1 in
         omega (arith, same)
 
--- a word that is below the site's jobs rises to them at most
 pub word_drew : (counts words : List ℕ) (site other more : ℕ) → slice_index words site < slice_index counts site → slice_index words other ≤ slice_index counts other + more
     → slice_index (next_words words site) other ≤ slice_index counts other + more
 word_drew counts [] site other more less most = most
@@ -74,7 +67,6 @@ word_drew (count ∷ counts) (word ∷ words) zero (suc other) more less most = 
 word_drew (count ∷ counts) (word ∷ words) (suc site) zero more less most = most
 word_drew (count ∷ counts) (word ∷ words) (suc site) (suc other) more less most = word_drew counts words site other more less most
 
--- one index of a site more was drawn
 pub firsts-next : (weight : ℕ → ℕ) (counts words : List ℕ) (site : ℕ) → site < length words → slice_index words site < slice_index counts site
     → weigh_firsts weight counts (at_most counts (next_words words site)) ≡ weigh_firsts weight counts (at_most counts words) + weight (begin_of counts site + slice_index words site)
 firsts-next weight [] words site there less = absurd (omega (arith, less))
@@ -88,7 +80,6 @@ firsts-next weight (count ∷ counts) (word ∷ words) (suc site) there less =
     let more = firsts-next (λ index. weight (count + index)) counts words site (omega (arith, there)) less in
     omega (arith, at, more)
 
--- a draw behind the site's end draws nothing
 pub at_most-same : (counts words : List ℕ) (site : ℕ) → slice_index counts site ≤ slice_index words site → at_most counts (next_words words site) ≡ at_most counts words
 at_most-same [] words site end = refl
 at_most-same (count ∷ counts) [] site end = refl
@@ -96,7 +87,6 @@ at_most-same (count ∷ counts) (word ∷ words) zero end =
     ap (λ first. first ∷ at_most counts words) (smaller-right (word + 1) count (omega (arith, end)) ∙ sym (smaller-right word count end))
 at_most-same (count ∷ counts) (word ∷ words) (suc site) end = ap (λ firsts. smaller word count ∷ firsts) (at_most-same counts words site end)
 
--- of no site more than its jobs
 pub at_most-within : (counts words : List ℕ) (site : ℕ) → slice_index (at_most counts words) site ≤ slice_index counts site
 at_most-within [] words site = omega arith
 at_most-within (count ∷ counts) [] zero = omega arith
@@ -104,7 +94,6 @@ at_most-within (count ∷ counts) [] (suc site) = at_most-within counts [] site
 at_most-within (count ∷ counts) (word ∷ words) zero = smaller-most word count
 at_most-within (count ∷ counts) (word ∷ words) (suc site) = at_most-within counts words site
 
--- of a site that has ended, all
 pub at_most-all : (counts words : List ℕ) (site : ℕ) → slice_index counts site ≤ slice_index words site → slice_index (at_most counts words) site ≡ slice_index counts site
 at_most-all [] words site end = refl
 at_most-all (count ∷ counts) [] zero end = omega (arith, end)
@@ -112,7 +101,6 @@ at_most-all (count ∷ counts) [] (suc site) end = at_most-all counts [] site (o
 at_most-all (count ∷ counts) (word ∷ words) zero end = smaller-right word count end
 at_most-all (count ∷ counts) (word ∷ words) (suc site) end = at_most-all counts words site end
 
--- where all sites have ended, all of each
 pub at_most-whole : (counts words : List ℕ) → ((site : ℕ) → site < length counts → slice_index counts site ≤ slice_index words site) → at_most counts words ≡ counts
 at_most-whole [] words ends = refl
 at_most-whole (count ∷ counts) [] ends =
@@ -124,7 +112,6 @@ at_most-whole (count ∷ counts) (word ∷ words) ends =
     let later = at_most-whole counts words (λ site there. ends (suc site) (omega (arith, there))) in
     λ i. here i ∷ later i
 
--- the numbers below a sum are those below one number, and as many behind it
 below-add : (weight : ℕ → ℕ) (n m : ℕ) → weigh_below weight (n + m) ≡ weigh_below weight n + weigh_below (λ index. weight (n + index)) m
 below-add weight n zero =
     let same : weigh_below weight (n + 0) ≡ weigh_below weight n = let is : n + 0 ≡ n = omega arith in ap (weigh_below weight) is in
@@ -134,7 +121,6 @@ below-add weight n (suc m) =
     let fewer = below-add weight n m in
     omega (arith, same, fewer)
 
--- all indexes of all sites are the numbers below their sum
 pub firsts-whole : (weight : ℕ → ℕ) (counts : List ℕ) → weigh_firsts weight counts counts ≡ weigh_below weight (jobs_in counts)
 firsts-whole weight [] = refl
 firsts-whole weight (count ∷ counts) =
@@ -142,7 +128,6 @@ firsts-whole weight (count ∷ counts) =
     let both = below-add weight count (jobs_in counts) in
     omega (arith, later, both)
 
--- no more were drawn than there are
 pub firsts-one : (counts words : List ℕ) → weigh_firsts (λ _. 1) counts (at_most counts words) ≤ jobs_in counts
 firsts-one [] words = omega arith
 firsts-one (count ∷ counts) [] = let later = firsts-one counts [] in omega (arith, later)
@@ -152,7 +137,6 @@ firsts-one (count ∷ counts) (word ∷ words) =
     let later = firsts-one counts words in
     omega (arith, here, most, later)
 
--- words of a new line: nothing was drawn
 pub firsts-none : (weight : ℕ → ℕ) (counts : List ℕ) (n : ℕ) → weigh_firsts weight counts (at_most counts (replicate n 0)) ≡ 0
 firsts-none weight [] n = refl
 firsts-none weight (count ∷ counts) zero = let later = firsts-none (λ index. weight (count + index)) counts zero in omega (arith, later)
@@ -170,13 +154,11 @@ word-none zero site = refl
 word-none (suc n) zero = refl
 word-none (suc n) (suc site) = word-none n site
 
--- a site's jobs end within the jobs of all
 pub begin-fits : (counts : List ℕ) (site : ℕ) → begin_of counts site + slice_index counts site ≤ jobs_in counts
 begin-fits [] site = omega arith
 begin-fits (count ∷ counts) zero = omega arith
 begin-fits (count ∷ counts) (suc site) = let later = begin-fits counts site in omega (arith, later)
 
--- the beginnings as a list
 pub begins-at : (begin : ℕ) (counts : List ℕ) (site : ℕ) → site < length counts → slice_index (begins_from begin counts) site ≡ begin + begin_of counts site
 begins-at begin [] site there = absurd (omega (arith, there))
 begins-at begin (count ∷ counts) zero there = omega arith
@@ -186,7 +168,6 @@ pub length-begins : (begin : ℕ) (counts : List ℕ) → length (begins_from be
 length-begins begin [] = refl
 length-begins begin (count ∷ counts) = ap suc (length-begins (begin + count) counts)
 
--- one site more
 pub jobs_in-push : (counts : List ℕ) (count : ℕ) → jobs_in (counts ++ count ∷ []) ≡ jobs_in counts + count
 jobs_in-push [] count = omega arith
 jobs_in-push (first ∷ counts) count = let later = jobs_in-push counts count in omega (arith, later)
@@ -196,7 +177,6 @@ begins-push begin [] count = ap (λ n. n ∷ []) (omega arith)
 begins-push begin (first ∷ counts) count =
     ap (λ rest. begin ∷ rest) (begins-push (begin + first) counts count) ∙ ap (λ n. begin ∷ (begins_from (begin + first) counts ++ n ∷ [])) (omega arith)
 
--- the sites before one and it
 pub taken-next : (counts : List ℕ) (n : ℕ) → n < length counts → take (n + 1) counts ≡ take n counts ++ slice_index counts n ∷ []
 taken-next counts n there = let is : n + 1 ≡ suc n = omega arith in ap (λ m. take m counts) is ∙ take-suc counts n 0 there
 
@@ -205,7 +185,6 @@ taken-fits [] n there = absurd (omega (arith, there))
 taken-fits (count ∷ counts) zero there = omega arith
 taken-fits (count ∷ counts) (suc n) there = let later = taken-fits counts n (omega (arith, there)) in omega (arith, later)
 
--- of a list that is false throughout, each is false
 pub none_ended : (ended : List Bool) (n site : ℕ) → ended ≡ replicate n false → slice_index_or ended site false ≡ false
 none_ended ended n site is = ap (λ ended. slice_index_or ended site false) is ∙ all_false n site
   where

@@ -15,23 +15,19 @@ use Rattle.job_line.specs.Rule.{at_most, ends_at, is_site, total, Fits, Holds}
 use Rattle.job_line.proofs.SumLemmas.{total-put, total-at, total-le, weigh-append, weigh-one}
 use Rattle.job_line.proofs.SiteLemmas.{at_most-same, begin-fits, firsts-next, firsts-one, next_words, word_drew, word_grows, word_next}
 
--- true is not false
 pub apart : false ≡ true → ⊥
 apart e = search rules
 
--- what is true of all hands is true of one
 pub All-at : (counts words : List ℕ) (hands : List Hand) (id : ℕ) (hand : Hand) → get_elem? hands id ≡ some hand → All (Fits counts words) hands → Fits counts words hand
 All-at counts words [] id hand at each = absurd (some-ne-none hand (sym at))
 All-at counts words (first ∷ hands) zero hand at each = subst (Fits counts words) (some-injective first hand at) (All-head (Fits counts words) first hands each)
 All-at counts words (first ∷ hands) (suc id) hand at each = All-at counts words hands id hand at (All-tail (Fits counts words) first hands each)
 
--- no word ever wraps
 pub small : (counts : List ℕ) (s : State (Unit {0}) Hand) (site : ℕ) → Holds counts s → slice_index s.words site ≤ 4112
 small counts s site holds =
     let few = total-le (ends_at site) (λ hand. hand.parts) s.views (All-weaker (Fits counts s.words) (λ hand. ends_at site hand ≤ hand.parts) (λ hand fits. fits.few site) s.views holds.each) in
     omega (arith, few, holds.over site, holds.parts, holds.limit, begin-fits counts site)
 
--- what fits the words fits the next
 fits_later : (counts words : List ℕ) (site : ℕ) (hand : Hand) → Fits counts words hand → Fits counts (next_words words site) hand
 fits_later counts words site hand fits = record {
   same = fits.same;
@@ -40,7 +36,7 @@ fits_later counts words site hand fits = record {
   idle = fits.idle;
 }
 
--- what a hand is after a draw that found a job, and after one that found the end
+-- the hand after a draw that found a job, and after one that found the end
 abbrev pub hand_drew : Hand → ℕ → Hand
 hand_drew hand index = record hand { drawn = hand.drawn ++ index ∷ [] }
 
@@ -51,7 +47,6 @@ hand_ended hand site = record hand { ends = site ∷ hand.ends }
 abbrev pub after_draw : State (Unit {0}) Hand → ℕ → ℕ → Hand → State (Unit {0}) Hand
 after_draw s site id hand = record { words = next_words s.words site; homes = s.homes; views = slice_set s.views id hand }
 
--- a draw that finds a job keeps the rule
 pub drew : (counts : List ℕ) (s : State (Unit {0}) Hand) (site id : ℕ) (hand : Hand) → Holds counts s → get_elem? s.views id ≡ some hand → 0 < hand.parts
     → site < length s.words → slice_index s.words site < slice_index counts site → Holds counts (after_draw s site id (hand_drew hand (begin_of counts site + slice_index s.words site)))
 drew counts s site id hand holds at some_part there job =
@@ -85,7 +80,6 @@ drew counts s site id hand holds at some_part there job =
     drawn_more weight put =
         omega (arith, put, weigh-append weight hand.drawn ((begin_of counts site + slice_index s.words site) ∷ []), holds.drawn weight, firsts-next weight counts s.words site there job)
 
--- a draw that finds the end keeps the rule
 pub found_end : (counts : List ℕ) (s : State (Unit {0}) Hand) (site id : ℕ) (hand : Hand) → Holds counts s → get_elem? s.views id ≡ some hand → 0 < hand.parts → ends_at site hand ≡ 0
     → slice_index counts site ≤ slice_index s.words site → Holds counts (after_draw s site id (hand_ended hand site))
 found_end counts s site id hand holds at some_part goes end =
@@ -135,7 +129,6 @@ found_end counts s site id hand holds at some_part goes end =
         let same : total (λ hand. weigh weight hand.drawn) (slice_set s.views id (hand_ended hand site)) ≡ total (λ hand. weigh weight hand.drawn) s.views = omega (arith, put) in
         same ∙ holds.drawn weight ∙ sym (ap (weigh_firsts weight counts) (at_most-same counts s.words site end))
 
--- no hand has drawn more numbers than there are jobs
 pub drawn_fit : (counts : List ℕ) (s : State (Unit {0}) Hand) (id : ℕ) (hand : Hand) → Holds counts s → get_elem? s.views id ≡ some hand → length hand.drawn ≤ jobs_in counts
 drawn_fit counts s id hand holds at =
     let most = total-at (λ hand. weigh (λ _. 1) hand.drawn) s.views id hand at in

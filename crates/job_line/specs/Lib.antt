@@ -1,4 +1,4 @@
--- What contracts say of the line of jobs.
+-- Definitions for the line of jobs.
 pub mod Limits
 pub mod Sums
 pub mod Rule

@@ -1,7 +1,6 @@
--- The rule of the shared words, one for each site, and their kinds of step. A word counts the draws at
--- its site. All lists together are the first indexes of each site, each once: as many as the smaller of
--- its word and its jobs. A word is at most the site's jobs and as often as its end was found; and where
--- a seat has found the end of a site, the word is at least the site's jobs.
+-- The rule for the shared words, one for each site, and their kinds of step. A word counts the draws at its site.
+-- All lists together have each site's first indexes once: as many as the smaller of its word and its jobs. A word is
+-- at most the site's jobs plus the times its end was found; and if a seat has found the end, at least the jobs.
 use Rattle.std.specs.Prelude.{◌≡◌, ℕ, ◌+◌, ◌-◌, ◌<◌, ◌≤◌, nat_eq, nat_lt, All, List, [], ◌∷◌, ◌++◌, length, slice_index, if◌then◌else◌}
 use Rattle.atomic_table.specs.Table.{State, Step, Me}
 use Rattle.job_line.specs.declared.rule.Hand.{Hand}
@@ -13,15 +12,15 @@ abbrev pub total : (Hand → ℕ) → List Hand → ℕ
 total f [] = 0
 total f (hand ∷ hands) = f hand + total f hands
 
--- one, where two sites are the same
+-- 1 for the same site, else 0
 abbrev pub is_site : ℕ → ℕ → ℕ
 is_site site other = if nat_eq site other then 1 else 0
 
--- how often a hand found the end of a site
+-- how often a hand found the site's end
 abbrev pub ends_at : ℕ → Hand → ℕ
 ends_at site hand = weigh (is_site site) hand.ends
 
--- what a hand knows is so: of the numbers of jobs, and of the ends that it found
+-- what a hand knows is true: counts of jobs, and ends found
 pub record Fits (counts words : List ℕ) (hand : Hand) : Type 0 where
   pub same : 0 < hand.parts → hand.counts ≡ counts
   pub ends : (site : ℕ) → 0 < ends_at site hand → slice_index counts site ≤ slice_index words site
@@ -32,13 +31,13 @@ pub record Fits (counts words : List ℕ) (hand : Hand) : Type 0 where
 abbrev pub smaller : ℕ → ℕ → ℕ
 smaller n m = if nat_lt n m then n else m
 
--- of each site as many as its word has, but at most its jobs
+-- for each site its word, but at most its jobs
 abbrev pub at_most : List ℕ → List ℕ → List ℕ
 at_most [] words = []
 at_most (count ∷ counts) [] = 0 ∷ at_most counts []
 at_most (count ∷ counts) (word ∷ words) = smaller word count ∷ at_most counts words
 
--- the rule, of the number of jobs of each site, the words and all hands
+-- the rule, for counts of jobs, words and all hands
 pub record Holds (counts : List ℕ) (s : State (Unit {0}) Hand) : Type 0 where
   pub limit : jobs_in counts ≤ max_jobs
   pub words : length counts ≤ length s.words
@@ -48,11 +47,11 @@ pub record Holds (counts : List ℕ) (s : State (Unit {0}) Hand) : Type 0 where
   pub over : (site : ℕ) → slice_index s.words site ≤ slice_index counts site + total (ends_at site) s.views
   pub each : All (Fits counts s.words) s.views
 
--- the making: the first seat has all parts, and has drawn nothing
+-- a new line: the first seat has all parts
 abbrev pub first_hand : List ℕ → Hand
 first_hand counts = record { counts = counts; parts = 16; ends = []; drawn = [] }
 
--- a split: the new seat has one part of the other's, and empty lists
+-- a split: the new seat gets one part, and empty lists
 abbrev pub hand_left : Hand → Hand
 hand_left hand = record hand { parts = hand.parts - 1 }
 
@@ -60,7 +59,7 @@ hand_left hand = record hand { parts = hand.parts - 1 }
 abbrev pub hand_dealt : Hand → Hand
 hand_dealt hand = record { counts = hand.counts; parts = 1; ends = []; drawn = [] }
 
--- the hand after a draw that found this word of a site
+-- the hand after a draw that read this word
 abbrev pub hand_after : Hand → ℕ → ℕ → Hand
 hand_after hand site found =
     if nat_lt found (slice_index hand.counts site) then record hand {
@@ -69,12 +68,12 @@ hand_after hand site found =
     }
     else record hand { ends = site ∷ hand.ends }
 
--- a draw: the list gains the index that the word stands for, where the site has it; else its end was found
+-- a draw: the list gains the word's index, or the site's end was found
 abbrev pub Draws : Step (Unit {0}) → Me (Unit {0}) Hand → ℕ → Me (Unit {0}) Hand → Type 0
 Draws s old found new =
     (new.0 ≡ hand_after old.0 s.word found) × (new.1 ≡ old.1) × (length new.0.drawn ≤ jobs_in old.0.counts)
 
--- a join: the joining seat takes over the lists, and the parts
+-- a join: one seat takes over the other's lists and parts
 abbrev pub hand_of_both : Hand → Hand → Hand
 hand_of_both one other = record {
   counts = one.counts;
@@ -87,7 +86,7 @@ hand_of_both one other = record {
 abbrev pub spent_hand : Hand
 spent_hand = record { counts = []; parts = 0; ends = []; drawn = [] }
 
--- what was drawn are the first indexes of each site, each once; and all of a site, where its end was found
+-- the draws are each site's first indexes, each once; all, if its end was found
 pub record IsAll (hand : Hand) : Type 0 where
   pub firsts : List ℕ
   pub within : (site : ℕ) → slice_index firsts site ≤ slice_index hand.counts site
@@ -96,6 +95,6 @@ pub record IsAll (hand : Hand) : Type 0 where
   pub all_sites : ((site : ℕ) → site < length hand.counts → 0 < ends_at site hand)
       → (weight : ℕ → ℕ) → weigh weight hand.drawn ≡ weigh_below weight (jobs_in hand.counts)
 
--- a look: who has all parts learns that its list is all that was drawn
+-- a seat with all parts learns that its list has all draws
 abbrev pub Learns : Step (Unit {0}) → Me (Unit {0}) Hand → ℕ → Me (Unit {0}) Hand → Type 0
 Learns s old found new = (new ≡ old) × (old.0.parts ≡ max_workers → IsAll old.0)

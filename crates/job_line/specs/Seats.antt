@@ -1,4 +1,4 @@
--- What is true of every line and of every seat: a seat knows what its holder drew.
+-- The invariants of lines and seats: a seat knows its holder's draws.
 -- The invariants of `JobLine` and `JobSeat`.
 use Rattle.std.specs.Prelude.{◌≡◌, ℕ, ◌<◌, ◌≤◌, true, false, All, List, [], length, slice_index_or, vec_capacity}
 use Rattle.std.specs.List.{list_any}
@@ -23,7 +23,7 @@ seat_view s = record {
   drawn = s.drawn.items;
 }
 
--- what the seat knows is what its holder has, and there is room for every job
+-- the seat knows what its holder does, and has room for every job
 pub record IsSeated (s : Inside) : Type 0 where
   pub counts : s.seat.me.0.counts ≡ s.counts.items
   pub limit : jobs_in s.counts.items ≤ max_jobs
@@ -37,17 +37,17 @@ pub record IsSeated (s : Inside) : Type 0 where
   pub bare : s.seat.me.1 ≡ []
   pub room : jobs_in s.counts.items ≤ vec_capacity s.drawn
 
--- what callers see of a line: which one it is
+-- the identity of a line, as callers see it
 abbrev pub line_id : InsideLine → TableId
 line_id line = line.table.shared.table_id
 
--- a line has a word, no slot, and room for the lists of all seats
+-- a line has a word, and empty room for the lists of all seats
 pub record IsLine (line : InsideLine) : Type 0 where
   pub some_word : 0 < line.table.shared.table_id.words
   pub empty : line.lists.items ≡ []
   pub room : max_workers ≤ vec_capacity line.lists
 
--- the hand of a seat that took over what these seats drew
+-- the hand of a seat that took over these seats' draws
 pub record HasTaken (line id : TableId) (me : Me (Unit {0}) Hand) (taken : List SeatView) : Type 0 where
   pub its_line : id ≡ line
   pub bare : me.1 ≡ []

@@ -1,5 +1,5 @@
-//! The line of jobs: numbers that several workers draw, each number once.
-//! The workers share one word, which moves by one step a draw; no draw waits.
+//! The line of jobs: numbers that several workers draw, each once.
+//! The workers share one word for each site; no draw waits.
 #![tactic(auto)]
 
 mod line;

@@ -1,4 +1,4 @@
-//! The line of jobs: a word for each site, which counts the draws there, and the seats that draw.
+//! The line of jobs: a counter of draws for each site, and the seats that draw.
 ghost use Rattle.std.specs.Prelude.{◌≡◌, ℕ, ◌≤◌, ◌<◌, ◌-◌, ◌++◌, ◌∷◌, [], true, false, All, IfNone, IfOk, IfSome, List, OnOk, length, replicate, set, vec_len};
 ghost use Rattle.job_line.specs.Limits.{max_jobs, max_workers};
 ghost use Rattle.job_line.specs.Sums.{begins_from, jobs_in};
@@ -13,11 +13,11 @@ use std::marker::Model;
 /// The most jobs of a line.
 pub const MAX_JOBS: u64 = 4096;
 
-/// The most workers that draw from it.
+/// The most workers of a line.
 pub const MAX_WORKERS: u64 = 16;
 
-/// A line of the jobs of one site or of several, numbered from 0. Any number of threads may draw from
-/// it at a time, each at its own seat.
+/// A line of jobs, of one or several sites, numbered from 0. Many threads may draw at once, each at its own
+/// seat.
 #[derive(Drop)]
 pub struct JobLine {
     table: Table<(), Hand, Vec<u64>, DrawnOnce, Global>,
@@ -37,14 +37,14 @@ impl Model for JobLine {
     ghost invariant = { IsLine };
 }
 
-/// What the seats drew, each seat's list in the order of its draws.
+/// What each seat drew, in order.
 #[derive(Drop)]
 pub struct Drawn {
     pub lists: Vec<Vec<u64>>,
 }
 
 impl JobLine {
-    /// A line of as many jobs, all of one site, and a seat for each worker.
+    /// A line of this many jobs of one site, and a seat for each worker.
     pub fn new(
         alloc: Global,
         jobs: u64,
@@ -59,8 +59,8 @@ impl JobLine {
         JobLine::of_sites(alloc, &[jobs], workers)
     }
 
-    /// A line of the jobs of several sites, those of the first site first, and a seat for each worker.
-    /// The room of all lists is taken here, so that no later call takes memory.
+    /// A line of the jobs of several sites, site by site, and a seat for each worker. All lists are
+    /// allocated here.
     pub fn of_sites(
         alloc: Global,
         counts: &[u64],
@@ -81,13 +81,13 @@ impl JobLine {
         Ok((line, seats))
     }
 
-    // A line, and a seat that has all its parts.
+    // A line, and a seat with all its parts.
     fn start(alloc: Global, counts: &[u64]) -> Result<(JobLine, JobSeat), AllocError>
         requires { jobs_in counts.now ≤ max_jobs }
         ensures { IfOk result (λ made. made.1 ≡ first_seat made.0 counts.now) }
     {
         let counts = counts.to_vec(alloc)?;
-        // A line of no sites has a word too, by which `gather` learns that nothing was drawn.
+        // A line without sites has a word too, so that `gather` learns that nothing was drawn.
         let words = vec![in alloc; 0; counts.len().max(1)]?;
         let ended = vec![in alloc; false; counts.len()]?;
         let (begins, jobs) = begins(alloc, counts.as_slice())?;
@@ -106,7 +106,7 @@ impl JobLine {
         Ok((line, first))
     }
 
-    // A new seat, which gets one part of another's. Its list has as much room.
+    // A new seat with one part of another's, and as much room.
     fn deal(&self, alloc: Global, seat: &mut JobSeat) -> Result<JobSeat, AllocError>
         requires line { seat.old.line ≡ self.now }
         requires parts { 1 < seat.old.parts }
@@ -127,7 +127,7 @@ impl JobLine {
         })
     }
 
-    /// The next index of the first site, which has all jobs of a line that `new` made.
+    /// The next index of the first site, which has all jobs of a line from `new`.
     pub fn draw(&self, seat: &mut JobSeat) -> Option<u64>
         requires { seat.old.line ≡ self.now }
         ensures some { IfSome result (λ n. (n < jobs_of seat.old)
@@ -139,8 +139,8 @@ impl JobLine {
         self.draw_at(seat, 0)
     }
 
-    /// The next index of a site's jobs, which no other draw gives, and none at the site's end. There the
-    /// seat takes no step more, nor at a site that is none. It takes neither memory nor a lock.
+    /// The next index of a site's jobs, which no other draw gives; none at the site's end, where the seat
+    /// makes no further step, and none for an unknown site. No allocation, no lock.
     pub fn draw_at(&self, seat: &mut JobSeat, site: usize) -> Option<u64>
         requires { seat.old.line ≡ self.now }
         ensures some { IfSome result (λ n. (n < jobs_of seat.old)
@@ -164,7 +164,7 @@ impl JobLine {
         }
     }
 
-    /// What each seat drew, in the order of the seats; of no seats, nothing. It takes no memory.
+    /// Each seat's draws, in the order of the seats. It allocates nothing.
     pub fn gather(self, seats: Vec<JobSeat>) -> Drawn
         requires few { vec_len seats ≤ max_workers }
         requires own { All (λ seat. seat.line ≡ self) seats.items }
@@ -197,7 +197,7 @@ impl JobLine {
     }
 }
 
-// At which index the jobs of each site begin, and how many jobs there are.
+// The index at which each site's jobs begin, and the number of jobs.
 fn begins(alloc: Global, counts: &[u64]) -> Result<(Vec<u64>, u64), AllocError>
     requires { jobs_in counts.now ≤ max_jobs }
     ensures { IfOk result (λ found. (found.0.items ≡ begins_from 0 counts.now)
@@ -212,7 +212,7 @@ fn begins(alloc: Global, counts: &[u64]) -> Result<(Vec<u64>, u64), AllocError>
     Ok((begins, jobs))
 }
 
-/// The constants are the numbers that the definitions have.
+/// The constants are those of the definitions.
 pub fn constants_are_the_limits()
     ensures jobs { MAX_JOBS ≡ max_jobs }
     ensures workers { MAX_WORKERS ≡ max_workers }

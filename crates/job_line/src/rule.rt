@@ -1,21 +1,21 @@
-//! The rule that the shared words keep, and their kinds of atomic step. These types are for proofs
-//! alone. `specs/Rule.antt` has what each says.
+//! The rule for the shared words, and their kinds of atomic step. These types exist only for proofs.
+//! `specs/Rule.antt` has what each says.
 use atomic_table::{Join, Play, Split, TableRule};
 use std::collections::LinkedList;
 
-/// What a seat knows. No value of it is made.
+/// What a seat knows; no value of it is made.
 pub struct Hand {
-    /// How many jobs each site has.
+    /// Each site's jobs.
     pub counts: LinkedList<u64>,
-    /// How many of the line's 16 parts the seat has.
+    /// How many of the line's 16 parts it has.
     pub parts: u64,
-    /// The sites whose end it found.
+    /// The ends that it found.
     pub ends: LinkedList<u64>,
     /// What it drew.
     pub drawn: LinkedList<u64>,
 }
 
-/// All that was drawn are the first indexes of each site, as many as its word has, each once.
+/// All draws are each site's first indexes, as many as its word counts, each once.
 pub struct DrawnOnce;
 
 impl TableRule<(), Hand, Vec<u64>> for DrawnOnce {
@@ -26,7 +26,7 @@ impl TableRule<(), Hand, Vec<u64>> for DrawnOnce {
     ghost first = { λ counts. first_hand counts.items };
 }
 
-/// A new seat gets one of another's parts.
+/// A seat gets one of another's parts.
 pub struct Deal;
 
 impl Split<Hand> for Deal {
@@ -37,7 +37,7 @@ impl Split<Hand> for Deal {
     ghost right = { hand_dealt };
 }
 
-/// An index is drawn, or the end of a site is found.
+/// An index is drawn, or a site's end is found.
 pub struct Draw;
 
 impl Play<(), Hand> for Draw {
@@ -46,7 +46,7 @@ impl Play<(), Hand> for Draw {
     ghost then = { Draws };
 }
 
-/// A seat takes over what another drew.
+/// A seat takes over another's draws.
 pub struct TakeIn;
 
 impl Join<Hand> for TakeIn {
@@ -57,7 +57,7 @@ impl Join<Hand> for TakeIn {
     ghost spent = { spent_hand };
 }
 
-/// Who has all parts learns that of each site the first indexes were drawn, each once.
+/// A seat with all parts learns that each site's first indexes were drawn, each once.
 pub struct Learn;
 
 impl Play<(), Hand> for Learn {

@@ -7,14 +7,14 @@ use crate::rule::Hand;
 use atomic_table::Seat;
 use std::marker::Model;
 
-/// A worker's seat: what the worker drew, in order. It belongs to the line that made it.
+/// What a worker drew, in order. It belongs to the line that made it.
 #[derive(Drop)]
 pub struct JobSeat {
     pub(crate) seat: Seat<(), Hand>,
-    // How many jobs each site has, and at which index they begin.
+    // Each site's jobs, and where their indexes begin.
     pub(crate) counts: Vec<u64>,
     pub(crate) begins: Vec<u64>,
-    // For each site whether its end was found here.
+    // Whether this seat found each site's end.
     pub(crate) ended: Vec<bool>,
     pub(crate) drawn: Vec<u64>,
 }
@@ -32,21 +32,21 @@ impl Model for JobSeat {
 }
 
 impl JobSeat {
-    /// What was drawn at this seat, in the order of the draws.
+    /// This seat's draws, in order.
     pub fn drawn(&self) -> &[u64]
         ensures { result.now ≡ self.now.drawn }
     {
         self.drawn.as_slice()
     }
 
-    /// How many sites the line has.
+    /// The line's sites.
     pub fn sites(&self) -> usize
         ensures { result ≡ length self.now.counts }
     {
         self.counts.len()
     }
 
-    /// Whether the end of each site was found at this seat.
+    /// Whether this seat found each site's end.
     pub fn has_ended(&self) -> bool
         ensures { result ≡ has_ended self.now }
     {

@@ -1,41 +1,41 @@
--- A journal's writer as contracts see it, and what it does.
--- The contracts of `Writer` cite it.
+-- A journal's writer in contracts, and what it does.
+-- Used by `Writer`.
 use Rattle.std.specs.Prelude.{◌≡◌, ◌⊎◌, ℕ, List, Bool, true, false}
 use Rattle.journal_tape.specs.Crash.{HasKept}
 use Rattle.journal_tape.specs.Journal.{Noted, Writes}
 use Rattle.journal_files.specs.declared.position.JournalPosition.{JournalPosition}
 use Rattle.journal_files.specs.Shelves.{HasHead}
 
--- what is on the tape of the last file, and where its text ends
+-- the tape of the last file, and where its text ends
 pub record Written : Type 0 where
   pub noted : Noted
   pub place : JournalPosition
 
--- a text of this kind was written behind what was written; where it is asked for, each crash keeps it all
+-- a text of this kind was appended; if asked, a crash keeps it all
 pub record WritesText (Kind : List ℕ → Type 0) (old new : Written) (always : Bool) : Type 0 where
   pub text : List ℕ
   pub is_kind : Kind text
   pub writes : Writes old.noted new.noted text
   pub kept : always ≡ true → HasKept new.noted.written new.noted.kept
 
--- what follows the place was written, and the new place is where it ends
+-- what follows the place was written, up to the new place
 abbrev pub ComesUpTo : (JournalPosition → List ℕ → JournalPosition → Type 0) → Written → Written → Bool → Type 0
 ComesUpTo follows old new always = WritesText (λ text. follows old.place text new.place) old new always
 
--- a file was begun with such a text, which each crash keeps
+-- a file was begun with such a text, which a crash keeps
 pub record Begins (begins : List ℕ → JournalPosition → Type 0) (new : Written) : Type 0 where
   pub head : List ℕ
   pub is_head : begins head new.place
   pub has : HasHead new.noted.written new.noted.kept head
   pub works : new.noted.failed ≡ false
 
--- the last file was ended by such a text, and the next one begun
+-- such a text ended the last file, and the next one was begun
 pub record TurnsOver (Ends : List ℕ → Type 0) (begins : List ℕ → JournalPosition → Type 0)
     (old new : Written) : Type 0 where
   pub ended : Written
   pub ends : WritesText Ends old ended true
   pub next : Begins begins new
 
--- the same, or nothing changed
+-- a file was turned over, or nothing changed
 abbrev pub TurnsOverOrStays : (List ℕ → Type 0) → (List ℕ → JournalPosition → Type 0) → Written → Written → Type 0
 TurnsOverOrStays Ends begins old new = TurnsOver Ends begins old new ⊎ (new ≡ old)

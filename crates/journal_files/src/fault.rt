@@ -1,16 +1,16 @@
-//! Why a journal can't be begun, and why it has failed.
-//! docs/FAULTS.md has what is told of each.
+//! Why a journal can't begin, or has failed.
+//! docs/FAULTS.md has the messages.
 use std::alloc::AllocError;
 use std::io;
 
-/// Why a journal has failed. It has for good: nothing is written to it any more, and nothing may be told.
+/// Why a journal has failed, for good: nothing more is written to it, or may be sent.
 #[derive(Clone, Copy, Debug)]
 pub enum JournalFault {
-    /// A write or a sync failed, or a file could not be put up; and why, where that is known.
+    /// A write or sync failed, or a file could not be created, for this reason if known.
     Device(Option<io::Error>),
-    /// There was no memory for the text of entries.
+    /// No memory for the entries' text.
     NoMemory,
-    /// What is recorded does not go on where the journal ends: it was sealed by a call that is not the journal's.
+    /// The entries don't continue where the journal ends: another call sealed them.
     Elsewhere,
 }
 
@@ -25,16 +25,16 @@ impl From<AllocError> for JournalFault {
     }
 }
 
-/// Why a folder can't be a journal's.
+/// Why a folder can't be used for a journal.
 #[derive(Clone, Copy, Debug)]
 pub enum FolderFault {
-    /// It has files whose names are no journal's.
+    /// It has files with other names than a journal's.
     OtherFiles,
     /// Another process has it.
     InUse,
-    /// It can't be made, read or locked, and why.
+    /// It can't be made, read or locked, for this reason.
     Device(io::Error),
-    /// There was no memory for its name.
+    /// No memory for its name.
     NoMemory,
 }
 

@@ -1,5 +1,5 @@
-//! `Folder`: a folder with a journal's files, which one process has at a time.
-//! A file stands under its name only once it begins with its whole base.
+//! `Folder`: a folder with a journal's files, for one process at a time.
+//! A file gets its name only once it has its whole base.
 use crate::fault::{FolderFault, JournalFault};
 use crate::last_file::LastFile;
 use crate::names::{LOCK_NAME, NEW_NAME, file_name, is_file_name, path_in};
@@ -11,19 +11,19 @@ use std::fs::{File, Files, TryLockError};
 use std::io::ErrorKind;
 use std::{fs, io};
 
-/// A folder, and the lock by which this process has it, which is let go where it is dropped.
+/// A folder, and this process's lock on it, released on drop.
 #[derive(Drop)]
 pub struct Folder<R> {
     rt: R,
     alloc: Global,
     path: String,
     lock: File,
-    // The path of the last file that it had.
+    // The path of its last file at the start.
     last: Option<String>,
 }
 
 impl<R: Files<File = File> + AllocGlobal + Clone + Drop> Folder<R> {
-    /// Makes the folder where it is not there, and has it locked. It must have no files but a journal's.
+    /// Makes the folder if needed, and locks it. It must have only a journal's files.
     pub fn open(rt: R, path: &str) -> Result<Folder<R>, FolderFault> {
         let alloc = rt.alloc();
         make(&rt, path)?;
@@ -43,8 +43,8 @@ impl<R: Files<File = File> + AllocGlobal + Clone + Drop> Folder<R> {
         })
     }
 
-    /// The last of the files that it had when it was opened, from the text of which a journal goes on; none where it had
-    /// none. A file that was never whole is none of a journal, and is overwritten by the next one.
+    /// The last file when it was opened, from whose text a journal continues, if any. An incomplete file
+    /// doesn't count; the next one overwrites it.
     pub fn last_file(&self) -> io::Result<Option<LastFile>> {
         match &self.last {
             Some(path) => {
@@ -55,13 +55,13 @@ impl<R: Files<File = File> + AllocGlobal + Clone + Drop> Folder<R> {
         }
     }
 
-    // Writes a file under a name of its own until it is whole, and then under its name.
+    // Writes a whole file under a temporary name, and then renames it.
     fn write_file(&self, name: &str, head: &[u8]) -> io::Result<FileTape<File>> {
         let new = path_in(self.alloc, self.path.as_str(), NEW_NAME)?;
         let name = path_in(self.alloc, self.path.as_str(), name)?;
         let tape = keep(FileTape::new(File::create(&self.rt, new.as_str())?), head)?;
         fs::rename(&self.rt, new.as_str(), name.as_str())?;
-        // The name is kept by a crash once its folder is synced.
+        // A synced folder keeps its names in a crash.
         File::open(&self.rt, self.path.as_str())?.sync_all()?;
         Ok(tape)
     }
@@ -79,7 +79,7 @@ impl<R: Files<File = File> + AllocGlobal + Clone + Drop> Shelf for Folder<R> {
     }
 }
 
-// Makes a folder, where it is not there.
+// Makes a folder, if there is none.
 fn make<R: Files>(rt: &R, path: &str) -> io::Result<()> {
     match fs::create_dir(rt, path) {
         Err(cause) if cause.kind() != ErrorKind::AlreadyExists => Err(cause),
@@ -87,7 +87,7 @@ fn make<R: Files>(rt: &R, path: &str) -> io::Result<()> {
     }
 }
 
-// Takes the lock of a folder, without waiting.
+// Locks a folder, without waiting.
 fn lock<R: Files<File = File>>(rt: &R, name: &str) -> Result<File, FolderFault> {
     let file = File::create(rt, name)?;
     match file.try_lock() {
@@ -97,7 +97,7 @@ fn lock<R: Files<File = File>>(rt: &R, name: &str) -> Result<File, FolderFault> 
     }
 }
 
-// The greatest name of a journal's files in a folder, which must have no others.
+// The greatest name of a journal's files in a folder with no others.
 fn last_name<R: Files + AllocGlobal + Clone + Drop>(
     rt: &R,
     path: &str,

@@ -1,5 +1,5 @@
-//! `GroupJournal`: a journal to which several threads come up; whoever needs it first writes for all.
-//! Nobody reads the chronicle while the slot is locked, and nothing is written under that lock.
+//! `GroupJournal`: a journal for several threads; the first to need it writes for all.
+//! The lock of the slot is not held while the chronicle is read, or while anything is written.
 ghost use Rattle.std.specs.Prelude.{◌≡◌, IfOk};
 
 use crate::chronicle::Chronicle;
@@ -12,8 +12,8 @@ use std::alloc::Global;
 use std::marker::Model;
 use std::sync::{Condvar, Mutex, Wait};
 
-// What threads share of a journal: its writer, where no thread has it; up to how many entries the files have what
-// may be told; and why it has failed, once it has.
+// What threads share: the journal's writer, unless a thread has it; how many entries may be sent; and its
+// fault, if any.
 #[derive(Drop)]
 struct Slot<S: Shelf> {
     writer: Option<Writer<S>>,
@@ -22,12 +22,12 @@ struct Slot<S: Shelf> {
 }
 
 impl<S: Shelf> Slot<S> {
-    // Whether another thread writes, and what is wanted is not in the files yet.
+    // Whether another thread writes, and the target is not reached.
     fn is_awaited(&self, target: u64) -> bool {
         self.fault.is_none() && self.reached < target && self.writer.is_none()
     }
 
-    // Whether the file is long, where no thread writes it.
+    // Whether the file is long, while no thread writes it.
     fn is_long(&self) -> bool {
         match &self.writer {
             Some(writer) => writer.is_long(),
@@ -36,14 +36,14 @@ impl<S: Shelf> Slot<S> {
     }
 }
 
-/// How many octets a file may have beside those that it began with before the next one is begun: 64 MiB.
+/// The octets that a file may have after its beginning before the next one begins: 64 MiB.
 pub const FILE_OCTETS: u64 = 67_108_864;
 
-/// A journal of several threads. A clause sees it as when its files are synced.
+/// A journal for several threads. A clause sees its sync policy.
 #[derive(Drop)]
 pub struct GroupJournal<S: Shelf> {
     slot: Mutex<Slot<S>>,
-    // Told of each writer that is put back.
+    // Notified when a writer is put back.
     moved: Condvar,
     policy: SyncPolicy,
 }
@@ -56,19 +56,18 @@ impl<S: Shelf> Model for GroupJournal<S> {
     ghost view = { λ journal. journal.policy };
 }
 
-// What a thread may do that came up to the journal.
+// What a thread may do with the journal.
 #[derive(Drop)]
 pub(crate) enum Turn<S: Shelf> {
-    // The files have what it wants.
+    // The files have the target.
     Reached,
-    // The journal has failed.
     Failed,
-    // It has the writer, and puts it back.
+    // It has the writer, and must put it back.
     Taken(Writer<S>),
 }
 
 impl<S: Shelf + Drop> GroupJournal<S> {
-    /// A journal that begins with what there is of a chronicle: it puts up the first file.
+    /// A journal that begins with a whole chronicle: it creates the first file.
     pub fn begin<H: Chronicle>(
         alloc: Global,
         chronicle: &H,
@@ -89,13 +88,13 @@ impl<S: Shelf + Drop> GroupJournal<S> {
         })
     }
 
-    /// Why it has failed, if it has: it has for good.
+    /// Its fault, if it has failed: failures are final.
     pub fn fault<R: Wait>(&self, rt: &R) -> Option<JournalFault> {
         self.slot.lock(rt).fault
     }
 
-    /// Waits until the files have all entries that there are at the call, and each crash keeps them where the policy
-    /// is `Always`.
+    /// Waits until the files have all entries that exist now, and a crash keeps them if the policy is
+    /// `Always`.
     pub fn come_up<H: Chronicle, R: Wait>(&self, rt: &R, chronicle: &H) -> Result<(), DeviceFault> {
         match self.take_turn(rt, chronicle.entry_count()) {
             Turn::Reached => Ok(()),
@@ -108,7 +107,8 @@ impl<S: Shelf + Drop> GroupJournal<S> {
         }
     }
 
-    /// Waits until each crash keeps all that was written. A server whose policy is `Second` calls it once a second.
+    /// Waits until a crash keeps all that was written. With the policy `Second`, a server calls it each
+    /// second.
     pub fn sync<R: Wait>(&self, rt: &R) -> Result<(), DeviceFault> {
         match self.take_turn(rt, u64::MAX) {
             Turn::Reached => Ok(()),
@@ -121,20 +121,20 @@ impl<S: Shelf + Drop> GroupJournal<S> {
         }
     }
 
-    /// Whether a new file should be begun: there are enough entries since the last one, or the file has more octets
-    /// beside those that it began with than `FILE_OCTETS`, and than those.
+    /// Whether a new file is due: by entries since the last one, or by octets after the file's beginning,
+    /// if more than `FILE_OCTETS` and than the beginning has.
     pub fn is_due<H: Chronicle, R: Wait>(&self, rt: &R, chronicle: &H) -> bool {
         chronicle.is_due() || self.slot.lock(rt).is_long()
     }
 
-    /// When the files are synced.
+    /// Its sync policy.
     pub fn policy(&self) -> SyncPolicy
         ensures { result ≡ self.now }
     {
         self.policy
     }
 
-    // Waits until the files have so many entries, or the writer is there, which the caller then has.
+    // Waits until the files have so many entries, or takes the writer.
     pub(crate) fn take_turn<R: Wait>(&self, rt: &R, target: u64) -> Turn<S> {
         let slot = self.slot.lock(rt);
         let mut slot = self
@@ -152,7 +152,7 @@ impl<S: Shelf + Drop> GroupJournal<S> {
         }
     }
 
-    // Puts the writer back, and wakes all that wait.
+    // Puts the writer back, and wakes all waiting.
     pub(crate) fn put_back<R: Wait>(
         &self,
         rt: &R,
@@ -170,7 +170,7 @@ impl<S: Shelf + Drop> GroupJournal<S> {
 }
 
 impl<S: Shelf + Drop> Slot<S> {
-    // Takes the writer back, and what came of its work.
+    // Takes back the writer and its result.
     fn note(
         &mut self,
         writer: Writer<S>,

@@ -1,5 +1,5 @@
 //! The last file of a journal that an earlier process wrote.
-//! What was out at its end is ended in it before a new file is begun, so that `cat FOLDER/*` stays one history.
+//! What was open at its end is ended in it before a new file begins, so `cat FOLDER/*` stays one history.
 
 use crate::fault::JournalFault;
 use crate::writing::keep;
@@ -8,7 +8,7 @@ use std::fs::{File, Files};
 use std::io;
 use std::io::{Seek, SeekFrom};
 
-/// A file, open for reading and for writing, with its path.
+/// A file with its path, open for reading and writing.
 #[derive(Drop)]
 pub struct LastFile {
     path: String,
@@ -16,7 +16,6 @@ pub struct LastFile {
 }
 
 impl LastFile {
-    // Opens the file at a path.
     pub(crate) fn open<R: Files<File = File>>(rt: &R, path: String) -> io::Result<LastFile> {
         let file = File::options()
             .read(true)
@@ -30,12 +29,12 @@ impl LastFile {
         self.path.as_str()
     }
 
-    /// What it has, to be read from its begin.
+    /// Its text, to be read from the start.
     pub fn text(&self) -> &File {
         &self.file
     }
 
-    /// Cuts it behind so many octets, writes these behind them, and waits until each crash keeps both.
+    /// Cuts it after this many octets, appends these, and waits until a crash keeps both.
     pub fn end(self, whole: u64, ending: &[u8]) -> Result<(), JournalFault> {
         let LastFile { path: _, file } = self;
         match end_file(file, whole, ending) {

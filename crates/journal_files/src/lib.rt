@@ -1,5 +1,6 @@
-//! The files of a journal, to which several threads come up before they tell anything: whoever needs it first writes
-//! for all. What is recorded, and its text, is told by a `Chronicle`.
+//! The files of a journal for several threads, which wait for it before they send: the first writes for
+//! all.
+//! A `Chronicle` gives the entries and their text.
 #![tactic(auto)]
 
 mod chronicle;

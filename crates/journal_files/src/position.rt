@@ -1,7 +1,6 @@
-//! Where the text of a journal ends in what it records.
+//! Where a journal's text ends.
 
-/// How many entries were before the journal's last file, and how many stand in all its files, from the first
-/// one ever.
+/// How many entries precede the journal's last file, and how many all its files have, from the first ever.
 #[derive(Clone, Copy, Debug, PartialEq, Eq)]
 pub struct JournalPosition {
     pub begun: u64,

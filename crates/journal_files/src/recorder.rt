@@ -1,4 +1,4 @@
-//! What is told is written behind what records it: a handle of both, which comes up before each write.
+//! Recording before replying: a chronicle and its journal, which records before each write.
 //! A server has one for each client's stream, and one for its fetcher.
 ghost use Rattle.std.specs.Prelude.{⊤};
 
@@ -10,9 +10,9 @@ use counted_io::DeviceFault;
 use journal_tape::ComesUp;
 use std::sync::Wait;
 
-/// What records a chronicle, or doesn't.
+/// Records a chronicle, or does nothing.
 pub trait Recorder {
-    /// Waits until all that is entered may be told.
+    /// Waits until all entries may be sent.
     fn come_up<H: Chronicle, R: Wait>(&self, rt: &R, chronicle: &H) -> Result<(), DeviceFault>;
 
     /// Seals, and begins a new file.
@@ -24,14 +24,14 @@ pub trait Recorder {
     ) -> K::Sealed
         ensures { K.seals sealer.old result sealer.new };
 
-    /// Whether it should be sealed, so that a new file is begun.
+    /// Whether to seal and begin a new file.
     fn is_due<H: Chronicle, R: Wait>(&self, rt: &R, chronicle: &H) -> bool;
 
-    /// Comes up, and has each crash keep it all where that is done once a second: it is to be called as often.
+    /// Records all, and syncs it if the policy is `Second`: to be called once a second.
     fn see_to<H: Chronicle, R: Wait>(&self, rt: &R, chronicle: &H) -> Result<(), DeviceFault>;
 }
 
-/// Nothing is recorded: all may be told at once.
+/// Records nothing: all may be sent at once.
 #[derive(Clone, Copy, Debug)]
 pub struct Unrecorded;
 
@@ -85,7 +85,7 @@ impl<S: Shelf + Drop> Recorder for GroupJournal<S> {
     }
 }
 
-/// A chronicle with what records it.
+/// A chronicle and its recorder.
 #[derive(Drop)]
 pub struct Abreast<'a, H: Chronicle, J: Recorder, R: Wait> {
     pub rt: &'a R,

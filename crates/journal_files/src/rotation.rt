@@ -1,4 +1,4 @@
-//! A journal's next file: what is recorded is sealed, and the file begins with what it goes on from.
+//! A journal's next file: what is recorded is sealed, and the file begins with the base that it leaves.
 //! docs/SEALING.md has what a seal of a gate hands out.
 ghost use Rattle.std.specs.Prelude.{◌≡◌, OnOk, OnErr, IsNone};
 ghost use Rattle.journal_files.specs.Writing.{TurnsOver, TurnsOverOrStays};
@@ -11,8 +11,9 @@ use crate::writer::Writer;
 use std::sync::Wait;
 
 impl<S: Shelf + Drop> GroupJournal<S> {
-    /// Has what is recorded sealed, of which comes what comes without a journal, and begins a new file. Where nothing
-    /// was sealed, the file goes on. Where the journal fails, it is sealed all the same, and nothing may be told.
+    /// Seals the entries, with the result that it has without a journal, and begins a new file. If nothing
+    /// was sealed, the file continues. If the journal fails, the seal is made all the same, and nothing may
+    /// be sent.
     pub fn rotate<H: Chronicle, R: Wait, K: Sealer>(
         &self,
         rt: &R,
@@ -26,7 +27,7 @@ impl<S: Shelf + Drop> GroupJournal<S> {
                 let mut writer = writer;
                 let sealed = sealer.seal();
                 let outcome = writer.turn_over::<H, K>(chronicle, &sealed);
-                // A fault is kept with the writer, and each call from now on meets it.
+                // The writer keeps a fault, and each later call returns it.
                 let _ = self.put_back(rt, writer, outcome);
                 sealed
             }
@@ -36,7 +37,7 @@ impl<S: Shelf + Drop> GroupJournal<S> {
 }
 
 impl<S: Shelf> Writer<S> {
-    // Ends the file where something was sealed, and begins the next one.
+    // Ends the file if something was sealed, and begins the next one.
     fn turn_over<H: Chronicle, K: Sealer>(
         &mut self,
         chronicle: &H,

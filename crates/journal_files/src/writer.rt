@@ -1,5 +1,5 @@
-//! What writes a journal: it spells what there is more than the files have, and writes that.
-//! One thread has it at a time; `GroupJournal` hands it round.
+//! Writes a journal: formats what the files lack, and writes that.
+//! One thread has it at a time; `GroupJournal` passes it on.
 ghost use Rattle.std.specs.Prelude.{◌≡◌, [], IfOk, IfSome, OnOk, true};
 ghost use Rattle.journal_tape.specs.Crash.{HasKept};
 ghost use Rattle.journal_tape.specs.Journal.{Writes};
@@ -15,7 +15,7 @@ use journal_tape::{Journal, Tape};
 use std::alloc::Global;
 use std::marker::Model;
 
-// The last file, where its text ends, and how many octets it has, and had when it was begun.
+// The last file, the end of its text, and its octets, now and at its beginning.
 #[derive(Drop)]
 pub(crate) struct Writer<S: Shelf> {
     alloc: Global,
@@ -39,7 +39,7 @@ impl<S: Shelf> Model for Writer<S> {
 }
 
 impl<S: Shelf> Writer<S> {
-    // Puts up a first file.
+    // Creates a first file.
     pub fn new<H: Chronicle>(
         alloc: Global,
         chronicle: &H,
@@ -65,20 +65,18 @@ impl<S: Shelf> Writer<S> {
         })
     }
 
-    // Where the text ends.
     pub fn place(&self) -> JournalPosition
         ensures { result ≡ self.now.place }
     {
         self.place
     }
 
-    // Whether the file has many octets, and more than it was begun with.
     pub fn is_long(&self) -> bool {
         let own = self.octets.saturating_sub(self.head);
         own > FILE_OCTETS && own > self.head
     }
 
-    // Spells what there is more, and writes it.
+    // Formats and writes what is missing.
     pub fn come_up<H: Chronicle>(&mut self, chronicle: &H, always: bool) -> Result<(), JournalFault>
         ensures { OnOk result (ComesUpTo (H.follows chronicle.now) self.old self.new always) }
     {
@@ -88,7 +86,7 @@ impl<S: Shelf> Writer<S> {
         Ok(())
     }
 
-    // Waits until each crash keeps all that was written.
+    // Waits until a crash keeps all that was written.
     pub fn sync(&mut self) -> Result<(), JournalFault>
         ensures kept { OnOk result (HasKept self.new.noted.written self.new.noted.kept) }
         ensures same { OnOk result (Writes self.old.noted self.new.noted []) }
@@ -97,14 +95,13 @@ impl<S: Shelf> Writer<S> {
         self.write(&[], true)
     }
 
-    // Writes what ends the file, and has each crash keep it.
+    // Writes the end of the file, and syncs it.
     pub fn end_file(&mut self, rest: &[u8]) -> Result<(), JournalFault>
         ensures { OnOk result (WritesText (λ text. text ≡ rest.now) self.old self.new true) }
     {
         self.write(rest, true)
     }
 
-    // Begins the next file.
     pub fn begin_file<H: Chronicle>(&mut self, chronicle: &H) -> Result<(), JournalFault>
         ensures { OnOk result (Begins (H.begins chronicle.now) self.new) }
     {
@@ -117,7 +114,7 @@ impl<S: Shelf> Writer<S> {
         Ok(())
     }
 
-    // The text of what there is more.
+    // The text of what is missing.
     fn spell<H: Chronicle>(&mut self, chronicle: &H) -> Result<Spelled, JournalFault>
         ensures follows { IfOk result (λ text.
             H.follows chronicle.now self.old.place text.0.items text.1) }
@@ -126,7 +123,7 @@ impl<S: Shelf> Writer<S> {
         chronicle.follow(&mut self.output, self.place)
     }
 
-    // The text that ends the file after a seal; none where nothing was sealed.
+    // The text that ends the file after a seal, if any.
     pub fn rest<K: Sealer>(&mut self, sealed: &K::Sealed) -> Option<Result<Vec<u8>, JournalFault>>
         ensures ends { IfSome result (λ rest. IfOk rest (λ text.
             K.ends sealed.now self.old.place text.items)) }
@@ -135,7 +132,7 @@ impl<S: Shelf> Writer<S> {
         K::rest(self.alloc, sealed, &mut self.output, self.place)
     }
 
-    // Writes a text behind the others, and has each crash keep it where that is asked for.
+    // Appends a text, and syncs it if asked.
     fn write(&mut self, text: &[u8], always: bool) -> Result<(), JournalFault>
         ensures writes { OnOk result (Writes self.old.noted self.new.noted text.now) }
         ensures kept { OnOk result (always ≡ true

@@ -1,5 +1,5 @@
-//! Octets that are written to a file of the system, and kept by each crash.
-//! A journal's files are begun so, and the last one of an earlier process is ended so.
+//! Octets written so that a crash keeps them.
+//! Used to begin a journal's files, and to end an earlier process's last one.
 
 use counted_io::DeviceFault;
 use journal_tape::{FileTape, Tape, append_all};
@@ -7,7 +7,7 @@ use std::fs::File;
 use std::io;
 use std::io::ErrorKind;
 
-/// Writes a text, and waits until each crash keeps it.
+/// Writes a text, and waits until a crash keeps it.
 pub(crate) fn keep(tape: FileTape<File>, text: &[u8]) -> io::Result<FileTape<File>> {
     let mut tape = tape;
     match write_and_sync(&mut tape, text) {

@@ -1,12 +1,12 @@
--- A fetch that waits until something else has come up.
--- The contract of `FetchesBehind` cites it.
+-- A fetch that first waits for something else.
+-- Used by `FetchesBehind`.
 use Rattle.std.specs.Prelude.{◌≡◌, ◌⊎◌, Result, Ok, Err}
 use Rattle.counted_io.specs.declared.fault.DeviceFault.{DeviceFault}
 use Rattle.http_wire.specs.declared.fault.WireFault.{WireFault}
 use Rattle.http_wire.specs.declared.response.HttpReply.{HttpReply}
 
--- it came up, and the reply is one that the fetch gives; or it did not come up, nothing was fetched, and the reply is a
--- fault of the device
+-- that succeeded, and the reply is one of the fetch; or it failed, nothing was fetched, and the reply is a device's
+-- fault
 abbrev pub GivesBehind : (Result Unit DeviceFault → Type 0) → (Result HttpReply WireFault → Type 0)
     → Result HttpReply WireFault → Type 0
 GivesBehind comes gives reply =

@@ -1,4 +1,4 @@
--- What the types of this crate are made of.
+-- The parts of this crate's types.
 -- Their contracts cite it.
 use Rattle.journal_keepers.specs.declared.recorded_keeper.RecordedKeeper.{RecordedKeeper}
 

@@ -1,5 +1,5 @@
-//! A fetcher that fetches only once something else has come up, as a journal has to before a request leaves.
-//! A server's sessions fetch by it.
+//! A fetcher that first waits for something else, like a journal's recording.
+//! Used by a server's sessions.
 ghost use Rattle.std.specs.Prelude.{◌≡◌, Err};
 ghost use Rattle.http_wire.specs.declared.fault.WireFault.{WireFault};
 
@@ -10,12 +10,12 @@ use http_wire::{HttpReply, WireFault};
 use journal_tape::ComesUp;
 use path_normal::Schemes;
 
-/// What fetches, and what comes up before each of its fetches.
+/// A fetcher, and what precedes each fetch.
 #[derive(Drop)]
 pub struct FetchesBehind<'a, A, F> {
-    /// What comes up.
+    /// What comes first.
     pub ahead: A,
-    /// What fetches then.
+    /// The fetcher.
     pub fetcher: &'a F,
 }
 
@@ -39,7 +39,7 @@ impl<'a, A: ComesUp, F: Fetcher> Fetcher for FetchesBehind<'a, A, F> {
         self.fetcher.stop();
     }
 
-    /// Nothing is fetched where coming up fails: that is a fault of the device.
+    /// If the wait fails, nothing is fetched: a device's fault.
     fn load_page(
         &self,
         leave: PageLeave<'_>,
@@ -52,7 +52,7 @@ impl<'a, A: ComesUp, F: Fetcher> Fetcher for FetchesBehind<'a, A, F> {
         }
     }
 
-    /// So it is of robots.txt files.
+    /// Like `load_page`, for robots.txt files.
     fn load_robots(
         &self,
         leave: RobotsLeave<'_>,
@@ -66,7 +66,7 @@ impl<'a, A: ComesUp, F: Fetcher> Fetcher for FetchesBehind<'a, A, F> {
     }
 }
 
-// What is told of a page that is not fetched.
+// The fault of an unfetched page.
 fn leave_page(leave: PageLeave<'_>, fault: DeviceFault) -> Result<HttpReply, WireFault>
     ensures { result ≡ Err WireFault.Device }
 {
@@ -74,7 +74,7 @@ fn leave_page(leave: PageLeave<'_>, fault: DeviceFault) -> Result<HttpReply, Wir
     Err(WireFault::from(fault))
 }
 
-// What is told of a robots.txt that is not fetched.
+// The fault of an unfetched robots.txt.
 fn leave_file(leave: RobotsLeave<'_>, fault: DeviceFault) -> Result<HttpReply, WireFault>
     ensures { result ≡ Err WireFault.Device }
 {

@@ -1,5 +1,5 @@
-//! A keeper as what ends a journal's file: its seal hands out the entries that the file ends with.
-//! `RecordedKeeper` seals by it.
+//! A keeper that ends a journal's file: the file ends with what its seal hands out.
+//! Used by `RecordedKeeper`.
 ghost use Rattle.std.specs.Prelude.{[]};
 
 use counted_io::Output;
@@ -10,7 +10,7 @@ use journal_files::{JournalFault, JournalPosition, Sealer};
 use keepers::Keeper;
 use std::alloc::Global;
 
-/// A keeper. It may be one that has to be closed.
+/// A keeper, perhaps one that must be closed.
 pub(crate) struct KeeperSealer<K> {
     pub(crate) keeper: K,
 }

@@ -1,4 +1,4 @@
-//! What a session does at a gate that has a journal: it fetches behind the journal, and seals by it
+//! A session at a gate with a journal: it records before it fetches, and seals through the journal
 //! (docs/SEALING.md).
 #![tactic(auto)]
 

@@ -1,4 +1,4 @@
-//! A keeper whose seals are a journal's: each ends the journal's file, and begins the next one.
+//! A keeper whose seals end the journal's file, and begin the next.
 //! docs/SEALING.md has what a seal hands out.
 ghost use Rattle.std.specs.Prelude.{◌≡◌};
 ghost use Rattle.journal_keepers.specs.Parts.{keeper_of};
@@ -17,8 +17,8 @@ use robots_text::Token;
 use std::alloc::Global;
 use std::sync::Wait;
 
-/// A keeper, with what records its gate. All but a seal is the keeper's own. A clause sees it as that keeper. It has
-/// no `Drop`: `into_keeper` gives the keeper back.
+/// A keeper with its gate's recorder, which seals through the journal. A clause sees the keeper. It has no
+/// `Drop`: `into_keeper` returns the keeper.
 #[must_use]
 pub struct RecordedKeeper<'a, K, H, J, R> {
     rt: &'a R,
@@ -29,7 +29,7 @@ pub struct RecordedKeeper<'a, K, H, J, R> {
 }
 
 impl<'a, K: Keeper, H: Chronicle, J: Recorder, R: Wait> RecordedKeeper<'a, K, H, J, R> {
-    /// The keeper of a gate that is recorded, in a server with these visits.
+    /// The keeper of a recorded gate, in a server with these visits.
     pub fn new(
         rt: &'a R,
         chronicle: &'a H,
@@ -48,7 +48,7 @@ impl<'a, K: Keeper, H: Chronicle, J: Recorder, R: Wait> RecordedKeeper<'a, K, H,
         }
     }
 
-    /// The keeper alone.
+    /// The keeper.
     pub fn into_keeper(self) -> K
         ensures { result ≡ keeper_of self.entry }
     {

@@ -1,5 +1,5 @@
--- A gate that goes on from the text of a journal's last file. RFC 9309, sections 2.3.1 and 2.4.
--- The contract of `resume` cites it.
+-- A gate that continues a journal's last file. RFC 9309, sections 2.3.1 and 2.4.
+-- Cited by `resume`.
 use Rattle.std.specs.Prelude.{◌≡◌, ◌⊎◌, ◌<◌, ◌^◌, ◌++◌, ℕ, List, []}
 use Rattle.crawl_audit.specs.Recovering.{IsRecovered}
 use Rattle.crawl_audit.specs.declared.recovering.Recovered.{Recovered}
@@ -8,7 +8,7 @@ use Rattle.gate_history.specs.Base.{Base, empty_base}
 use Rattle.journal_resume.specs.declared.resuming.Resumed.{Resumed}
 use Rattle.path_normal.specs.declared.schemes.Schemes.{Schemes}
 
--- a gate that has made no entry since its base, of which nothing is out: a lock can be laid round it
+-- a gate without entries since its base, and with nothing out: a lock can be put round it
 abbrev pub IsIdle : Gate → Type 0
 IsIdle g =
     (g.entries ≡ [])
@@ -16,15 +16,15 @@ IsIdle g =
     × (g.base.entries ≡ 0 → g.base ≡ empty_base)
     × (g.base.started < 2 ^ 63)
 
--- the gate goes on from the base; behind a text without an entry it is a new one
+-- the gate continues the base; without entries it is a new one
 abbrev pub GoesOnFrom : Base → Gate → Type 0
 GoesOnFrom base g = (g.base ≡ base) ⊎ ((base.entries ≡ 0) × (g.base ≡ empty_base))
 
--- these sites are the first of those that are fetched anew
+-- these sites are the first to be fetched anew
 abbrev pub AreFirst : List (List ℕ) → List (List ℕ) → Type 0
 AreFirst sites all = (others : List (List ℕ)) × (all ≡ sites ++ others)
 
--- what was recovered from the text, and the gate that goes on from it
+-- what was recovered from the text, and the gate that continues it
 pub record IsResumed (schemes : Schemes) (text : List ℕ) (resumed : Resumed) : Type 0 where
   pub found : Recovered
   pub recovered : IsRecovered schemes text found

@@ -1,4 +1,4 @@
-//! A book that goes on from the text of a journal's last file, and what ends that text (docs/FORMATS.md).
+//! A book that continues a journal's last file, and what ends that file's text (docs/FORMATS.md).
 #![tactic(auto)]
 
 mod resume_fault;

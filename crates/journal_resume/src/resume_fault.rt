@@ -1,18 +1,17 @@
-//! Why no gate goes on from a journal's last file.
-//! docs/FAULTS.md has what is told of each.
+//! Why no gate can continue a journal's last file.
+//! docs/FAULTS.md has the messages.
 use crawl_audit::RecoverFault;
 use gate_core::{NoMemory, NotResumed};
 use std::alloc::AllocError;
 
-/// Why no gate goes on from a text. A line is numbered from 1.
+/// Why no gate can continue a text. Lines are numbered from 1.
 #[derive(Clone, Copy, Debug, PartialEq, Eq)]
 pub enum ResumeFault {
-    /// The line of this number is whole, and is the first with which no right text goes on.
+    /// This line is whole, and the first with which no right text goes on.
     BadLine(u64),
-    /// The text ends before the line of this number, where no entry may come yet: it is empty, or ends within its base.
+    /// The text ends before this line, where no entry may come yet: it is empty, or ends within its base.
     NoEntries(u64),
-    /// What is out can't be ended in the text, which would have more than 1,000,000 entries: this line would be one of
-    /// those.
+    /// The text has no room to end what is out: this line would be one of more than 1,000,000 entries.
     NoRoom(u64),
     /// Permits were granted in more slots than the gate may have.
     Slots,
@@ -20,7 +19,7 @@ pub enum ResumeFault {
     Starts,
     /// A read failed.
     Read,
-    /// There was no memory.
+    /// Out of memory.
     NoMemory,
 }
 

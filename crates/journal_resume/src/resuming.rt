@@ -1,4 +1,4 @@
-//! A book that goes on from the text of a journal's last file, and what ends that text.
+//! A book that continues a journal's last file, and what ends that file's text.
 //! docs/FORMATS.md has the texts; RFC 9309, sections 2.3.1 and 2.4.
 ghost use Rattle.std.specs.Prelude.{◌≡◌, List, [], Some, ℕ, IfOk, OnOk};
 ghost use Rattle.authority_cache.specs.Lists.{TellsCache};
@@ -17,28 +17,28 @@ use std::alloc::{AllocError, Global};
 use std::cmp::Reverse;
 use std::hash::RandomState;
 
-// As many started fetches are more than the receipts of a gate count.
+// More started fetches than a gate's receipts count.
 const MOST_STARTS: u64 = 1 << 63;
 
-/// How many sites that faults of the network closed are fetched anew, beside those whose fetch was under way.
+/// How many sites closed by network faults are fetched anew, beside those with a fetch under way.
 pub const MOST_CLOSED: usize = 16;
 
-/// What a text leads to.
+/// The result of reading a text.
 #[derive(Drop)]
 pub struct Resumed {
-    /// The book that goes on from it.
+    /// The book that continues it.
     pub book: Book,
-    /// How many octets of the text are whole lines. A line behind them was torn by a crash.
+    /// The octets of the whole lines. A line after them was torn by a crash.
     pub whole: u64,
-    /// The lines that end what was out: to be written behind the whole ones.
+    /// The lines that end what was out, to be appended to the whole ones.
     pub ending: Vec<u8>,
-    /// The sites whose robots.txt files were being fetched; and behind them those which faults of the network closed last,
-    /// as many as `MOST_CLOSED`, since an earlier process may have ended before it fetched its own anew.
+    /// The sites whose robots.txt files were being fetched; then up to `MOST_CLOSED` sites last closed by
+    /// network faults, since an earlier process may have ended before it fetched its own anew.
     pub begun: Vec<Authority>,
 }
 
-/// Reads the text of a journal's last file, which names sites of these schemes, and makes the book of these limits that
-/// goes on from it. The tables of both get these keys.
+/// Reads the text of a journal's last file with sites of these schemes, and makes the book with these
+/// limits that continues it. The tables of both get these keys.
 pub fn resume<R: Source>(
     alloc: Global,
     keys: RandomState,
@@ -71,7 +71,7 @@ pub fn resume<R: Source>(
     })
 }
 
-// The book that goes on from a base, and a new one where it has no entry.
+// The book that continues a base, or a new one if it has no entry.
 fn book_from(alloc: Global, config: Config, base: Base, cache: Cache) -> Result<Book, ResumeFault>
     requires limits { AreLimits config.limits }
     requires turns { base.in_flight ≡ [] }
@@ -91,7 +91,7 @@ fn book_from(alloc: Global, config: Config, base: Base, cache: Cache) -> Result<
     Ok(Book::resume(alloc, config, base, cache)?)
 }
 
-// Adds the sites which faults of the network closed last.
+// Adds the sites last closed by network faults.
 fn add_closed(alloc: Global, base: &Base, sites: &mut Vec<Authority>) -> Result<(), AllocError>
     ensures { OnOk result (AreFirst sites.old.items sites.new.items) }
 {
@@ -99,7 +99,7 @@ fn add_closed(alloc: Global, base: &Base, sites: &mut Vec<Authority>) -> Result<
     sites.append(&mut closed)
 }
 
-// The sites which faults of the network closed last, but for those that are known.
+// The sites last closed by network faults, without those known.
 fn closed_last(
     alloc: Global,
     standing: &[StandingAnswer],
@@ -116,7 +116,6 @@ fn closed_last(
     Ok(sites)
 }
 
-// The answers of sites which faults of the network closed.
 fn closed_by_network<'a>(
     alloc: Global,
     standing: &'a [StandingAnswer],

@@ -1,4 +1,3 @@
--- The lemmas of the proofs.
--- The proof files of this crate cite them.
+-- The lemmas of this crate's proofs.
 mod Lines
 mod Failing

@@ -1,5 +1,5 @@
 -- What a crash leaves of lines, line by line.
--- The law `a_crash_leaves_lines` is the last of these.
+-- Used by the law `a_crash_leaves_lines`.
 use Rattle.std.proofs.Common.{◌≡◌, ℕ, zero, suc, pred, ◌+◌, ◌-◌, ◌<◌, ◌≤◌, inl, inr, List, [], ◌∷◌, ◌++◌, refl, sym, ap, subst, ◌∙◌, length, take, drop, get_or, length-append, length-drop, arith}
 use Rattle.std.specs.Prelude.{All}
 use Rattle.std.proofs.lemmas.Bool.{cases_lt}
@@ -9,16 +9,13 @@ use Rattle.counted_io.specs.Lines.{line_feed, HasNoLineFeed}
 use Rattle.journal_tape.specs.Crash.{MayLeave}
 use Rattle.journal_tape.specs.Whole.{AreFirst, AreWhole, CrashLeavesLines, ended, text_of}
 
--- a line has one octet more with its end
 ended_len : (line : List ℕ) → length (ended line) ≡ length line + 1
 ended_len line = length-append line (line_feed ∷ [])
 
--- behind a line is its line feed
 feed_at : (line rest : List ℕ) (d : ℕ) → get_or (ended line ++ rest) (length line) d ≡ 10
 feed_at [] rest d = refl
 feed_at (x ∷ line) rest d = feed_at line rest d
 
--- a front that no line feed follows has the first line
 past_line : (line rest : List ℕ) (count : ℕ) → AreWhole (ended line ++ rest) count → length (ended line) ≤ count
 past_line line rest count whole = elim (cases_lt (length line) count) [
   | inl past ↦ omega (arith, past, ended_len line)
@@ -31,7 +28,6 @@ past_line line rest count whole = elim (cases_lt (length line) count) [
       absurd (whole.none_behind at 0 within read)
 ]
 
--- where a part of one line is all that is left, no line is whole
 no_line : (line left : List ℕ) (size count : ℕ) → HasNoLineFeed line → left ≡ take size line → AreWhole left count → count ≡ 0
 no_line line left size zero clear is whole = refl
 no_line line left size (suc count) clear is whole =
@@ -43,11 +39,9 @@ no_line line left size (suc count) clear is whole =
     let read : get_or line count 0 ≡ 10 = sym (ap (λ l. get_or l count 0) is ∙ get_or-take size line count 0 under) ∙ ap (λ k. get_or left k 0) (sym before) ∙ feed in
     absurd (clear count 0 inside read)
 
--- the lines behind the first one have no line feed in them either
 clear_rest : (line : List ℕ) (lines : List (List ℕ)) → All HasNoLineFeed (line ∷ lines) → All HasNoLineFeed lines
 clear_rest line lines clear = λ k d within. clear (suc k) d (omega (arith, within))
 
--- of the first lines those behind the first one
 told_rest : (line : List ℕ) (lines : List (List ℕ)) (told kept : ℕ) → told ≤ length (line ∷ lines) → length (text_of (take told (line ∷ lines))) ≤ kept
     → (pred told ≤ length lines) × (length (text_of (take (pred told) lines)) ≤ kept - length (ended line)) × (0 < told → length (ended line) ≤ kept)
 told_rest line lines zero kept fits long = (omega arith, omega arith, λ none. absurd (omega (arith, none)))
@@ -55,7 +49,6 @@ told_rest line lines (suc told) kept fits long =
     let sum = length-append (ended line) (text_of (take told lines)) in
     (omega (arith, fits), omega (arith, long, sum), λ _. omega (arith, long, sum))
 
--- whole octets behind the first line
 whole_rest : (line rest : List ℕ) (count : ℕ) → AreWhole (ended line ++ rest) (length (ended line) + count) → AreWhole rest count
 whole_rest line rest count whole = record {
   within = omega (arith, whole.within, length-append (ended line) rest);
@@ -65,12 +58,10 @@ whole_rest line rest count whole = record {
   none_behind = subst HasNoLineFeed (drop-append-add (ended line) rest count) whole.none_behind;
 }
 
--- one more, where one less is at most so many
 told_more : (told count : ℕ) → pred told ≤ count → told ≤ suc count
 told_more zero count le = omega arith
 told_more (suc told) count le = omega (arith, le)
 
--- the first line, and the first of those behind it
 first_more : (line : List ℕ) (lines : List (List ℕ)) (told : ℕ) (rest octets : List ℕ) → AreFirst lines (pred told) rest → octets ≡ ended line ++ rest → AreFirst (line ∷ lines) told octets
 first_more line lines told rest octets first is = record {
   count = suc first.count;
@@ -79,7 +70,6 @@ first_more line lines told rest octets first is = record {
   text = is ∙ ap (λ l. ended line ++ l) first.text;
 }
 
--- nothing is left of a line that was torn
 torn_first : (line : List ℕ) (lines : List (List ℕ)) (told kept : ℕ) (left : List ℕ) (count : ℕ) → All HasNoLineFeed (line ∷ lines) → told ≤ length (line ∷ lines)
     → length (text_of (take told (line ∷ lines))) ≤ kept → (leaves : MayLeave (text_of (line ∷ lines)) kept left) → AreWhole left count → leaves.size < length (ended line)
     → AreFirst (line ∷ lines) told (take count left)

@@ -1,5 +1,5 @@
--- What the types of this crate are made of.
--- Their contracts cite it.
+-- The parts of this crate's types.
+-- Cited by their contracts.
 use Rattle.std.specs.Prelude.{ℕ}
 use Rattle.journal_tape.specs.declared.behind.Behind.{Behind}
 use Rattle.journal_tape.specs.declared.file_tape.FileTape.{FileTape}
@@ -12,10 +12,10 @@ ahead_of behind = behind.ahead
 abbrev pub sink_of : {A W : Type 0} → Behind A W → W
 sink_of behind = behind.sink
 
--- how many of its writes have failed, modulo 2^64
+-- how many of its writes failed, modulo 2^64
 abbrev pub failures_of : {A W : Type 0} → Behind A W → ℕ
 failures_of behind = behind.failures
 
--- how many calls of a file have failed, modulo 2^64
+-- how many calls of a file failed, modulo 2^64
 abbrev pub file_failures : {F : Type 0} → FileTape F → ℕ
 file_failures tape = tape.failures

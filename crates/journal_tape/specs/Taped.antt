@@ -1,8 +1,8 @@
 -- A tape in memory as its callers see it.
--- The contracts of `MemoryTape` cite it.
+-- Cited by `MemoryTape`.
 use Rattle.std.specs.Prelude.{ℕ, List, Option}
 
--- its octets, how many of them a crash keeps, which call fails, and how many have failed
+-- its octets, how many survive a crash, which call fails, and how many failed
 pub record Taped : Type 0 where
   pub bytes : List ℕ
   pub kept : ℕ

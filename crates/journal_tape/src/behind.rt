@@ -1,4 +1,4 @@
-//! A sink that is written to only once something else has come up, as a journal has to before anything is told.
+//! A sink that waits before each write until something else, such as a journal, has come up.
 //! Clients' streams and reports are written behind a journal.
 ghost use Rattle.std.specs.Prelude.{◌≡◌, ◌<◌, ◌≤◌, Result, length, IfOk};
 ghost use Rattle.std.specs.Io.KnownBytes.{WriteAppends};
@@ -8,20 +8,20 @@ ghost use Rattle.journal_tape.specs.Parts.{ahead_of, failures_of, sink_of};
 
 use counted_io::{DeviceFault, Sink};
 
-/// What must have come up before anything is told.
+/// What must come up before anything is told.
 pub trait ComesUp {
     ghost use Rattle.std.specs.Prelude.{Result};
     ghost use Rattle.counted_io.specs.declared.fault.DeviceFault.{DeviceFault};
 
-    /// Holds of each result that a call may have.
+    /// Holds of each possible result of a call.
     ghost comes: { Self → Result Unit DeviceFault → Type 0 };
 
-    /// Waits until all that was done so far may be told, or says that it never may be.
+    /// Waits until all that was done so far may be told, or fails if it never may.
     fn come_up(&self) -> Result<(), DeviceFault>
         ensures { comes self.now result };
 }
 
-/// A sink, and what comes up before each write to it.
+/// A sink, and what comes up before each write.
 #[derive(Drop)]
 pub struct Behind<A, W> {
     ahead: A,
@@ -30,7 +30,7 @@ pub struct Behind<A, W> {
 }
 
 impl<A: ComesUp, W: Sink> Behind<A, W> {
-    /// Nothing has been written through it yet.
+    /// A sink not yet written to.
     pub fn new(ahead: A, sink: W) -> Behind<A, W>
         ensures ahead { ahead_of result ≡ ahead }
         ensures sink { sink_of result ≡ sink }
@@ -52,7 +52,7 @@ impl<A: ComesUp, W: Sink> Behind<A, W> {
         self.sink
     }
 
-    // Comes up, and then writes.
+    // Comes up, then writes.
     fn write_after(&mut self, bytes: &[u8]) -> Result<usize, DeviceFault>
         ensures bound { IfOk result (λ n. n ≤ length bytes.now) }
         ensures takes { IfOk result (λ n. 0 < length bytes.now → 0 < n) }
@@ -73,7 +73,7 @@ impl<A: ComesUp, W: Sink> Sink for Behind<A, W> {
 
     ghost failures = { failures_of };
 
-    /// Nothing is written where coming up fails: that is a failure of the write.
+    /// If coming up fails, the write fails and writes nothing.
     fn write(&mut self, bytes: &[u8]) -> Result<usize, DeviceFault>
         ensures bound { IfOk result (λ n. n ≤ length bytes.now) }
         ensures takes { IfOk result (λ n. 0 < length bytes.now → 0 < n) }

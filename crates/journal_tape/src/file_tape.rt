@@ -1,5 +1,5 @@
-//! A tape over a file of the system.
-//! A journal's file is written and synced through it alone.
+//! A tape over a system file.
+//! A journal's file is written and synced only through it.
 ghost use Rattle.std.specs.Prelude.{◌≡◌, None};
 ghost use Rattle.counted_io.specs.Device.{one_more};
 ghost use Rattle.journal_tape.specs.Parts.{file_failures};
@@ -10,9 +10,8 @@ use std::fs::OpenFile;
 use std::io;
 use std::io::{ErrorKind, Write};
 
-/// A file that was opened for appending. What is on it is not known to a contract: that the octets
-/// which a write took outlive the process, and those which a sync answered for the machine, is the
-/// system's word.
+/// A file opened for appending. A contract does not know its contents: the system promises that written
+/// octets outlive the process, and synced ones the machine.
 #[derive(Drop)]
 pub struct FileTape<F> {
     file: F,
@@ -21,7 +20,7 @@ pub struct FileTape<F> {
 }
 
 impl<F: Write + OpenFile> FileTape<F> {
-    /// No call has failed yet.
+    /// A tape without failures so far.
     pub fn new(file: F) -> FileTape<F>
         ensures { file_failures result ≡ 0 }
     {
@@ -32,7 +31,6 @@ impl<F: Write + OpenFile> FileTape<F> {
         }
     }
 
-    // Notes why a call failed.
     fn fault(&mut self, cause: io::Error) -> DeviceFault
         ensures { file_failures self.new ≡ one_more (file_failures self.old) }
     {
@@ -49,7 +47,7 @@ impl<F: Write + OpenFile> Tape for FileTape<F> {
 
     ghost failures = { file_failures };
 
-    /// A write that takes nothing of a piece that isn't empty is a failure too.
+    /// A write that takes nothing of a nonempty piece is a failure too.
     fn append(&mut self, bytes: &[u8]) -> Result<usize, DeviceFault> {
         match self.file.write(bytes) {
             Ok(count) if count > 0 || bytes.is_empty() => Ok(count),

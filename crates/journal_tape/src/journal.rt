@@ -1,5 +1,5 @@
-//! A journal over a tape, which has failed for good once the tape has.
-//! What is told to others is written through it before.
+//! A journal over a tape; it has failed for good once the tape has.
+//! What is told to others is written through it first.
 ghost use Rattle.std.specs.Prelude.{◌≡◌, false, true, [], OnOk, OnErr};
 ghost use Rattle.journal_tape.specs.Journal.{Commits, Fails, Writes, failures_unless};
 
@@ -7,8 +7,8 @@ use crate::tape::{Tape, append_all};
 use counted_io::DeviceFault;
 use std::marker::Model;
 
-/// A tape, and whether it has failed. After a failed write or sync nobody knows what a crash leaves
-/// of the octets behind those that were kept, so nothing is written behind them.
+/// A tape, and whether it has failed. After a failed write or sync nobody knows what a crash leaves after
+/// the kept octets, so nothing more is written.
 #[derive(Drop)]
 pub struct Journal<T: Tape> {
     tape: T,
@@ -29,7 +29,7 @@ impl<T: Tape> Model for Journal<T> {
 }
 
 impl<T: Tape> Journal<T> {
-    /// A journal that goes on behind what stands on the tape.
+    /// A journal that continues the tape.
     pub fn new(tape: T) -> Journal<T>
         ensures written { result.written ≡ T.written tape }
         ensures kept { result.kept ≡ T.kept tape }
@@ -42,7 +42,7 @@ impl<T: Tape> Journal<T> {
         }
     }
 
-    /// Whether a write or a sync has failed: each call from then on does.
+    /// Whether a write or a sync has failed, as all later calls then do.
     pub fn has_failed(&self) -> bool
         ensures { result ≡ self.now.failed }
     {
@@ -67,8 +67,8 @@ impl<T: Tape> Journal<T> {
         self.tape
     }
 
-    /// Writes all of `bytes` behind what was written. A kill of the process leaves them; a crash of
-    /// the machine may not. After a fault a front of them is on the tape, and no call writes again.
+    /// Appends all of `bytes`. They survive a kill of the process, but perhaps not a crash of the machine.
+    /// After a fault a prefix is on the tape, and no call writes again.
     pub fn write(&mut self, bytes: &[u8]) -> Result<(), DeviceFault>
         ensures ok { OnOk result (Writes self.old self.new bytes.now) }
         ensures err { OnErr result (Fails self.old self.new bytes.now) }
@@ -83,7 +83,7 @@ impl<T: Tape> Journal<T> {
         written
     }
 
-    /// Writes all of `bytes` behind what was written, and waits until each crash keeps it all.
+    /// Appends all of `bytes`, and waits until they survive any crash.
     pub fn commit(&mut self, bytes: &[u8]) -> Result<(), DeviceFault>
         ensures ok { OnOk result (Commits self.old self.new bytes.now) }
         ensures err { OnErr result (Fails self.old self.new bytes.now) }
@@ -96,7 +96,7 @@ impl<T: Tape> Journal<T> {
         synced
     }
 
-    /// Waits until each crash keeps all that was written.
+    /// Waits until all that was written survives any crash.
     pub fn sync(&mut self) -> Result<(), DeviceFault>
         ensures ok { OnOk result (Commits self.old self.new []) }
         ensures err { OnErr result (Fails self.old self.new []) }

@@ -2,8 +2,8 @@
 //! docs/PROOFS.md cites it.
 ghost use Rattle.journal_tape.specs.Whole.{CrashLeavesLines};
 
-/// Cut to its whole lines, what a crash leaves of lines that were written is the first of them, none
-/// left out and none in part; those that were kept are among them.
+/// The whole lines that a crash leaves are the first of those written, without gaps or parts; they include
+/// all that were kept.
 pub fn a_crash_leaves_lines()
     ensures { CrashLeavesLines }
 {}

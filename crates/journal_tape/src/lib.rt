@@ -1,4 +1,4 @@
-//! A journal: octets that are only ever appended to a tape, and what a crash leaves of them.
+//! A journal: octets that are only appended to a tape, and what a crash leaves of them.
 //! A gate's history is written through it before anything of it is told.
 #![tactic(auto)]
 

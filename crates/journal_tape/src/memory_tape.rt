@@ -1,5 +1,5 @@
 //! A tape in memory that fails at a chosen call.
-//! Tests put it in the place of a file.
+//! Tests use it instead of a file.
 ghost use Rattle.std.specs.Prelude.{◌≡◌, ◌<◌, length, Some};
 ghost use Rattle.journal_tape.specs.Crash.{MayLeave};
 
@@ -7,7 +7,7 @@ use crate::tape::Tape;
 use counted_io::{DeviceFault, FailAt, Sink};
 use std::marker::Model;
 
-/// Octets in memory, of which a crash keeps those that were synced.
+/// Octets in memory; a crash keeps the synced ones.
 #[derive(Drop)]
 pub struct MemoryTape {
     device: FailAt,
@@ -31,8 +31,8 @@ impl Model for MemoryTape {
 }
 
 impl MemoryTape {
-    /// Takes at most `per_call` octets a call, behind those of `bytes`, which a crash keeps. `fails_at`
-    /// counts the calls, of syncs too, before the one that fails: `Some(0)` fails the first.
+    /// Takes at most `per_call` octets a call, after `bytes`, which a crash keeps. `fails_at` counts the
+    /// calls, syncs included, before the failing one: `Some(0)` fails the first.
     pub fn new(bytes: Vec<u8>, per_call: usize, fails_at: Option<u64>) -> MemoryTape
         requires { 0 < per_call }
         ensures bytes { result.bytes ≡ bytes.items }
@@ -54,7 +54,7 @@ impl MemoryTape {
         self.device.bytes()
     }
 
-    /// What a crash may leave: what was synced, and as many octets more, as far as there are such.
+    /// What a crash may leave: what was synced, and up to `more` octets.
     pub fn left(&self, more: usize) -> &[u8]
         ensures { MayLeave self.now.bytes self.now.kept result.now }
     {
@@ -71,7 +71,7 @@ impl Tape for MemoryTape {
 
     ghost failures = { λ m. m.failures };
 
-    /// It fails at the chosen call, and where there is no memory for the octets.
+    /// Fails at the chosen call, and if memory runs out.
     fn append(&mut self, bytes: &[u8]) -> Result<usize, DeviceFault> {
         self.device.write(bytes)
     }

@@ -1,9 +1,8 @@
-//! Where the last whole line of a text ends.
-//! What a crash tore is behind it.
+//! The end of the last whole line of a text.
+//! A line torn by a crash follows it.
 ghost use Rattle.journal_tape.specs.Whole.{AreWhole};
 
-/// How many octets from the first on are whole lines, each with its LF. The octets behind them are a
-/// part of a line.
+/// The length of the leading whole lines, each with its LF. A part of a line follows.
 pub fn whole_len(octets: &[u8]) -> usize
     ensures { AreWhole octets.now result }
 {

@@ -1,4 +1,4 @@
-//! The tests of journals: tapes that fail at each call, and files. The crate has nothing else.
+//! Tests of journals: tapes that fail at each call, and files.
 #![tactic(auto)]
 
 #[cfg(test)]

@@ -1,4 +1,4 @@
-//! Rows over journals in memory and in files of the system.
+//! Rows over journals in memory and in system files.
 
 mod behind;
 mod crashes;

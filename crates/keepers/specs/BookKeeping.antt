@@ -1,5 +1,5 @@
--- What a book does for a session: each call is the book's own, and one book holds the permits of all who
--- call it. The contracts of `BookKeeper`.
+-- What a book does for a session: each call is the book's own, and the book holds the permits of all
+-- its callers. Cited by `BookKeeper`.
 use Rattle.std.specs.Prelude.{◌≡◌, ℕ, List, Option, None, Result, Ok, Err}
 use Rattle.gate_history.specs.declared.outcome.Reason.{Reason}
 use Rattle.gate_core.specs.declared.refusal.Denial.{Denial}
@@ -8,7 +8,7 @@ use Rattle.gate_core.specs.Gate.{Gate, history, Stays}
 use Rattle.gate_core.specs.Replies.{moment_at, Starts}
 use Rattle.gate_core.specs.States.{IsState}
 
--- start: as the book does, told by its reason alone
+-- start: as the book, with only its reason
 abbrev pub BookStarts : Gate → ℕ → List ℕ → List ℕ → ℕ → Result Reason Denial → Gate → Type 0
 BookStarts old number token url m (Ok reason) new =
     Starts old number token url m (Ok (record { number = number; url = url; reason = reason })) new

@@ -1,5 +1,5 @@
--- What an operator may see of a gate: how much there is of what it keeps.
--- The contracts of `Keeper::counts`, of `counts_of`, and of `Keeper::answer`.
+-- What an operator may see of a gate: how much it keeps.
+-- Cited by `Keeper::counts`, `counts_of` and `Keeper::answer`.
 use Rattle.std.specs.Prelude.{◌≡◌, ◌-◌, ℕ, List, length, Option, Result, IfOk}
 use Rattle.authority_cache.specs.declared.standing_answer.StandingAnswer.{StandingAnswer}
 use Rattle.gate_history.specs.History.{entry_count, started_count}
@@ -10,7 +10,7 @@ use Rattle.gate_core.specs.declared.refusal.NoMemory.{NoMemory}
 use Rattle.gate_lock.specs.Desks.{DeskView, IsGateOf}
 use Rattle.keepers.specs.declared.counts.Counts.{Counts}
 
--- what there is of a gate
+-- how much a gate keeps
 abbrev pub counts_of : Gate → Counts
 counts_of gate = record {
   entries = length gate.entries;
@@ -23,15 +23,15 @@ counts_of gate = record {
   room = most_room gate.limits gate.base - room gate;
 }
 
--- the answer that stands for the authority, or none, where there is memory for its name
+-- the authority's answer, if any, given memory for its name
 abbrev pub TellsAnswer : Gate → List ℕ → Result (Option StandingAnswer) NoMemory → Type 0
 TellsAnswer gate authority result = IfOk result (λ answer. answer ≡ standing_of (history gate) authority)
 
--- what a desk sees of it, in a gate that its lock kept, with the entries that the desk has seen
+-- what a desk sees of it, in a gate of its lock with the entries already seen
 abbrev pub AnswersSome : DeskView → List ℕ → Result (Option StandingAnswer) NoMemory → Type 0
 AnswersSome desk authority result =
     (gate : Gate) × (IsGateOf desk.limits desk.seen gate × TellsAnswer gate authority result)
 
--- what a desk sees: what there is of a gate that its lock kept, with the entries that the desk has seen
+-- what a desk sees: the counts of a gate of its lock with the entries already seen
 abbrev pub CountsSome : DeskView → Counts → Type 0
 CountsSome desk counts = (gate : Gate) × (IsGateOf desk.limits desk.seen gate × (counts ≡ counts_of gate))

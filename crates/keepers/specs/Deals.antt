@@ -1,5 +1,5 @@
--- What a keeper deals in: for each of its calls a relation between the keeper before, the call's words, the
--- reply, and the keeper behind. The contracts of `Keeper`, and of whoever holds one.
+-- What a keeper deals in: each call relates the keeper before, the arguments, the reply, and the
+-- keeper after. Cited by `Keeper` and its holders.
 use Rattle.std.specs.Prelude.{ℕ, Bool, List, Option, Result}
 use Rattle.authority_cache.specs.declared.standing_answer.StandingAnswer.{StandingAnswer}
 use Rattle.permit_book.specs.declared.refusal.NotOut.{NotOut}
@@ -16,7 +16,7 @@ use Rattle.crawl_job.specs.declared.job.Outcome.{Outcome}
 use Rattle.keepers.specs.declared.counts.Counts.{Counts}
 use Rattle.path_normal.specs.declared.schemes.Schemes.{Schemes}
 
--- the readings of a clock are the argument of a refresh and of a fetch, since these read it as they go
+-- a refresh and a fetch take the clock's readings, which they read as they go
 pub record Deals (S : Type 0) : Type 1 where
   pub can_fetch : S → Bool
   pub schemes : S → Schemes

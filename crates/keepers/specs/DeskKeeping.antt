@@ -1,5 +1,5 @@
--- What a desk and the bag of its session do: each step is one of the desk, whose marks say what was told, and
--- only what the bag holds is spent. The contracts of `DeskKeeper`. RFC 9309, sections 2.2 to 2.4.
+-- What a desk and its session's bag do: each step is the desk's, with marks of all replies, and
+-- only what the bag holds is spent. Cited by `DeskKeeper`. RFC 9309, sections 2.2 to 2.4.
 use Rattle.std.specs.Prelude.{◌≡◌, ◌⊎◌, ℕ, List, Option, Some, None, Result, Ok, Err}
 use Rattle.gate_history.specs.Segment.{Sealed}
 use Rattle.gate_core.specs.declared.refusal.AskRefusal.{AskRefusal}
@@ -18,16 +18,15 @@ use Rattle.crawl_workers.specs.Outcomes.{Works}
 use Rattle.crawl_workers.specs.Refreshes.{Refreshes}
 use Rattle.crawl_workers.specs.World.{World}
 
--- the desk condensed the marks of sealed entries, or has not
+-- the desk may have condensed the marks of sealed entries
 abbrev pub MayCondense : DeskView → DeskView → Type 0
 MayCondense d d2 = (d2 ≡ d) ⊎ Somewhere d (λ old new. (new ≡ old) × Condenses d old d2)
 
--- a step of the desk, which may have condensed its marks before
+-- a step of the desk, perhaps after condensing its marks
 abbrev pub Behind : DeskView → (DeskView → Type 0) → Type 0
 Behind d Step = (d1 : DeskView) × (MayCondense d d1 × Step d1)
 
--- ask: a step of the desk, and the permit that it grants is in the bag. Where there is no memory for it in the
--- bag, nothing was asked
+-- ask: a step of the desk, with the permit put into the bag; without memory there, nothing was asked
 abbrev pub KeeperAsks : DeskView → BagView → List ℕ → List ℕ → ℕ → Result ℕ AskRefusal → DeskView → BagView → Type 0
 KeeperAsks d b token url m (Ok number) d2 b2 =
     (p : Pass) × ((p.number ≡ number) × Somewhere d (λ old new. DeskAsks d old token url m (Ok p) new d2)
@@ -37,34 +36,32 @@ KeeperAsks d b token url m (Err ask.NoMemory) d2 b2 =
 KeeperAsks d b token url m (Err refusal) d2 b2 =
     Somewhere d (λ old new. DeskAsks d old token url m (Err refusal) new d2) × HoldsSame b b2
 
--- state: a look of the desk, which leaves no mark
+-- state: a look of the desk without a mark
 abbrev pub KeeperReads : DeskView → BagView → List ℕ → ℕ → State → DeskView → BagView → Type 0
 KeeperReads d b authority m state d2 b2 =
     Somewhere d (λ old new. DeskReads d old authority m state new d2) × (b2 ≡ b)
 
--- seal: a step of the desk, which counts just what is told as handed out, and leaves no mark
+-- seal: a step of the desk without a mark; it counts the entries in the reply as handed out
 abbrev pub KeeperSeals : DeskView → BagView → Result Sealed NoMemory → DeskView → BagView → Type 0
 KeeperSeals d b result d2 b2 = Somewhere d (λ old new. DeskSeals d old result new d2) × (b2 ≡ b)
 
--- refresh: a turn of the desk, whose answer is what fetches give
+-- refresh: a turn of the desk, with the answer that fetches give
 abbrev pub KeeperRefreshes : World → DeskView → BagView → List ℕ → Option (Result Standing BeginRefusal) → DeskView
     → BagView → Type 0
 KeeperRefreshes world d b authority (Some told) d2 b2 = Refreshes world authority told d d2 × (b2 ≡ b)
 KeeperRefreshes world d b authority None d2 b2 = ⊥
 
--- fetch: the work of the desk on a job, by which nothing is handed out and nothing left to be spent; or nothing where
--- there is no memory for its hops
+-- fetch: the desk's work on a job, with nothing handed out or left to spend; nothing without memory for hops
 abbrev pub KeeperFetches : World → DeskView → BagView → Job → Option (Result Outcome NoMemory) → DeskView → BagView
     → Type 0
 KeeperFetches world d b job (Some (Ok outcome)) d2 b2 = Works world job outcome d d2 × KeepsOut d d2 × (b2 ≡ b)
 KeeperFetches world d b job (Some (Err _)) d2 b2 = (d2 ≡ d) × (b2 ≡ b)
 KeeperFetches world d b job None d2 b2 = ⊥
 
--- end: each permit of the bag is given back and each fetch finished, by a step of the desk of its own, and the
--- bag is empty
+-- end: each permit of the bag is given back and each fetch finished, in its own step; the bag is empty
 abbrev pub KeeperEnds : DeskView → BagView → DeskView → BagView → Type 0
 KeeperEnds d b d2 b2 = Clears b d d2 × IsCleared b b2
 
--- close: the receipts are those of the desk behind the end of its session
+-- close: the receipts of the desk after its session ended
 abbrev pub IsClosed : DeskView → BagView → Receipt → Type 0
 IsClosed d b r = (d2 : DeskView) × (Clears b d d2 × (r ≡ receipt_of d2))

@@ -1,4 +1,4 @@
--- What contracts say of keepers.
+-- Definitions for the contracts of keepers.
 pub mod Deals
 pub mod BookKeeping
 pub mod DeskKeeping

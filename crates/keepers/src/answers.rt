@@ -1,4 +1,4 @@
-//! The answer that stands for an authority, as what outlives the gate's lock.
+//! The answer for an authority, outliving the gate's lock.
 //! Read by each `Keeper`, for the verb WHY. RFC 9309, section 2.4.
 ghost use Rattle.keepers.specs.Counting.{TellsAnswer};
 
@@ -7,7 +7,7 @@ use gate_core::{Book, NoMemory};
 use path_normal::Authority;
 use std::alloc::{AllocError, Global};
 
-/// The answer that stands for an authority in a book, or none. It takes memory for its name, and none for its text.
+/// The answer for an authority in a book, if any. Allocates its name, not its text.
 pub(crate) fn standing_answer(
     alloc: Global,
     book: &Book,

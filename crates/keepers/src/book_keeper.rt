@@ -1,4 +1,4 @@
-//! `BookKeeper`: a book alone keeps the permits, and nothing is fetched.
+//! `BookKeeper`: a book alone keeps the permits; nothing is fetched.
 ghost use Rattle.std.specs.Prelude.{◌≡◌};
 
 use crate::answers::standing_answer;
@@ -15,8 +15,8 @@ use permit_book::{NotOut, PermitNo};
 use robots_text::Token;
 use std::alloc::Global;
 
-/// A book that is lent for one session after the other. A session may spend what another one left out,
-/// and nothing is given back at its end: one book holds the permits of all who call it.
+/// A book lent for one session after the other. A session may spend what another left out, and gives
+/// nothing back at its end: the book holds the permits of all.
 #[derive(Drop)]
 pub struct BookKeeper<'a> {
     book: &'a mut Book,

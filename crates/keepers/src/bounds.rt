@@ -1,19 +1,19 @@
-//! What one session may have of a gate that all share.
-//! `DeskKeeper` keeps to it.
+//! The bounds of one session in a shared gate.
+//! Enforced by `DeskKeeper`.
 ghost use Rattle.std.specs.Prelude.{◌≡◌, Bool};
 ghost use Rattle.keepers.specs.Bounding.{are_all, has_enough};
 
-/// What a session may have out, and how many authorities may become known by it.
+/// How many permits a session may have out, and how many authorities it may make known.
 #[derive(Clone, Copy, Debug, PartialEq, Eq)]
 pub struct Bounds {
-    /// The most permits that it has out, started ones among them. What the gate fetches for it is not counted.
+    /// The most permits out, started ones included. The gate's own fetches for it are not counted.
     pub permits: u64,
-    /// How many authorities may become known by what the gate fetches for it, before it fetches nothing more.
+    /// How many authorities the gate's fetches for it may make known before these stop.
     pub authorities: u64,
 }
 
 impl Bounds {
-    /// All that the gate has.
+    /// No bounds but the gate's.
     pub fn none() -> Bounds
         ensures { are_all result }
     {
@@ -23,14 +23,14 @@ impl Bounds {
         }
     }
 
-    /// Whether a session that has so many permits out gets no further one.
+    /// Whether a session with so many permits out gets no more.
     pub(crate) fn has_permits(self, out: u64) -> bool
         ensures { result ≡ has_enough self.permits out }
     {
         self.permits <= out
     }
 
-    /// Whether a session by which so many authorities became known has nothing more fetched.
+    /// Whether a session that made so many authorities known gets nothing more fetched.
     pub(crate) fn has_authorities(self, count: u64) -> bool
         ensures { result ≡ has_enough self.authorities count }
     {

@@ -1,20 +1,20 @@
-//! What an operator may see of a gate: how much there is of what it keeps.
+//! What an operator may see of a gate: how much it keeps.
 //! Read by each `Keeper`, for the verb INFO.
 ghost use Rattle.std.specs.Prelude.{◌≡◌};
 ghost use Rattle.keepers.specs.Counting.{counts_of};
 
 use gate_core::Book;
 
-/// How much there is of what a gate keeps, at one moment.
+/// How much a gate keeps, at one moment.
 #[derive(Clone, Copy, Debug, PartialEq, Eq)]
 pub struct Counts {
-    /// The entries of the history since the last seal.
+    /// The history's entries since the last seal.
     pub entries: u64,
-    /// All entries, the sealed ones among them.
+    /// All entries, sealed ones included.
     pub ever: u64,
-    /// All fetches that were started, the sealed ones among them.
+    /// All started fetches, sealed ones included.
     pub starts: u64,
-    /// The permits that are out and not spent.
+    /// The unspent permits.
     pub permits: u64,
     /// The fetches of pages under way.
     pub running: u64,
@@ -22,7 +22,7 @@ pub struct Counts {
     pub turns: u64,
     /// The authorities that have an answer or a turn.
     pub authorities: u64,
-    /// The entries that the history has room for, beside those that it has promised to what is out and under way.
+    /// The history's free entries, beside those promised to what is out and under way.
     pub room: u64,
 }
 

@@ -1,4 +1,4 @@
-//! `DeskKeeper`: a desk of a gate, a bag of what the session has out, and what fetches.
+//! `DeskKeeper`: a desk of a gate, a bag of what the session has out, and a fetcher.
 //! RFC 9309, sections 2.2 to 2.4.
 ghost use Rattle.std.specs.Prelude.{◌≡◌, [], IfOk, Some};
 ghost use Rattle.gate_lock.specs.Bags.{held_in};
@@ -25,15 +25,15 @@ use robots_text::Token;
 use std::alloc::Global;
 use std::sync::Wait;
 
-/// A desk with the permits and the started fetches of one session after the other. Each session can spend
-/// what it has out, and nothing else. It has no `Drop`: `close` makes receipts of it.
+/// A desk with the permits and started fetches of one session after the other. Each session can spend only
+/// its own. It has no `Drop`: `close` makes receipts of it.
 #[must_use]
 pub struct DeskKeeper<'a, 'g, G: Gate, F: Fetcher, R: Wait> {
     rt: &'a R,
     gate: &'g GateLock<G>,
     fetcher: &'a F,
     bounds: Bounds,
-    // How many authorities became known by the session.
+    // How many authorities the session made known.
     newcomers: u64,
     desk: Desk<'g, G>,
     bag: Bag<G>,
@@ -41,12 +41,12 @@ pub struct DeskKeeper<'a, 'g, G: Gate, F: Fetcher, R: Wait> {
     ghost balances: { out_of desk ≡ held_in bag },
 }
 
-/// Why a gate has no keeper more.
+/// Why a gate has no further keeper.
 #[derive(Clone, Copy, Debug, PartialEq, Eq)]
 pub enum NoKeeper {
-    /// As many desks were opened as may be.
+    /// The most desks are open.
     DesksFull,
-    /// A growth of memory was refused.
+    /// Out of memory.
     NoMemory,
 }
 
@@ -62,7 +62,7 @@ impl From<DesksFull> for NoKeeper {
 }
 
 impl<'a, 'g, G: Gate, F: Fetcher, R: Wait> DeskKeeper<'a, 'g, G, F, R> {
-    /// A keeper at a desk of its own, whose sessions may have all that the gate has.
+    /// A keeper at its own desk, with no bounds but the gate's.
     pub fn open(
         rt: &'a R,
         alloc: Global,
@@ -77,7 +77,7 @@ impl<'a, 'g, G: Gate, F: Fetcher, R: Wait> DeskKeeper<'a, 'g, G, F, R> {
         DeskKeeper::open_within(rt, alloc, gate, fetcher, Bounds::none())
     }
 
-    /// A keeper at a desk of its own, each session of which keeps to the bounds.
+    /// A keeper at its own desk, with bounds for each session.
     pub fn open_within(
         rt: &'a R,
         alloc: Global,
@@ -109,7 +109,7 @@ impl<'a, 'g, G: Gate, F: Fetcher, R: Wait> DeskKeeper<'a, 'g, G, F, R> {
         }
     }
 
-    // Condenses the marks of the desk, where there is no room for those that come next.
+    // Condenses the desk's marks if there is no room for the next ones.
     fn make_way(&mut self)
         ensures fetcher { self.new.fetcher ≡ self.old.fetcher }
         ensures bounds { self.new.bounds ≡ self.old.bounds }
@@ -122,7 +122,6 @@ impl<'a, 'g, G: Gate, F: Fetcher, R: Wait> DeskKeeper<'a, 'g, G, F, R> {
         }
     }
 
-    // Asks at the desk, whose permit comes into the bag.
     fn ask_desk(&mut self, token: Token, url: PageUrl, moment: u64) -> Result<PermitNo, AskRefusal>
         ensures fetcher { self.new.fetcher ≡ self.old.fetcher }
         ensures bounds { self.new.bounds ≡ self.old.bounds }
@@ -145,7 +144,6 @@ impl<'a, 'g, G: Gate, F: Fetcher, R: Wait> DeskKeeper<'a, 'g, G, F, R> {
         }
     }
 
-    // Fetches a robots.txt at the desk.
     fn refresh_desk<C: Clock>(
         &mut self,
         alloc: Global,
@@ -165,7 +163,6 @@ impl<'a, 'g, G: Gate, F: Fetcher, R: Wait> DeskKeeper<'a, 'g, G, F, R> {
         told
     }
 
-    // Does a job at the desk.
     fn fetch_desk<C: Clock>(
         &mut self,
         alloc: Global,
@@ -342,7 +339,7 @@ impl<'a, 'g, G: Gate, F: Fetcher, R: Wait> Keeper for DeskKeeper<'a, 'g, G, F, R
     }
 }
 
-// What comes of a fetch for which no authority may become known.
+// The outcome of a fetch if no further authority may become known.
 fn refused(alloc: Global) -> Result<Outcome, NoMemory>
     ensures { TellsRefused (Some result) }
 {

@@ -1,4 +1,4 @@
-//! `Keeper`: what makes the calls of a session, and knows which permits the session has out.
+//! `Keeper`: makes a session's calls, and knows its permits.
 ghost use Rattle.std.specs.Prelude.{◌≡◌};
 ghost use Rattle.std.specs.Option.{option_copied};
 
@@ -14,18 +14,18 @@ use permit_book::{NotOut, PermitNo};
 use robots_text::Token;
 use std::alloc::Global;
 
-/// What makes the calls of one session after the other. Moments are in seconds, and may go back.
+/// Makes the calls of one session after the other. Moments are in seconds, and may go back.
 pub trait Keeper {
     ghost use Rattle.keepers.specs.Deals.{Deals};
 
-    /// What each of its calls does and answers.
+    /// The effect and the answer of each call.
     ghost deals: { Deals Self };
 
     /// Whether it refreshes and fetches.
     fn can_fetch(&self) -> bool
         ensures { result ≡ deals.can_fetch self.now };
 
-    /// The schemes of the pages and of the authorities that it is asked about.
+    /// The schemes of its pages and authorities.
     fn schemes(&self) -> Schemes
         ensures { result ≡ deals.schemes self.now };
 
@@ -33,7 +33,7 @@ pub trait Keeper {
     fn ask(&mut self, token: Token, url: PageUrl, moment: u64) -> Result<PermitNo, AskRefusal>
         ensures { deals.asks self.old token url moment result self.new };
 
-    /// Starts the fetch of the session's permit of this number, token and URL, which is spent by it.
+    /// Starts the fetch of the session's permit of this number, token and URL, which it spends.
     fn start(
         &mut self,
         number: PermitNo,
@@ -43,26 +43,26 @@ pub trait Keeper {
     ) -> Result<Reason, Denial>
         ensures { deals.starts self.old number token.now url moment result self.new };
 
-    /// The URL of the permit of this number that the session may start, where it may start one.
+    /// The URL of the session's permit of this number, if it may start one.
     fn url_of(&self, number: PermitNo) -> Option<&PageUrl>
         ensures { deals.urls self.now number (option_copied result) };
 
-    /// Gives the session's permit of this number back.
+    /// Gives back the session's permit of this number.
     fn back(&mut self, number: PermitNo) -> Result<(), NotOut>
         ensures { deals.returns self.old number result self.new };
 
-    /// Ends the fetch that the session started under this number.
+    /// Ends the session's fetch of this number.
     fn finish(&mut self, number: PermitNo) -> Result<(), NotOut>
         ensures { deals.finishes self.old number result self.new };
 
-    /// How much there is of what the gate keeps.
+    /// How much the gate keeps.
     fn counts(&self) -> Counts
         ensures { deals.counts self.now result };
 
     /// The connections of the server, if the session has one.
     fn visitors(&self) -> Visitors;
 
-    /// The answer that stands for an authority, whatever its age. It takes memory for its name, and none for its text.
+    /// The answer for an authority, of any age. Allocates its name, not its text.
     fn answer(
         &self,
         alloc: Global,
@@ -74,8 +74,7 @@ pub trait Keeper {
     fn state(&mut self, authority: &Authority, moment: u64) -> State
         ensures { deals.reads self.old authority.now moment result self.new };
 
-    /// Fetches the robots.txt of an authority, whose answer stands from now on. None where it fetches
-    /// nothing.
+    /// Fetches the robots.txt of an authority, whose answer is then in force. None if it fetches nothing.
     fn refresh<C: Clock>(
         &mut self,
         alloc: Global,
@@ -84,7 +83,7 @@ pub trait Keeper {
     ) -> Option<Result<Standing, BeginRefusal>>
         ensures { deals.refreshes (C.reads clock.now) self.old authority.now result self.new };
 
-    /// Fetches the page of a job, and where redirects lead from it. None where it fetches nothing.
+    /// Fetches the page of a job, and follows its redirects. None if it fetches nothing.
     fn fetch<C: Clock>(
         &mut self,
         alloc: Global,
@@ -93,11 +92,11 @@ pub trait Keeper {
     ) -> Option<Result<Outcome, NoMemory>>
         ensures { deals.fetches (C.reads clock.now) self.old job result self.new };
 
-    /// Hands out the entries of the gate since the last seal, of whatever session, with what they follow.
+    /// Hands out the gate's entries since the last seal, of all sessions, with what they follow.
     fn seal(&mut self) -> Result<Segment, NoMemory>
         ensures { deals.seals self.old result self.new };
 
-    /// Gives back and finishes all that the session has out. The next session may begin.
+    /// Gives back and finishes all that the session has out, so that the next one may begin.
     fn end(&mut self)
         ensures { deals.ends self.old self.new };
 }

@@ -1,5 +1,5 @@
-//! Who keeps the permits of a session of the line server: a book alone, or a desk with a bag and what
-//! fetches (RFC 9309, sections 2.2 to 2.4, in the profile of docs/POLICY.md).
+//! What keeps the permits of a line server's session: a book alone, or a desk with a bag and a
+//! fetcher (RFC 9309, sections 2.2 to 2.4, in the profile of docs/POLICY.md).
 #![tactic(auto)]
 
 mod answers;

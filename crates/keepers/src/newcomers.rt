@@ -1,5 +1,5 @@
-//! Which authorities become known by what is fetched for a session.
-//! `DeskKeeper` fetches by it.
+//! The authorities that a session's fetches make known.
+//! Used by `DeskKeeper`.
 ghost use Rattle.std.specs.Prelude.{◌≡◌};
 
 use crawl_workers::Fetcher;
@@ -12,21 +12,21 @@ use path_normal::Schemes;
 use std::cell::Cell;
 use std::sync::Wait;
 
-/// A fetcher that counts the authorities of which no answer stands while their robots.txt files are fetched: they become known
-/// by that.
+/// A fetcher that counts the authorities without an answer whose robots.txt files it fetches, which makes
+/// them known.
 #[derive(Drop)]
 pub(crate) struct Newcomers<'a, 'g, G: Gate, F: Fetcher, R: Wait> {
     pub(crate) rt: &'a R,
     pub(crate) gate: &'g GateLock<G>,
     pub(crate) fetcher: &'a F,
-    /// How many there are.
+    /// How many so far.
     pub(crate) count: Cell<u64>,
-    /// Whether a walk has begun, and nothing is fetched yet: then a robots.txt comes, and else where it redirects to.
+    /// Whether a walk has begun without a fetch: the next one is a robots.txt, later ones its redirects.
     pub(crate) is_at_file: Cell<bool>,
 }
 
 impl<'a, 'g, G: Gate, F: Fetcher, R: Wait> Newcomers<'a, 'g, G, F, R> {
-    /// So many became known before.
+    /// With the count from before.
     pub(crate) fn new(
         rt: &'a R,
         gate: &'g GateLock<G>,
@@ -44,7 +44,7 @@ impl<'a, 'g, G: Gate, F: Fetcher, R: Wait> Newcomers<'a, 'g, G, F, R> {
         }
     }
 
-    // Counts the authority whose robots.txt is fetched, where no answer of it stands.
+    // Counts an authority without an answer.
     fn count_in(&self, authority: &str) {
         let standing = self
             .gate

@@ -1,4 +1,4 @@
-//! The connections of a server, as its workers count them, for the verb INFO.
+//! The connections of a server, counted by its workers, for the verb INFO.
 //! A session without a server has none.
 
 use std::sync::atomic::{AtomicU64, Ordering};
@@ -6,7 +6,7 @@ use std::sync::atomic::{AtomicU64, Ordering};
 /// The connections of a server at one moment.
 #[derive(Clone, Copy, Debug, PartialEq, Eq)]
 pub struct Visitors {
-    /// How many connections of clients were taken so far.
+    /// How many client connections were taken so far.
     pub connections: u64,
     /// How many clients are being served.
     pub clients: u64,
@@ -22,7 +22,7 @@ impl Visitors {
     }
 }
 
-/// What workers count of their clients.
+/// The workers' counts of clients.
 #[derive(Drop)]
 pub struct Visits {
     connections: AtomicU64,
@@ -49,7 +49,7 @@ impl Visits {
         self.clients.fetch_sub(1, Ordering::Relaxed);
     }
 
-    /// How many there are now.
+    /// The numbers at this moment.
     pub fn read(&self) -> Visitors {
         Visitors {
             connections: self.connections.load(Ordering::Relaxed),

@@ -1,4 +1,4 @@
--- How many numbers a server has for its connections, and how it ends.
+-- A server's numbers for its connections, and how it ends.
 -- The contracts of `count_of` and of `Server::run`.
 use Rattle.std.specs.Prelude.{◌≡◌, ◌≤◌, ◌++◌, ◌∷◌, [], ℕ, List, Ok}
 use Rattle.client_connections.specs.Accepts.{max_connections}
@@ -9,17 +9,17 @@ use Rattle.gate_lock.specs.Settling.{IsWholeUnlessSealed, SettlesSome}
 use Rattle.gate_lock.specs.declared.settlement.Settled.{Settled}
 use Rattle.job_line.specs.Limits.{max_workers}
 
--- a number for each connection, as far as so many may be asked for; where there is no end, one for each worker
+-- a number for each connection, if possible; an endless server has one for each worker
 abbrev pub AreNumbered : Connections → ℕ → Type 0
 AreNumbered (AtMost count) numbers = count ≤ max_connections → numbers ≡ count
 AreNumbered Endless numbers = numbers ≡ max_workers
 
--- by these receipts a gate was settled, with so many entries; where nothing was handed out they are a whole history
+-- these receipts settled a gate with this many entries, and are a whole history if nothing was handed out
 abbrev pub IsServed : List Receipt → ℕ → Type 0
 IsServed receipts events =
     (settled : Settled) ×
     ((settled.events ≡ events) × SettlesSome receipts (Ok settled) × IsWholeUnlessSealed receipts settled)
 
--- these are the last of the receipts
+-- these end the list of receipts
 abbrev pub HasLast : Receipt → List Receipt → Type 0
 HasLast past receipts = (others : List Receipt) × (receipts ≡ others ++ past ∷ [])

@@ -1,5 +1,5 @@
--- When a server sweeps its gate, and at which moment. RFC 9309, section 2.4, says how long an answer lasts.
--- The contracts of what sees to the gate.
+-- When a server sweeps its gate. RFC 9309, section 2.4, limits an answer's life.
+-- The contracts of `warden.rt`.
 use Rattle.std.specs.Prelude.{◌≡◌, ◌⊎◌, ℕ, zero, suc, ◌-◌, Bool, nat_le, nat_lt, ◌||◌, if◌then◌else◌, Result}
 use Rattle.gate_core.specs.declared.refusal.SweepRefusal.{SweepRefusal}
 use Rattle.gate_lock.specs.Desks.{DeskView}
@@ -10,24 +10,24 @@ use Rattle.command_server.specs.Readings.{reading_after}
 abbrev pub sweep_seconds : ℕ
 sweep_seconds = 3600
 
--- the least, where as many authorities are known as may be
+-- the least seconds, while the known authorities are at their limit
 abbrev pub full_seconds : ℕ
 full_seconds = 60
 
--- a sweep is due: an hour after the last one; a minute after it, where as many authorities are known as may
--- be; and where the clock was set back behind it
+-- a sweep is due: an hour after the last; after a minute while the known authorities are at their limit; and if the
+-- clock was set back
 abbrev pub is_due : ℕ → ℕ → Bool → Bool
 is_due swept now is_full = nat_lt now swept || nat_le (if is_full then full_seconds else sweep_seconds) (now - swept)
 
--- one sweep at such a moment is a step of the desk, or nothing is done. What it ended is marked with that moment, or
--- with a later one of an entry that was there
+-- one sweep at such a moment is a step of the desk, or nothing is done. What it ended has that moment, or a later one
+-- of an entry
 abbrev pub MaySweep : (ℕ → Type 0) → DeskView → DeskView → Type 0
 MaySweep reads d d2 =
     (d2 ≡ d)
     ⊎ ((m : ℕ) × (reads m
     × ((result : Result ℕ SweepRefusal) × Somewhere d (λ old new. DeskSweeps d old m result new d2))))
 
--- so many rounds, each at the clock's reading behind that of the round before
+-- this many rounds, each at the clock's next reading
 abbrev pub GoesRoundsTo : (ℕ → ℕ → Type 0) → ℕ → DeskView → DeskView → Type 0
 GoesRoundsTo reads zero d d2 = d2 ≡ d
 GoesRoundsTo reads (suc rounds) d d2 =

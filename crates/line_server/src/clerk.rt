@@ -1,5 +1,5 @@
-//! The clerk of a gate: it records entries that no reply waits for, and begins new files, while workers serve.
-//! The warden has one, at a desk of its own.
+//! The clerk of a gate: it records entries that no reply waits for, and begins new files.
+//! The warden has one, at its own desk.
 
 use crate::recorded::Recorded;
 use counted_io::DeviceFault;
@@ -9,11 +9,11 @@ use journal_files::Recorder;
 use std::alloc::Global;
 use std::sync::Wait;
 
-// At every how many looks what is recorded is made to outlive the machine, where that is done once a second.
+// After this many looks, recorded entries are synced, if that happens once a second.
 const SYNC_LOOKS: u64 = 10;
 
-/// What is recorded, the desk by which it is sealed, and how often it was looked after. It has no `Drop`: `close` makes
-/// receipts of it.
+/// The recording, the desk that seals, and the number of looks. It has no `Drop`: `close` makes its
+/// receipts.
 #[must_use]
 pub(crate) struct Clerk<'a, 'g, G: Gate, J: Recorder, R: Wait> {
     recorded: &'g Recorded<'a, G, J, R>,
@@ -22,7 +22,7 @@ pub(crate) struct Clerk<'a, 'g, G: Gate, J: Recorder, R: Wait> {
 }
 
 impl<'a, 'g, G: Gate, J: Recorder, R: Wait> Clerk<'a, 'g, G, J, R> {
-    /// One at a desk of its own.
+    /// A clerk at its own desk.
     pub(crate) fn open(
         alloc: Global,
         recorded: &'g Recorded<'a, G, J, R>,
@@ -36,7 +36,7 @@ impl<'a, 'g, G: Gate, J: Recorder, R: Wait> Clerk<'a, 'g, G, J, R> {
         })
     }
 
-    /// Has recorded what is entered, and a new file begun where one is due.
+    /// Records what is entered, and begins a new file if it is due.
     pub(crate) fn look(&mut self) -> Result<(), DeviceFault> {
         self.looks = self.looks.wrapping_add(1);
         if self.looks % SYNC_LOOKS == 0 {
@@ -48,7 +48,6 @@ impl<'a, 'g, G: Gate, J: Recorder, R: Wait> Clerk<'a, 'g, G, J, R> {
         Ok(())
     }
 
-    /// Closes the desk.
     pub(crate) fn close(self) -> Receipts<G> {
         let Clerk {
             recorded: _,

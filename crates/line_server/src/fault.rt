@@ -4,14 +4,14 @@ use gate_lock::{DesksFull, SettleFault};
 use keepers::NoKeeper;
 use std::alloc::AllocError;
 
-/// Why a server has no end to tell of. A client's faults are none of its own.
+/// Why a server failed. Faults of clients don't count.
 #[derive(Clone, Copy, Debug, PartialEq, Eq)]
 pub enum ServeFault {
     /// No client could be accepted, or a line could not be written.
     Device,
-    /// A growth of memory was refused, before a client was taken or at the end.
+    /// An allocation failed, before the first client or at the end.
     NoMemory,
-    /// The gate has no desk more.
+    /// The gate has no more desks.
     DesksFull,
     /// The gate was not settled.
     Unsettled(SettleFault),

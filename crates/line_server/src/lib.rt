@@ -1,5 +1,5 @@
-//! A server of lines: workers that take clients one after the other, and what sees to the gate meanwhile.
-//! docs/crawlgate.1.md has what an operator knows of it.
+//! A server of lines: workers serve one client after the other, and others maintain the gate meanwhile.
+//! docs/crawlgate.1.md describes it for operators.
 #![tactic(auto)]
 
 mod clerk;

@@ -1,4 +1,4 @@
-//! The numbers of connections: workers draw them from a line of jobs, each number once.
+//! The numbers of connections: workers draw them from a line of jobs, each once.
 //! Made by `Server::run`, for its workers.
 ghost use Rattle.std.specs.Prelude.{◌≡◌, ◌≤◌, All};
 ghost use Rattle.job_line.specs.Limits.{max_jobs};
@@ -7,11 +7,11 @@ ghost use Rattle.line_server.specs.Servers.{AreNumbered};
 use client_connections::Connections;
 use job_line::{JobLine, JobSeat, MAX_JOBS, MAX_WORKERS};
 
-// For how many connections one number of a server without end stands: the sixteen numbers together for as many as 64
-// bits can count, so that no worker is ever without one.
+// The connections of each number in an endless server: the sixteen numbers cover as many as 64 bits count,
+// so no worker runs out.
 const ENDLESS_SHARE: u64 = 1 << 60;
 
-/// How many numbers such a server has.
+/// How many numbers a server has.
 pub(crate) fn count_of(connections: Connections) -> u64
     ensures line { result ≤ max_jobs }
     ensures numbers { AreNumbered connections result }
@@ -22,7 +22,7 @@ pub(crate) fn count_of(connections: Connections) -> u64
     }
 }
 
-/// How many connections a worker takes by one number.
+/// The connections that a worker takes for one number.
 pub(crate) fn share_of(connections: Connections) -> u64 {
     match connections {
         Connections::AtMost(_) => 1,
@@ -30,7 +30,7 @@ pub(crate) fn share_of(connections: Connections) -> u64 {
     }
 }
 
-/// A worker's numbers: the line, and a seat of its own.
+/// A worker's line and seat.
 #[derive(Drop)]
 pub(crate) struct ConnectionNumbers<'l> {
     pub(crate) line: &'l JobLine,
@@ -39,7 +39,7 @@ pub(crate) struct ConnectionNumbers<'l> {
 }
 
 impl ConnectionNumbers<'_> {
-    /// Draws a number, and tells whether one was left.
+    /// Draws a number; false if none was left.
     pub(crate) fn draw(&mut self) -> bool {
         self.line.draw(&mut self.seat).is_some()
     }

@@ -1,5 +1,5 @@
-//! Overseers of a server connect at a listener of their own: clients that take all workers don't keep it out.
-//! One after the other is served.
+//! Overseers of a server connect at their own listener, so clients that take all workers don't block them.
+//! They are served one at a time.
 
 use crate::fault::ServeFault;
 use crate::recorded::Recorded;
@@ -21,11 +21,11 @@ use std::sync::atomic::{AtomicU64, Ordering};
 use std::time::Duration;
 use std::{thread, time};
 
-// How long it waits before it tries to shut a listener again, for which it had no descriptor.
+// The wait before another try to shut a listener, when there was no descriptor.
 const NAP_MILLISECONDS: u64 = 100;
 
 impl<F: Fetcher, C: NumberedClock, A: Alarm, R: Wait + time::Clock> Server<'_, F, C, A, R> {
-    /// Serves overseers, at a desk of its own, until no worker is left and the listener is shut.
+    /// Serves overseers at its own desk, until no worker is left and the listener is shut.
     pub(crate) fn oversee<G: Gate, J: Recorder>(
         &self,
         recorded: &Recorded<'_, G, J, R>,
@@ -50,7 +50,7 @@ impl<F: Fetcher, C: NumberedClock, A: Alarm, R: Wait + time::Clock> Server<'_, F
         Ok(receipts)
     }
 
-    // Takes one after the other until no worker is left.
+    // Serves them one at a time, until no worker is left.
     fn take_overseers<G: Gate, J: Recorder, K: Keeper>(
         &self,
         recorded: &Recorded<'_, G, J, R>,
@@ -79,7 +79,7 @@ impl<F: Fetcher, C: NumberedClock, A: Alarm, R: Wait + time::Clock> Server<'_, F
         unreachable!()
     }
 
-    // Serves one to its end. A fault of its session ends its connection alone.
+    // Serves one to its end. A fault of its session ends only its connection.
     fn serve_one<G: Gate, J: Recorder, K: Keeper>(
         &self,
         recorded: &Recorded<'_, G, J, R>,
@@ -101,7 +101,7 @@ impl<F: Fetcher, C: NumberedClock, A: Alarm, R: Wait + time::Clock> Server<'_, F
         close(self.rt, stream);
     }
 
-    /// Shuts the listener, at which nobody is taken any more then.
+    /// Shuts the listener, which then accepts nobody.
     pub(crate) fn shut(&self, listener: &Listener) {
         for _ in self.rt.forever() {
             if listener.shut().is_ok() {

@@ -1,5 +1,5 @@
-//! A gate with what records it: its clients are told nothing, and nothing is fetched for them, past that.
-//! Without a journal nothing records it, and all may be told at once.
+//! A gate with its journal: no reply and no fetch goes past what is recorded.
+//! Without a journal nothing has to be recorded first.
 ghost use Rattle.std.specs.Prelude.{◌≡◌};
 
 use counted_io::DeviceFault;
@@ -10,7 +10,7 @@ use keepers::Visits;
 use std::alloc::Global;
 use std::sync::Wait;
 
-/// A gate, what records it, and the clients of its server.
+/// A gate, its journal, and the clients of its server.
 #[derive(Drop)]
 pub(crate) struct Recorded<'a, G: Gate, J: Recorder, R: Wait> {
     rt: &'a R,
@@ -20,7 +20,7 @@ pub(crate) struct Recorded<'a, G: Gate, J: Recorder, R: Wait> {
 }
 
 impl<'a, G: Gate, J: Recorder, R: Wait> Recorded<'a, G, J, R> {
-    /// A gate that this journal records, or nothing does.
+    /// A gate that this journal records, if it is one.
     pub(crate) fn new(
         rt: &'a R,
         alloc: Global,
@@ -35,12 +35,11 @@ impl<'a, G: Gate, J: Recorder, R: Wait> Recorded<'a, G, J, R> {
         }
     }
 
-    /// The gate.
     pub(crate) fn gate(&self) -> &'a GateLock<G> {
         self.chronicle.gate
     }
 
-    /// What comes up before each write to a client, and before each fetch.
+    /// What records before each write to a client, and before each fetch.
     pub(crate) fn abreast(&self) -> Abreast<'_, Recording<'a, G, R>, J, R> {
         Abreast {
             rt: self.rt,
@@ -49,20 +48,20 @@ impl<'a, G: Gate, J: Recorder, R: Wait> Recorded<'a, G, J, R> {
         }
     }
 
-    /// Waits until all that is entered is recorded.
+    /// Waits until all entries are recorded.
     pub(crate) fn come_up(&self) -> Result<(), DeviceFault> {
         self.journal.come_up(self.rt, &self.chronicle)
     }
 
-    /// Waits until all that is entered is recorded, and syncs it where that is done once a second.
+    /// Waits until all entries are recorded, and syncs them if that happens once a second.
     pub(crate) fn see_to(&self) -> Result<(), DeviceFault> {
         self.journal.see_to(self.rt, &self.chronicle)
     }
 
-    /// Begins a new file where one is due. What the seal hands out is in the last one.
+    /// Begins a new file if it is due. The last file has what the seal hands out.
     pub(crate) fn turn_over(&self, sealer: &mut DeskSealer<'_, '_, G, R>) {
         if self.journal.is_due(self.rt, &self.chronicle) {
-            // If memory ran out, the next try meets it again; a fault of the journal ends each session.
+            // If memory ran out, the next try finds it too; a fault of the journal ends each session.
             let _ = self.journal.seal(self.rt, &self.chronicle, sealer);
         }
     }

@@ -1,5 +1,6 @@
-//! Robots.txt files that are fetched anew for a gate that goes on: those which an earlier process was fetching when it ended.
-//! Their turns were ended as faults of the network, which would close their sites for a day (RFC 9309, section 2.3.1.4).
+//! Fetches robots.txt files anew for a gate that continues: those whose fetches an earlier process left.
+//! Their turns ended as network faults, which would close their sites for a day (RFC 9309, section
+//! 2.3.1.4).
 
 use crate::fault::ServeFault;
 use crate::recorded::Recorded;
@@ -17,8 +18,8 @@ use std::sync::atomic::{AtomicU64, Ordering};
 use std::time;
 
 impl<F: Fetcher, C: NumberedClock, A: Alarm, R: Wait + time::Clock> Server<'_, F, C, A, R> {
-    /// Has the robots.txt files of these sites fetched, one after the other, at a desk of its own, until no worker is left.
-    /// What comes of each stands in the gate.
+    /// Fetches these sites' robots.txt files in order, at its own desk, until no worker is left. The
+    /// results go to the gate.
     pub(crate) fn fetch_anew<G: Gate, J: Recorder>(
         &self,
         recorded: &Recorded<'_, G, J, R>,
@@ -38,7 +39,7 @@ impl<F: Fetcher, C: NumberedClock, A: Alarm, R: Wait + time::Clock> Server<'_, F
             if left.load(Ordering::SeqCst) == 0 {
                 break;
             }
-            // (a client may have it fetched already; without room in the history its answer stands)
+            // (a client may be fetching it; without room in the history its old answer stays)
             let _ = keeper.refresh(self.alloc, site, &clock);
         }
         Ok(keeper.close())

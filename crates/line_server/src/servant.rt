@@ -1,4 +1,4 @@
-//! A worker of a server: it takes one client after the other, and serves each to its end.
+//! A worker of a server: serves one client after the other to its end.
 ghost use Rattle.std.specs.Prelude.{◌≡◌};
 
 use crate::fault::ServeFault;
@@ -24,8 +24,8 @@ use std::sync::Wait;
 use std::sync::atomic::{AtomicU64, Ordering};
 use std::time;
 
-/// A worker: its numbers, how many connections it took, and, once it has ended, the receipts of its desk or
-/// why it has none.
+/// A worker: its numbers, its count of connections, and once it has ended, its desk's receipts or why there
+/// are none.
 #[derive(Drop)]
 pub(crate) struct Servant<'l, G: Gate> {
     pub(crate) numbers: ConnectionNumbers<'l>,
@@ -34,7 +34,7 @@ pub(crate) struct Servant<'l, G: Gate> {
 }
 
 impl<F: Fetcher, C: NumberedClock, A: Alarm, R: Wait + time::Clock> Server<'_, F, C, A, R> {
-    /// Lets a worker serve until no number is left to be drawn.
+    /// Serves until no number is left to draw.
     pub(crate) fn employ<G: Gate, J: Recorder>(
         &self,
         recorded: &Recorded<'_, G, J, R>,
@@ -46,7 +46,7 @@ impl<F: Fetcher, C: NumberedClock, A: Alarm, R: Wait + time::Clock> Server<'_, F
         left.fetch_sub(1, Ordering::SeqCst);
     }
 
-    // Opens a desk, takes clients at it, and closes it, whatever came of them.
+    // Opens a desk, serves clients at it, and closes it whatever happened.
     fn man_desk<G: Gate, J: Recorder>(
         &self,
         recorded: &Recorded<'_, G, J, R>,
@@ -72,7 +72,7 @@ impl<F: Fetcher, C: NumberedClock, A: Alarm, R: Wait + time::Clock> Server<'_, F
         Ok(receipts)
     }
 
-    // Takes clients until no number is left, or none can be accepted.
+    // Serves clients until no number is left, or none can be accepted.
     fn take_all<G: Gate, J: Recorder, K: Keeper>(
         &self,
         recorded: &Recorded<'_, G, J, R>,
@@ -89,7 +89,7 @@ impl<F: Fetcher, C: NumberedClock, A: Alarm, R: Wait + time::Clock> Server<'_, F
         unreachable!()
     }
 
-    // Takes the clients of one number, one after the other.
+    // Serves the clients of one number in turn.
     fn take_share<G: Gate, J: Recorder, K: Keeper>(
         &self,
         recorded: &Recorded<'_, G, J, R>,
@@ -102,13 +102,13 @@ impl<F: Fetcher, C: NumberedClock, A: Alarm, R: Wait + time::Clock> Server<'_, F
             recorded.visits.enter();
             self.serve_client(recorded, stream, keeper);
             recorded.visits.leave();
-            // Where it can't be recorded what the client left, no other is taken.
+            // If what the client left can't be recorded, no other is served.
             recorded.come_up()?;
         }
         Ok(())
     }
 
-    // Waits for a client, for as long as descriptors and memory are wanted.
+    // Waits for a client, while descriptors or memory are short too.
     fn accept(&self) -> Result<TcpStream, DeviceFault> {
         for _ in self.rt.forever() {
             match self.listener.accept(self.rt) {
@@ -120,7 +120,7 @@ impl<F: Fetcher, C: NumberedClock, A: Alarm, R: Wait + time::Clock> Server<'_, F
         unreachable!()
     }
 
-    // Serves a client to its end, where it is no browser. A fault of its session ends its connection alone.
+    // Serves a client to its end unless it is a browser. A fault of its session ends only its connection.
     fn serve_client<G: Gate, J: Recorder, K: Keeper>(
         &self,
         recorded: &Recorded<'_, G, J, R>,
@@ -143,7 +143,7 @@ impl<F: Fetcher, C: NumberedClock, A: Alarm, R: Wait + time::Clock> Server<'_, F
         close(self.rt, stream);
     }
 
-    // Serves what a client says to its end, and writes to it behind the journal.
+    // Serves a client's lines to their end, writing only what is recorded.
     fn serve_lines<G: Gate, J: Recorder, K: Keeper, I: Read + Drop, O: Write + Drop>(
         &self,
         recorded: &Recorded<'_, G, J, R>,

@@ -1,4 +1,4 @@
-//! A server from its first client to the settlement of its gate.
+//! A server, from its first client until its gate is settled.
 ghost use Rattle.std.specs.Prelude.{◌≡◌, All, IfOk};
 ghost use Rattle.job_line.specs.Limits.{IsCrew};
 ghost use Rattle.line_server.specs.Servers.{HasLast, IsServed};
@@ -23,42 +23,42 @@ use std::thread::Threads;
 use std::time::Duration;
 use std::{thread, time};
 
-/// A server: by whom and for how many connections clients are served, and who fetches for them.
+/// A server's settings: who serves clients and how many, and who fetches.
 #[derive(Drop)]
 pub struct Server<'a, F, C, A, R> {
     pub rt: &'a R,
     pub alloc: Global,
     pub listener: &'a Listener,
-    /// Where overseers connect, if that may be done beside the clients.
+    /// Where overseers connect beside clients, if allowed.
     pub overseers: Option<&'a Listener>,
     pub fetcher: &'a F,
     pub clock: &'a C,
-    /// Who is told that the history is full.
+    /// Called when the history is full.
     pub alarm: &'a A,
-    /// How many clients are served at a time, from 1 to 16.
+    /// Clients served at once, from 1 to 16.
     pub workers: u64,
     /// After how many connections it ends.
     pub connections: Connections,
     /// How long a client is waited for.
     pub patience: Duration,
-    /// How long the gate fetches for lines that a client has sent ahead, where that has a bound.
+    /// The limit of fetching for lines that a client has sent ahead, if any.
     pub ahead: Option<Duration>,
-    /// What a client may have of the gate.
+    /// A client's limits at the gate.
     pub bounds: Bounds,
 }
 
-/// What a server has done.
+/// The result of a server.
 #[derive(Drop)]
 pub struct Served<G: Gate> {
-    /// How many connections were accepted.
+    /// Accepted connections.
     pub connections: u64,
-    /// How many entries the history has.
+    /// Entries of the history.
     pub events: u64,
-    /// The receipts of its desks, by which the gate was settled.
+    /// The desks' receipts that settled the gate.
     pub receipts: Vec<Receipts<G>>,
 }
 
-// What came of what is done beside the workers, each at a desk of its own, where it was asked for.
+// The results of the jobs beside the workers, each at its own desk, if asked for.
 #[derive(Drop)]
 struct Beside<G: Gate> {
     overseen: Option<Result<Receipts<G>, ServeFault>>,
@@ -71,9 +71,9 @@ impl<
     A: Alarm + Sync,
     R: Threads + Wait + time::Clock + Sync,
 > Server<'_, F, C, A, R> {
-    /// Serves clients over a gate that has made no entry, and settles it. Each worker has a thread of its
-    /// own, as far as threads can be had. What a session left out is given back at its end, whatever ended
-    /// it, so the faults of clients are none of the gate.
+    /// Serves clients over a gate without entries, and settles it. Each worker has its own thread, as far
+    /// as there are threads. What a session left open is given back at its end, whatever ended it, so
+    /// clients' faults don't affect the gate.
     pub fn run<G: Gate + Send + Sync>(&self, gate: &GateLock<G>) -> Result<Served<G>, ServeFault>
         requires { IsCrew self.now.workers }
         ensures { IfOk result (λ served. IsServed served.receipts.items served.events) }
@@ -81,9 +81,9 @@ impl<
         self.run_recorded(gate, &Unrecorded)
     }
 
-    /// `run` over a gate that is recorded from its first entry on: nothing is told to a client, and no page or
-    /// robots.txt is fetched, before all that was entered until then is. Where that fails each session ends at
-    /// its next write, no client is taken any more, and it has no end to tell of.
+    /// `run` over a gate that is recorded from its first entry on: a reply is sent, and a page or
+    /// robots.txt fetched, only after all earlier entries are recorded. If recording fails, each session
+    /// ends at its next write, no more clients are accepted, and this returns a fault.
     pub fn run_recorded<G: Gate + Send + Sync, J: Recorder + Sync>(
         &self,
         gate: &GateLock<G>,
@@ -96,9 +96,9 @@ impl<
         self.settle_served(gate, connections, receipts)
     }
 
-    /// `run_recorded` over a gate that goes on from a base: it is settled with the receipts of what was before, which come
-    /// last among those of its desks. The robots.txt files of these sites, which were being fetched before, are fetched anew,
-    /// on a thread of their own.
+    /// `run_recorded` over a gate that continues from a base: it is settled with the earlier receipts too,
+    /// which come last. The robots.txt files of these sites, whose fetches were interrupted, are fetched
+    /// anew on their own thread.
     pub fn run_resumed<G: Gate + Send + Sync, J: Recorder + Sync>(
         &self,
         gate: &GateLock<G>,
@@ -115,8 +115,7 @@ impl<
         self.settle_served(gate, connections, receipts)
     }
 
-    // How many connections were accepted, and the receipts of the desks by which their clients were served and the
-    // gate was seen to.
+    // The accepted connections, and the receipts of all desks.
     fn serve_gate<G: Gate + Send + Sync, J: Recorder + Sync>(
         &self,
         gate: &GateLock<G>,
@@ -130,12 +129,11 @@ impl<
         let mut servants = hire(self.alloc, &line, seats)?;
         let mut receipts = self.serve_all(&recorded, &mut servants, begun)?;
         let connections = take_in(servants, &mut receipts)?;
-        // What nobody was told of is recorded too.
+        // Entries without a reply are recorded too.
         recorded.see_to()?;
         Ok((connections, receipts))
     }
 
-    // Settles the gate by these receipts.
     fn settle_served<G: Gate + Send + Sync>(
         &self,
         gate: &GateLock<G>,
@@ -153,9 +151,8 @@ impl<
         })
     }
 
-    // Has the workers serve on threads of their own, and the gate seen to on another; the receipts are those of the desks
-    // at which that is done beside the workers. What is named first is done last where no thread can be made: then
-    // nothing is left to see to.
+    // Runs the workers on their own threads, and the gate's maintenance on another; the receipts are the
+    // latter's. Without threads, what is named first runs last: then there is no work left for it.
     fn serve_all<G: Gate + Send + Sync, J: Recorder + Sync>(
         &self,
         recorded: &Recorded<'_, G, J, R>,
@@ -180,7 +177,7 @@ impl<
         Ok(receipts)
     }
 
-    // Lets the workers work, and has overseers served beside them until none is left, if that may be done.
+    // Runs the workers, and serves overseers beside them until none is left, if allowed.
     fn employ_overseen<G: Gate + Send + Sync, J: Recorder + Sync>(
         &self,
         recorded: &Recorded<'_, G, J, R>,
@@ -210,7 +207,7 @@ impl<
         }
     }
 
-    // Lets the workers work, and has these sites fetched anew beside them, if there are any.
+    // Runs the workers, and fetches these sites anew beside them, if any.
     fn employ_fetching<G: Gate + Send + Sync, J: Recorder + Sync>(
         &self,
         recorded: &Recorded<'_, G, J, R>,
@@ -230,7 +227,7 @@ impl<
         Some(fetched)
     }
 
-    // Lets each worker work on a thread of its own.
+    // Runs each worker on its own thread.
     fn employ_all<G: Gate + Send + Sync, J: Recorder + Sync>(
         &self,
         recorded: &Recorded<'_, G, J, R>,
@@ -246,7 +243,7 @@ impl<
     }
 }
 
-// A worker for each seat, who has taken nobody.
+// A new worker for each seat.
 fn hire<'l, G: Gate>(
     alloc: Global,
     line: &'l JobLine,
@@ -266,8 +263,7 @@ fn hire<'l, G: Gate>(
     Ok(servants)
 }
 
-// How many connections the workers took, whose receipts come to the others. The first that has none tells
-// why.
+// The connections of the workers, whose receipts are added. The first without receipts gives the fault.
 fn take_in<G: Gate>(
     servants: Vec<Servant<'_, G>>,
     receipts: &mut Vec<Receipts<G>>,

@@ -1,4 +1,4 @@
-//! What sees to a gate while workers serve: answers that are past are swept, and a full history is told of.
+//! Maintains a gate while workers serve: sweeps expired answers, and reports a full history.
 //! RFC 9309, section 2.4.
 ghost use Rattle.std.specs.Prelude.{◌≡◌};
 ghost use Rattle.gate_lock.specs.Desks.{KeepsOut};
@@ -18,23 +18,22 @@ use std::sync::atomic::{AtomicU64, Ordering};
 use std::time::Duration;
 use std::{thread, time};
 
-/// How many seconds lie between two sweeps at most.
+/// The most seconds between two sweeps.
 pub const SWEEP_SECONDS: u64 = 3_600;
 
-/// How many lie between them at least, where as many authorities are known as may be.
+/// The least seconds between them, while the known authorities are at their limit.
 pub const FULL_SECONDS: u64 = 60;
 
-// How long it sleeps before it looks again whether a worker is left.
+// The sleep between two checks for remaining workers.
 const NAP_MILLISECONDS: u64 = 100;
 
-/// Who is told that the history of the gate is full.
+/// Called when the gate's history is full.
 pub trait Alarm {
-    /// It is full: nothing is asked, begun or swept any more.
+    /// The history is full: nothing is asked, begun or swept any more.
     fn log_is_full(&self);
 }
 
-/// When a gate was swept last, the number of the clock's next reading, and whether it was told that the
-/// history is full.
+/// The last sweep, the number of the clock's next reading, and whether the full history was reported.
 #[derive(Clone, Copy)]
 struct Rounds {
     swept: u64,
@@ -43,7 +42,7 @@ struct Rounds {
 }
 
 impl<F: Fetcher, C: NumberedClock, A: Alarm, R: Wait + time::Clock> Server<'_, F, C, A, R> {
-    /// Sees to the gate at a desk of its own, and to its records at another, until no worker is left.
+    /// Maintains the gate at one desk and its records at another, until no worker is left.
     pub(crate) fn watch<G: Gate, J: Recorder>(
         &self,
         recorded: &Recorded<'_, G, J, R>,
@@ -55,7 +54,7 @@ impl<F: Fetcher, C: NumberedClock, A: Alarm, R: Wait + time::Clock> Server<'_, F
         Ok((swept?, sealed))
     }
 
-    // Sees to both until no worker is left; the receipts are those of the desk at which it swept.
+    // Maintains both until no worker is left; the receipts are the sweeping desk's.
     fn sweep_all<G: Gate, J: Recorder>(
         &self,
         gate: &GateLock<G>,
@@ -67,7 +66,7 @@ impl<F: Fetcher, C: NumberedClock, A: Alarm, R: Wait + time::Clock> Server<'_, F
         Ok(desk.close())
     }
 
-    // Looks after the gate until no worker is left, each time at a reading of its own.
+    // Maintains the gate until no worker is left, each round at its own reading.
     fn go_round<G: Gate, J: Recorder>(
         &self,
         clerk: &mut Clerk<'_, '_, G, J, R>,
@@ -93,15 +92,15 @@ impl<F: Fetcher, C: NumberedClock, A: Alarm, R: Wait + time::Clock> Server<'_, F
         }
     }
 
-    // Sees to the records. Where they have failed no client is taken any more, and each worker ends.
+    // Maintains the records. If they failed, clients are no longer accepted, and each worker ends.
     fn record<G: Gate, J: Recorder>(&self, clerk: &mut Clerk<'_, '_, G, J, R>) {
         if clerk.look().is_err() {
-            // Want of a descriptor is met again at the next look.
+            // If there is no descriptor, the next look tries again.
             let _ = self.listener.shut();
         }
     }
 
-    // Sweeps where that is due, at the clock's next reading, and tells once that the history is full.
+    // Sweeps if due, at the clock's next reading, and reports a full history once.
     fn see_to<G: Gate>(&self, desk: &mut Desk<'_, G>, rounds: &mut Rounds)
         ensures no { desk.new.no ≡ desk.old.no }
         ensures out { KeepsOut desk.old desk.new }
@@ -128,7 +127,7 @@ impl<F: Fetcher, C: NumberedClock, A: Alarm, R: Wait + time::Clock> Server<'_, F
     }
 }
 
-// Whether to sweep at a moment. A clock that was set back is taken for the time of a sweep.
+// Whether to sweep at a moment. A clock set back counts as time for a sweep.
 fn is_due(swept: u64, now: u64, is_full: bool) -> bool
     ensures { result ≡ is_due swept now is_full }
 {

@@ -8,23 +8,18 @@ use Rattle.std.proofs.lemmas.Bool.Decides.{nat_tests}
 use Rattle.std.proofs.lemmas.Str.Parse.{IsNumeralModel, numerals_by_value, parse_digits}
 use Rattle.line_text.specs.Number.{is_numeral, is_small, number_of}
 
--- the texts of digits, with the value that std gives them
 own : IsNumeralModel (λ ds. list_all is_ascii_digit ds ≡ true) (digits_value 10)
 own = numerals_by_value _ (search rules)
 
--- a numeral has a digit
 numeral_parts : (word : List ℕ) → is_numeral word ≡ true → (0 < length word) × (list_all is_ascii_digit word ≡ true)
 numeral_parts word h = (grind (arith, nat_tests), grind (arith, nat_tests))
 
--- a numeral is the number that it writes, where that is small
 number_small : (word : List ℕ) → is_numeral word ≡ true → digits_value 10 word < 2 ^ 64 → number_of word ≡ Some (digits_value 10 word)
 number_small word h s = let small : is_small word ≡ true = grind (arith, nat_tests) in rw (h, small) refl
 
--- and it is no number where that is not
 number_great : (word : List ℕ) → is_numeral word ≡ true → ¬ (digits_value 10 word < 2 ^ 64) → number_of word ≡ None
 number_great word h s = let great : is_small word ≡ false = grind (arith, nat_tests) in rw (h, great) refl
 
--- what `parse` takes of a numeral is its number
 pub number_parsed : {E : Type 0} (word : List ℕ) (r : Result ℕ E) → is_numeral word ≡ true → ParsesUnsigned 64 10 word r → result_ok r ≡ number_of word
 number_parsed {E} word (Ok x) h p =
     let parts = numeral_parts word h in

@@ -1,4 +1,4 @@
--- What stands behind the fronts of a row of texts, one after the other.
+-- The rest of a text after a row of fronts.
 -- Used by the answers of all that compares a text with a row.
 use Rattle.std.proofs.Common.{◌≡◌, ◌≢◌, ◌<◌, ◌≤◌, ◌+◌, ◌==◌, ℕ, suc, Bool, false, arith, IsTrue, length-append, List, [], ◌∷◌, ◌++◌, length, take, drop, get_or, flat_map, ap, sym, ◌∙◌, append_assoc, append-nil}
 use Rattle.std.proofs.lemmas.Bool.{true≢false}
@@ -6,7 +6,6 @@ use Rattle.std.proofs.lemmas.Bool.Decides.{nat_tests}
 use Rattle.std.proofs.lemmas.List.{append_cancel_left, flat_map_more, take_all, take_more}
 use Rattle.line_text.proofs.Pushing.{cut_at}
 
--- one more front of the row was found
 pub row_stripped : {X : Type 0} (f : X → List ℕ) (xs : List X) (i : ℕ) (d : X) (text rest behind : List ℕ) → i < length xs →
     text ≡ flat_map f (take i xs) ++ rest → rest ≡ f (get_or xs i d) ++ behind →
     text ≡ flat_map f (take (i + 1) xs) ++ behind
@@ -15,7 +14,6 @@ row_stripped f xs i d text rest behind within before this =
     ∙ sym (append_assoc (flat_map f (take i xs)) (f (get_or xs i d)) behind)
     ∙ ap (λ l. l ++ behind) (flat_map_more f [] (take i xs) (get_or xs i d) ∙ ap (flat_map f) (sym (take_more xs i d within)))
 
--- where one front of the row is not found, the row is no front of the text
 pub row_lacks : {X : Type 0} (f : X → List ℕ) (xs : List X) (i : ℕ) (d : X) (text rest : List ℕ) → i < length xs →
     text ≡ flat_map f (take i xs) ++ rest → ((behind : List ℕ) → rest ≢ f (get_or xs i d) ++ behind) →
     (behind : List ℕ) → text ≢ flat_map f xs ++ behind
@@ -26,7 +24,6 @@ row_lacks f xs i d text rest within before lacks behind is =
     ∙ append_assoc (flat_map f (take i xs)) (f (get_or xs i d) ++ later) behind
     ∙ ap (λ l. flat_map f (take i xs) ++ l) (append_assoc (f (get_or xs i d)) later behind)))
 
--- where all fronts of the row were found, the text is the row where nothing is left
 pub row_whole : {X : Type 0} (f : X → List ℕ) (xs : List X) (i : ℕ) (text rest : List ℕ) (empty : Bool) → length xs ≤ i →
     text ≡ flat_map f (take i xs) ++ rest → empty ≡ (length rest == 0) →
     (IsTrue empty → text ≡ flat_map f xs) × (text ≡ flat_map f xs → IsTrue empty)

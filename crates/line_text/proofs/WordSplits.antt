@@ -9,16 +9,13 @@ use Rattle.std.proofs.lemmas.List.Splits.{slice_split_none, slice_split_first}
 use Rattle.std.proofs.lemmas.List.Sums.{fails_before_first, position_or_len_is, prefix_len-le-length}
 use Rattle.line_text.specs.Words.{is_space, words_of}
 
--- a text with no space is one word
 pub words_of_one : (text : List ℕ) → position_or_len is_space text ≡ length text → words_of text ≡ text ∷ []
 words_of_one text e =
     slice_split_none is_space text (λ k d h. fails_before_first is_space text k d (omega arith))
 
--- the first word ends at the first space
 pub words_of_more : (text : List ℕ) → position_or_len is_space text < length text → words_of text ≡ before_first is_space text ∷ words_of (after_first is_space text)
 words_of_more text h = slice_split_first is_space text 0 h
 
--- what is not found below a count is past it
 beyond : (place count : ℕ) → cond (ltb place count) (Some place) None ≡ None → count ≤ place
 beyond place count none = by (ltb place count) refl none
   where
@@ -26,18 +23,15 @@ beyond place count none = by (ltb place count) refl none
     by true at none = absurd (true≢false (ap is_some none))
     by false at none = grind (arith, nat_tests, at)
 
--- a text in which no space is found is one word
 pub words_of_whole : (text : List ℕ) → position is_space text ≡ None → words_of text ≡ text ∷ []
 words_of_whole text none =
     words_of_one text (omega (arith, beyond (position_or_len is_space text) (length text) none, prefix_len-le-length (λ octet. not (is_space octet)) text))
 
--- what stands before and behind the space that is found first is the first word and the text of the others
 pub words_of_found : (text : List ℕ) (place : ℕ) → position is_space text ≡ Some place → words_of text ≡ take place text ∷ words_of (drop (place + 1) text)
 words_of_found text place found =
     let at = position-Some is_space text place 0 found in
     let first : position_or_len is_space text ≡ place = position_or_len_is is_space text place 0 (omega (arith, at.0)) at.2 (λ _. at.1) in
     subst (λ n. words_of text ≡ take n text ∷ words_of (drop (n + 1) text)) first (words_of_more text (omega (arith, first, at.0)))
 
--- what stands before and after the first space is the first word and the text of the others
 pub words_of_cut : (text word rest : List ℕ) → (position_or_len is_space text < length text) × (word ≡ before_first is_space text) × (rest ≡ after_first is_space text) → words_of text ≡ word ∷ words_of rest
 words_of_cut text word rest h = let e = words_of_more text h.0 in let a = h.1 in let b = h.2 in cc

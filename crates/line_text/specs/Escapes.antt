@@ -1,4 +1,4 @@
--- Octets as a line of text shows them, each by itself: in lower case, or escaped.
+-- Octets in a line of text, one by one: in lower case, or escaped.
 -- RFC 3986, sections 2.1 and 2.3, for the escapes.
 use Rattle.std.specs.Prelude.{ℕ, Bool, ◌==◌, ◌&&◌, nat_le, List, [], ◌∷◌, Option, Some, None, flat_map, if◌then◌else◌}
 use Rattle.std.specs.Char.{to_ascii_lowercase}
@@ -11,7 +11,7 @@ use Rattle.line_text.specs.declared.octets.Spelling.TheVariants.{LowerCase, Esca
 abbrev pub is_plain : ℕ → Bool
 is_plain octet = nat_le 33 octet && nat_le octet 126
 
--- an octet from 33 to 126 as it stands, any other as "%" and two upper-case hexadecimal digits
+-- an octet from 33 to 126 unchanged, others as "%" and two upper-case hexadecimal digits
 abbrev pub escaped_octet : ℕ → List ℕ
 escaped_octet octet =
     if is_plain octet then octet ∷ []
@@ -21,29 +21,29 @@ escaped_octet octet =
 abbrev pub escaped : List ℕ → List ℕ
 escaped octets = flat_map escaped_octet octets
 
--- an unreserved octet as it stands, any other as "%" and two upper-case hexadecimal digits
+-- an unreserved octet unchanged, others as "%" and two upper-case hexadecimal digits
 abbrev pub body_octet : ℕ → List ℕ
 body_octet octet =
     if is_unreserved octet then octet ∷ []
     else percent_encode_byte octet
 
--- the octets of a body, each so
+-- the escaped octets of a body
 abbrev pub escaped_body : List ℕ → List ℕ
 escaped_body octets = flat_map body_octet octets
 
--- what is written for an octet
+-- the text of an octet
 abbrev pub spelled_octet : Spelling → ℕ → List ℕ
 spelled_octet LowerCase octet = to_ascii_lowercase octet ∷ []
 spelled_octet Escaped octet = escaped_octet octet
 spelled_octet Body octet = body_octet octet
 
--- the octet is written as it stands
+-- the octet is written unchanged
 abbrev pub is_as_is : Spelling → ℕ → Bool
 is_as_is LowerCase octet = to_ascii_lowercase octet == octet
 is_as_is Escaped octet = is_plain octet
 is_as_is Body octet = is_unreserved octet
 
--- an octet that is written in another's place, or the escape of that
+-- the octet written for another, or that one's escape
 abbrev pub plain_or_escape : ℕ → Option ℕ → List ℕ
 plain_or_escape octet (Some plain) = plain ∷ []
 plain_or_escape octet None = percent_encode_byte octet

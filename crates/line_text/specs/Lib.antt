@@ -1,4 +1,4 @@
--- What contracts say of lines of text: of their words, numbers, escapes and pieces.
+-- Definitions for lines of text: words, numbers, escapes and pieces.
 pub mod Escapes
 pub mod Limits
 pub mod Number

@@ -1,5 +1,5 @@
--- The text of a line: a line of words, and a line that is kept as pieces.
--- Cited by the contracts of all that writes lines or compares with them.
+-- The text of a line, as words or as pieces.
+-- Used by all that writes lines or compares with them.
 use Rattle.std.specs.Prelude.{◌++◌, ℕ, List, codes, decimal, flat_map, take}
 use Rattle.std.specs.List.{join_with_byte}
 use Rattle.robots_text.specs.Octets.{space}
@@ -18,14 +18,14 @@ piece_text (LowerCase octets) = lower_case octets.now
 piece_text (Escaped octets) = escaped octets.now
 piece_text (Body octets) = escaped_body octets.now
 
--- the text of the pieces, in order; the places behind them are no part of the line
+-- the text of the pieces, in order; later places are not part of the line
 abbrev pub pieces_text : Pieces → List ℕ
 pieces_text pieces = flat_map piece_text (take pieces.len pieces.pieces)
 
--- the most pieces that a line has
+-- the most pieces of a line
 abbrev pub most_pieces : ℕ
 most_pieces = 10
 
--- a line: its words with single spaces between them, and a line feed
+-- a line: words joined by single spaces, and a line feed
 abbrev pub line_of : List (List ℕ) → List ℕ
 line_of words = join_with_byte space words ++ codes "\n"

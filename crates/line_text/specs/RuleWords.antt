@@ -1,5 +1,5 @@
--- The words of a rule line, as reports write them.
--- docs/FORMATS.md has their lines.
+-- The words of a rule line in reports.
+-- See docs/FORMATS.md.
 use Rattle.std.specs.Prelude.{ℕ, List, [], ◌∷◌, ◌++◌, codes}
 use Rattle.line_text.specs.Escapes.{escaped}
 use Rattle.robots_text.specs.declared.record.RuleKind.{RuleKind}
@@ -10,7 +10,7 @@ abbrev pub rule_word : RuleKind → List ℕ
 rule_word Allow = codes "allow"
 rule_word Disallow = codes "disallow"
 
--- a value with a space before it; an empty one is left out, and its space
+-- a space and a value; nothing for an empty value
 abbrev pub value_text : List ℕ → List ℕ
 value_text [] = []
 value_text (octet ∷ octets) = codes " " ++ escaped (octet ∷ octets)

@@ -1,5 +1,5 @@
--- The words of a line: what stands between its single spaces.
--- Cited by the contracts that read command lines.
+-- The words of a line, between single spaces.
+-- Used by the contracts that read command lines.
 use Rattle.std.specs.Prelude.{◌≡◌, ◌==◌, ◌&&◌, nat_le, ℕ, Bool, List, [], ◌∷◌, Option, Some, None, length}
 use Rattle.std.specs.List.{slice_split}
 use Rattle.std.specs.Borrow.{Bor}
@@ -14,24 +14,24 @@ is_space octet = octet == space
 abbrev pub words_of : List ℕ → List (List ℕ)
 words_of text = slice_split is_space text
 
--- the words of the text that is left, if any is
+-- the words of the remaining text, if any
 abbrev pub words_of_rest : Option (Bor (List ℕ)) → List (List ℕ)
 words_of_rest None = []
 words_of_rest (Some text) = words_of text.now
 
--- the words that are still to be read
+-- the unread words
 abbrev pub words_left : Words → List (List ℕ)
 words_left words = words_of_rest words.rest
 
--- the word has no octet
+-- the word is empty
 abbrev pub is_empty_word : List ℕ → Bool
 is_empty_word word = length word == 0
 
--- the first of the words is given and the later ones are left, or none is given where there is none
+-- the first word is returned, if any, and the others are left
 abbrev pub GivesWord : List (List ℕ) → Option (Bor (List ℕ)) → List (List ℕ) → Type 0
 GivesWord old None new = (old ≡ []) × (new ≡ [])
 GivesWord old (Some word) new = old ≡ word.now ∷ new
 
--- there are at least so many words, and at most so many
+-- the number of words is in this range
 abbrev pub is_count_within : ℕ → ℕ → List (List ℕ) → Bool
 is_count_within least most words = nat_le least (length words) && nat_le (length words) most

@@ -1,4 +1,4 @@
-//! What lines of text are made of: words and numbers that are read, pieces and escapes that are written.
+//! The parts of lines of text: words and numbers to read, pieces and escapes to write.
 //! Used by all that reads commands or writes replies, records or entries.
 #![tactic(auto)]
 

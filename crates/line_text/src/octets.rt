@@ -1,4 +1,4 @@
-//! Octets as a line shows them: in lower case, or escaped.
+//! Octets in a line: in lower case, or escaped.
 //! Written and compared by the pieces of a line.
 ghost use Rattle.std.specs.Prelude.{◌≡◌, flat_map};
 ghost use Rattle.std.specs.List.{list_all};
@@ -13,16 +13,15 @@ use percent_encoding::percent_encode_byte;
 /// How each octet of a piece is written.
 #[derive(Clone, Copy)]
 pub(crate) enum Spelling {
-    /// A letter in lower case, any other octet as it stands.
+    /// Letters in lower case, other octets unchanged.
     LowerCase,
-    /// An octet outside 33 to 126 escaped.
+    /// Octets outside 33 to 126 escaped.
     Escaped,
-    /// All but an unreserved octet escaped.
+    /// All but unreserved octets escaped.
     Body,
 }
 
 impl Spelling {
-    /// Pushes the octets to the output.
     pub(crate) fn push<W: Sink>(
         self,
         octets: &[u8],
@@ -59,7 +58,7 @@ impl Spelling {
         }
     }
 
-    /// What stands behind the octets, where the text begins with them.
+    /// The rest of the text, if it begins with the octets.
     pub(crate) fn strip<'b>(self, octets: &[u8], text: &'b [u8]) -> Option<&'b [u8]>
         ensures { Strips (flat_map (spelled_octet self) octets.now) text.now result }
     {
@@ -82,7 +81,7 @@ impl Spelling {
         }
     }
 
-    // The octet that is written in this one's place, where no escape is.
+    // The octet written for this one, if not escaped.
     fn plain(self, octet: u8) -> Option<u8>
         ensures { spelled_octet self octet ≡ plain_or_escape octet result }
     {
@@ -98,7 +97,6 @@ impl Spelling {
         octets.iter().all(|octet| self.is_as_is(*octet))
     }
 
-    // Whether the octet is written as it stands.
     fn is_as_is(self, octet: u8) -> bool
         ensures { result ≡ is_as_is self octet }
     {
@@ -110,7 +108,7 @@ impl Spelling {
     }
 }
 
-/// What stands behind the front, where the text begins with it.
+/// The rest of the text, if it begins with the front.
 pub(crate) fn strip<'b>(front: &[u8], text: &'b [u8]) -> Option<&'b [u8]>
     ensures { Strips front.now text.now result }
 {

@@ -1,4 +1,4 @@
-//! One piece of a line, borrowed: it is written, or compared with a text, without memory.
+//! A borrowed piece of a line: written, or compared with a text, without allocating.
 //! Kept in the row of a line by `pieces`.
 ghost use Rattle.std.specs.Prelude.{◌≡◌};
 ghost use Rattle.counted_io.specs.Output.{Pushes};
@@ -12,22 +12,21 @@ use itoa::Buffer;
 /// A piece of a line.
 #[derive(Clone, Copy)]
 pub enum Piece<'a> {
-    /// A text as it stands.
+    /// A text, unchanged.
     Text(&'a str),
-    /// Octets as they stand.
+    /// Octets, unchanged.
     Octets(&'a [u8]),
-    /// A number in decimal digits.
+    /// A decimal number.
     Number(u64),
-    /// Octets with their letters in lower case.
+    /// Octets with letters in lower case.
     LowerCase(&'a [u8]),
-    /// Octets, of which those outside 33 to 126 are escaped.
+    /// Octets, with those outside 33 to 126 escaped.
     Escaped(&'a [u8]),
-    /// Octets, of which all but the unreserved ones are escaped.
+    /// Octets, with all but unreserved ones escaped.
     Body(&'a [u8]),
 }
 
 impl<'a> Piece<'a> {
-    /// Pushes the piece to the output.
     pub(crate) fn push<W: Sink>(&self, output: &mut Output, sink: &mut W) -> Result<(), DeviceFault>
         ensures { Pushes (W.written sink.old) (W.written sink.new)
             (W.failures sink.old) (W.failures sink.new) output.old output.new
@@ -43,7 +42,7 @@ impl<'a> Piece<'a> {
         }
     }
 
-    /// What stands behind the piece, where the text begins with it.
+    /// The rest of the text, if it begins with the piece.
     pub(crate) fn strip<'b>(&self, text: &'b [u8]) -> Option<&'b [u8]>
         ensures { Strips (piece_text self.now) text.now result }
     {

@@ -1,5 +1,5 @@
-//! A line as a few borrowed pieces: it is written, or compared with a text, without memory.
-//! Made by all that writes replies, records, entries or reports.
+//! A line as a few borrowed pieces: written, or compared with a text, without allocating.
+//! Used by all that writes replies, records, entries or reports.
 ghost use Rattle.std.specs.Prelude.{◌≡◌, ◌↔◌, ◌≤◌, ◌++◌, [], ◌∷◌, IsTrue, codes, decimal, flat_map, length, take};
 ghost use Rattle.counted_io.specs.Output.{Pushes};
 ghost use Rattle.line_text.specs.Pieces.{line_of, most_pieces, piece_text, pieces_text};
@@ -11,7 +11,7 @@ const SPACE: Piece<'static> = Piece::Text(" ");
 
 const END: Piece<'static> = Piece::Text("\n");
 
-/// The pieces of a line, in order: the first `len` places. The others are not looked at.
+/// The pieces of a line: the first `len` places. The others are ignored.
 #[derive(Clone, Copy)]
 pub struct Pieces<'a> {
     pieces: [Piece<'a>; 10],
@@ -19,7 +19,7 @@ pub struct Pieces<'a> {
 }
 
 impl<'a> Pieces<'a> {
-    /// A line of these pieces as they stand, with its line feed, if it has one, among them.
+    /// A line of exactly these pieces, with its line feed, if any, among them.
     pub fn of(pieces: &[Piece<'a>]) -> Pieces<'a>
         requires { length pieces.now ≤ most_pieces }
         ensures { pieces_text result ≡ flat_map piece_text pieces.now }
@@ -30,21 +30,21 @@ impl<'a> Pieces<'a> {
         Pieces { pieces: row, len }
     }
 
-    /// A line that is written out, with its line feed.
+    /// A whole line, with its line feed.
     pub fn whole(line: &'a str) -> Pieces<'a>
         ensures { pieces_text result ≡ line.now }
     {
         Pieces::of(&[Piece::Text(line)])
     }
 
-    /// A line of two words.
+    /// Two words.
     pub fn two_words(first: &'a str, second: Piece<'a>) -> Pieces<'a>
         ensures { pieces_text result ≡ line_of (first.now ∷ piece_text second.entry ∷ []) }
     {
         Pieces::of(&[Piece::Text(first), SPACE, second, END])
     }
 
-    /// A line of three words.
+    /// Three words.
     pub fn three_words(first: &'a str, second: Piece<'a>, third: Piece<'a>) -> Pieces<'a>
         ensures { pieces_text result ≡ line_of
             (first.now ∷ piece_text second.entry ∷ piece_text third.entry ∷ []) }
@@ -52,7 +52,7 @@ impl<'a> Pieces<'a> {
         Pieces::of(&[Piece::Text(first), SPACE, second, SPACE, third, END])
     }
 
-    /// A line of four words.
+    /// Four words.
     pub fn four_words(
         first: &'a str,
         second: Piece<'a>,
@@ -74,7 +74,7 @@ impl<'a> Pieces<'a> {
         ])
     }
 
-    /// A line of a number and a word, with what follows the word.
+    /// A line of a number and a word, and what follows the word.
     pub fn numbered(number: u64, word: &'a str, gap: &'a str, value: Piece<'a>) -> Pieces<'a>
         ensures { pieces_text result ≡ decimal number
             ++ (codes " " ++ ((word.now ++ (gap.now ++ piece_text value.entry)) ++ codes "\n")) }
@@ -105,7 +105,7 @@ impl<'a> Pieces<'a> {
         is_row(self.row(), line)
     }
 
-    // The places that have a piece of the line.
+    // The pieces of the line.
     fn row(&self) -> &[Piece<'a>]
         ensures { result.now ≡ take self.now.len self.now.pieces }
     {
@@ -129,7 +129,7 @@ fn push_all<W: Sink>(
     Ok(())
 }
 
-// Whether the line is the texts of the pieces, in their order.
+// Whether the line is the texts of the pieces.
 fn is_row(pieces: &[Piece<'_>], line: &[u8]) -> bool
     ensures { IsTrue result ↔ (line.now ≡ flat_map piece_text pieces.now) }
 {

@@ -1,5 +1,5 @@
-//! The words of a rule line, as reports write them.
-//! docs/FORMATS.md has their lines.
+//! The words of a rule line in reports.
+//! See docs/FORMATS.md.
 ghost use Rattle.std.specs.Prelude.{◌≡◌, ◌++◌};
 ghost use Rattle.line_text.specs.Escapes.{escaped};
 ghost use Rattle.line_text.specs.RuleWords.{rule_word, value_text};
@@ -16,7 +16,7 @@ pub fn rule_word(kind: RuleKind) -> &'static str
     }
 }
 
-/// What stands between the word of a rule and its value.
+/// The text between a rule's word and its value.
 pub fn gap_before(value: &[u8]) -> &str
     ensures { value_text value.now ≡ result.now ++ escaped value.now }
 {

@@ -1,11 +1,11 @@
-//! The words of a line, borrowed from it one by one.
+//! The words of a line, borrowed one by one.
 //! Used by `command` and the modules that read a call's words.
 ghost use Rattle.std.specs.Prelude.{◌≡◌, ◌<◌, ◌∷◌, IfSome, length};
 ghost use Rattle.std.specs.List.{list_any, position};
 ghost use Rattle.line_text.specs.Words.{GivesWord, is_count_within, is_empty_word, is_space};
 ghost use Rattle.line_text.specs.Words.{words_left, words_of, words_of_rest};
 
-/// The words of a line that are still to be read.
+/// The unread words of a line.
 #[derive(Clone, Copy)]
 pub struct Words<'a> {
     rest: Option<&'a str>,
@@ -29,7 +29,7 @@ impl<'a> Words<'a> {
         Some(word)
     }
 
-    /// The next word, where there is one.
+    /// The next word; there must be one.
     pub fn first(&mut self) -> &'a str
         requires { 0 < length (words_left self.old) }
         ensures { words_left self.old ≡ result.now ∷ words_left self.new }
@@ -37,7 +37,7 @@ impl<'a> Words<'a> {
         self.next().unwrap()
     }
 
-    /// Whether at least so many words are left, and at most so many.
+    /// Whether the number of words left is in this range.
     pub fn count_is_within(self, least: usize, most: usize) -> bool
         ensures { result ≡ is_count_within least most (words_left self.entry) }
     {
@@ -50,7 +50,7 @@ impl<'a> Words<'a> {
         words.next().is_none() && least <= most
     }
 
-    /// Whether a word that is left is empty.
+    /// Whether a word left is empty.
     pub fn has_empty(self) -> bool
         ensures { result ≡ list_any is_empty_word (words_left self.entry) }
     {
@@ -64,7 +64,7 @@ impl<'a> Words<'a> {
     }
 }
 
-// The first word of a text, and the text of the others, if there are any.
+// The first word of a text, and the others' text, if any.
 fn cut(text: &str) -> (&str, Option<&str>)
     ensures { words_of text.now ≡ result.0.now ∷ words_of_rest result.1 }
 {
@@ -74,7 +74,7 @@ fn cut(text: &str) -> (&str, Option<&str>)
     }
 }
 
-// Where the first space stands. Words are short, so their octets are looked at one by one.
+// The place of the first space. Words are short, so octets are checked one by one.
 fn space_place(text: &str) -> Option<usize>
     ensures place { result ≡ position is_space text.now }
     ensures within { IfSome result (λ place. place < length text.now) }

@@ -1,4 +1,4 @@
--- The authority of a page reads as itself, by the page at its root; its robots.txt has a page's URL.
+-- A page's authority reads as itself, by the page at its root; its robots.txt has a page URL.
 -- Used by `Authority::of` and `PageUrl::of_robots`.
 use Rattle.std.proofs.Common.{◌≡◌, ℕ, ◌≤◌, true, false, List, [], ◌∷◌, ◌++◌, length, get_or, None, Ok, All, sym, refl, ap, ◌∙◌, subst, inl, arith, append-nil, length-append}
 use Rattle.std.specs.Prelude.{◌+◌, ◌-◌, Bool, IsAscii, ◌||◌, ◌==◌, ◌<◌, bytes_eq, codes, drop, if◌then◌else◌}
@@ -38,7 +38,7 @@ under path url = record url { path = path; query = None; fragment = None }
 abbrev text_under : Bool → List ℕ → List ℕ → List ℕ
 text_under https path host = start_text https ++ (host ++ path)
 
--- a path of at most 89 octets that any URL may have
+-- a path of at most 89 octets, valid in any URL
 record IsShortPath (kind : SchemeType) (path : List ℕ) : Type 0 where
   segments : IsSegmentList kind path
   some : 0 < length path
@@ -77,7 +77,6 @@ under_parts path url is_path parts = record {
   password = parts.password;
 }
 
--- the authority of such a URL is within the limit
 named_fits : (https : Bool) (url : Parts) → url.scheme ≡ scheme_text https → length (authority_of_parts url) ≤ max_authority → length (named https (host_of_parts url)) ≤ max_authority
 named_fits https url scheme limit = subst (λ a. length a ≤ max_authority) (authority_named https url scheme) limit
 
@@ -93,7 +92,6 @@ empty_segment : (kind : SchemeType) → IsSegment kind []
 unfolding dot_count
 empty_segment kind = record { escaped = All-nil _; whole = All-nil _; resolved = refl }
 
--- the path of the root
 root_path : (kind : SchemeType) → IsShortPath kind (codes "/")
 root_path kind = record {
   segments = record {
@@ -124,7 +122,6 @@ no_delimiter (b ∷ bytes) all =
     let first : is_delimiter b ≡ false = other_byte b passes in
     rw first (no_delimiter bytes (All-tail (Passes is_host_byte) b bytes all))
 
--- a host does not begin with `https://`
 pub no_https : (host : List ℕ) → All (Passes is_no_slash) host → is_https host ≡ false
 no_https host none = by (is_https host) refl
   where
@@ -138,12 +135,10 @@ no_https host none = by (is_https host) refl
         seventh = All-get_or (Passes is_no_slash) (codes "https://" ++ drop 8 host) 6 0 (omega arith) all
     by false begins = begins
 
--- what stands before an authority, and the authority, are what stands before its host, and the host
 named_text : (https : Bool) (host path : List ℕ) → All (Passes is_no_slash) host → scheme_of (named https host) ++ (named https host ++ path) ≡ text_under https path host
 named_text true host path none = refl
 named_text false host path none = ap (λ b. (if b then [] else codes "http://") ++ (host ++ path)) (no_https host none)
 
--- the host of an authority whose scheme is read
 host_written : (schemes : Schemes) (https : Bool) (host : List ℕ) → reads schemes (scheme_text https) ≡ true → All (Passes is_no_slash) host → written_host schemes (named https host) ≡ host
 host_written Http true host is_read none = absurd (true≢false (sym is_read))
 host_written Http false host is_read none = refl
@@ -161,14 +156,12 @@ named_reads schemes https url scheme parts is_read limit =
     ∙ ap authority_of_read (root_reads schemes https url scheme parts is_read limit)
     ∙ ap Ok (authority_of_text https host (codes "/") plain refl)
 
--- the authority of a URL whose scheme is read
 pub reads_as_itself : (schemes : Schemes) (url : Parts) → IsPageParts url → reads schemes url.scheme ≡ true → length (authority_of_parts url) ≤ max_authority → authority_among schemes (authority_of_parts url) Enough ≡ Ok (authority_of_parts url)
 reads_as_itself schemes url parts is_read limit =
     let one = is_one url.scheme parts.scheme in
     subst (λ a. authority_among schemes a Enough ≡ Ok a) (sym (authority_named one.0 url one.1))
     (named_reads schemes one.0 url one.1 parts is_read limit)
 
--- what is true of the octets of `https://` and of a host is true of the authority
 named_all : (P : ℕ → Type 0) (https : Bool) (host : List ℕ) → All P (codes "https://") → All P host → All P (named https host)
 named_all P true host start all = All-append P (codes "https://") host start all
 named_all P false host start all = all
@@ -186,7 +179,6 @@ authority_is_visible : (url : Parts) → IsPageParts url → All IsVisible (auth
 authority_is_visible url parts =
     named_all IsVisible (bytes_eq url.scheme (codes "https")) (host_of_parts url) (visible_start true) (visible_host url parts.valid)
 
--- the authority of a page is one that reads as itself
 pub authority_is : (page : List ℕ) → IsPage page → IsAuthority (authority_of page)
 unfolding IsWritten IsWrittenAuthority
 authority_is page is_page =
@@ -239,13 +231,12 @@ robots_path kind = record {
   rooted = refl;
 }
 
--- the text is the URL of a page: that of the robots.txt of its authority
+-- the page URL of the authority's robots.txt
 pub record IsRobotsPage (authority page : List ℕ) : Type 0 where
   pub is_page : IsPage page
   pub has_authority : authority_of page ≡ authority
   pub target : target_of page ≡ codes "/robots.txt"
 
--- where its host ends
 pub robots_end : (authority page : List ℕ) → IsRobotsPage authority page → length page - 11 ≡ host_start page + length (host_of page)
 robots_end authority page is =
     let start = host_start page in

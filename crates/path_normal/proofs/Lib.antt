@@ -1,4 +1,4 @@
--- Lemmas on the text of a page, on its authority and on normal forms.
+-- Lemmas on page URLs, authorities and normal forms.
 -- Used by the answers beside them.
 pub mod NormalLemmas
 pub mod PageLemmas

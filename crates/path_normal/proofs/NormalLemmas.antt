@@ -57,7 +57,6 @@ units_plain octet [] other = refl
 units_plain octet (next ∷ []) other = refl
 units_plain octet (high ∷ low ∷ rest) other = cond-false (is_escape octet high low) _ _ (ap (λ is. is && is_digit high 16 && is_digit low 16) other)
 
--- the digits that an octet is written with stand for it
 reads_back : ℕ → Bool
 reads_back octet =
     is_escape percent_sign (digit_glyph true (octet / 16 % 16)) (digit_glyph true (octet % 16))
@@ -122,7 +121,7 @@ pub normal_again : (role : Role) (text : List ℕ) → All IsOctet text → norm
 normal_again role text fits =
     ap (flat_map (spelled role)) (units_again role (units text) (units_fit text fits)) ∙ all_spelled_again role (units text)
 
--- ---- octets that stay as they are
+-- ---- octets that stay unchanged
 
 is_kept_plain : (role : Role) (octet : ℕ) → is_changed role octet ≡ false → is_kept role (plain octet) ≡ true
 is_kept_plain role octet same = by (is_kept role (plain octet)) refl
@@ -137,7 +136,6 @@ kept_first role octet rest same =
     ap (flat_map (spelled role)) (units_plain octet rest (other_than (octet == percent_sign) role (plain octet) refl kept))
     ∙ ap (λ front. front ++ normal role rest) (cond-true (is_kept role (plain octet)) (octet ∷ []) (percent_encode_byte octet) kept)
 
--- the first octets, so many, stay where none of them is changed
 pub kept_front : (role : Role) (n : ℕ) (text : List ℕ) → ((k : ℕ) → k < n → is_changed role (get_or text k 0) ≡ false) → n ≤ length text →
     normal role text ≡ take n text ++ normal role (drop n text)
 kept_front role zero text same fits = refl
@@ -153,7 +151,6 @@ none_below false n is = refl
 all_before : (m n : ℕ) → nat_lt m n ≡ false → m ≤ n → m ≡ n
 all_before m n is fits = grind (arith, nat_tests)
 
--- where none is changed, none is before the end
 pub none_changed : (role : Role) (text : List ℕ) → position (is_changed role) text ≡ None → (k : ℕ) → k < length text → is_changed role (get_or text k 0) ≡ false
 none_changed role text none k less =
     let count = position_or_len (is_changed role) text in
@@ -228,7 +225,7 @@ anchored_again text fits =
     (λ i. normal Pattern (without_last form i) ++ (if ends_in_one form i then codes "$" else []))
     ∙ ap (λ t. t ++ codes "$") (normal_again Pattern text fits)
 
--- ---- a pattern's normal form is its own, and has at most three octets for each of its own
+-- ---- a pattern's normal form is its own, at most three times as long
 
 pub pattern_again : (tested : Bool) (pattern : List ℕ) → is_anchored pattern ≡ tested → All IsOctet pattern → normal_pattern (normal_pattern pattern) ≡ normal_pattern pattern
 pattern_again true pattern is fits =

@@ -1,5 +1,5 @@
--- The text of a URL with no user and no fragment is `http://` or `https://`, its host and its target.
--- Used by `PageUrl::of_parsed`, `PageUrl::target` and what they call.
+-- A URL without user and fragment is `http://` or `https://`, its host and its target.
+-- Used by `PageUrl::of_parsed`, `PageUrl::target` and the functions that they call.
 use Rattle.std.proofs.Common.{◌≡◌, ℕ, ◌+◌, ◌<◌, Bool, true, false, not, ◌||◌, ◌==◌, List, [], ◌∷◌, ◌++◌, length, get_or, take, drop, Some, None, All, sym, refl, ap, ◌∙◌, subst, ⊎_elim, append_assoc, append-nil, arith, take_at, drop_at, inl, inr}
 use Rattle.std.specs.Prelude.{◌-◌, slice_range, Option, Ok, IsAscii, bytes_eq, ◌≤◌, ltb, unwrap_or, is_some, option_map, decimal, codes, if◌then◌else◌}
 use Rattle.std.specs.List.{prefix_len}
@@ -47,32 +47,28 @@ no_slashes : (host target : List ℕ) → All (Passes is_no_slash) host → get_
 no_slashes host target none first =
     prefix_len_at is_no_slash host target none (stops_at_slash target first)
 
--- what a text of either scheme begins with
+-- the start of a text of either scheme
 abbrev pub start_text : Bool → List ℕ
 start_text true = codes "https://"
 start_text false = codes "http://"
 
--- the host of a text that is made of it
 pub host_of_text : (https : Bool) (host target : List ℕ) → All (Passes is_no_slash) host → get_or target 0 0 ≡ slash → host_of (start_text https ++ (host ++ target)) ≡ host
 host_of_text true host target none first =
     ap (λ n. take n (host ++ target)) (no_slashes host target none first) ∙ take_at host target _ refl
 host_of_text false host target none first =
     ap (λ n. take n (host ++ target)) (no_slashes host target none first) ∙ take_at host target _ refl
 
--- its authority
 pub authority_of_text : (https : Bool) (host target : List ℕ) → All (Passes is_no_slash) host → get_or target 0 0 ≡ slash → authority_of (start_text https ++ (host ++ target)) ≡ named https host
 unfolding authority_of
 authority_of_text true host target none first = ap (named true) (host_of_text true host target none first)
 authority_of_text false host target none first = ap (named false) (host_of_text false host target none first)
 
--- its target
 pub target_of_text : (https : Bool) (host target : List ℕ) → All (Passes is_no_slash) host → get_or target 0 0 ≡ slash → target_of (start_text https ++ (host ++ target)) ≡ target
 target_of_text true host target none first =
     ap (λ a. drop (length a) (host ++ target)) (host_of_text true host target none first) ∙ drop_at host target _ refl
 target_of_text false host target none first =
     ap (λ a. drop (length a) (host ++ target)) (host_of_text false host target none first) ∙ drop_at host target _ refl
 
--- what follows the end of the host is the target
 pub target_at : (page text result : List ℕ) (end : ℕ) → text ≡ page → end ≡ host_start text + length (host_of text) → result ≡ drop end text → result ≡ target_of page
 target_at page text result end same at is =
     is ∙ ap (λ n. drop n text) at ∙ sym (drop-drop (length (host_of text)) (host_start text) text) ∙ ap target_of same
@@ -80,12 +76,10 @@ target_at page text result end same at is =
 front : (n : ℕ) (xs : List ℕ) → take (length (take n xs)) xs ≡ take n xs
 front n xs = ap (take (length (take n xs))) (sym (take-append-drop n xs)) ∙ take_at (take n xs) (drop n xs) _ refl
 
--- where the host ends
 pub host_end : (page text host : List ℕ) (start : ℕ) → page ≡ text → start ≡ host_start page → host ≡ host_of text → start + length host ≡ host_start text + length (host_of text)
 host_end page text host start same at is =
     ap (λ n. n + length host) (at ∙ ap host_start same) ∙ ap (λ h. host_start text + length h) is
 
--- what stands before the end of the host of an `https` page is its authority
 pub authority_at : (text result : List ℕ) (end : ℕ) → take (host_start text) text ≡ start_of text → end ≡ host_start text + length (host_of text) → is_https text ≡ true → result ≡ slice_range text 0 end → result ≡ authority_of text
 unfolding authority_of
 authority_at text result end scheme at https is =
@@ -113,7 +107,6 @@ host_pieces url =
 pub target_pieces : (url : Parts) → text_between url BeforePath AfterQuery ≡ target_of_parts url
 target_pieces url = ap (λ t. url.path ++ t) (query_pieces url.query)
 
--- what stands behind the start of a text
 behind_start : (url : Parts) → host_text (host_or_empty url) ++ (when (is_some url.port) (codes ":") ++ (unwrap_or (option_map decimal url.port) [] ++ (url.path ++ (when (is_some url.query) (codes "?") ++ (unwrap_or url.query [] ++ []))))) ≡ host_of_parts url ++ target_of_parts url
 behind_start url =
     ap (λ t. host_text (host_or_empty url) ++ t) (port_pieces url.port _ ∙ ap (λ t. port_text url.port ++ (url.path ++ t)) (query_pieces url.query))
@@ -138,7 +131,6 @@ special_kind false = refl
 pub special : (https : Bool) (url : Parts) → url.scheme ≡ scheme_text https → is_special (kind_of url) ≡ true
 special https url scheme = ap (λ s. is_special (scheme_type s)) scheme ∙ special_kind https
 
--- the scheme of a page is one of the two
 pub is_one : (scheme : List ℕ) → IsScheme scheme → (https : Bool) × (scheme ≡ scheme_text https)
 is_one scheme (inl http) = (false, http)
 is_one scheme (inr https) = (true, https)
@@ -304,7 +296,6 @@ pub faultless_splits : (schemes : Schemes) (url : Parts) → IsFaultless schemes
 faultless_splits schemes url faultless =
     page_splits url faultless.parts.valid faultless.parts.scheme faultless.parts.username faultless.parts.password
 
--- both schemes are read where both are
 reads_one : (https : Bool) → reads HttpAndHttps (scheme_text https) ≡ true
 reads_one true = refl
 reads_one false = refl
@@ -314,7 +305,6 @@ reads_both scheme is =
     let one = is_one scheme is in
     ap (reads HttpAndHttps) one.1 ∙ reads_one one.0
 
--- what has no fault where some schemes are read has none where both are
 widened : (schemes : Schemes) (url : Parts) → IsFaultless schemes url → IsFaultless HttpAndHttps url
 widened schemes url faultless = record {
   parts = faultless.parts;

@@ -1,4 +1,4 @@
--- A plain URL is a valid one, and is written as it stands.
+-- A plain URL is valid, and is written unchanged.
 -- Used by `plain_url` and by `PageUrl::of_plain`.
 use Rattle.std.proofs.Common.{◌≡◌, ◌≤◌, ◌<◌, ◌+◌, ◌-◌, ◌==◌, ◌⊎◌, ℕ, Bool, true, false, not, ◌&&◌, ◌||◌, List, [], ◌∷◌, ◌++◌, length, get_or, take, drop, Some, None, Ok, All, refl, sym, ap, subst, ◌∙◌, append_assoc, append-nil, length-drop, arith, inl, inr}
 use Rattle.std.specs.Prelude.{Option, codes, is_some, IsAscii, if◌then◌else◌}
@@ -47,7 +47,6 @@ use Rattle.path_normal.specs.PlainUrl.{IsPlain, is_label_octet, is_plain_host, i
 rest_of : {X : Type 0} (n : ℕ) (l : List X) → take (length l - n) (drop n l) ≡ drop n l
 rest_of n l = ap (λ k. take k (drop n l)) (sym (length-drop n l)) ∙ take-length (drop n l)
 
--- the parts that were looked at make a plain URL
 pub plain_at : (text rest : List ℕ) (len : ℕ) → text ≡ codes "http://" ++ rest → position is_slash rest ≡ Some len → len ≤ max_authority →
     is_plain_host true (take len rest) ≡ true → is_plain_path true (take (length rest - (len + 1)) (drop (len + 1) rest)) ≡ true → IsPlain text (7 + len)
 plain_at text rest len spelled at short host path =
@@ -80,7 +79,6 @@ either false b c is = absurd (true≢false (sym is))
 lower_is_host : (octet : ℕ) → is_ascii_lowercase octet ≡ true → is_host_octet octet ≡ true
 lower_is_host octet is = grind (arith, nat_tests, is)
 
--- each octet of a plain host is one of a domain
 host_octets : (begins : Bool) (host : List ℕ) → is_plain_host begins host ≡ true → All (Passes is_host_octet) host
 host_octets begins [] is = All-nil (Passes is_host_octet)
 host_octets true (octet ∷ octets) is =
@@ -110,7 +108,7 @@ host_lower octet is = lowercase_other octet (grind (arith, nat_tests, is))
 abbrev IsNamed : List ℕ → Type 0
 IsNamed text = (first : ℕ) × (others : List ℕ) × (text ≡ first ∷ others) × (is_ascii_lowercase first ≡ true)
 
--- what stands behind the last dot begins so; where a label goes on, there may be no dot
+-- the text after the last dot begins so; within a label there may be no dot
 abbrev IsNamedBehind : Bool → Option (List ℕ) → List ℕ → Type 0
 IsNamedBehind true front back = IsNamed back
 IsNamedBehind false front back = (front ≡ None) ⊎ IsNamed back
@@ -118,7 +116,7 @@ IsNamedBehind false front back = (front ≡ None) ⊎ IsNamed back
 none_some : {P : Type 0} (front : List ℕ) → Some front ≡ None → P
 none_some front is = absurd (true≢false (ap is_some is))
 
--- what `rsplit_step` gives where no dot stands behind
+-- what `rsplit_step` gives if no dot follows
 abbrev cut : Bool → ℕ → List ℕ → Option (List ℕ) × List ℕ
 cut ends octet back = if ends then (Some [], back) else (None, octet ∷ back)
 
@@ -141,7 +139,6 @@ other_step octet (Some front) back at (inr named) = inr named
 other_step octet None back at behind =
     subst (λ b. IsNamedBehind false (cut b octet back).0 (cut b octet back).1) (sym at) (inl refl)
 
--- the last label of a plain host begins with a letter
 behind_last : (begins : Bool) (host : List ℕ) → is_plain_host begins host ≡ true → IsNamedBehind begins (rsplit_once dot host).0 (rsplit_once dot host).1
 unfolding rsplit_once
 behind_last true [] is = absurd (true≢false (sym is))
@@ -161,13 +158,11 @@ behind_last false (octet ∷ octets) is = by (octet == dot) refl (behind_last tr
         other_step octet (rsplit_once dot octets).0 (rsplit_once dot octets).1 at
         (other (and_parts (is_label_octet octet) (is_plain_host false octets) (sym (ap (λ b. if b then is_plain_host true octets else is_label_octet octet && is_plain_host false octets) at) ∙ is)).1)
 
--- so it is the last label
 last_named : (front : Option (List ℕ)) (back : List ℕ) → IsNamed back → last_label_of front back ≡ back
 last_named None back named = refl
 last_named (Some front) back named =
     ap (λ b. if b then (rsplit_once dot front).1 else back) (is_empty_nonempty back (omega (arith, ap length named.2)))
 
--- and no number
 no_number : (first : ℕ) (others : List ℕ) → is_ascii_lowercase first ≡ true → is_number (parse_number (first ∷ others)) ≡ false
 unfolding parse_number
 no_number first others lower =
@@ -231,7 +226,7 @@ grows : (begins : Bool) (segment : List ℕ) (octet : ℕ) → StandsAfter begin
 grows true segment octet at other = (octet, [], ap (λ s. s ++ octet ∷ []) at, not_true (octet == dot) other)
 grows false segment octet at other = (at.0, at.1 ++ octet ∷ [], ap (λ s. s ++ octet ∷ []) at.2, at.3)
 
--- a plain path is a list of segments, behind those that are passed and with the part of one that is passed
+-- a plain path is a list of segments, after those passed, with the passed part of one
 path_valid : (begins : Bool) (done segment rest : List ℕ) → IsSegmentList SpecialNotFile done → All (Passes is_unreserved) segment → StandsAfter begins segment →
     is_plain_path begins rest ≡ true → IsSegmentList SpecialNotFile (done ++ slash ∷ (segment ++ rest))
 path_valid begins done segment [] list all at is =
@@ -323,17 +318,14 @@ plain_faultless schemes text end plain short = record {
   authority_limit = subst (λ h. length h ≤ max_authority) (sym (host_is_own plain.host plain.path)) plain.limit;
 }
 
--- a plain URL is written as its parts are
 plain_spelled : (text : List ℕ) (end : ℕ) → (plain : IsPlain text end) → page_of_parts (parts_of plain.host plain.path) ≡ text
 plain_spelled text end plain = plain_text plain.host plain.path ∙ sym plain.spelled
 
--- it is a page
 pub plain_page : (text : List ℕ) (end : ℕ) → IsPlain text end → length text ≤ max_url → IsAscii text → IsPage text
 plain_page text end plain short ascii =
     let spelled = plain_spelled text end plain in
     subst IsPage spelled (faultless_page Http (parts_of plain.host plain.path) (plain_faultless Http text end plain short) (subst IsAscii (sym spelled) ascii))
 
--- it splits where its host ends
 pub plain_splits : (text : List ℕ) (end : ℕ) → IsPlain text end → length text ≤ max_url → (7 ≡ host_start text) × (end ≡ host_start text + length (host_of text)) × (drop end text ≡ target_of text)
 plain_splits text end plain short =
     let spelled = plain_spelled text end plain in
@@ -343,14 +335,12 @@ plain_splits text end plain short =
     let at : end ≡ host_start text + length (host_of text) = plain.end_is ∙ ap (λ n. n + length plain.host) start ∙ ap (λ h. host_start text + length h) (sym host) in
     (start, at, ap (λ n. drop n text) at ∙ sym (drop-drop (length (host_of text)) (host_start text) text))
 
--- and reads as itself
 pub plain_reads : (schemes : Schemes) (text : List ℕ) (end : ℕ) → IsPlain text end → length text ≤ max_url → page_url_among schemes None text Enough ≡ Ok text
 plain_reads schemes text end plain short =
     let faultless = plain_faultless schemes text end plain short in
     let spelled = plain_spelled text end plain in
     page_reads_as_itself schemes (parts_of plain.host plain.path) text faultless.parts.valid faultless.parts.scheme spelled (faultless_reads schemes (parts_of plain.host plain.path) faultless ∙ ap Ok spelled) short
 
--- with its parts
 pub plain_parsed : (text : List ℕ) (end : ℕ) → IsPlain text end → length text ≤ max_url → (url : Parts) × (parse_url None text ≡ Ok url) × HasPartsOf text url
 plain_parsed text end plain short =
     let spelled = plain_spelled text end plain in
@@ -362,7 +352,6 @@ plain_parsed text end plain short =
 
 -- ---- its octets are ASCII
 
--- what holds of `/` and of each unreserved octet holds of each octet of a plain path
 path_all : (P : ℕ → Type 0) → P slash → ((octet : ℕ) → is_unreserved octet ≡ true → P octet) → (begins : Bool) (path : List ℕ) → is_plain_path begins path ≡ true → All P path
 path_all P at_slash at begins [] is = All-nil P
 path_all P at_slash at begins (octet ∷ octets) is = by (octet == slash) refl (path_all P at_slash at true octets) (path_all P at_slash at false octets)
@@ -387,7 +376,7 @@ plain_ascii text end plain =
 
 -- ---- its target is in normal form
 
--- the octet is written as it stands
+-- the octet is written unchanged
 abbrev IsFixed : ℕ → Type 0
 IsFixed octet = is_changed Path octet ≡ false
 
@@ -399,7 +388,6 @@ fixed_form text all =
     kept_front Path (length text) text (λ k below. all k 0 below) (omega arith)
     ∙ ap (λ t. t ++ normal Path (drop (length text) text)) (take-length text) ∙ ap (λ t. text ++ normal Path t) (drop_all (length text) text (omega arith)) ∙ append-nil text
 
--- so its normal form is the target itself
 pub plain_form : (text : List ℕ) (end : ℕ) → IsPlain text end → length text ≤ max_url → target_of text ≡ normal_path (target_of text)
 plain_form text end plain short =
     let spelled = plain_spelled text end plain in

@@ -1,4 +1,4 @@
--- Where the scheme of a page or of an authority is read, it reads as itself; an authority tells the scheme of its pages.
+-- A page or an authority whose scheme is read reads as itself; an authority determines the scheme of its pages.
 -- Used by the laws of the crate.
 use Rattle.std.proofs.Common.{◌≡◌, ◌≤◌, ℕ, Bool, true, false, All, List, Ok, codes, drop, length, refl, sym, ap, ◌∙◌, subst}
 use Rattle.std.specs.Prelude.{bytes_eq}
@@ -17,12 +17,10 @@ use Rattle.path_normal.specs.Schemes.{reads}
 use Rattle.path_normal.proofs.AuthorityLemmas.{no_https, reads_as_itself}
 use Rattle.path_normal.proofs.PageLemmas.{authority_named, faultless_reads, host_without_slash, is_no_slash, is_one, page_reads_as_itself, page_splits, scheme_text, tells_https}
 
--- a host behind its scheme begins with `https://` only where that is the scheme
 named_tells : (https : Bool) (host : List ℕ) → All (Passes is_no_slash) host → is_https (named https host) ≡ https
 named_tells true host none = refl
 named_tells false host none = no_https host none
 
--- the host of a page has no `/`
 page_host : (page : List ℕ) → IsPage page → All (Passes is_no_slash) (host_of page)
 unfolding IsWritten
 page_host page is_page =
@@ -47,7 +45,6 @@ one_site page other is_page is_other same =
     let scheme : is_https page ≡ is_https other = sym (scheme_parts page is_page) ∙ ap is_https same ∙ scheme_parts other is_other in
     (scheme, one_host (is_https page) (is_https other) (host_of page) (host_of other) scheme same)
 
--- the scheme is read
 one_reads : (schemes : Schemes) (https : Bool) → (https ≡ true → schemes ≡ HttpAndHttps) → reads schemes (scheme_text https) ≡ true
 one_reads Http false is = refl
 one_reads HttpAndHttps false is = refl
@@ -62,7 +59,6 @@ parts_read schemes url parts is =
     let one = is_one url.scheme parts.scheme in
     ap (reads schemes) one.1 ∙ one_reads schemes one.0 (λ e. is (tells_https one.0 url one.1 ∙ e))
 
--- a page whose scheme is read reads as itself
 pub own_where_read : ReadsWhereRead
 unfolding IsWritten
 own_where_read schemes page is_page is =
@@ -79,7 +75,6 @@ own_where_read schemes page is_page is =
     } in
     page_reads_as_itself schemes url page parts.valid parts.scheme spelled (faultless_reads schemes url faultless ∙ ap Ok spelled) is_page.limit
 
--- an authority whose scheme is read reads as itself
 pub named_where_read : NamedWhereRead
 unfolding IsWrittenAuthority
 named_where_read schemes authority is_authority is =

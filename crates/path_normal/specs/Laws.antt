@@ -1,4 +1,4 @@
--- What is true of the authorities and of the texts of pages.
+-- Laws of authorities and page URLs.
 -- RFC 3986, section 3.2; RFC 9309, section 2.3. Cited by the laws of the crate.
 use Rattle.std.specs.Prelude.{◌≡◌, ℕ, true, List, None, Ok}
 use Rattle.path_normal.specs.declared.schemes.Schemes.{Schemes}
@@ -8,27 +8,27 @@ use Rattle.path_normal.specs.Capacity.{Enough}
 use Rattle.path_normal.specs.PageText.{authority_of, host_of, is_https}
 use Rattle.path_normal.specs.PageUrl.{page_url_among, IsPage}
 
--- an authority tells the scheme of its pages
+-- an authority determines the scheme of its pages
 abbrev pub SchemesPartAuthorities : Type 0
 SchemesPartAuthorities = (page : List ℕ) → IsPage page → is_https (authority_of page) ≡ is_https page
 
--- pages of one authority are of one scheme and of one host
+-- pages of one authority share scheme and host
 abbrev pub OneSite : Type 0
 OneSite =
     (page other : List ℕ) → IsPage page → IsPage other → authority_of page ≡ authority_of other →
     (is_https page ≡ is_https other) × (host_of page ≡ host_of other)
 
--- where the text names `https`, that is read
+-- if the text is an `https` one, `https` is read
 abbrev pub IsSchemeRead : Schemes → List ℕ → Type 0
 IsSchemeRead schemes text = is_https text ≡ true → schemes ≡ HttpAndHttps
 
--- a page whose scheme is read reads as itself
+-- a page reads as itself if its scheme is read
 abbrev pub ReadsWhereRead : Type 0
 ReadsWhereRead =
     (schemes : Schemes) (page : List ℕ) → IsPage page → IsSchemeRead schemes page →
     page_url_among schemes None page Enough ≡ Ok page
 
--- an authority whose scheme is read reads as itself
+-- an authority reads as itself if its scheme is read
 abbrev pub NamedWhereRead : Type 0
 NamedWhereRead =
     (schemes : Schemes) (authority : List ℕ) → IsAuthority authority → IsSchemeRead schemes authority →

@@ -1,4 +1,4 @@
--- What contracts say of the URL of a page, of its parts and of their normal form.
+-- Definitions for the contracts of page URLs, their parts and normal forms.
 -- URL Standard, section 4; RFC 3986, sections 2 and 3; RFC 9309, section 2.2.2.
 pub mod Limits
 pub mod Messages

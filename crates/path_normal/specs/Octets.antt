@@ -1,4 +1,4 @@
--- The octets that have a meaning in patterns, by name; the URL Standard's have theirs in the crate `url`.
+-- The octets with a meaning in patterns; the crate `url` has the URL Standard's.
 -- RFC 9309, section 2.2.3.
 use Rattle.std.specs.Prelude.{◌==◌, ℕ, Bool, List}
 use Rattle.std.specs.List.{list_any}

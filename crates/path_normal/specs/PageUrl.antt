@@ -1,4 +1,4 @@
--- What a text reads as, as the URL of a page, and why it is refused.
+-- What a text reads as, as a page URL, and why it is refused.
 -- URL Standard, sections 4.4 and 4.5.
 use Rattle.std.specs.Prelude.{◌≡◌, ◌<◌, ◌≤◌, ◌++◌, ℕ, All, IsAscii, slice_index, take, Bool, true, not, ◌||◌, List, [], Option, Some, None, Result, Ok, Err, bytes_eq, codes, decimal, length, nat_lt, if◌then◌else◌}
 use Rattle.std.specs.Result.{result_ok}
@@ -19,38 +19,38 @@ use Rattle.path_normal.specs.Schemes.{IsScheme, reads}
 use Rattle.path_normal.specs.Capacity.{Capacity, Enough, Overflows, Refused, fault_of_unread}
 use Rattle.url.specs.Ascii.{slash, space}
 
--- the port behind its `:`, where one is written
+-- `:` and the port, if any
 abbrev pub port_text : Option ℕ → List ℕ
 port_text None = []
 port_text (Some port) = codes ":" ++ decimal port
 
--- the query behind its `?`, where there is one
+-- `?` and the query, if any
 abbrev pub query_text : Option (List ℕ) → List ℕ
 query_text None = []
 query_text (Some query) = codes "?" ++ query
 
--- the host, and the port where one is written: where it is not that of the scheme
+-- the host, with the port unless it is the scheme's default
 abbrev pub host_of_parts : Parts → List ℕ
 host_of_parts url = host_text (host_or_empty url) ++ port_text url.port
 
--- the authority: that host, behind `https://` where that is the scheme
+-- the authority: that host, after `https://` if that is the scheme
 abbrev pub authority_of_parts : Parts → List ℕ
 authority_of_parts url = named (bytes_eq url.scheme (codes "https")) (host_of_parts url)
 
--- the path, and the query where there is one
+-- the path, with any query
 abbrev pub target_of_parts : Parts → List ℕ
 target_of_parts url = url.path ++ query_text url.query
 
--- the URL as it is written back: without its fragment
+-- the URL as written back, without its fragment
 abbrev pub page_of_parts : Parts → List ℕ
 page_of_parts url = serialize (record url { fragment = None })
 
--- the URL, or its authority, is longer than a page's may be
+-- the URL or its authority is over the limit
 abbrev pub is_too_long : Parts → Bool
 is_too_long url =
     nat_lt max_url (length (page_of_parts url)) || nat_lt max_authority (length (authority_of_parts url))
 
--- the page of a URL, where these schemes are read, or the first fault that it has
+-- the page of a URL in these schemes, or its first fault
 abbrev pub page_url_of_parts : Schemes → Parts → Result (List ℕ) UrlFault
 page_url_of_parts schemes url =
     if not (reads schemes url.scheme) then Err NotHttp
@@ -58,61 +58,58 @@ page_url_of_parts schemes url =
     else (if is_too_long url then Err TooLong
     else Ok (page_of_parts url)))
 
--- why nothing is read where the parser gives an error
+-- why nothing is read, by the parser's error
 abbrev pub unread_of : ParseError → Unread
 unread_of Overflow = unread.Overflow
 unread_of OutOfMemory = unread.NoMemory
 unread_of error = unread.Fault BadUrl
 
--- the fault where the parser gives an error
+-- the fault of a parser error
 abbrev pub fault_of : ParseError → UrlFault
 fault_of error = fault_of_unread (unread_of error)
 
--- the page of what the parser gave, or the fault
+-- the page that the parser gave, or the fault
 abbrev pub page_url_of_parsed : Schemes → Parsed Parts → Result (List ℕ) UrlFault
 page_url_of_parsed schemes (Ok url) = page_url_of_parts schemes url
 page_url_of_parsed schemes (Err error) = Err (fault_of error)
 
--- what the parser gives for a text, beside a base or by itself: what the standard does, with enough capacity
+-- what the parser gives for a text, with or without a base: the standard's result, with enough capacity
 abbrev pub parsed_in : Option Parts → List ℕ → Capacity → Parsed Parts
 parsed_in base text Enough = parse_url base text
 parsed_in base text Overflows = Err Overflow
 parsed_in base text Refused = Err OutOfMemory
 
--- the page that the text reads as where these schemes are read, beside a base or by itself, or the first
--- fault that it has
+-- the page that the text reads as in these schemes, with or without a base, or its first fault
 abbrev pub page_url_among : Schemes → Option Parts → List ℕ → Capacity → Result (List ℕ) UrlFault
 page_url_among schemes base text capacity =
     if nat_lt max_url (length text) then Err TooLong
     else page_url_of_parsed schemes (parsed_in base text capacity)
 
--- the page that the text names on a page, which has no fragment, where these schemes are read, or the first
--- fault that it has
+-- the page that the text names on a page in these schemes, or its first fault
 abbrev pub page_url_on_among : Schemes → List ℕ → List ℕ → Capacity → Result (List ℕ) UrlFault
 page_url_on_among schemes page text capacity =
     page_url_among schemes (result_ok (parse_url None page)) text capacity
 
--- the page that the text reads as where `http` alone is read, beside a base or by itself, or the first fault
+-- the page that the text reads as for `http`, with or without a base, or the first fault
 abbrev pub page_url_from : Option Parts → List ℕ → Capacity → Result (List ℕ) UrlFault
 page_url_from = page_url_among Http
 
--- the page that the text names on a page where `http` alone is read, or the first fault
+-- the page that the text names on a page for `http`, or the first fault
 abbrev pub page_url_on : List ℕ → List ℕ → Capacity → Result (List ℕ) UrlFault
 page_url_on = page_url_on_among Http
 
--- the page that the text reads as by itself, with enough capacity, where `http` alone is read, or the first
--- fault that it has
+-- the page that the text alone reads as for `http`, with enough capacity, or its first fault
 abbrev pub page_url_of : List ℕ → Result (List ℕ) UrlFault
 page_url_of text = page_url_from None text Enough
 
--- the result is the expected one, unless there was no memory
+-- the expected result, unless memory ran out
 abbrev pub IsAnswer : Result (List ℕ) Unread → Result (List ℕ) UrlFault → Type 0
 IsAnswer (Ok page) expected = expected ≡ Ok page
 IsAnswer (Err (unread.Fault fault)) expected = expected ≡ Err fault
 IsAnswer (Err unread.Overflow) expected = ⊥
 IsAnswer (Err unread.NoMemory) expected = Unit {0}
 
--- the page's authority, host and target are those of the URL
+-- the page has the URL's authority, host and target
 pub record HasPartsOf (page : List ℕ) (url : Parts) : Type 0 where
   pub authority : authority_of page ≡ authority_of_parts url
   pub host : host_of page ≡ host_of_parts url
@@ -124,27 +121,26 @@ IsNamedOn page text named =
     (base url : Parts) × (parse_url None page ≡ Ok base) × (parse_url (Some base) text ≡ Ok url)
     × HasPartsOf named url
 
--- a valid URL of `http` or `https` without user
+-- a valid `http` or `https` URL without user
 pub record IsPageParts (url : Parts) : Type 0 where
   pub valid : IsValid url
   pub scheme : IsScheme url.scheme
   pub username : url.username ≡ []
   pub password : url.password ≡ []
 
--- a valid URL of one of these schemes without user, within the limits
+-- a valid URL of these schemes without user, within the limits
 pub record IsFaultless (schemes : Schemes) (url : Parts) : Type 0 where
   pub parts : IsPageParts url
   pub is_read : reads schemes url.scheme ≡ true
   pub limit : length (page_of_parts url) ≤ max_url
   pub authority_limit : length (authority_of_parts url) ≤ max_authority
 
--- a valid URL is written so
+-- the text of a valid URL
 unfoldable pub IsWritten : List ℕ → Type 0
 IsWritten page = (url : Parts) × IsPageParts url × (page_of_parts url ≡ page)
 
--- the text reads as itself where both schemes are read, and is that of a valid URL within the limits:
--- `http://` or `https://`, a host and a target that begins with `/`, with no octet that is a space or a
--- control before it
+-- the text reads as itself in both schemes, and is a valid URL within the limits: `http://` or `https://`, a host,
+-- and a target from `/` on, without spaces or controls
 pub record IsPage (page : List ℕ) : Type 0 where
   pub own : page_url_among HttpAndHttps None page Enough ≡ Ok page
   pub written : IsWritten page

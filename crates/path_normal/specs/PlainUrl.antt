@@ -1,5 +1,5 @@
--- Plain URLs: those of `http` that are written as the URL Standard writes them, as far as their octets tell one by one.
--- URL Standard, sections 3.3 and 4.4. Cited by the contracts of `plain_url`.
+-- Plain `http` URLs: those that the URL Standard writes unchanged, as far as single octets tell.
+-- URL Standard, sections 3.3 and 4.4. Cited by `plain_url`.
 use Rattle.std.specs.Prelude.{◌≡◌, ◌≤◌, ◌+◌, ◌==◌, ◌&&◌, ◌||◌, ℕ, Bool, true, false, not, List, [], ◌∷◌, ◌++◌, codes, length, if◌then◌else◌}
 use Rattle.std.specs.Char.{is_ascii_digit, is_ascii_lowercase}
 use Rattle.path_normal.specs.Limits.{max_authority}
@@ -10,11 +10,11 @@ use Rattle.url.specs.Ascii.{dot, hyphen, slash}
 abbrev pub is_slash : ℕ → Bool
 is_slash octet = octet == slash
 
--- the octet may stand in a label: a letter in lower case, a digit, or `-`
+-- a label's octet: a lower-case letter, a digit, or `-`
 abbrev pub is_label_octet : ℕ → Bool
 is_label_octet octet = is_ascii_lowercase octet || is_ascii_digit octet || octet == hyphen
 
--- the octets are those of a domain, of which a label begins here or goes on: labels that begin with a letter
+-- a domain from the start of a label or within one; its labels begin with a letter
 abbrev pub is_plain_host : Bool → List ℕ → Bool
 is_plain_host begins [] = not begins
 is_plain_host begins (octet ∷ octets) =
@@ -22,15 +22,14 @@ is_plain_host begins (octet ∷ octets) =
     else (if octet == dot then is_plain_host true octets
     else is_label_octet octet && is_plain_host false octets)
 
--- the octets are those of a path, of which a segment begins here or goes on: unreserved ones, and none of its segments
--- begins with a dot
+-- a path from the start of a segment or within one: unreserved octets, no segment with a leading dot
 abbrev pub is_plain_path : Bool → List ℕ → Bool
 is_plain_path begins [] = true
 is_plain_path begins (octet ∷ octets) =
     if octet == slash then is_plain_path true octets
     else is_unreserved octet && not (begins && octet == dot) && is_plain_path false octets
 
--- the text is a plain URL, whose host ends there
+-- a plain URL, whose host ends here
 pub record IsPlain (text : List ℕ) (end : ℕ) : Type 0 where
   pub host : List ℕ
   pub path : List ℕ

@@ -1,5 +1,5 @@
-//! The authority of a page's URL: its host, and its port where that is not the scheme's; behind
-//! `https://` where that is the scheme. RFC 3986, section 3.2; RFC 9309, section 2.3.
+//! The authority of a page's URL: its host and any non-default port, after `https://` if that is the
+//! scheme. RFC 3986, section 3.2; RFC 9309, section 2.3.
 ghost use Rattle.std.specs.Prelude.{◌≡◌, Some, Err, IfOk, bytes_eq, string_bytes};
 ghost use Rattle.std.specs.Cmp.{partial_equiv_from_equiv};
 ghost use Rattle.std.specs.Cmp.Lexicographic.{nat_list_eq_equiv};
@@ -15,8 +15,8 @@ use std::alloc::{AllocError, Global};
 use std::fmt;
 use std::marker::Model;
 
-/// The authority of a page's URL: the host in lower case, and `:` and the port where it is not that
-/// of the scheme, 80 or 443; behind `https://` where that is the scheme.
+/// The authority of a page's URL: the host in lower case, with `:` and the port unless it is the scheme's
+/// default (80 or 443), after `https://` if that is the scheme.
 #[derive(Drop)]
 pub struct Authority {
     text: String,
@@ -38,16 +38,15 @@ impl Model for Authority {
 }
 
 impl Authority {
-    /// Reads an authority of pages of `http` as it stands in a URL: the port may be 80, and letters
-    /// of either case.
+    /// Reads an authority of `http` pages as in a URL: port 80 and letters of either case are allowed.
     pub fn new(alloc: Global, text: &str) -> Result<Authority, AuthorityFault>
         ensures { IsRead result (authority_from text.now) }
     {
         Authority::new_among(alloc, Schemes::Http, text)
     }
 
-    /// Reads an authority of pages of these schemes: the host and port as they stand in a URL, behind
-    /// `https://` in lower case where that is the scheme.
+    /// Reads an authority of pages of these schemes: host and port as in a URL, after a lower-case
+    /// `https://` if that is the scheme.
     pub fn new_among(
         alloc: Global,
         schemes: Schemes,
@@ -63,7 +62,7 @@ impl Authority {
         Ok(Authority::of(&url)?)
     }
 
-    /// The authority that a page's URL names.
+    /// The authority of a page's URL.
     pub fn of(url: &PageUrl) -> Result<Authority, AllocError>
         ensures { IfOk result (λ authority. authority ≡ authority_of url.now) }
     {
@@ -72,7 +71,7 @@ impl Authority {
         })
     }
 
-    /// The authority of a text that was taken of one before. It is not read again.
+    /// The authority of a text taken from one before. Does not parse it again.
     pub fn of_known(alloc: Global, text: &str) -> Result<Authority, AllocError>
         requires { IsAuthority text.now }
         ensures { IfOk result (λ authority. authority ≡ text.now) }
@@ -82,7 +81,7 @@ impl Authority {
         })
     }
 
-    /// A second authority of the same text.
+    /// A copy of the authority.
     pub fn copy(&self) -> Result<Authority, AllocError>
         ensures { IfOk result (λ copy. copy ≡ self.now) }
     {
@@ -105,7 +104,6 @@ impl Authority {
     }
 }
 
-// The host that a text writes as an authority of pages of these schemes.
 fn written_host(schemes: Schemes, text: &str) -> &str
     ensures { result.now ≡ written_host schemes text.now }
 {
@@ -121,7 +119,7 @@ fn has_delimiter(octets: &[u8]) -> bool
     octets.iter().any(|octet| matches!(*octet, b'/' | b'\\' | b'?' | b'#' | b'@'))
 }
 
-/// The URL of the root of the authority that the text writes.
+/// The URL of the authority's root.
 pub fn root_text(alloc: Global, text: &str) -> Result<String, AllocError>
     ensures { IfOk result (λ page. string_bytes page ≡ root_of text.now) }
 {

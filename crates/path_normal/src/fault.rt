@@ -1,23 +1,23 @@
-//! Why a text was not taken as the URL of a page, or as an authority.
+//! Why a text is no page URL, or no authority.
 //! URL Standard, sections 4.4 and 4.5.
 use std::alloc::AllocError;
 use std::error::Error;
 use std::fmt;
 use url::ParseError;
 
-/// Why a text was not taken as the URL of a page, in the order of the tests.
+/// Why a text is no page URL, in the order of the tests.
 #[derive(Clone, Copy, Debug, PartialEq, Eq)]
 pub enum UrlFault {
-    /// The text, or the URL as it would be written back, has more than 4,096 bytes, or the
-    /// authority of the latter more than 4,000; or the crate `url` overflowed, as it does at 4 GB.
+    /// The text, or the URL as written back, has more than 4,096 bytes, or the latter's authority more than
+    /// 4,000; or the crate `url` overflowed, as it does at 4 GB.
     TooLong,
     /// The URL Standard's parser refuses the text.
     BadUrl,
-    /// The scheme is none of those that are read: `http`, and `https` where that is asked for.
+    /// The scheme is not read: `http` always is, `https` only on request.
     NotHttp,
-    /// There is a user name or a password that is not empty.
+    /// The user name or the password is not empty.
     HasUser,
-    /// The allocator had no memory.
+    /// Out of memory.
     NoMemory,
 }
 
@@ -66,15 +66,14 @@ impl fmt::Display for UrlFault {
 
 impl Error for UrlFault {}
 
-/// Why a text was not read as the URL of a page: for its own fault, or for want of room, of which
-/// the text may be innocent.
+/// Why a text was not read as a page URL: its own fault, or a lack of room.
 #[derive(Clone, Copy, Debug, PartialEq, Eq)]
 pub enum Unread {
-    /// The first fault of the text, which it has whenever it is read.
+    /// The first fault of the text, whenever it is read.
     Fault(UrlFault),
-    /// The crate `url` overflowed, as it does at 4 GB, though its contract lets any text do so.
+    /// The crate `url` overflowed, as it does at 4 GB, though its contract allows it for any text.
     Overflow,
-    /// The allocator had no memory.
+    /// Out of memory.
     NoMemory,
 }
 
@@ -121,13 +120,13 @@ impl fmt::Display for Unread {
 
 impl Error for Unread {}
 
-/// Why a text was not taken as an authority.
+/// Why a text is no authority.
 #[derive(Clone, Copy, Debug, PartialEq, Eq)]
 pub enum AuthorityFault {
-    /// The text has one of `/ \ ? # @`, but for `https://` before the rest where that scheme is read, or
-    /// does not make a page's URL with `http://` before it, where it has no scheme, and `/` behind it.
+    /// The text has one of `/ \ ? # @` (except in a leading `https://` if that is read), or with `http://`
+    /// (if it has no scheme) before it and `/` after it is no page URL.
     BadAuthority,
-    /// The allocator had no memory.
+    /// Out of memory.
     NoMemory,
 }
 

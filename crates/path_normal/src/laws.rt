@@ -1,24 +1,24 @@
-//! What is true of the authorities and of the texts of pages.
+//! Laws of authorities and page URLs.
 //! RFC 3986, section 3.2; RFC 9309, section 2.3.
 ghost use Rattle.path_normal.specs.Laws.{NamedWhereRead, OneSite, ReadsWhereRead, SchemesPartAuthorities};
 
-/// An authority tells the scheme of its pages, so what is known of a site by `http` is never taken
-/// for what is known of it by `https`.
+/// An authority determines its scheme, so what is known of a site by `http` is never confused with what is
+/// known by `https`.
 pub fn schemes_part_authorities()
     ensures { SchemesPartAuthorities }
 {}
 
-/// Pages of one authority are of one scheme, and of one host and port.
+/// Pages of one authority share scheme, host and port.
 pub fn one_site()
     ensures { OneSite }
 {}
 
-/// A page whose scheme is read reads as itself.
+/// A page reads as itself if its scheme is read.
 pub fn reads_where_read()
     ensures { ReadsWhereRead }
 {}
 
-/// An authority whose scheme is read reads as itself.
+/// An authority reads as itself if its scheme is read.
 pub fn named_where_read()
     ensures { NamedWhereRead }
 {}

@@ -1,4 +1,4 @@
-//! URLs of pages, the authorities that they name, and the normal forms of paths and patterns.
+//! Page URLs, their authorities, and the normal forms of paths and patterns.
 //! URL Standard, section 4; RFC 3986, sections 2 and 3; RFC 9309, section 2.2.2.
 #![tactic(auto)]
 

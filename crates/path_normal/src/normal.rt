@@ -1,4 +1,4 @@
-//! Normal forms of paths and patterns: equal octets are written in one way.
+//! Normal forms of paths and patterns, in which equal octets are written alike.
 //! RFC 9309, section 2.2.2; RFC 3986, section 2.
 ghost use Rattle.std.specs.Prelude.{◌≡◌, ◌++◌, ◌∷◌, ◌<◌, ◌≤◌, vec_len, [], drop, take, true, length, IfOk, IfSome, IsTrue, MatchOption};
 ghost use Rattle.std.specs.List.{position};
@@ -8,21 +8,21 @@ ghost use Rattle.path_normal.specs.Normal.{is_anchored, is_changed, is_gen_delim
 use percent_encoding::percent_encode_byte;
 use std::alloc::{AllocError, Global};
 
-/// What a text is to be compared as.
+/// What a text is compared as.
 #[derive(Clone, Copy)]
 pub(crate) enum Role {
     Path,
     Pattern,
 }
 
-/// A unit of a text: an octet, and whether it was written as an escape.
+/// A unit of a text: an octet, and whether it was escaped.
 #[derive(Clone, Copy)]
 pub(crate) struct Octet {
     escaped: bool,
     value: u8,
 }
 
-/// The normal form of a path, which may have a query.
+/// The normal form of a path, with its query if any.
 pub fn normal_path(alloc: Global, path: &[u8]) -> Result<Vec<u8>, AllocError>
     ensures value { IfOk result (λ form. form.items ≡ normal_path path.now) }
     ensures again { IfOk result (λ form. normal_path form.items ≡ form.items) }
@@ -32,7 +32,7 @@ pub fn normal_path(alloc: Global, path: &[u8]) -> Result<Vec<u8>, AllocError>
     Ok(form)
 }
 
-/// The normal form of a pattern, in which `*` is the wildcard and a last `$` the end anchor.
+/// The normal form of a pattern, with `*` as the wildcard and a last `$` as the end anchor.
 pub fn normal_pattern(alloc: Global, pattern: &[u8]) -> Result<Vec<u8>, AllocError>
     ensures value { IfOk result (λ form. form.items ≡ normal_pattern pattern.now) }
     ensures again { IfOk result (λ form. normal_pattern form.items ≡ form.items) }
@@ -42,8 +42,8 @@ pub fn normal_pattern(alloc: Global, pattern: &[u8]) -> Result<Vec<u8>, AllocErr
     Ok(form)
 }
 
-/// Appends the normal form of a pattern. It has at most three octets for each of the pattern's. Where memory
-/// is refused, a part of it may have been appended.
+/// Appends the normal form of a pattern: at most three octets for each of the pattern's. If memory runs
+/// out, a part may have been appended.
 pub fn push_normal_pattern(form: &mut Vec<u8>, pattern: &[u8]) -> Result<(), AllocError>
     ensures value { IfOk result (λ _.
         form.new.items ≡ form.old.items ++ normal_pattern pattern.now) }
@@ -68,7 +68,6 @@ pub fn split_anchor(pattern: &[u8]) -> (&[u8], bool)
     }
 }
 
-// Appends the text with each of its units in its one spelling.
 fn push_normal(form: &mut Vec<u8>, role: Role, text: &[u8]) -> Result<(), AllocError>
     ensures value { IfOk result (λ _. form.new.items ≡ form.old.items ++ normal role text.now) }
     ensures grows { vec_len form.old ≤ vec_len form.new }
@@ -81,7 +80,7 @@ fn push_normal(form: &mut Vec<u8>, role: Role, text: &[u8]) -> Result<(), AllocE
     Ok(())
 }
 
-// Appends at once the first octets that stay as they are, and gives what follows them.
+// Appends the leading octets that stay unchanged, and returns the rest.
 fn push_kept<'a>(form: &mut Vec<u8>, role: Role, text: &'a [u8]) -> Result<&'a [u8], AllocError>
     ensures value { IfOk result (λ rest.
         form.new.items ++ normal role rest.now ≡ form.old.items ++ normal role text.now) }
@@ -124,7 +123,6 @@ fn is_changed(role: Role, octet: u8) -> bool
     )
 }
 
-// The first unit of the text, and what follows it.
 fn next_unit(text: &[u8]) -> Option<(Octet, &[u8])>
     ensures { MatchOption result (text.now ≡ []) (λ found.
         (units text.now ≡ found.0 ∷ units found.1.now) × (length found.1.now < length text.now)) }
@@ -167,8 +165,8 @@ fn is_kept(role: Role, unit: Octet) -> bool
         || (!unit.escaped && is_reserved(unit.value) && !is_sign(role, unit.value))
 }
 
-/// Whether the octet is a letter, a digit or one of `-._~`, which a URI may write as they are
-/// (RFC 3986, 2.3).
+/// Whether the octet is a letter, a digit or one of `-._~`, which a URI may contain unescaped (RFC 3986,
+/// 2.3).
 pub fn is_unreserved(octet: u8) -> bool
     ensures { result ≡ is_unreserved octet }
 {

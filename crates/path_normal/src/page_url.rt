@@ -1,4 +1,4 @@
-//! The URL of a page: an `http` or `https` URL with no user and no fragment.
+//! The URL of a page: `http` or `https`, without user and fragment.
 //! URL Standard, sections 4.4 and 4.5.
 ghost use Rattle.std.specs.Prelude.{◌≡◌, ◌<◌, ◌≤◌, None, Some, Ok, Err, IfOk, IsAscii, MatchOption, bytes_eq, length, nat_lt, string_bytes};
 ghost use Rattle.std.specs.Cmp.{partial_equiv_from_equiv};
@@ -23,25 +23,24 @@ use std::fmt;
 use std::marker::Model;
 use url::{Position, Url};
 
-/// The most bytes that the URL of a page has, as handed in and as written back.
+/// The most bytes of a page URL, as given and as written back.
 pub const MAX_URL: usize = 4_096;
 
-/// The most bytes that its authority has, with the port where one is written.
+/// The most bytes of its authority, with any port.
 pub const MAX_AUTHORITY: usize = 4_000;
 
-// Where a site keeps its robots.txt, in normal form.
+// The path of a robots.txt, in normal form.
 const ROBOTS_PATH: &str = "/robots.txt";
 
-/// The URL of a page, as the URL Standard writes it: `http` or `https`, no user, no fragment.
-///
-/// A clause sees it as its text, of which `authority_of` and `target_of` give the parts.
+/// The URL of a page as the URL Standard writes it: `http` or `https`, no user, no fragment.
+/// A clause sees it as its text, which `authority_of` and `target_of` split.
 #[derive(Drop)]
 pub struct PageUrl {
     text: String,
     // Where the host begins, and where it ends with its port.
     start: usize,
     end: usize,
-    // The target in normal form, where that is another text.
+    // The normal form of the target, if it differs.
     path: Option<Vec<u8>>,
 }
 
@@ -67,7 +66,7 @@ impl Model for PageUrl {
 }
 
 impl PageUrl {
-    /// Reads the URL of a page of `http`, and drops its fragment.
+    /// Reads the URL of an `http` page, and drops its fragment.
     pub fn parse(alloc: Global, text: &str) -> Result<PageUrl, UrlFault>
         ensures answer { IsRead result (page_url_from None text.now) }
         ensures parts { IfOk result (λ page. (url : Parts) × (parse_url None text.now ≡ Ok url)
@@ -85,8 +84,8 @@ impl PageUrl {
         Ok(PageUrl::read_among(alloc, schemes, text)?)
     }
 
-    /// Reads the URL of a page of `http` as `parse` does, and tells an overflow of the crate `url`,
-    /// which is no fault of the text, from a text that is too long.
+    /// Like `parse`, but distinguishes an overflow of the crate `url`, which is no fault of the text, from
+    /// a text that is too long.
     pub fn read(alloc: Global, text: &str) -> Result<PageUrl, Unread>
         ensures answer { IsReadWith result (page_url_from None text.now) }
         ensures parts { IfOk result (λ page. (url : Parts) × (parse_url None text.now ≡ Ok url)
@@ -95,8 +94,8 @@ impl PageUrl {
         PageUrl::read_among(alloc, Schemes::Http, text)
     }
 
-    /// Reads the URL of a page of these schemes as `parse_among` does, and tells an overflow of the
-    /// crate `url`, which is no fault of the text, from a text that is too long.
+    /// Like `parse_among`, but distinguishes an overflow of the crate `url`, which is no fault of the text,
+    /// from a text that is too long.
     pub fn read_among(alloc: Global, schemes: Schemes, text: &str) -> Result<PageUrl, Unread>
         ensures answer { IsReadWith result (page_url_among schemes None text.now) }
         ensures parts { IfOk result (λ page. (url : Parts) × (parse_url None text.now ≡ Ok url)
@@ -105,7 +104,7 @@ impl PageUrl {
         if is_long(text) {
             return Err(Unread::Fault(UrlFault::TooLong));
         }
-        // Most URLs are plain, and the parser would write them as they stand.
+        // Most URLs are plain: the parser would not change them.
         if let Some(end) = plain_host_end(text) {
             return Ok(PageUrl::of_plain(alloc, text, end)?);
         }
@@ -113,8 +112,8 @@ impl PageUrl {
         PageUrl::of_parsed(alloc, schemes, &url)
     }
 
-    /// Reads the URL of the page of `http` that a text names on this one, as a link or a redirect
-    /// does (RFC 3986, 5.2).
+    /// Resolves a reference to an `http` page against this URL, as for a link or a redirect (RFC 3986,
+    /// 5.2).
     pub fn join(&self, text: &str) -> Result<PageUrl, UrlFault>
         ensures answer { IsRead result (page_url_on self.now text.now) }
         ensures parts { IfOk result (IsNamedOn self.now text.now) }
@@ -122,8 +121,8 @@ impl PageUrl {
         Ok(self.read_on(text)?)
     }
 
-    /// Reads the URL of the page of `http` that a text names on this one as `join` does, and tells
-    /// an overflow of the crate `url`, which is no fault of the text, from a text that is too long.
+    /// Like `join`, but distinguishes an overflow of the crate `url`, which is no fault of the text, from a
+    /// text that is too long.
     pub fn read_on(&self, text: &str) -> Result<PageUrl, Unread>
         ensures answer { IsReadWith result (page_url_on self.now text.now) }
         ensures parts { IfOk result (IsNamedOn self.now text.now) }
@@ -131,8 +130,8 @@ impl PageUrl {
         self.read_on_among(Schemes::Http, text)
     }
 
-    /// Reads the URL of the page of these schemes that a text names on this one, as a link or a
-    /// redirect does (RFC 3986, 5.2), and tells an overflow as `read_on` does.
+    /// Resolves a reference to a page of these schemes against this URL, as for a link or a redirect (RFC
+    /// 3986, 5.2), and reports an overflow as `read_on` does.
     pub fn read_on_among(&self, schemes: Schemes, text: &str) -> Result<PageUrl, Unread>
         ensures answer { IsReadWith result (page_url_on_among schemes self.now text.now) }
         ensures parts { IfOk result (IsNamedOn self.now text.now) }
@@ -145,7 +144,7 @@ impl PageUrl {
         PageUrl::of_parsed(self.allocator(), schemes, &url)
     }
 
-    /// The URL of an authority's robots.txt (RFC 9309, 2.3). It fails only if memory runs out.
+    /// The URL of an authority's robots.txt (RFC 9309, 2.3). Fails only if memory runs out.
     pub fn of_robots(authority: &Authority) -> Result<PageUrl, AllocError>
         ensures url { IfOk result (λ url. url ≡ robots_url_of authority.now) }
         ensures authority { IfOk result (λ url. authority_of url ≡ authority.now) }
@@ -163,7 +162,7 @@ impl PageUrl {
         })
     }
 
-    // The page of a plain URL, whose host ends there.
+    // The page of a plain URL whose host ends at `end`.
     fn of_plain(alloc: Global, text: &str, end: usize) -> Result<PageUrl, AllocError>
         requires plain { IsPlain text.now end }
         requires short { length text.now ≤ max_url }
@@ -195,7 +194,7 @@ impl PageUrl {
         })
     }
 
-    /// A second URL of the same text.
+    /// A copy of the URL.
     pub fn copy(&self) -> Result<PageUrl, AllocError>
         ensures { IfOk result (λ copy. copy ≡ self.now) }
     {
@@ -219,7 +218,7 @@ impl PageUrl {
         self.text.as_str()
     }
 
-    /// The scheme is `https` (RFC 9110, 4.2.2).
+    /// Whether the scheme is `https` (RFC 9110, 4.2.2).
     pub fn is_https(&self) -> bool
         ensures value { result ≡ is_https self.now }
         ensures page { IsPage self.now }
@@ -227,7 +226,7 @@ impl PageUrl {
         self.start > "http://".len()
     }
 
-    /// The host, and `:` and the port where it is not that of the scheme, 80 or 443 (RFC 3986, 3.2).
+    /// The host, with `:` and the port unless it is the scheme's default, 80 or 443 (RFC 3986, 3.2).
     pub fn host(&self) -> &str
         ensures value { result.now ≡ host_of self.now }
         ensures page { IsPage self.now }
@@ -235,8 +234,7 @@ impl PageUrl {
         &self.text.as_str()[self.start..self.end]
     }
 
-    /// The host and port as `host` tells them, behind `https://` where that is the scheme: that for
-    /// which a robots.txt holds (RFC 9309, 2.3).
+    /// The `host`, after `https://` if that is the scheme: a robots.txt applies to it (RFC 9309, 2.3).
     pub fn authority(&self) -> &str
         ensures value { result.now ≡ authority_of self.now }
         ensures page { IsPage self.now }
@@ -248,7 +246,7 @@ impl PageUrl {
         }
     }
 
-    /// The path, and `?` and the query where there is one (RFC 3986, 3.3 and 3.4).
+    /// The path, with `?` and the query if any (RFC 3986, 3.3 and 3.4).
     pub fn target(&self) -> &str
         ensures value { result.now ≡ target_of self.now }
         ensures page { IsPage self.now }
@@ -256,7 +254,7 @@ impl PageUrl {
         &self.text.as_str()[self.end..]
     }
 
-    /// The path that patterns are matched with: the target in normal form (RFC 9309, 2.2.2).
+    /// The path for patterns: the target in normal form (RFC 9309, 2.2.2).
     pub fn path_to_match(&self) -> &[u8]
         ensures value { result.now ≡ normal_path (target_of self.now) }
         ensures page { IsPage self.now }
@@ -273,7 +271,6 @@ impl PageUrl {
     }
 }
 
-// The text of the URL of an authority's robots.txt.
 fn robots_text(alloc: Global, authority: &Authority) -> Result<String, AllocError>
     ensures value { IfOk result (λ text. string_bytes text ≡ robots_url_of authority.now) }
     ensures authority { IsAuthority authority.now }
@@ -285,14 +282,13 @@ fn robots_text(alloc: Global, authority: &Authority) -> Result<String, AllocErro
     Ok(text)
 }
 
-/// What stands before an authority in the URLs of its pages.
+/// The prefix of an authority in its pages' URLs.
 pub(crate) fn scheme_of(authority: &str) -> &'static str
     ensures { result.now ≡ scheme_of authority.now }
 {
     if is_https(authority) { "" } else { "http://" }
 }
 
-// Where the host of a page begins.
 fn host_start(page: &str) -> usize
     ensures { result ≡ host_start page.now }
 {
@@ -309,7 +305,6 @@ fn is_long(text: &str) -> bool
     text.len() > MAX_URL
 }
 
-// The first fault that a URL has as that of a page of these schemes.
 fn fault_in(schemes: Schemes, url: &Url) -> Option<UrlFault>
     ensures { MatchOption result (IsFaultless schemes url.now)
         (λ fault. page_url_of_parts schemes url.now ≡ Err fault) }
@@ -326,7 +321,6 @@ fn fault_in(schemes: Schemes, url: &Url) -> Option<UrlFault>
     None
 }
 
-// How many octets the authority has.
 fn authority_len(url: &Url) -> usize
     ensures value { result ≡ length (authority_of_parts url.now) }
     ensures valid { IsValid url.now }

@@ -1,5 +1,5 @@
-//! Plain URLs of `http`, found by one pass over their octets: the URL Standard writes each as it stands.
-//! URL Standard, sections 3.3 and 4.4. Used by `page_url`, which has any other URL parsed.
+//! Plain `http` URLs, which the URL Standard writes unchanged, found in one pass.
+//! URL Standard, sections 3.3 and 4.4. Used by `page_url`, which has all other URLs parsed.
 ghost use Rattle.std.specs.Prelude.{◌≡◌, ◌<◌, ◌++◌, IfSome, codes, length, true};
 ghost use Rattle.std.specs.List.{position};
 ghost use Rattle.path_normal.specs.PlainUrl.{IsPlain, is_label_octet, is_plain_host, is_plain_path, is_slash};
@@ -7,7 +7,7 @@ ghost use Rattle.path_normal.specs.PlainUrl.{IsPlain, is_label_octet, is_plain_h
 use crate::normal::is_unreserved;
 use crate::page_url::MAX_AUTHORITY;
 
-/// Where the host ends, if the text is a plain URL.
+/// The end of the host, if the text is a plain URL.
 pub(crate) fn plain_host_end(text: &str) -> Option<usize>
     ensures { IfSome result (IsPlain text.now) }
 {
@@ -20,7 +20,6 @@ pub(crate) fn plain_host_end(text: &str) -> Option<usize>
     }
 }
 
-// What stands behind `http://`, where the text begins with it.
 fn behind_start(text: &[u8]) -> Option<&[u8]>
     ensures { IfSome result (λ rest. text.now ≡ codes "http://" ++ rest.now) }
 {
@@ -37,7 +36,7 @@ fn slash_place(text: &[u8]) -> Option<usize>
     text.iter().position(|octet| *octet == b'/')
 }
 
-// Whether the octets are those of a domain whose labels begin with letters.
+// Whether the octets are a domain whose labels begin with letters.
 fn is_plain_host(host: &[u8]) -> bool
     ensures { result ≡ is_plain_host true host.now }
 {
@@ -63,7 +62,7 @@ fn is_label_octet(octet: u8) -> bool
     octet.is_ascii_lowercase() || octet.is_ascii_digit() || octet == b'-'
 }
 
-// Whether the octets behind the first `/` are those of a path that has no dot segment.
+// Whether the octets after the first `/` are a path without dot segments.
 fn is_plain_path(path: &[u8]) -> bool
     ensures { result ≡ is_plain_path true path.now }
 {

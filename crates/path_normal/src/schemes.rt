@@ -1,20 +1,20 @@
-//! The schemes of the URLs that are read as those of pages.
+//! The schemes that page URLs may have.
 //! RFC 9110, sections 4.2.1 and 4.2.2.
 ghost use Rattle.std.specs.Prelude.{◌≡◌};
 ghost use Rattle.path_normal.specs.PageText.{is_https};
 ghost use Rattle.path_normal.specs.Schemes.{reads};
 
-/// The schemes of the URLs that are read as those of pages; a URL of another scheme is refused.
+/// The schemes that page URLs may have; others are refused.
 #[derive(Clone, Copy, Debug, PartialEq, Eq)]
 pub enum Schemes {
-    /// `http` alone.
+    /// Only `http`.
     Http,
     /// `http` and `https`.
     HttpAndHttps,
 }
 
 impl Schemes {
-    /// The scheme, in lower case and without `:`, is one of these.
+    /// Whether the scheme, in lower case and without `:`, is one of these.
     pub fn reads(self, scheme: &str) -> bool
         ensures { result ≡ reads self scheme.now }
     {
@@ -25,7 +25,6 @@ impl Schemes {
     }
 }
 
-// The text begins with `https://`.
 pub(crate) fn is_https(text: &str) -> bool
     ensures { result ≡ is_https text.now }
 {

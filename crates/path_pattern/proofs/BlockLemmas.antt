@@ -1,4 +1,4 @@
--- What is left of the lanes of a block, octet by octet of the literal, and where its first place is.
+-- The lanes left of a block, octet by octet of the literal, and its first place.
 -- Used by the search by blocks.
 use Rattle.std.proofs.Common.{◌^◌, w64, ◌≡◌, ◌≢◌, ◌↔◌, ◌+◌, ◌-◌, ◌<◌, ◌≤◌, ◌==◌, ℕ, Bool, true, false, List, length, get_or, replicate, cond, refl, sym, ap, subst, ◌∙◌, arith, ⊎_elim, ◌⊎◌}
 use Rattle.std.specs.Prelude.{if◌then◌else◌, slice_index, Option, None, Some}
@@ -11,12 +11,12 @@ use Rattle.memchr.specs.Find.{FindsNeedle, NoneBefore, Nowhere, OccursAt}
 use Rattle.memchr.proofs.lemmas.FindLemmas.{Nowhere-then}
 use Rattle.path_pattern.specs.Blocks.{HasLanes, HasOctet, IsLeftOf, IsNoneLeft}
 
--- of the 64 places from start on, those at which the literal stands have a lane left, and where one is, the first octets of the literal stand, as many as were seen
+-- lanes are left at all places of the literal among the 64 from start on; a lane left has the first octets of the
+-- literal, as many as seen
 pub record IsLeft (path literal : List ℕ) (start seen : ℕ) (lanes : List ℕ) : Type 0 where
   pub all : (k : ℕ) → k < 64 → OccursAt path literal (start + k) → 128 ≤ slice_index lanes k
   pub begun : (k : ℕ) → k < 64 → 128 ≤ slice_index lanes k → (j : ℕ) → j < seen → j < length literal → HasOctet path literal start k j
 
--- a choice between lanes and a splat by the comparison with a splat
 pub HasLanes-select : (t : ℕ → ℕ → Bool) (a b : List ℕ) (x z : ℕ) → length a ≡ 64 → length b ≡ 64
     → HasLanes (sel_l (zip2 t a (replicate 64 x)) b (replicate 64 z)) (λ k. cond (t (get_or a k 0) x) (get_or b k 0) z)
 HasLanes-select t a b x z p q =
@@ -30,7 +30,6 @@ HasLanes-select t a b x z p q =
 
 -- ---- one octet more
 
--- a lane is kept where the octet stands
 kept : (b : Bool) (lane : ℕ) → b ≡ true → 128 ≤ lane → 128 ≤ cond b lane 0
 kept true lane is low = low
 kept false lane is low = absurd (true≢false (sym is))
@@ -53,7 +52,6 @@ module _ (path literal : List ℕ) (start j place : ℕ) (lanes more : List ℕ)
       let was = was_kept _ (slice_index lanes k) (subst (λ lane. 128 ≤ lane) (test.each k below) low) in
       (sym (there k) ∙ eqb-true _ _ was.0, was.1)
 
--- two octets, one after the other
 pub left_of_two : (path literal : List ℕ) (start i j place next : ℕ) (before one two : List ℕ) → place ≡ start + i → next ≡ start + j
     → HasLanes one (λ k. if slice_index path (place + k) == slice_index literal i then slice_index before k else 0)
     → HasLanes two (λ k. if slice_index path (next + k) == slice_index literal j then slice_index one k else 0)
@@ -94,7 +92,7 @@ left_by_next path literal start seen pair before left within low_pair which of w
 
 -- ---- the first place of a block
 
--- where a lane is left when all octets were seen, the literal stands
+-- a lane that is left after all octets were seen is at a place of the literal
 stands_where_left : (path literal lanes : List ℕ) (start seen : ℕ) → start + 63 + length literal ≤ length path → length literal ≤ seen → IsLeft path literal start seen lanes → (k : ℕ) → k < 64 → 128 ≤ slice_index lanes k → OccursAt path literal (start + k)
 stands_where_left path literal lanes start seen room all left k below low = record {
   fits = omega arith;
@@ -110,11 +108,9 @@ pub nowhere_in_block : (path literal lanes : List ℕ) (start seen : ℕ) → Is
 nowhere_in_block path literal lanes start seen left none k low high occurs =
     omega (arith, none (k - start), lane_at path literal lanes start seen left k low high occurs)
 
--- a number of no bits is 0
 pub no_bit : (m : ℕ) → m < 2 ^ 64 → ((k : ℕ) → ¬ (bit_at m k ≡ 1)) → m ≡ 0
 no_bit m fits none = ⊎_elim (λ is. is) (λ other. absurd (none _ (bit_at-trailing_zeros w64 m (omega (arith, other)) fits).1)) (cases_eq m 0)
 
--- where a lane is left the mask is not 0
 pub some_marked : (lanes : List ℕ) (marks : ℕ) → ¬ (IsNoneLeft lanes) → ((k : ℕ) → (bit_at marks k ≡ 1) ↔ (128 ≤ slice_index lanes k)) → marks ≢ 0
 some_marked lanes marks some bits none =
     some (λ k. ⊎_elim (λ low. low) (λ high. absurd (omega (arith, bit_at-zero k, subst (λ m. bit_at m k ≡ 1) none ((bits k).1 high)))) (cases_lt (slice_index lanes k) 128))

@@ -1,5 +1,5 @@
--- The bits of places, and the first of those at which a literal stands by them.
--- Used by the answers of the literals that are kept.
+-- The bits of places, and the literal's first place by them.
+-- Used by the answers of `kept`.
 use Rattle.std.proofs.Common.{w64, ◌≡◌, ◌≢◌, ◌↔◌, ◌∙◌, ◌+◌, ◌-◌, ◌*◌, ◌/◌, ◌%◌, ◌^◌, ◌<◌, ◌≤◌, ℕ, List, Contains, ap, arith, drop, get_or, length, length-drop, length-take-le, replicate, set, slice_index, subst, sym, take, take_all, ⊎_elim}
 use Rattle.std.specs.Prelude.{Option, None, Some, bit_or}
 use Rattle.std.specs.Int.{bit_at}
@@ -17,11 +17,9 @@ use Rattle.path_pattern.proofs.SortedLemmas.{in_more}
 
 -- ---- one mark more
 
--- a place is that of its block and of its bit
 same_place : (one other : ℕ) → one / 64 ≡ other / 64 → one % 64 ≡ other % 64 → one ≡ other
 same_place one other block bit = omega (arith, block, bit)
 
--- it is among the places from one more on, too
 in_fewer : (places : List ℕ) (i k : ℕ) → i < length places → Contains (take i places) k → Contains (take (i + 1) places) k
 in_fewer places i k inside at =
     let j = at.0 in
@@ -84,7 +82,6 @@ all_marks places marks i end marked = subst (λ them. HasMarks them marks) (take
 -- ---- the first mark
 
 module _ (marks : List ℕ) (from : ℕ) where
-  -- a bit behind those that were shifted out
   shifted : (k : ℕ) → k + from % 64 < 64 → bit_at (slice_index marks (from / 64) / 2 ^ (from % 64)) k ≡ mark marks (from + k)
   shifted k within =
       let block : (from + k) / 64 ≡ from / 64 = omega (arith, within) in
@@ -153,7 +150,6 @@ least_by_marks places marks from None few marked none =
 least_by_marks places marks from (Some first) few marked found =
     ((marked first found.1).0 found.2, found.0, λ k at low. ⊎_elim (λ before. absurd (omega (arith, found.3 k low before, (marked k (few k at)).1 at))) (λ past. past) (cases_lt k first))
 
--- the octets at the first place of a literal are those of the literal
 pub first_octets : (path places literal : List ℕ) (start end : ℕ) → IsRange path places literal start end → start < end → take (length literal) (drop (slice_index places start) path) ≡ literal
 first_octets path places literal start end range some =
     let place = slice_index places start in
@@ -163,6 +159,5 @@ first_octets path places literal start end range some =
     let is = get_or-take (end - start) (drop start places) 0 place (omega (arith, some)) ∙ get_or-drop start places 0 place ∙ ap (λ k. get_or places k place) here ∙ get_or_default_zero places start place (omega (arith, some, bound)) in
     OccursAt-part path literal place ((range.all place).1 (0, omega (arith, long, some), is))
 
--- the places at which a literal stands are of the path
 pub within_path : (path places literal : List ℕ) → ((place : ℕ) → OccursAt path literal place ↔ Contains places place) → length path ≤ 12288 → 0 < length literal → (k : ℕ) → Contains places k → k < 12288
 within_path path places literal all few some k at = let room = ((all k).1 at).fits in omega (arith, room, few, some)

@@ -1,4 +1,4 @@
--- Lemmas on how patterns spell paths, and on where literals stand in them.
+-- Lemmas on how patterns spell paths, and where literals occur in them.
 -- Used by the answers beside them.
 pub mod PlaceLemmas
 pub mod SpellsLemmas

@@ -1,4 +1,4 @@
--- Where a literal stands in a path, by the places that a search gives.
+-- Where a literal occurs in a path, by the places that a search gives.
 -- Used by `after_first`, `after_start`, `ends_with` and `first_place`.
 use Rattle.std.proofs.Common.{◌≡◌, ℕ, ◌+◌, ◌-◌, ◌<◌, ◌≤◌, List, [], ◌++◌, length, take, drop, get_or, append-nil, refl, sym, ap, ◌∙◌, subst, arith, length-append, length-drop}
 use Rattle.std.proofs.lemmas.Bool.{eq-eqb}
@@ -11,12 +11,10 @@ use Rattle.memchr.proofs.lemmas.FindLemmas.{Nowhere-then, OccursAt-byte, byte-Oc
 use Rattle.memchr.proofs.lemmas.MatchLemmas.{OccursAt-split, OccursAt-from_part}
 use Rattle.path_pattern.specs.Literals.{BeginsNot, IsAfterFirst, StandsNowhere}
 
--- a place of the literal cuts the path round it
 cut_at : (path literal : List ℕ) (place : ℕ) → OccursAt path literal place → path ≡ take place path ++ (literal ++ drop (place + length literal) path)
 cut_at path literal place occurs =
     sym (take-append-drop place path) ∙ ap (λ t. take place path ++ t) (OccursAt-split path literal place occurs)
 
--- a cut of the path round the literal is at a place of it
 place_of : (path literal front rest : List ℕ) → path ≡ front ++ (literal ++ rest) → OccursAt path literal (length front)
 place_of path literal front rest is =
     let lengths = ap length is ∙ length-append front (literal ++ rest) in
@@ -68,9 +66,8 @@ at_end path literal front is =
     let place : length front ≡ length path - length literal = omega arith in
     (omega arith, subst (OccursAt path literal) place (place_of path literal front [] (is ∙ ap (λ t. front ++ t) (sym (append-nil literal)))))
 
--- ---- the last octet of a literal, in the part of the path that follows as many octets as stand before it
+-- ---- the last octet of a literal, in the part of the path after as many octets as precede it
 
--- where the literal stands in the path, its last octet stands at the same place of that part
 last_octet : (path literal part : List ℕ) (before place : ℕ) → part ≡ drop before path → before + 1 ≡ length literal → OccursAt path literal place → Passes (is_byte (get_or literal (length literal - 1) 0)) part place
 last_octet path literal part before place is many occurs =
     let there : before + place ≡ place + before = omega arith in
@@ -146,7 +143,6 @@ pub first_onward : (path literal part : List ℕ) (place later : ℕ) → part �
 first_onward path literal part place later is within none none_later occurs =
     first_from path literal part place later (place + later) is within (omega arith) none none_later.before occurs
 
--- what is first from a place on is first in the part there
 pub left_nowhere : (path literal : List ℕ) (place : ℕ) → place ≤ length path → Nowhere (OccursAt path literal) place (length path + 1) → Nowhere (OccursAt (drop place path) literal) 0 (length (drop place path) + 1)
 left_nowhere path literal place within none at low high occurs =
     let lengths = length-drop place path in
@@ -162,7 +158,6 @@ left_first path literal place first within found =
       backward path literal (drop place path) place first refl low found.1,
     )
 
--- what is first in the part from a place on is first from there on
 pub from_nowhere : (path literal : List ℕ) (place : ℕ) → place ≤ length path → FindsNeedle (drop place path) literal 0 None → FindsNeedle path literal place None
 from_nowhere path literal place within none at low high occurs =
     let lengths = length-drop place path in
@@ -177,7 +172,6 @@ from_first path literal place first within found =
       onward path literal (drop place path) place first refl within found.1,
     )
 
--- what follows the first place of a literal from a place on
 pub nowhere_after : (path literal : List ℕ) (place : ℕ) → place ≤ length path → FindsNeedle path literal place None → StandsNowhere (drop place path) literal
 nowhere_after path literal place within none = nowhere_from (drop place path) literal (left_nowhere path literal place within none)
 

@@ -1,4 +1,4 @@
--- The order of texts is that of the numbers that their first octets spell.
+-- Texts are ordered as the numbers of their first octets.
 -- Used by `compare_texts`, and by keys.
 use Rattle.std.proofs.Common.{◌≡◌, ◌⊎◌, ℕ, ◌+◌, ◌-◌, ◌*◌, ◌^◌, ◌<◌, ◌≤◌, true, false, inl, inr, List, [], ◌∷◌, length, take, drop, get_or, refl, sym, ap, ◌∙◌, zero, suc, arith}
 use Rattle.std.specs.declared.cmp.Ordering.{Ordering}
@@ -19,7 +19,6 @@ later octet text are i = are (suc i)
 none : AreOctets []
 none i = omega arith
 
--- what is behind a smaller number stays smaller
 spell_less : (n a b : ℕ) (p q : List ℕ) → a < b → AreOctets p → AreOctets q → spelled_number n a p < spelled_number n b q
 spell_less zero a b p q less are also = less
 spell_less (suc n) a b [] [] less are also = spell_less n (a * 256) (b * 256) [] [] (omega (arith, less)) none none
@@ -28,7 +27,6 @@ spell_less (suc n) a b (x ∷ p) [] less are also = spell_less n (a * 256 + x) (
 spell_less (suc n) a b (x ∷ p) (y ∷ q) less are also =
     spell_less n (a * 256 + x) (b * 256 + y) p q (let small : x < 256 = are 0 in omega (arith, less, small)) (later x p are) (later y q also)
 
--- zeros make the least number
 spell_least : (n a b : ℕ) (q : List ℕ) → a ≤ b → spelled_number n a [] ≤ spelled_number n b q
 spell_least zero a b q less = less
 spell_least (suc n) a b [] less = spell_least n (a * 256) (b * 256) [] (omega (arith, less))
@@ -43,7 +41,6 @@ is_equal x y same = sym (nat_cmp_is x y Equal same)
 is_greater : (x y : ℕ) → y < x → nat_cmp x y ≡ Greater
 is_greater x y less = sym (nat_cmp_is x y Greater less)
 
--- the numbers first, then what is behind
 pub by_numbers : (n a : ℕ) (p q : List ℕ) → n ≤ length p → n ≤ length q → AreOctets p → AreOctets q →
     words p q ≡ ordering_then (nat_cmp (spelled_number n a p) (spelled_number n a q)) (words (drop n p) (drop n q))
 by_numbers zero a p q here there are also = ap (λ (o : Ordering). ordering_then o (words p q)) (sym (is_equal a a refl))
@@ -71,7 +68,6 @@ by_numbers (suc n) a (x ∷ p) (y ∷ q) here there are also = by (by_numbers n 
         (sym (is_greater (spelled_number n (a * 256 + x) p) (spelled_number n (a * 256 + y) q)
         (spell_less n (a * 256 + y) (a * 256 + x) q p (omega (arith, more)) (later y q also) (later x p are))))
 
--- the number that the first eight spell, each by its place
 pub first_eight : (a : ℕ) (text : List ℕ) → spelled_number 8 a text
     ≡ ((((((((a * 256 + get_or text 0 0) * 256 + get_or text 1 0) * 256 + get_or text 2 0) * 256 + get_or text 3 0) * 256 + get_or text 4 0) * 256 + get_or text 5 0) * 256 + get_or text 6 0) * 256
     + get_or text 7 0)
@@ -85,7 +81,6 @@ first_eight n (a ∷ b ∷ c ∷ d ∷ e ∷ f ∷ []) = omega arith
 first_eight n (a ∷ b ∷ c ∷ d ∷ e ∷ f ∷ g ∷ []) = omega arith
 first_eight n (a ∷ b ∷ c ∷ d ∷ e ∷ f ∷ g ∷ h ∷ text) = omega arith
 
--- the first eight, and those behind them
 two_halves : (text : List ℕ) → spelled_number 16 0 text ≡ spelled_number 8 (spelled_number 8 0 text) (drop 8 text)
 two_halves [] = refl
 two_halves (a ∷ []) = refl
@@ -97,14 +92,12 @@ two_halves (a ∷ b ∷ c ∷ d ∷ e ∷ f ∷ []) = refl
 two_halves (a ∷ b ∷ c ∷ d ∷ e ∷ f ∷ g ∷ []) = refl
 two_halves (a ∷ b ∷ c ∷ d ∷ e ∷ f ∷ g ∷ h ∷ text) = refl
 
--- the halves of the number that the first sixteen spell
 pub halves : (text : List ℕ) → spelled_number 16 0 text ≡ spelled_number 8 0 text * 2 ^ 64 + spelled_number 8 0 (drop 8 text)
 halves text =
     let front = spelled_number 8 0 text in
     let rest = drop 8 text in
     two_halves text ∙ (let whole = first_eight front rest in let half = first_eight 0 rest in omega (arith, whole, half))
 
--- the numbers first, then the texts themselves
 pub by_front : (n a : ℕ) (p q : List ℕ) → AreOctets p → AreOctets q → words p q ≡ ordering_then (nat_cmp (spelled_number n a p) (spelled_number n a q)) (words p q)
 by_front zero a p q are also = ap (λ (o : Ordering). ordering_then o (words p q)) (sym (is_equal a a refl))
 by_front (suc n) a [] [] are also = by_front n (a * 256) [] [] none none
@@ -145,7 +138,6 @@ by_front (suc n) a (x ∷ p) (y ∷ q) are also = by (by_front n (a * 256 + x) p
         (sym (is_greater (spelled_number n (a * 256 + x) p) (spelled_number n (a * 256 + y) q)
         (spell_less n (a * 256 + y) (a * 256 + x) q p (omega (arith, more)) (later y q also) (later x p are))))
 
--- the first of two orders decides where it is not a tie, and else the second
 pub unequal_first : (first second : Ordering) → is_ne first ≡ true → ordering_then first second ≡ first
 unequal_first Less second is = refl
 unequal_first Equal second is = absurd (true≢false (sym is))

@@ -1,4 +1,4 @@
--- How a pattern spells a path, by its first octet, its first wildcard or its first literal.
+-- How a pattern spells a path, by its first octet, first wildcard or first literal.
 -- Used by the answers of the matchers.
 use Rattle.std.proofs.Common.{◌≡◌, ◌≤◌, ℕ, suc, ◌==◌, Bool, true, false, List, [], ◌∷◌, ◌++◌, length, sym, refl, ap, ◌∙◌, subst, append_assoc, append-nil, drop, arith, eqb-true}
 use Rattle.std.specs.Prelude.{IsTrue, ◌↔◌, Option, None, Some, MatchOption, is_some}
@@ -72,7 +72,6 @@ pub off_star : (pattern : List ℕ) (anchored : Bool) (path : List ℕ) → Spel
 off_star pattern anchored path spells =
     off_texts pattern anchored path spells.rest spells.texts spells.as_many spells.spelled spells.ended
 
--- what fits after a wildcard still fits with more octets before it
 pub star_longer : (more pattern : List ℕ) (anchored : Bool) (path : List ℕ) → Spells (star ∷ pattern) anchored path → Spells (star ∷ pattern) anchored (more ++ path)
 star_longer more pattern anchored path spells =
     let off = off_star pattern anchored path spells in
@@ -183,7 +182,6 @@ last_open literal anchored path (Some rest) plain free first = (
   λ _. refl,
 )
 
--- the same by where what follows the literal begins
 pub last_from : (literal : List ℕ) (anchored : Bool) (path : List ℕ) (from : ℕ) (found : Option ℕ) → HasNoStar literal → anchored ≡ false → MatchOption found (StandsNowhere (drop from path) literal) (λ next. (next ≤ length path) × IsAfterFirst (drop from path) literal (drop next path)) → IsTrue (is_some found) ↔ Spells (star ∷ literal) anchored (drop from path)
 last_from literal anchored path from None plain free none = last_open literal anchored (drop from path) None plain free none
 last_from literal anchored path from (Some next) plain free first = last_open literal anchored (drop from path) (Some (drop next path)) plain free first.1

@@ -1,5 +1,5 @@
--- Whether no wildcard stands in a literal, octet by octet.
--- Used by `has_no_star`, and by the proofs of plain patterns.
+-- Whether a literal has no wildcard, octet by octet.
+-- Used by `has_no_star`, and for plain patterns.
 use Rattle.std.proofs.Common.{◌≡◌, ◌<◌, ◌==◌, ℕ, Bool, true, false, not, List, [], ◌∷◌, length, slice_index, slice_index_or, refl, sym, ap, subst, ◌∙◌, arith}
 use Rattle.std.specs.Prelude.{◌↔◌, IsTrue, Option, Some, None, is_some}
 use Rattle.std.specs.List.{list_all}
@@ -14,21 +14,18 @@ true_not : (b : Bool) → not b ≡ true → b ≡ false
 true_not true is = absurd (true≢false (sym is))
 true_not false is = refl
 
--- where the test passes none stands there
 pub no_star : (literal : List ℕ) → has_no_star literal ≡ true → HasNoStar literal
 no_star [] is = λ k d low. absurd (omega (arith, low))
 no_star (octet ∷ literal) is =
     let parts = and_parts (not (octet == star)) (list_all (λ octet. not (octet == star)) literal) is in
     All-cons (λ octet. (octet == star) ≡ false) octet literal (true_not (octet == star) parts.0) (no_star literal parts.1)
 
--- and it passes where none does
 passes_test : (literal : List ℕ) → HasNoStar literal → has_no_star literal ≡ true
 passes_test [] none = refl
 passes_test (octet ∷ literal) none =
     and_from (not (octet == star)) (list_all (λ octet. not (octet == star)) literal)
     (ap not (All-head (λ o. (o == star) ≡ false) octet literal none)) (passes_test literal (All-tail (λ o. (o == star) ≡ false) octet literal none))
 
--- so what tells that none stands there is the test
 pub is_test : (b : Bool) (literal : List ℕ) → IsTrue b ↔ HasNoStar literal → b ≡ has_no_star literal
 is_test true literal tells = sym (passes_test literal (tells.0 refl))
 is_test false literal tells = by (has_no_star literal) refl
@@ -37,7 +34,6 @@ is_test false literal tells = by (has_no_star literal) refl
     by true is = tells.1 (no_star literal is)
     by false is = refl
 
--- what finds no first wildcard tells that none stands there
 pub found_tells : (literal : List ℕ) (place : Option ℕ) (b : Bool) → IsFirstByte (is_byte star) literal place → is_some place ≡ not b → IsTrue b ↔ HasNoStar literal
 found_tells literal None false first is = absurd (true≢false (sym is))
 found_tells literal None true first is = (λ _ k d low. by k d low (slice_index literal k == star) refl, λ _. refl)

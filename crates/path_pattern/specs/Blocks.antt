@@ -1,5 +1,5 @@
--- What the lanes of a block of 64 places say of them, and what a block holds of a literal.
--- Used by the contracts of the search by blocks.
+-- The lanes of a block of 64 places, and what a block holds of a literal.
+-- Cited by the search by blocks.
 use Rattle.std.specs.Prelude.{◌≡◌, ◌+◌, ◌<◌, ◌≤◌, ℕ, List, length, slice_index}
 use Rattle.memchr.specs.Find as find
 use Rattle.memchr.specs.Find.{NoneBefore, OccursAt}
@@ -7,20 +7,20 @@ use Rattle.path_pattern.specs.declared.blocks.BlockMatch.{BlockMatch}
 use Rattle.path_pattern.specs.declared.blocks.BlockMatch.TheVariants.{At, Nearly, Nowhere}
 use Rattle.path_pattern.specs.declared.blocks.Telling.{Telling}
 
--- there are 64 lanes, and lane k holds f k
+-- 64 lanes, of which lane k holds f k
 pub record HasLanes (lanes : List ℕ) (f : ℕ → ℕ) : Type 0 where
   pub long : length lanes ≡ 64
   pub each : (k : ℕ) → k < 64 → slice_index lanes k ≡ f k
 
--- no lane is left: none has its top bit
+-- no lane has its top bit
 abbrev pub IsNoneLeft : List ℕ → Type 0
 IsNoneLeft lanes = (k : ℕ) → slice_index lanes k < 128
 
--- at the k-th place from start on the octet of the literal stands that is its j-th
+-- the octet at the k-th place from start on is the literal's j-th
 abbrev pub HasOctet : List ℕ → List ℕ → ℕ → ℕ → ℕ → Type 0
 HasOctet path literal start k j = slice_index path (start + k + j) ≡ slice_index literal j
 
--- of the lanes before, those are left at whose places these two octets of the literal stand
+-- of the lanes before, those with both octets of the literal are left
 pub record IsLeftOf (path literal : List ℕ) (start one other : ℕ) (before left : List ℕ) : Type 0 where
   pub kept : (k : ℕ) → k < 64 → 128 ≤ slice_index before k → HasOctet path literal start k one
       → HasOctet path literal start k other → 128 ≤ slice_index left k
@@ -32,7 +32,7 @@ pub record IsLeftOf (path literal : List ℕ) (start one other : ℕ) (before le
 abbrev pub IsWithin : Telling → List ℕ → Type 0
 IsWithin telling literal = (telling.first < length literal) × (telling.second < length literal)
 
--- this is where the literal stands first of the 64 places from start on; where nowhere, the octets that tell are of it
+-- the literal's first of the 64 places from start on; if there is none, the telling octets are the literal's
 abbrev pub IsFoundIn : List ℕ → List ℕ → ℕ → BlockMatch → Type 0
 IsFoundIn path literal start (At place) =
     NoneBefore (OccursAt path literal) start (start + 64) place × OccursAt path literal place

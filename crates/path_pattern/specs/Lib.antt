@@ -1,4 +1,4 @@
--- What contracts say of patterns and of the paths that they match.
+-- Definitions for the contracts of patterns and the paths they match.
 -- RFC 9309, section 2.2.3.
 pub mod Blocks
 pub mod Kept

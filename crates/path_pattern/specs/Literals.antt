@@ -1,5 +1,5 @@
--- The literals of a pattern between its wildcards, and where they stand in a path.
--- Used by the contracts of the matcher's parts.
+-- The literals of a pattern between its wildcards, and where they occur in a path.
+-- Cited by the matcher's parts.
 use Rattle.std.specs.Prelude.{◌≡◌, ◌≢◌, ◌==◌, ◌++◌, ℕ, Bool, false, not, All, List, ◌∷◌}
 use Rattle.std.specs.Prelude as prelude
 use Rattle.std.specs.List.{list_all}
@@ -8,38 +8,38 @@ use Rattle.path_pattern.specs.declared.literals.Star.{Star}
 use Rattle.path_pattern.specs.declared.literals.Star.TheVariants.{None, Only, First}
 use Rattle.path_normal.specs.Octets.{star}
 
--- no `*` stands in the literal
+-- the literal has no `*`
 abbrev pub HasNoStar : List ℕ → Type 0
 HasNoStar literal = All (λ octet. (octet == star) ≡ false) literal
 
--- whether none does
+-- whether the literal has no `*`
 abbrev pub has_no_star : List ℕ → Bool
 has_no_star literal = list_all (λ octet. not (octet == star)) literal
 
--- the first `*` of the pattern stands between the literal and what follows
+-- the first `*` of the pattern is between the literal and the rest
 pub record IsSplitAtStar (pattern literal after : List ℕ) : Type 0 where
   pub plain : HasNoStar literal
   pub parts : pattern ≡ literal ++ star ∷ after
 
--- no second `*` stands behind the first one of the pattern
+-- the pattern has at most one `*`
 abbrev pub HasNoSecondStar : List ℕ → Type 0
 HasNoSecondStar pattern = (literal after : List ℕ) → IsSplitAtStar pattern literal after → HasNoStar after
 
--- this is where the first wildcard of the pattern stands; behind an only one no other does
+-- the first wildcard of the pattern; no other follows an only one
 abbrev pub IsStarOf : List ℕ → Star → Type 0
 IsStarOf pattern None = HasNoStar pattern
 IsStarOf pattern (Only place) = IsFirstByte (is_byte star) pattern (prelude.Some place) × HasNoSecondStar pattern
 IsStarOf pattern (First place) = IsFirstByte (is_byte star) pattern (prelude.Some place)
 
--- the literal does not begin the path
+-- the literal is no prefix of the path
 abbrev pub BeginsNot : List ℕ → List ℕ → Type 0
 BeginsNot path literal = (rest : List ℕ) → path ≢ literal ++ rest
 
--- the literal stands nowhere in the path
+-- the literal does not occur in the path
 abbrev pub StandsNowhere : List ℕ → List ℕ → Type 0
 StandsNowhere path literal = (front rest : List ℕ) → path ≢ front ++ (literal ++ rest)
 
--- the rest follows the first place of the literal in the path, so it ends with what follows any other
+-- the rest follows the literal's first occurrence, so it has every other rest as a suffix
 pub record IsAfterFirst (path literal rest : List ℕ) : Type 0 where
   pub front : List ℕ
   pub stands : path ≡ front ++ (literal ++ rest)

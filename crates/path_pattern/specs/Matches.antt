@@ -4,7 +4,7 @@ use Rattle.std.specs.Prelude.{◌≡◌, ◌≢◌, ◌==◌, ◌++◌, ℕ, suc
 use Rattle.path_normal.specs.Normal.{is_anchored, unanchored}
 use Rattle.path_normal.specs.Octets.{star}
 
--- how many times `*` stands in the pattern
+-- the number of `*` in the pattern
 abbrev pub stars : List ℕ → ℕ
 stars [] = 0
 stars (octet ∷ pattern) = if octet == star then suc (stars pattern) else stars pattern
@@ -16,7 +16,7 @@ filled (octet ∷ pattern) [] = octet ∷ filled pattern []
 filled (octet ∷ pattern) (text ∷ texts) =
     if octet == star then text ++ filled pattern texts else octet ∷ filled pattern (text ∷ texts)
 
--- the path is the pattern with a text for each `*`, followed by a rest that is empty if anchored
+-- the path is the pattern with a text for each `*`, and then a rest, empty if anchored
 pub record Spells (pattern : List ℕ) (anchored : Bool) (path : List ℕ) : Type 0 where
   pub texts : List (List ℕ)
   pub rest : List ℕ
@@ -24,7 +24,7 @@ pub record Spells (pattern : List ℕ) (anchored : Bool) (path : List ℕ) : Typ
   pub spelled : path ≡ filled pattern texts ++ rest
   pub ended : IsTrue anchored → rest ≡ []
 
--- the pattern is not empty, and what stands before a last `$`, its anchor, spells the path
+-- the pattern is not empty, and without a last `$`, its anchor, spells the path
 pub record Matches (pattern path : List ℕ) : Type 0 where
   pub some : pattern ≢ []
   pub spells : Spells (unanchored pattern) (is_anchored pattern) path

@@ -1,5 +1,5 @@
-//! The first place of a literal in a path, by blocks of 64 places that are tested side by side.
-//! Used where the path is long: no place is tested by itself, whatever the path holds.
+//! The first place of a literal in a path, by blocks of 64 places tested in parallel.
+//! Used if the path is long: no place is tested on its own, whatever the path holds.
 ghost use Rattle.std.specs.Prelude.{◌≡◌, ◌≢◌, ◌↔◌, ℕ, ◌+◌, ◌<◌, ◌≤◌, ◌==◌, if◌then◌else◌, length, slice_index, IsTrue};
 ghost use Rattle.std.specs.Int.{bit_at};
 ghost use Rattle.memchr.specs.Find.{FindsNeedle};
@@ -7,35 +7,35 @@ ghost use Rattle.path_pattern.specs.Blocks.{HasLanes, IsFoundIn, IsLeftOf, IsNon
 
 use std::simd::prelude::*;
 
-/// How many places a block has.
+/// The places of a block.
 pub(crate) const PLACES: usize = 64;
 
-/// What a block of places holds of a literal.
+/// The result of searching a block for a literal.
 enum BlockMatch {
-    /// The literal stands at this place first.
+    /// The literal's first place.
     At(usize),
-    /// It stands at none, as the octets that mostly tell did at once.
+    /// The literal is not there; the octets tried first ruled it out at once.
     Nowhere,
-    /// It stands at none, and nearly at some: others told. These mostly tell so of the next block.
+    /// The literal is not there, but nearly: other octets ruled it out. They mostly decide the next block.
     Nearly(Telling),
 }
 
-/// Two octets of a literal, by their places in it.
+/// Two octets of a literal, by their indices.
 #[derive(Clone, Copy)]
 struct Telling {
-    /// The one that left no place of a block last.
+    /// The one that most recently ruled out a block.
     first: usize,
-    /// The one that did so before.
+    /// The one that did so before it.
     second: usize,
 }
 
-/// The first place of the literal that is not before this one. The path has a block of places for it from there on.
+/// The literal's first place from here on. There must be a block of places for it.
 pub(crate) fn first_by_blocks(path: &[u8], literal: &[u8], from: usize) -> Option<usize>
     requires pair { 1 < length literal.now }
     requires room { from + 63 + length literal.now ≤ length path.now }
     ensures { FindsNeedle path.now literal.now from result }
 {
-    // The last block ends with the path, so it may begin within the one before.
+    // The last block ends with the path and may overlap the one before.
     let last = path.len() - literal.len() - (PLACES - 1);
     let mut start = from;
     let mut telling = Telling {
@@ -57,8 +57,8 @@ pub(crate) fn first_by_blocks(path: &[u8], literal: &[u8], from: usize) -> Optio
     }
 }
 
-// Two octets a step, until no place is left. First come those that tell: where the literal is nearly there
-// again and again, they mostly leave no place at once.
+// Tests two octets a step, until no place is left. The telling ones come first: if the literal is nearly
+// there again and again, they mostly rule out all places at once.
 fn found_in_block(path: &[u8], literal: &[u8], start: usize, telling: Telling) -> BlockMatch
     requires two { 1 < length literal.now }
     requires telling { IsWithin telling literal.now }
@@ -85,7 +85,7 @@ fn found_in_block(path: &[u8], literal: &[u8], start: usize, telling: Telling) -
     BlockMatch::At(start + lowest(top_bits(left)))
 }
 
-// Which octet of a pair that leaves none of the lanes does so.
+// Which octet of a pair rules out all lanes.
 #[inline(always)]
 fn telling_of(lanes: u8x64, path: &[u8], literal: &[u8], start: usize, pair: usize) -> usize
     requires pair { pair + 1 < length literal.now }
@@ -99,7 +99,7 @@ fn telling_of(lanes: u8x64, path: &[u8], literal: &[u8], start: usize, pair: usi
     }
 }
 
-// The lanes of the block at whose places these two octets of the literal stand. The others are 0.
+// The lanes at whose places both octets of the literal are. The others are 0.
 #[inline(always)]
 fn two_left(
     lanes: u8x64,
@@ -118,7 +118,7 @@ fn two_left(
     octet_left(first, path, start + other, literal[other])
 }
 
-// The lanes at whose places, from this one on, the octet stands. The others are 0.
+// The lanes with the octet at their places, from this one on. The others are 0.
 #[inline(always)]
 fn octet_left(lanes: u8x64, path: &[u8], place: usize, octet: u8) -> u8x64
     requires { place + 64 ≤ length path.now }
@@ -130,7 +130,6 @@ fn octet_left(lanes: u8x64, path: &[u8], place: usize, octet: u8) -> u8x64
         .select(lanes, u8x64::splat(0))
 }
 
-// Whether no lane is left.
 #[inline(always)]
 fn is_none(lanes: u8x64) -> bool
     ensures { IsTrue result ↔ IsNoneLeft lanes }
@@ -146,7 +145,7 @@ fn top_bits(lanes: u8x64) -> u64
     lanes.simd_ge(u8x64::splat(128)).to_bitmask()
 }
 
-// The place of the lowest bit that is set.
+// The index of the lowest set bit.
 #[inline(always)]
 pub(crate) fn lowest(marks: u64) -> usize
     requires { marks ≢ 0 }

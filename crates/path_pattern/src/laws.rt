@@ -1,4 +1,4 @@
-//! A second, plain reading of patterns, to compare the first with: it tries all ways to cut a path.
+//! A second, plain matcher to compare with: it tries all ways to cut a path.
 //! RFC 9309, section 2.2.3.
 ghost use Rattle.std.specs.Prelude.{◌↔◌, IsTrue};
 ghost use Rattle.path_pattern.specs.Matches.{Matches, Spells};
@@ -6,7 +6,7 @@ ghost use Rattle.path_pattern.specs.Matches.{Matches, Spells};
 use crate::Pattern;
 use path_normal::split_anchor;
 
-/// Whether the pattern matches the path, by all texts that each `*` may stand for. It is slow.
+/// Whether the pattern matches the path, trying all texts for each `*`. Slow.
 pub fn matches_by_all_cuts(pattern: &Pattern, path: &[u8]) -> bool
     ensures { IsTrue result ↔ Matches pattern.now path.now }
 {

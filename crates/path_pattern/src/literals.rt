@@ -1,4 +1,4 @@
-//! The literals of a pattern between its wildcards, and where they stand in a path.
+//! The literals of a pattern between its wildcards, and where they occur in a path.
 //! RFC 9309, section 2.2.3.
 ghost use Rattle.std.specs.Prelude.{◌≡◌, ◌++◌, ◌↔◌, ◌<◌, List, ℕ, IsTrue, MatchOption, Some, length};
 ghost use Rattle.memchr.specs.Find.{FindsNeedle, IsFirstByte, OccursAt, is_byte};
@@ -9,14 +9,14 @@ use crate::blocks::{PLACES, first_by_blocks};
 use memchr::arch::all::{is_prefix, is_suffix};
 use memchr::{memchr, memmem};
 
-/// Where the first wildcard of a pattern stands.
+/// The first wildcard of a pattern.
 #[derive(Clone, Copy)]
 pub(crate) enum Star {
     /// There is none.
     None,
-    /// At this place, and no other follows.
+    /// At this place, the only one.
     Only(usize),
-    /// At this place. Others may follow.
+    /// At this place, perhaps not the only one.
     First(usize),
 }
 
@@ -30,7 +30,7 @@ pub(crate) fn star_of(pattern: &[u8]) -> Star
     }
 }
 
-/// The first wildcard. Others are not looked for.
+/// The first wildcard, without looking for others.
 pub(crate) fn first_star(pattern: &[u8]) -> Star
     ensures { IsStarOf pattern.now result }
 {
@@ -40,7 +40,7 @@ pub(crate) fn first_star(pattern: &[u8]) -> Star
     }
 }
 
-/// What stands before the first `*` and after it, where there is one.
+/// The text before and after the first `*`, if any.
 pub(crate) fn split_at_star(pattern: &[u8]) -> Option<(&[u8], &[u8])>
     ensures { MatchOption result (HasNoStar pattern.now)
         (λ parts. IsSplitAtStar pattern.now parts.0.now parts.1.now) }
@@ -57,7 +57,7 @@ fn star_place(pattern: &[u8]) -> Option<usize>
     memchr(b'*', pattern)
 }
 
-/// Whether no `*` stands in the pattern.
+/// Whether the pattern has no `*`.
 pub fn has_no_star(pattern: &[u8]) -> bool
     ensures tells { IsTrue result ↔ HasNoStar pattern.now }
     ensures value { result ≡ has_no_star pattern.now }
@@ -65,7 +65,7 @@ pub fn has_no_star(pattern: &[u8]) -> bool
     star_place(pattern).is_none()
 }
 
-/// What stands before the first `*`, of which the place is known, and after it.
+/// The text before and after the first `*`, given its place.
 pub(crate) fn split_at_place(pattern: &[u8], place: usize) -> (&[u8], &[u8])
     requires { IsFirstByte (is_byte star) pattern.now (Some place) }
     ensures { IsSplitAtStar pattern.now result.0.now result.1.now }
@@ -81,8 +81,8 @@ pub(crate) fn begins_with(path: &[u8], literal: &[u8]) -> bool
 }
 
 /// The first place of the literal.
-// To prepare a search costs as much as to look for the last octet of the literal in a path that is
-// many times as long. Where that octet is missing, or the first one ends the literal, none is needed.
+// Preparing a search costs as much as finding the literal's last octet in a path many times as long. If
+// that octet is missing, or its first place ends the literal, no search is needed.
 pub(crate) fn first_place(path: &[u8], literal: &[u8]) -> Option<usize>
     ensures { FindsNeedle path.now literal.now 0 result }
 {
@@ -102,8 +102,8 @@ pub(crate) fn first_place(path: &[u8], literal: &[u8]) -> Option<usize>
     Some(place + later)
 }
 
-// What `memmem` costs grows with the places at which the literal nearly stands: it compares at each of them. A path that
-// has no block of places for the literal has few.
+// The cost of `memmem` grows with near misses: it compares at each of them. A path without a block of
+// places for the literal has few.
 fn first_of_pair(path: &[u8], literal: &[u8]) -> Option<usize>
     requires { 1 < length literal.now }
     ensures { FindsNeedle path.now literal.now 0 result }

@@ -1,4 +1,4 @@
-//! A path that patterns are tried on, and where literals stand in it.
+//! A path that patterns are tried on, and where literals occur in it.
 //! RFC 9309, section 2.2.3.
 ghost use Rattle.std.specs.Prelude.{◌≡◌, ◌≤◌, drop, length, MatchOption};
 ghost use Rattle.memchr.specs.Find.{FindsNeedle};
@@ -10,11 +10,11 @@ use crate::literals::first_place;
 use crate::suffix_array::SuffixArray;
 use std::marker::Model;
 
-/// A path in normal form that patterns are tried on, and the literals that were looked for in it.
+/// A path in normal form that patterns are tried on, and the literals searched for in it.
 #[derive(Drop)]
 pub struct Path<'p, 'k> {
     text: &'p [u8],
-    // Its places in the order of what stands there, where they were put in order.
+    // Its places sorted by suffix, if they were sorted.
     places: &'p [u16],
     kept: &'k mut [Stand],
     marked: &'k mut [Marked],
@@ -36,7 +36,7 @@ impl<'p, 'k> Model for Path<'p, 'k> {
 }
 
 impl<'p, 'k> Path<'p, 'k> {
-    /// The path as it is. It keeps no literal.
+    /// The path without kept literals.
     pub fn new(text: &'p [u8]) -> Path<'p, 'k>
         ensures { result ≡ text.now }
     {
@@ -48,7 +48,7 @@ impl<'p, 'k> Path<'p, 'k> {
         }
     }
 
-    /// The path with its places, and with room for literals, of which it keeps none yet.
+    /// The path with its sorted places, and with room for literals, still empty.
     pub fn with(text: &'p [u8], places: &'p SuffixArray, room: &'k mut Room) -> Path<'p, 'k>
         requires { ArePlacesOf text.now places.now }
         ensures { result ≡ text.now }
@@ -71,7 +71,7 @@ impl<'p, 'k> Path<'p, 'k> {
         self.text
     }
 
-    /// Where what follows the literal begins, at its first place from this one on.
+    /// The end of the literal's first occurrence from here on.
     pub(crate) fn after(&mut self, literal: &[u8], from: usize) -> Option<usize>
         requires { from ≤ length self.old }
         ensures found { MatchOption result (StandsNowhere (drop from self.old) literal.now)
@@ -81,12 +81,11 @@ impl<'p, 'k> Path<'p, 'k> {
     {
         let count = self.octets().len();
         let place = self.first(literal, from)?;
-        // What is left behind the literal.
         let left = count - place - literal.len();
         Some(count - left)
     }
 
-    // The first place of the literal that is not before this one. From now on the literal is kept.
+    // The literal's first place from here on. Keeps the literal.
     fn first(&mut self, literal: &[u8], from: usize) -> Option<usize>
         requires { from ≤ length self.old }
         ensures finds { FindsNeedle self.old literal.now from result }
@@ -100,7 +99,6 @@ impl<'p, 'k> Path<'p, 'k> {
     }
 }
 
-// The first place of the literal in the path that is not before this one.
 fn first_from(path: &[u8], literal: &[u8], from: usize) -> Option<usize>
     requires { from ≤ length path.now }
     ensures { FindsNeedle path.now literal.now from result }

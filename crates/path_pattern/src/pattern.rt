@@ -14,11 +14,11 @@ use path_normal::{normal_pattern, split_anchor};
 use std::alloc::{AllocError, Global};
 use std::marker::Model;
 
-/// A pattern in normal form: `*` stands for any octets, also none, a last `$` for the end.
+/// A pattern in normal form: `*` stands for any octets or none, a last `$` for the end.
 #[derive(Drop)]
 pub struct Pattern {
     text: Vec<u8>,
-    // To look for it again would cost each match a walk over the pattern.
+    // Kept, since each match would have to search for it.
     star: Star,
 }
 
@@ -41,7 +41,7 @@ impl Model for Pattern {
 }
 
 impl Pattern {
-    /// The pattern that a rule's value writes.
+    /// The pattern of a rule's value.
     pub fn new(alloc: Global, raw: &[u8]) -> Result<Pattern, AllocError>
         ensures { IfOk result (λ pattern. pattern ≡ normal_pattern raw.now) }
     {
@@ -51,14 +51,14 @@ impl Pattern {
         Ok(Pattern { text, star })
     }
 
-    /// Whether the pattern matches the path, which is to be in normal form. Takes no memory.
+    /// Whether the pattern matches the path, given in normal form. Takes no memory.
     pub fn matches(&self, path: &[u8]) -> bool
         ensures { IsTrue result ↔ Matches self.now path.now }
     {
         self.matches_path(&mut Path::new(path))
     }
 
-    /// Whether the pattern matches a path that many patterns are tried on, and which keeps what was found for them.
+    /// Whether the pattern matches a path that many patterns are tried on, which keeps their literals.
     pub fn matches_path(&self, path: &mut Path<'_, '_>) -> bool
         ensures tells { IsTrue result ↔ Matches self.now path.old }
         ensures stays { path.new ≡ path.old }
@@ -70,7 +70,7 @@ impl Pattern {
         fits(pattern, self.star, anchored, path)
     }
 
-    /// How many octets the pattern has in normal form.
+    /// The length of the normal form in octets.
     pub fn octets(&self) -> usize
         ensures { result ≡ length self.now }
     {
@@ -86,8 +86,8 @@ impl Pattern {
     }
 }
 
-/// Whether a pattern matches a path, both in normal form. The second wildcard is looked for only where the
-/// path begins with what stands before the first. Takes no memory.
+/// Whether a pattern matches a path, both in normal form. The second wildcard is searched for only if the
+/// path begins with the text before the first. Takes no memory.
 pub fn matches(pattern: &[u8], path: &mut Path<'_, '_>) -> bool
     ensures tells { IsTrue result ↔ Matches pattern.now path.old }
     ensures stays { path.new ≡ path.old }
@@ -99,7 +99,7 @@ pub fn matches(pattern: &[u8], path: &mut Path<'_, '_>) -> bool
     fits(front, first_star(front), anchored, path)
 }
 
-// Whether the pattern, with no anchor of its own, fits the path from its first octet on.
+// Whether the pattern, without its anchor, matches the path from its start.
 fn fits(pattern: &[u8], star: Star, anchored: bool, path: &mut Path<'_, '_>) -> bool
     requires { IsStarOf pattern.now star }
     ensures tells { IsTrue result ↔ Spells pattern.now anchored path.old }
@@ -119,7 +119,7 @@ fn fits(pattern: &[u8], star: Star, anchored: bool, path: &mut Path<'_, '_>) -> 
     }
 }
 
-// Whether a literal without a wildcard fits the path from its first octet on.
+// Whether a literal matches the path from its start.
 fn fits_run(literal: &[u8], anchored: bool, path: &[u8]) -> bool
     requires { HasNoStar literal.now }
     ensures { IsTrue result ↔ Spells literal.now anchored path.now }
@@ -127,8 +127,8 @@ fn fits_run(literal: &[u8], anchored: bool, path: &[u8]) -> bool
     begins_with(path, literal) && (!anchored || path[literal.len()..].is_empty())
 }
 
-// Whether the pattern fits from some octet on that is not before this place: a wildcard stands before it. Each literal
-// is taken at its first place: what a later place would leave is the end of what that leaves.
+// Whether the pattern, after a wildcard, matches from some octet at or after this place. Each literal is
+// taken at its first place: what remains after a later place is a suffix of what remains after that.
 fn fits_after_star(pattern: &[u8], anchored: bool, path: &mut Path<'_, '_>, from: usize) -> bool
     requires { from ≤ length path.old }
     ensures tells { IsTrue result ↔ Spells (star ∷ pattern.now) anchored (drop from path.old) }
@@ -146,7 +146,7 @@ fn fits_after_star(pattern: &[u8], anchored: bool, path: &mut Path<'_, '_>, from
     fits_last(left, anchored, path, place)
 }
 
-// Whether a literal without a wildcard, the last of its pattern, fits behind a place.
+// Whether the last literal of a pattern matches after a wildcard.
 fn fits_last(literal: &[u8], anchored: bool, path: &mut Path<'_, '_>, from: usize) -> bool
     requires plain { HasNoStar literal.now }
     requires within { from ≤ length path.old }

@@ -1,5 +1,5 @@
-//! The order of texts, their first octets eight at a time.
-//! Used where many texts are compared: eight octets are compared as fast as one.
+//! The order of texts, comparing their first octets eight at a time.
+//! Used if many texts are compared: eight octets take as long as one.
 ghost use Rattle.std.specs.Prelude.{◌≡◌, ◌<◌, length, slice_index_or};
 ghost use Rattle.std.specs.Ordering.{nat_cmp};
 ghost use Rattle.std.specs.Cmp.Lexicographic.{slice_cmp};
@@ -13,7 +13,7 @@ pub fn compare_texts(one: &[u8], other: &[u8]) -> Ordering
 {
     let mut left = one;
     let mut right = other;
-    // What is alike for longer, std passes faster, by larger steps.
+    // std passes longer common prefixes faster, by larger steps.
     for _ in 0..4 {
         if left.len() < 8 || right.len() < 8 {
             break;
@@ -28,8 +28,7 @@ pub fn compare_texts(one: &[u8], other: &[u8]) -> Ordering
     left.cmp(right)
 }
 
-/// The number that the first eight octets spell, the first one the greatest. Zeros stand behind the
-/// end of the text.
+/// The first eight octets as a number, the first highest, padded with zeros.
 pub fn front(text: &[u8]) -> u64
     ensures { result ≡ spelled_number 8 0 text.now }
 {

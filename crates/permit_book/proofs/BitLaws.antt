@@ -1,5 +1,5 @@
--- Bits of words: what a write of one word does to them, and what two levels of words keep.
--- Cited by the proofs of `words.rt` and `free_slots.rt`.
+-- How a write of one word changes the bits, and what two levels of words keep.
+-- Used by the proofs of `words.rt` and `free_slots.rt`.
 use Rattle.std.proofs.Common.{◌≡◌, ◌≢◌, ℕ, zero, ◌+◌, ◌*◌, ◌/◌, ◌%◌, ◌<◌, ◌==◌, ◌^◌, true, false, cond, suc, nat_lt, List, [], ◌∷◌, length, slice_index, set, w64, inl, inr, refl, sym, ap, ◌∙◌, arith}
 use Rattle.std.specs.Int.{bit_at, trailing_zeros}
 use Rattle.std.proofs.lemmas.Bool.{lt-ltb, le-ltb}
@@ -8,19 +8,15 @@ use Rattle.std.proofs.lemmas.List.{get_or-set_same, get_or-set_other, get_or_pas
 use Rattle.std.proofs.lemmas.Nat.Bits.{bit_at-zero, bit_at-trailing_zeros}
 use Rattle.permit_book.specs.Bits.{AreFirst, bit_of, IsClear, IsLowestBit, KeepsEmpty, KeepsOthers, SetsBit, Summarizes, SumsUp}
 
--- a bit's number is that of its word and its place there
 same_bit : (i j : ℕ) → j / 64 ≡ i / 64 → j % 64 ≡ i % 64 → j ≡ i
 same_bit i j word place = omega arith
 
--- a word without bits has none at any place
 bit_of-empty : (words : List ℕ) (i : ℕ) → slice_index words (i / 64) ≡ 0 → bit_of words i ≡ 0
 bit_of-empty words i none = rw none (bit_at-zero (i % 64))
 
--- a word with a bit is not empty
 not_empty : (words : List ℕ) (i : ℕ) → bit_of words i ≡ 1 → slice_index words (i / 64) ≢ 0
 not_empty words i one none = let zero : bit_of words i ≡ 0 = bit_of-empty words i none in absurd (omega arith)
 
--- a write of one word that has this bit, and the other bits that were there
 pub SetsBit-word : (words : List ℕ) (i bit word : ℕ) → i / 64 < length words → bit_at word (i % 64) ≡ bit
     → ((k : ℕ) → k < 64 → k ≢ i % 64 → bit_at word k ≡ bit_at (slice_index words (i / 64)) k)
     → SetsBit words i bit (set words (i / 64) word)
@@ -33,11 +29,10 @@ SetsBit-word words i bit word within here others j = elim (eqb_tells j i) [
   ])
 ]
 
--- a write of one word leaves the others
 pub KeepsOthers-word : (words : List ℕ) (place word : ℕ) → KeepsOthers words place (set words place word)
 KeepsOthers-word words place word k apart = get_or-set_other words place k word 0 apart
 
--- words that a write made are summed up once the upper bit is set too
+-- a changed word is summarized again once its upper bit is set
 pub Summarizes-set : (upper lower upper' lower' : List ℕ) (i : ℕ) → Summarizes upper lower
     → SetsBit lower i 1 lower' → KeepsOthers lower (i / 64) lower' → SetsBit upper (i / 64) 1 upper' → Summarizes upper' lower'
 Summarizes-set upper lower upper' lower' i sums bits others above j = elim (eqb_tells j (i / 64)) [
@@ -56,7 +51,7 @@ Summarizes-set upper lower upper' lower' i sums bits others above j = elim (eqb_
     unequal : (n : ℕ) → n ≢ 0 → (n == 0) ≡ false
     unequal n apart = elim (eqb_tells n 0) [ inl e ↦ absurd (apart e.1) | inr d ↦ d.0 ]
 
--- words that lost bits at one place are summed up once the upper bit was looked at
+-- a word that lost bits is summarized again once its upper bit was checked
 pub Summarizes-lowered : (upper lower upper' lower' : List ℕ) (place : ℕ) → Summarizes upper lower
     → KeepsOthers lower place lower' → KeepsEmpty lower place lower' → SumsUp upper lower' place upper' → Summarizes upper' lower'
 Summarizes-lowered upper lower upper' lower' place sums others empty above j = elim (eqb_tells j place) [
@@ -70,23 +65,19 @@ Summarizes-lowered upper lower upper' lower' place sums others empty above j = e
     was_full : slice_index lower' place ≢ 0 → (slice_index lower place == 0) ≡ false
     was_full full = elim (eqb_tells (slice_index lower place) 0) [ inl e ↦ absurd (full (empty e.1)) | inr d ↦ d.0 ]
 
--- where the upper bit is set, the word below has a bit
 pub full_below : (upper lower : List ℕ) (i : ℕ) → Summarizes upper lower → bit_of upper i ≡ 1 → slice_index lower i ≢ 0
 full_below upper lower i sums one none =
     let zero : bit_of upper i ≡ 0 = sums i ∙ rw none refl in absurd (omega arith)
 
--- where the upper bit is clear, the word below has none
 pub empty_below : (upper lower : List ℕ) (i : ℕ) → Summarizes upper lower → bit_of upper i ≡ 0 → slice_index lower i ≡ 0
 empty_below upper lower i sums clear = elim (eqb_tells (slice_index lower i) 0) [
   | inl e ↦ e.1
   | inr d ↦ (let one : bit_of upper i ≡ 1 = sums i ∙ rw d.0 refl in absurd (omega arith))
 ]
 
--- where no upper bit is set, none is below
 pub IsClear-below : (upper lower : List ℕ) → Summarizes upper lower → IsClear upper → IsClear lower
 IsClear-below upper lower sums clear j = bit_of-empty lower j (empty_below upper lower (j / 64) sums (clear (j / 64)))
 
--- the lowest bit of the word for the lowest upper bit is the lowest of all
 pub IsLowestBit-below : (upper lower : List ℕ) (place i : ℕ) → Summarizes upper lower → IsLowestBit upper place → i / 64 ≡ place
     → bit_of lower i ≡ 1 → ((j : ℕ) → j / 64 ≡ place → j < i → bit_of lower j ≡ 0) → IsLowestBit lower i
 IsLowestBit-below upper lower place i sums above word one least = record {
@@ -97,7 +88,6 @@ IsLowestBit-below upper lower place i sums above word one least = record {
   ];
 }
 
--- the lowest bit of a word that has one
 pub lowest_bit : (words : List ℕ) (place : ℕ) → slice_index words place ≢ 0 → slice_index words place < 2 ^ 64 →
     (trailing_zeros w64 (slice_index words place) < 64)
     × (bit_of words (place * 64 + trailing_zeros w64 (slice_index words place)) ≡ 1)
@@ -113,14 +103,12 @@ lowest_bit words place full fits =
       λ j same below. rw same (found.2 (j % 64) (omega arith)),
     )
 
--- a place whose word is not empty is one of the words'
 pub within_words : (words : List ℕ) (place : ℕ) → slice_index words place ≢ 0 → place < length words
 within_words words place full = elim (leb_tells (length words) place) [
   | inl e ↦ absurd (full (get_or_past words place 0 e.1))
   | inr d ↦ (let apart = d.1 in omega arith)
 ]
 
--- one word without bits is clear
 pub IsClear-one_word : (words : List ℕ) → length words ≡ 1 → slice_index words 0 ≡ 0 → IsClear words
 IsClear-one_word (word ∷ []) one none j = bit_of-empty (word ∷ []) j (at (j / 64))
   where
@@ -130,7 +118,6 @@ IsClear-one_word (word ∷ []) one none j = bit_of-empty (word ∷ []) j (at (j 
 IsClear-one_word [] one none j = absurd (omega arith)
 IsClear-one_word (word ∷ other ∷ more) one none j = absurd (omega arith)
 
--- one bit more, of those that are set from the first on
 pub AreFirst-more : (words words' : List ℕ) (count : ℕ) → AreFirst words count → SetsBit words count 1 words' → AreFirst words' (count + 1)
 AreFirst-more words words' count first more j = elim (eqb_tells j count) [
   | inl e ↦ (more j ∙ rw (e.0, lt-ltb j (count + 1) (let same : j ≡ count = e.1 in omega arith)) refl)
@@ -143,10 +130,8 @@ AreFirst-more words words' count first more j = elim (eqb_tells j count) [
       | inr d ↦ rw (lt-ltb j count d.1, lt-ltb j (count + 1) (let below = d.1 in omega arith)) refl
     ]
 
--- the other bits, after one was set or cleared
 pub SetsBit-other : (old new : List ℕ) (i bit : ℕ) → SetsBit old i bit new → (j : ℕ) → j ≢ i → bit_of new j ≡ bit_of old j
 SetsBit-other old new i bit sets j apart = sets j ∙ elim (eqb_tells j i) [ inl e ↦ absurd (apart e.1) | inr d ↦ rw d.0 refl ]
 
--- that bit
 pub SetsBit-here : (old new : List ℕ) (i bit : ℕ) → SetsBit old i bit new → bit_of new i ≡ bit
 SetsBit-here old new i bit sets = sets i ∙ elim (eqb_tells i i) [ inl e ↦ rw e.0 refl | inr d ↦ absurd (d.1 refl) ]

@@ -1,4 +1,4 @@
--- What proofs of other crates cite of this one; all other lemmas of `proofs/` are its own.
+-- The lemmas that proofs of other crates cite; all others are private.
 pub use Rattle.permit_book.proofs.Filters.{filter-all, filter-dropped, filter-kept, filter-parts, list_any-both, list_any-filter, list_any-more, numbered-added, numbered-gone, numbered-new, numbered-without}
 pub use Rattle.permit_book.proofs.HeldLaws.{held_ended, held_granted, held_new, held_started}
 pub use Rattle.permit_book.proofs.IdleTables.{idle_empty, noted_tells}

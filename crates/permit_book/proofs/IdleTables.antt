@@ -1,5 +1,5 @@
--- Tables with nothing out, and grants of before that are noted in them.
--- Cited by `idle_tables_tell` of `laws.rt`, and by crates above.
+-- Tables with nothing outstanding, and earlier grants noted in them.
+-- Used by `idle_tables_tell` of `laws.rt`, and by crates above.
 use Rattle.std.proofs.Common.{◌≡◌, ℕ, ◌<◌, ◌==◌, true, max, if◌then◌else◌, List, [], length, inl, inr, refl, sym, ap, subst, ◌∙◌, arith}
 use Rattle.std.proofs.lemmas.Bool.Decides.{leb_tells}
 use Rattle.std.proofs.lemmas.List.{get_or_past}
@@ -14,7 +14,6 @@ use Rattle.permit_book.proofs.Telling.{Changes-nothing, nothing_is, nothing_unde
 use Rattle.permit_book.proofs.TellingFree.{number_parts, own_number}
 use Rattle.permit_book.proofs.TableLaws.{same_number}
 
--- what is neither unspent nor running is nothing
 neither : (number : ℕ) (out : SlotContent) → [] ≡ unspent_in number out → [] ≡ running_in number out → is_nothing out ≡ true
 neither number Nothing unspent running = refl
 neither number (Unspent fetch) unspent running = absurd (omega (arith, ap (λ (ps : List GrantedPermit). length ps) unspent))

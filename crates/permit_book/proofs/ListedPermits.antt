@@ -1,5 +1,5 @@
--- The lists of what is out in a table have under each number what the table has.
--- Cited by `Permits::permits_at`.
+-- A table's lists have the same under each number as the table.
+-- Used by `Permits::permits_at`.
 use Rattle.std.proofs.Common.{◌≡◌, ◌≢◌, ℕ, ◌+◌, ◌<◌, ◌≤◌, ◌==◌, zero, suc, Bool, true, false, if◌then◌else◌, List, [], ◌∷◌, ◌++◌, length, filter, take, get_or, inl, inr, refl, sym, ap, ◌∙◌, append_assoc, arith}
 use Rattle.std.proofs.lemmas.Bool.Decides.{eqb_tells}
 use Rattle.std.proofs.lemmas.List.{append-nil, length-take-le, take_more}
@@ -16,12 +16,11 @@ use Rattle.permit_book.specs.Table.{Table, last_in, out_under, slot_at, unused}
 use Rattle.permit_book.proofs.TableLaws.{same_number}
 use Rattle.permit_book.proofs.TellingFree.{number_parts}
 
--- what slots have, from the one of a place on
+-- the permits of slots, from a place on
 abbrev pub all_from : (ℕ → SlotContent → List GrantedPermit) → ℕ → List Slot → List GrantedPermit
 all_from has i [] = []
 all_from has i (s ∷ slots) = has (number_in i s.last) s.out ++ all_from has (i + 1) slots
 
--- with one slot more
 all_more : (has : ℕ → SlotContent → List GrantedPermit) (i : ℕ) (slots : List Slot) (s : Slot) →
     all_from has i (slots ++ s ∷ []) ≡ all_from has i slots ++ has (number_in (i + length slots) s.last) s.out
 all_more has i [] s = append-nil (has (number_in i s.last) s.out) ∙ ap (λ n. has (number_in n s.last) s.out) (omega arith)
@@ -30,7 +29,6 @@ all_more has i (f ∷ slots) s =
     ∙ ap (λ n. all_from has (i + 1) slots ++ has (number_in n s.last) s.out) (omega arith))
     ∙ sym (append_assoc (has (number_in i f.last) f.out) (all_from has (i + 1) slots) (has (number_in (i + length (f ∷ slots)) s.last) s.out))
 
--- with the slot at a place more
 pub listed-more : (has : ℕ → SlotContent → List GrantedPermit) (slots : List Slot) (i : ℕ) → i < length slots →
     all_from has 0 (take (i + 1) slots) ≡ all_from has 0 (take i slots) ++ has (number_in i (get_or slots i unused).last) (get_or slots i unused).out
 listed-more has slots i low =
@@ -39,25 +37,23 @@ listed-more has slots i low =
     ∙ ap (λ n. all_from has 0 (take i slots) ++ has (number_in n (get_or slots i unused).last) (get_or slots i unused).out)
     (let long = length-take-le i slots (omega (arith, low)) in omega (arith, long)))
 
--- a number of another slot is another
 other_slot : (number i last : ℕ) → i < most_slots → i ≢ slot_of number → (number_in i last == number) ≡ false
 other_slot number i last small apart = elim (eqb_tells (number_in i last) number) [
   | inl e ↦ absurd (apart (sym (number_parts i last small).0 ∙ ap slot_of e.1))
   | inr d ↦ d.0
 ]
 
--- what a slot has under the number
+-- the permit of a slot under the number
 abbrev in_slot : (ℕ → SlotContent → List GrantedPermit) → ℕ → Slot → List GrantedPermit
 in_slot has number s = if s.last == generation_of number then has number s.out else []
 
--- how lists of what is out are made
+-- how lists of outstanding permits are made
 pub record Lists (has : ℕ → SlotContent → List GrantedPermit) : Type 0 where
   pub own : (number : ℕ) (out : SlotContent) → filter (is_numbered number) (has number out) ≡ has number out
   pub others : (number m : ℕ) (out : SlotContent) → (m == number) ≡ false → filter (is_numbered number) (has m out) ≡ []
   pub none : (number : ℕ) → has number Nothing ≡ []
 
 module _ (has : ℕ → SlotContent → List GrantedPermit) (lists : Lists has) where
-  -- past the number's slot there is nothing under it
   past : (number i : ℕ) (slots : List Slot) → slot_of number < i → i + length slots ≤ most_slots → filter (is_numbered number) (all_from has i slots) ≡ []
   past number i [] low few = refl
   past number i (s ∷ slots) low few =
@@ -67,7 +63,6 @@ module _ (has : ℕ → SlotContent → List GrantedPermit) (lists : Lists has) 
       (lists.others number (number_in i s.last) s.out (other_slot number i s.last small (λ same. omega (arith, same, low))))
       ∙ past number (i + 1) slots (omega (arith, low)) (omega (arith, few)))
 
-  -- at the number's slot
   here : (number i : ℕ) (s : Slot) → slot_of number ≡ i → i < most_slots → filter (is_numbered number) (has (number_in i s.last) s.out) ≡ in_slot has number s
   here number i s same small = elim (eqb_tells s.last (generation_of number)) [
     | inl e ↦ (let is : number_in i s.last ≡ number = (λ j. number_in (sym same j) (e.1 j)) ∙ whole number in
@@ -81,7 +76,6 @@ module _ (has : ℕ → SlotContent → List GrantedPermit) (lists : Lists has) 
       whole : (number : ℕ) → number_in (slot_of number) (generation_of number) ≡ number
       whole number = omega arith
 
-  -- from a place on there is what the number's slot has
   at : (number i k : ℕ) (slots : List Slot) → slot_of number ≡ i + k → i + length slots ≤ most_slots →
       filter (is_numbered number) (all_from has i slots) ≡ in_slot has number (get_or slots k unused)
   at number i k [] same few = elim (eqb_tells 0 (generation_of number)) [
@@ -101,7 +95,6 @@ module _ (has : ℕ → SlotContent → List GrantedPermit) (lists : Lists has) 
       (lists.others number (number_in i s.last) s.out (other_slot number i s.last small (λ is. omega (arith, is, same))))
       ∙ at number (i + 1) k slots (omega (arith, same)) (omega (arith, few)))
 
-  -- of all slots there is what is out under the number
   pub listed : (t : Table) → length t.slots ≤ most_slots → (number : ℕ) → filter (is_numbered number) (all_from has 0 t.slots) ≡ has number (out_under t number)
   listed t few number = at number 0 (slot_of number) t.slots (omega arith) (omega (arith, few)) ∙ by (last_in t (slot_of number) == generation_of number)
     where
@@ -109,7 +102,6 @@ module _ (has : ℕ → SlotContent → List GrantedPermit) (lists : Lists has) 
       by true = refl
       by false = sym (lists.none number)
 
--- the unspent ones are listed so
 lists_unspent : Lists unspent_in
 lists_unspent = record {
   own = λ number out. own number out;
@@ -127,7 +119,6 @@ lists_unspent = record {
     others number m (Unspent fetch) apart = rw apart refl
     others number m (Running fetch) apart = refl
 
--- and the running ones
 lists_running : Lists running_in
 lists_running = record {
   own = λ number out. own number out;
@@ -145,7 +136,6 @@ lists_running = record {
     others number m (Unspent fetch) apart = refl
     others number m (Running fetch) apart = rw apart refl
 
--- and those at each stage
 pub lists_at : (stage : PermitState) → Lists (listed_in stage)
 lists_at stages.Unspent = lists_unspent
 lists_at stages.Running = lists_running

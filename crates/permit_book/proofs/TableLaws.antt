@@ -1,5 +1,5 @@
 -- What a table keeps when one of its slots is written.
--- Cited by the proofs of `permits.rt`, `drafts.rt` and `ends.rt`.
+-- Used by the proofs of `permits.rt`, `drafts.rt` and `ends.rt`.
 use Rattle.std.proofs.Common.{subst, ◌≡◌, ◌≢◌, ℕ, ◌+◌, ◌*◌, ◌<◌, ◌≤◌, ◌==◌, ◌&&◌, Bool, true, false, cond, nat_lt, List, zero, suc, replicate, length, filter, count_by, get_or, set, inl, inr, refl, sym, ◌∙◌, true≢false, arith}
 use Rattle.std.proofs.lemmas.Bool.{lt-ltb, ltb-true}
 use Rattle.std.proofs.lemmas.Bool.Decides.{eqb_tells, leb_tells}
@@ -14,11 +14,9 @@ use Rattle.permit_book.specs.Table.{Table, unused, vacated, is_unspent, is_runni
 use Rattle.permit_book.specs.Next.{is_free_in}
 use Rattle.permit_book.specs.Kept.{IsKept, ShowsFree, Vacates}
 
--- a number is itself
 pub same_number : (n : ℕ) → (n == n) ≡ true
 same_number n = elim (eqb_tells n n) [ inl e ↦ e.0 | inr d ↦ absurd (d.1 refl) ]
 
--- nothing holds together with what does not
 and_false : (b : Bool) → (b && false) ≡ false
 and_false true = refl
 and_false false = refl
@@ -31,17 +29,14 @@ one_if passes = cond passes 1 0
 abbrev pub with_slot : Table → ℕ → Slot → Table
 with_slot t place slot = record { first_generation = t.first_generation; slots = set t.slots place slot }
 
--- a count of what passes a test, after one element was written
 pub count-set : {X : Type 0} (test : X → Bool) (xs : List X) (i : ℕ) (y d : X) → i < length xs →
     length (filter test (set xs i y)) + one_if (test (get_or xs i d)) ≡ length (filter test xs) + one_if (test y)
 count-set test xs i y d within =
     rw (length-filter test (set xs i y), length-filter test xs) (sum_by-set (λ x. one_if (test x)) xs i y d within)
 
--- a count of what passes a test is at most that of all
 pub count-bound : {X : Type 0} (test : X → Bool) (xs : List X) → length (filter test xs) ≤ length xs
 count-bound test xs = rw (length-filter test xs) (count_by-le-length test xs)
 
--- a slot in which something is out is one of the table's
 pub within_table : (t : Table) (place : ℕ) → is_nothing (slot_at t place).out ≡ false → place < length t.slots
 within_table t place some = elim (leb_tells (length t.slots) place) [
   | inl e ↦ (let past : slot_at t place ≡ unused = get_or_past t.slots place unused e.1 in
@@ -49,7 +44,6 @@ within_table t place some = elim (leb_tells (length t.slots) place) [
   | inr d ↦ d.1
 ]
 
--- where something is out under a number, its slot's last grant is the number's
 pub out_there : (t : Table) (number : ℕ) → is_nothing (out_under t number) ≡ false →
     (last_in t (slot_of number) ≡ generation_of number) × (out_under t number ≡ (slot_at t (slot_of number)).out)
     × (slot_of number < length t.slots)
@@ -62,12 +56,10 @@ out_there t number some = elim (eqb_tells (last_in t (slot_of number)) (generati
       let nothing : is_nothing (out_under t number) ≡ true = rw out refl in cc)
 ]
 
--- the table of such a number with something else out is that with one slot written
 pub with_out-there : (t : Table) (number : ℕ) (out : SlotContent) → last_in t (slot_of number) ≡ generation_of number →
     with_out t number out ≡ with_slot t (slot_of number) (record { last = last_in t (slot_of number); out = out })
 with_out-there t number out last = rw last refl
 
--- the free slots after one was written
 ShowsFree-set : (t : Table) (bits bits' : List ℕ) (place : ℕ) (slot : Slot) → ShowsFree bits t → place < length t.slots →
     ((j : ℕ) → j ≢ place → bit_of bits' j ≡ bit_of bits j) → bit_of bits' place ≡ one_if (is_free slot) →
     ShowsFree bits' (with_slot t place slot)
@@ -79,7 +71,6 @@ ShowsFree-set t bits bits' place slot shown within others here j = elim (eqb_tel
     is_within : nat_lt place (length t.slots) ≡ true
     is_within = lt-ltb place (length t.slots) within
 
--- what is kept, after one slot was written
 pub IsKept-set : (t : Table) (bits bits' : List ℕ) (unspent running unspent' running' place : ℕ) (slot : Slot) →
     IsKept t bits unspent running → place < length t.slots →
     ((j : ℕ) → j ≢ place → bit_of bits' j ≡ bit_of bits j) → bit_of bits' place ≡ one_if (is_free slot) → length bits' ≡ length bits →
@@ -107,18 +98,15 @@ IsKept-set t bits bits' unspent running unspent' running' place slot kept within
   ];
 }
 
--- each place of unused slots is one, and past them too
 pub unused_at : (n place : ℕ) → get_or (replicate n unused) place unused ≡ unused
 unused_at zero place = refl
 unused_at (suc n) zero = refl
 unused_at (suc n) (suc place) = unused_at n place
 
--- no unused slot passes a test that one fails
 pub none_pass : (test : Slot → Bool) → test unused ≡ false → (n : ℕ) → length (filter test (replicate n unused)) ≡ 0
 none_pass test fails zero = refl
 none_pass test fails (suc n) = rw fails (none_pass test fails n)
 
--- what is kept of a new table
 pub IsKept-new : (count first : ℕ) (bits : List ℕ) → count ≤ most_slots → 1 ≤ first → first ≤ last_generation →
     AreFirst bits count → count ≤ 64 * length bits →
     IsKept (record { first_generation = first; slots = replicate count unused }) bits 0 0
@@ -135,7 +123,6 @@ IsKept-new count first bits few some last bits_are room = record {
     and_true true = refl
     and_true false = refl
 
--- a free slot is one of the table's, and nothing is out in it
 pub free_there : (t : Table) (place : ℕ) → is_free_in t place ≡ true →
     (place < length t.slots) × (is_nothing (slot_at t place).out ≡ true)
 free_there t place free = by (nat_lt place (length t.slots)) (is_nothing (slot_at t place).out) refl refl
@@ -146,31 +133,26 @@ free_there t place free = by (nat_lt place (length t.slots)) (is_nothing (slot_a
     by false b inside nothing = absurd (true≢false (sym free ∙ rw inside refl))
     by true false inside nothing = absurd (true≢false (sym free ∙ rw (inside, nothing) refl))
 
--- where nothing is out, no unspent permit is
 pub nothing_unspent : (out : SlotContent) → is_nothing out ≡ true → is_unspent_out out ≡ false
 nothing_unspent Nothing nothing = refl
 nothing_unspent (Unspent fetch) nothing = absurd (true≢false (sym nothing))
 nothing_unspent (Running fetch) nothing = absurd (true≢false (sym nothing))
 
--- where nothing is out, no running fetch is
 pub nothing_running : (out : SlotContent) → is_nothing out ≡ true → is_running_out out ≡ false
 nothing_running Nothing nothing = refl
 nothing_running (Unspent fetch) nothing = absurd (true≢false (sym nothing))
 nothing_running (Running fetch) nothing = absurd (true≢false (sym nothing))
 
--- where an unspent permit is out, something is
 pub unspent_something : (out : SlotContent) → is_unspent_out out ≡ true → (is_nothing out ≡ false) × (is_running_out out ≡ false)
 unspent_something (Unspent fetch) unspent = (refl, refl)
 unspent_something (Running fetch) unspent = absurd (true≢false (sym unspent))
 unspent_something Nothing unspent = absurd (true≢false (sym unspent))
 
--- where a running fetch is out, something is
 pub running_something : (out : SlotContent) → is_running_out out ≡ true → (is_nothing out ≡ false) × (is_unspent_out out ≡ false)
 running_something (Running fetch) running = (refl, refl)
 running_something (Unspent fetch) running = absurd (true≢false (sym running))
 running_something Nothing running = absurd (true≢false (sym running))
 
--- what is kept, after what was out in a slot has ended
 pub IsKept-vacated : (t : Table) (bits bits' : List ℕ) (slots : List Slot) (unspent running unspent' running' place : ℕ) →
     IsKept t bits unspent running → is_nothing (slot_at t place).out ≡ false → Vacates t.slots bits place slots bits' →
     unspent' + one_if (is_unspent_out (slot_at t place).out) ≡ unspent →
@@ -193,14 +175,12 @@ IsKept-vacated t bits bits' slots unspent running unspent' running' place kept s
     here : bit_of bits' place ≡ one_if (is_free (vacated (slot_at t place)))
     here = now_free (is_free (vacated (slot_at t place))) refl
 
--- a count that a slot is part of is not 0
 pub counts_one : (t : Table) (test : Slot → Bool) (place : ℕ) → place < length t.slots → test (slot_at t place) ≡ true →
     1 ≤ length (filter test t.slots)
 counts_one t test place within passes =
     let part : one_if (test (slot_at t place)) ≤ count_by test t.slots = get_or-le-sum_by (λ slot. one_if (test slot)) t.slots place unused within in
     rw (length-filter test t.slots) (rw passes at part)
 
--- an unspent permit is what its slot holds
 pub unspent_there : (t : Table) (number : ℕ) → is_unspent t number ≡ true →
     (is_unspent_out (slot_at t (slot_of number)).out ≡ true) × (is_running_out (slot_at t (slot_of number)).out ≡ false)
     × (is_nothing (slot_at t (slot_of number)).out ≡ false) × (slot_of number < length t.slots)
@@ -209,7 +189,6 @@ unspent_there t number unspent =
     let there = out_there t number kinds.0 in
     (rw (← there.1) unspent, rw (← there.1) kinds.1, rw (← there.1) kinds.0, there.2)
 
--- a running fetch is what its slot holds
 pub running_there : (t : Table) (number : ℕ) → is_running t number ≡ true →
     (is_unspent_out (slot_at t (slot_of number)).out ≡ false) × (is_running_out (slot_at t (slot_of number)).out ≡ true)
     × (is_nothing (slot_at t (slot_of number)).out ≡ false) × (slot_of number < length t.slots)
@@ -218,14 +197,12 @@ running_there t number running =
     let there = out_there t number kinds.0 in
     (rw (← there.1) kinds.1, rw (← there.1) running, rw (← there.1) kinds.0, there.2)
 
--- an unspent permit that is started runs
 started_out : (out : SlotContent) → is_unspent_out out ≡ true →
     (is_unspent_out (decided true out) ≡ false) × (is_running_out (decided true out) ≡ true) × (is_nothing (decided true out) ≡ false)
 started_out (Unspent fetch) unspent = (refl, refl, refl)
 started_out (Running fetch) unspent = absurd (true≢false (sym unspent))
 started_out Nothing unspent = absurd (true≢false (sym unspent))
 
--- what is kept, after an unspent permit was started
 pub IsKept-started : (t : Table) (bits : List ℕ) (unspent running unspent' running' place : ℕ) (slot : Slot) →
     IsKept t bits unspent running → is_unspent_out (slot_at t place).out ≡ true → slot ≡ slot_at t place →
     unspent' + 1 ≡ unspent → running' ≡ running + 1 →
@@ -238,7 +215,6 @@ IsKept-started t bits unspent running unspent' running' place slot kept is same 
     rw same (IsKept-set t bits bits unspent running unspent' running' place started kept (within_table t place was.0) (λ j apart. refl) here refl
     (rw (is, now.0) (omega arith)) (rw (was.1, now.1) (omega arith)) (kept.lasts place))
 
--- what is kept, after a slot in which nothing is out has a last grant that is no lower
 pub IsKept-noted : (t : Table) (bits bits' : List ℕ) (unspent running place last : ℕ) → IsKept t bits unspent running → place < length t.slots →
     is_nothing (slot_at t place).out ≡ true → last ≤ last_generation →
     ((j : ℕ) → j ≢ place → bit_of bits' j ≡ bit_of bits j) → bit_of bits' place ≡ one_if (nat_lt last last_generation) → length bits' ≡ length bits →
@@ -247,7 +223,6 @@ IsKept-noted t bits bits' unspent running place last kept within nothing low oth
     IsKept-set t bits bits' unspent running unspent running place (record { last = last; out = (slot_at t place).out }) kept within others
     (rw nothing here) room refl refl low
 
--- a slot in which nothing is out is free before its last generation
 pub free_before : (t : Table) (bits : List ℕ) (unspent running place last : ℕ) → IsKept t bits unspent running → place < length t.slots →
     is_nothing (slot_at t place).out ≡ true → last_in t place ≤ last → last < last_generation → bit_of bits place ≡ one_if (nat_lt last last_generation)
 free_before t bits unspent running place last kept within nothing more low =

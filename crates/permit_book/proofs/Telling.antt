@@ -1,5 +1,5 @@
--- How each change of a table changes the lists that it tells.
--- Cited by `changes_tell` of `laws.rt`, and by crates above.
+-- How each change of a table changes the lists that agree with it.
+-- Used by `changes_tell` of `laws.rt`, and by crates above.
 use Rattle.std.proofs.Common.{◌≡◌, ◌≢◌, ℕ, ◌+◌, ◌<◌, ◌≤◌, ◌==◌, Bool, true, false, max, if◌then◌else◌, List, [], ◌∷◌, ◌++◌, replicate, length, filter, set, inl, inr, refl, sym, ap, subst, ◌∙◌, true≢false, arith}
 use Rattle.std.proofs.lemmas.Bool.Decides.{eqb_tells}
 use Rattle.std.proofs.lemmas.List.{get_or-set_same, get_or-set_other, length-set}
@@ -16,28 +16,23 @@ use Rattle.permit_book.specs.Laws.{NewTells, GrantTells, StartTells, ReturnTells
 use Rattle.permit_book.proofs.TableLaws.{one_if, same_number, count-set, free_there, out_there, unspent_something, running_something, unused_at, none_pass}
 use Rattle.permit_book.proofs.Filters.{count_for-added, count_for-without, numbered-added, numbered-gone, numbered-new, numbered-without}
 
--- two numbers of a slot are of different generations
 other_generation : (m n : ℕ) → slot_of m ≡ slot_of n → m ≢ n → generation_of n ≢ generation_of m
 other_generation m n slot apart same = apart (omega arith)
 
--- a slot of the grant's place, after something else is out under one number
 slot_here : (t : Table) (n : ℕ) (out : SlotContent) → slot_of n < length t.slots →
     slot_at (with_out t n out) (slot_of n) ≡ record { last = generation_of n; out = out }
 slot_here t n out within = get_or-set_same t.slots (slot_of n) (record { last = generation_of n; out = out }) unused within
 
--- the other slots
 slot_elsewhere : (t : Table) (n : ℕ) (out : SlotContent) (place : ℕ) → place ≢ slot_of n → slot_at (with_out t n out) place ≡ slot_at t place
 slot_elsewhere t n out place apart = get_or-set_other t.slots (slot_of n) place (record { last = generation_of n; out = out }) unused apart
 
--- what a slot has out under a number
+-- what a slot has outstanding under a number
 abbrev held_under : ℕ → Slot → SlotContent
 held_under m slot = if slot.last == generation_of m then slot.out else Nothing
 
--- two numbers that are not equal
 pub unequal : {a b : ℕ} → a ≢ b → (a == b) ≡ false
 unequal {a} {b} apart = elim (eqb_tells a b) [ inl e ↦ absurd (apart e.1) | inr d ↦ d.0 ]
 
--- what is out under each number, after something else is out under one
 out_under-with_out : (t : Table) (n : ℕ) (out : SlotContent) → slot_of n < length t.slots →
     ((m : ℕ) → slot_of m ≡ slot_of n → m ≢ n → out_under t m ≡ Nothing) → (m : ℕ) →
     out_under (with_out t n out) m ≡ (if m == n then out else out_under t m)
@@ -57,34 +52,30 @@ out_under-with_out t n out within others m = elim (eqb_tells m n) [
         ap (held_under m) (ap (slot_at (with_out t n out)) same ∙ slot_here t n out within)
         ∙ rw (unequal (other_generation m n same apart)) refl
 
--- what is nothing
 pub nothing_is : (out : SlotContent) → is_nothing out ≡ true → out ≡ Nothing
 nothing_is Nothing nothing = refl
 nothing_is (Unspent fetch) nothing = absurd (true≢false (sym nothing))
 nothing_is (Running fetch) nothing = absurd (true≢false (sym nothing))
 
--- nothing is out under the other numbers of a slot in which nothing is
 pub nothing_under : (t : Table) (m : ℕ) → is_nothing (slot_at t (slot_of m)).out ≡ true → out_under t m ≡ Nothing
 nothing_under t m nothing = elim (eqb_tells (last_in t (slot_of m)) (generation_of m)) [
   | inl e ↦ rw e.0 (nothing_is (slot_at t (slot_of m)).out nothing)
   | inr d ↦ rw d.0 refl
 ]
 
--- nor under those of one whose last grant is another number's
 apart_under : (t : Table) (n m : ℕ) → last_in t (slot_of n) ≡ generation_of n → slot_of m ≡ slot_of n → m ≢ n → out_under t m ≡ Nothing
 apart_under t n m last same apart = elim (eqb_tells (last_in t (slot_of m)) (generation_of m)) [
   | inl e ↦ absurd (other_generation m n same apart (sym last ∙ (ap (last_in t) (sym same) ∙ e.1)))
   | inr d ↦ rw d.0 refl
 ]
 
--- a list of permits after one number's part of it was changed: of that number there is this part,
--- the others stay, and of each test the count goes from the one to the other
+-- a list of permits after one number's part changed: that number has this part, the others stay, and each test's
+-- count changes by it
 pub record Changes (old new : List GrantedPermit) (number : ℕ) (part : List GrantedPermit) (less more : (Fetch → Bool) → ℕ) : Type 0 where
   pub own : filter (is_numbered number) new ≡ part
   pub others : (m : ℕ) → m ≢ number → filter (is_numbered m) new ≡ filter (is_numbered m) old
   pub counted : (test : Fetch → Bool) → count_for test new + less test ≡ count_for test old + more test
 
--- what a table tells, after something else is out under one number
 pub step : (t : Table) (unspent running unspent' running' : List GrantedPermit) (greatest greatest' : ℕ → ℕ) (n : ℕ) (old out : SlotContent) →
     TellsPermits t unspent running greatest → slot_of n < length t.slots → (slot_at t (slot_of n)).out ≡ old →
     ((m : ℕ) → slot_of m ≡ slot_of n → m ≢ n → out_under t m ≡ Nothing) →
@@ -126,7 +117,6 @@ step t unspent running unspent' running' greatest greatest' n old out tells with
     written : Slot
     written = record { last = generation_of n; out = out }
 
--- one permit more
 Changes-added : (permits : List GrantedPermit) (n : ℕ) (fetch : Fetch) → filter (is_numbered n) permits ≡ [] →
     Changes permits (permits ++ permit_for n fetch ∷ []) n (permit_for n fetch ∷ []) (λ _. 0) (λ test. one_if (test fetch))
 Changes-added permits n fetch none = record {
@@ -135,7 +125,6 @@ Changes-added permits n fetch none = record {
   counted = λ test. let more = count_for-added test permits (permit_for n fetch) in omega arith;
 }
 
--- one permit less
 Changes-without : (permits : List GrantedPermit) (n : ℕ) (fetch : Fetch) → filter (is_numbered n) permits ≡ permit_for n fetch ∷ [] →
     Changes permits (without n permits) n [] (λ test. one_if (test fetch)) (λ _. 0)
 Changes-without permits n fetch is = record {
@@ -144,28 +133,23 @@ Changes-without permits n fetch is = record {
   counted = λ test. let less = count_for-without test permits (permit_for n fetch) is in omega arith;
 }
 
--- the same permits
 pub Changes-nothing : (permits : List GrantedPermit) (n : ℕ) (part : List GrantedPermit) → filter (is_numbered n) permits ≡ part →
     Changes permits permits n part (λ _. 0) (λ _. 0)
 Changes-nothing permits n part is = record { own = is; others = λ m apart. refl; counted = λ test. refl }
 
--- an unspent permit has a fetch
 unspent_fetch : (out : SlotContent) → is_unspent_out out ≡ true → (fetch : Fetch) × (out ≡ Unspent fetch)
 unspent_fetch (Unspent fetch) is = (fetch, refl)
 unspent_fetch (Running fetch) is = absurd (true≢false (sym is))
 unspent_fetch Nothing is = absurd (true≢false (sym is))
 
--- a running one has a fetch
 running_fetch : (out : SlotContent) → is_running_out out ≡ true → (fetch : Fetch) × (out ≡ Running fetch)
 running_fetch (Running fetch) is = (fetch, refl)
 running_fetch (Unspent fetch) is = absurd (true≢false (sym is))
 running_fetch Nothing is = absurd (true≢false (sym is))
 
--- what the new greatest generations are, after a grant
 granted_far : (n : ℕ) (greatest : ℕ → ℕ) (slot : ℕ) → slot ≢ slot_of n → max (granted_in n slot) (greatest slot) ≡ greatest slot
 granted_far n greatest slot apart = rw (unequal (λ same. apart (sym same))) (omega arith)
 
--- and at the slot of the grant
 granted_near : (n first : ℕ) (greatest : ℕ → ℕ) → generation_of n ≡ generation_after first (greatest (slot_of n)) →
     max (granted_in n (slot_of n)) (greatest (slot_of n)) ≡ generation_of n
 granted_near n first greatest next =
@@ -175,7 +159,6 @@ granted_near n first greatest next =
     ] in
     rw (same_number (slot_of n)) (omega arith)
 
--- a grant
 pub granted : GrantTells
 granted t unspent running greatest n fetch tells next =
     let there = free_there t (slot_of n) next.free in
@@ -188,7 +171,6 @@ granted t unspent running greatest n fetch tells next =
     (λ slot inside apart. granted_far n greatest slot apart)
     (granted_near n t.first_generation greatest (next.generation ∙ ap (generation_after t.first_generation) (tells.last (slot_of n) there.0)))
 
--- an allowed start
 pub started : StartTells
 started t unspent running greatest n tells is =
     let there = out_there t n (unspent_something (out_under t n) is).0 in
@@ -200,7 +182,6 @@ started t unspent running greatest n tells is =
     (Changes-without unspent n fetch.0 listed) (Changes-added running n fetch.0 unlisted)
     (λ slot inside apart. refl) (sym (tells.last (slot_of n) there.2) ∙ there.0))
 
--- a denied start, and a return
 pub returned : ReturnTells
 returned t unspent running greatest n tells is =
     let there = out_there t n (unspent_something (out_under t n) is).0 in
@@ -212,7 +193,6 @@ returned t unspent running greatest n tells is =
     (Changes-without unspent n fetch.0 listed) (Changes-nothing running n [] unlisted)
     (λ slot inside apart. refl) (sym (tells.last (slot_of n) there.2) ∙ there.0)
 
--- a finish
 pub finished : FinishTells
 finished t unspent running greatest n tells is =
     let there = out_there t n (running_something (out_under t n) is).0 in
@@ -224,7 +204,6 @@ finished t unspent running greatest n tells is =
     (Changes-nothing unspent n [] unlisted) (Changes-without running n fetch.0 listed)
     (λ slot inside apart. refl) (sym (tells.last (slot_of n) there.2) ∙ there.0)
 
--- a new table
 pub new : NewTells
 new first slots within = record {
   within = within;

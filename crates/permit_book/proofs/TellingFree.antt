@@ -1,5 +1,5 @@
--- What is read of a table and of the lists that it tells, the free slots and the next number among it.
--- Cited by `next_is_alike` and `readers_are_alike` of `laws.rt`, and by crates above.
+-- A table and its lists are read alike, free slots and the next number included.
+-- Used by `next_is_alike` and `readers_are_alike` of `laws.rt`, and by crates above.
 use Rattle.std.proofs.Common.{◌≡◌, ℕ, ◌+◌, ◌<◌, ◌==◌, ◌&&◌, ◌||◌, Bool, true, false, cond, not, nat_lt, List, [], ◌∷◌, length, filter, inl, inr, refl, sym, ap, subst, ◌∙◌, true≢false, arith}
 use Rattle.std.specs.List.{list_any}
 use Rattle.std.specs.Str.{bytes_eq}
@@ -19,60 +19,50 @@ use Rattle.permit_book.specs.Laws.{GreatestAlike, NextAlike, NoneFreeAlike, Tell
 use Rattle.permit_book.proofs.TableLaws.{one_if, free_there, same_number, running_there, unspent_there}
 use Rattle.permit_book.proofs.Filters.{filter-all, found, list_any-both, list_any-filter, list_any-more}
 
--- a number is of its slot and its generation
 pub number_parts : (slot generation : ℕ) → slot < most_slots →
     (slot_of (number_in slot generation) ≡ slot) × (generation_of (number_in slot generation) ≡ generation)
 number_parts slot generation small = (omega arith, omega arith)
 
--- what is out in a slot is out under its last number
 pub own_number : (t : Table) (slot : ℕ) → slot < most_slots → out_under t (number_in slot (last_in t slot)) ≡ (slot_at t slot).out
 own_number t slot small =
     let parts = number_parts slot (last_in t slot) small in
     rw (parts.0, parts.1, same_number (last_in t slot)) refl
 
--- a number is listed as unspent where its permit is
 listed_unspent : (number : ℕ) (out : SlotContent) → list_any (λ _. true) (unspent_in number out) ≡ is_unspent_out out
 listed_unspent number (Unspent fetch) = refl
 listed_unspent number (Running fetch) = refl
 listed_unspent number Nothing = refl
 
--- and as running where its fetch is
 listed_running : (number : ℕ) (out : SlotContent) → list_any (λ _. true) (running_in number out) ≡ is_running_out out
 listed_running number (Unspent fetch) = refl
 listed_running number (Running fetch) = refl
 listed_running number Nothing = refl
 
--- the unspent numbers
 pub unspent_numbers : (t : Table) (unspent running : List GrantedPermit) (greatest : ℕ → ℕ) → TellsPermits t unspent running greatest →
     (number : ℕ) → is_unspent t number ≡ is_listed unspent number
 unspent_numbers t unspent running greatest tells number =
     sym (list_any-filter (is_numbered number) unspent ∙ (ap (list_any (λ _. true)) (tells.unspent_under number) ∙ listed_unspent number (out_under t number)))
 
--- the running numbers
 pub running_numbers : (t : Table) (unspent running : List GrantedPermit) (greatest : ℕ → ℕ) → TellsPermits t unspent running greatest →
     (number : ℕ) → is_running t number ≡ is_listed running number
 running_numbers t unspent running greatest tells number =
     sym (list_any-filter (is_numbered number) running ∙ (ap (list_any (λ _. true)) (tells.running_under number) ∙ listed_running number (out_under t number)))
 
--- a permit of the slot's own number is one of the slot
 numbered_slot : (slot number : ℕ) → slot_of number ≡ slot → (p : GrantedPermit) → is_numbered number p ≡ true → (slot_of p.number == slot) ≡ true
 numbered_slot slot number of p is = elim (eqb_tells p.number number) [
   | inl e ↦ rw (e.1, of) (same_number slot)
   | inr d ↦ absurd (true≢false (sym is ∙ d.0))
 ]
 
--- two tests that hold alike are the same
 alike : (a b : Bool) → (a ≡ true → b ≡ true) → (b ≡ true → a ≡ true) → a ≡ b
 alike true true there back = refl
 alike false false there back = refl
 alike true false there back = sym (there refl)
 alike false true there back = back refl
 
--- an equal number
 equal : (a b : ℕ) → (a == b) ≡ true → a ≡ b
 equal a b is = elim (eqb_tells a b) [ inl e ↦ e.1 | inr d ↦ absurd (true≢false (sym is ∙ d.0)) ]
 
--- an unspent permit of the slot is listed where one is out in it
 holds_unspent : (t : Table) (unspent running : List GrantedPermit) (greatest : ℕ → ℕ) → TellsPermits t unspent running greatest →
     (slot : ℕ) → slot < most_slots → holds_slot unspent slot ≡ is_unspent_out (slot_at t slot).out
 holds_unspent t unspent running greatest tells slot small = alike _ _ there back
@@ -91,7 +81,6 @@ holds_unspent t unspent running greatest tells slot small = alike _ _ there back
         (numbered_slot slot number (number_parts slot (last_in t slot) small).0)
         (sym (unspent_numbers t unspent running greatest tells number) ∙ is)
 
--- a running one is listed where one is out in it
 holds_running : (t : Table) (unspent running : List GrantedPermit) (greatest : ℕ → ℕ) → TellsPermits t unspent running greatest →
     (slot : ℕ) → slot < most_slots → holds_slot running slot ≡ is_running_out (slot_at t slot).out
 holds_running t unspent running greatest tells slot small = alike _ _ there back
@@ -110,7 +99,6 @@ holds_running t unspent running greatest tells slot small = alike _ _ there back
         (numbered_slot slot number (number_parts slot (last_in t slot) small).0)
         (sym (running_numbers t unspent running greatest tells number) ∙ is)
 
--- a slot of the table is free where it is by the lists
 pub free_alike : (t : Table) (unspent running : List GrantedPermit) (greatest : ℕ → ℕ) → TellsPermits t unspent running greatest →
     (slot : ℕ) → slot < length t.slots → is_free_in t slot ≡ is_free_by unspent running greatest slot
 free_alike t unspent running greatest tells slot inside =
@@ -129,7 +117,6 @@ free_alike t unspent running greatest tells slot inside =
     by (Unspent fetch) = refl
     by (Running fetch) = refl
 
--- the next number
 pub next_alike : NextAlike
 next_alike t unspent running greatest number tells = (there, back)
   where
@@ -153,7 +140,6 @@ next_alike t unspent running greatest number tells = (there, back)
       generation = next.generation ∙ ap (generation_after t.first_generation) (sym (tells.last (slot_of number) next.in_range));
     }
 
--- no free slot
 pub none_free_alike : NoneFreeAlike
 none_free_alike t unspent running greatest tells = (there, back)
   where
@@ -166,11 +152,9 @@ none_free_alike t unspent running greatest tells = (there, back)
       | inr d ↦ (free_alike t unspent running greatest tells slot d.1 ∙ none slot d.1)
     ]
 
--- a filter by tests that are the same
 filter-same : {X : Type 0} (p q : X → Bool) (xs : List X) → ((x : X) → p x ≡ q x) → filter p xs ≡ filter q xs
 filter-same p q xs same = ap (λ test. filter test xs) (λ i x. same x i)
 
--- a count of what passes a test, from the first element on
 count-cons : {X : Type 0} (test : X → Bool) (x : X) (xs : List X) →
     length (filter test (x ∷ xs)) ≡ one_if (test x) + length (filter test xs)
 count-cons test x xs = by (test x)
@@ -179,7 +163,6 @@ count-cons test x xs = by (test x)
     by true = omega arith
     by false = omega arith
 
--- what passes one test passes one of two others, and not both
 count-parts : {X : Type 0} (all first second : X → Bool) → ((x : X) → one_if (all x) ≡ one_if (first x) + one_if (second x)) →
     (xs : List X) → length (filter all xs) ≡ length (filter first xs) + length (filter second xs)
 count-parts all first second parts [] = refl
@@ -188,7 +171,6 @@ count-parts all first second parts (x ∷ xs) =
     let here = parts x in
     omega (arith, count-cons all x xs, count-cons first x xs, count-cons second x xs)
 
--- what is out for an authority is unspent or running
 held_part : (authority : List ℕ) (out : SlotContent) → one_if (is_out_for authority out)
     ≡ one_if (is_unspent_for (λ fetch. bytes_eq (authority_of fetch.url) authority) out)
     + one_if (is_running_for (λ fetch. bytes_eq (authority_of fetch.url) authority) out)
@@ -196,19 +178,16 @@ held_part authority (Unspent fetch) = omega arith
 held_part authority (Running fetch) = omega arith
 held_part authority Nothing = refl
 
--- any unspent permit passes a test that all pass
 any_unspent : (out : SlotContent) → is_unspent_out out ≡ is_unspent_for (λ _. true) out
 any_unspent (Unspent fetch) = refl
 any_unspent (Running fetch) = refl
 any_unspent Nothing = refl
 
--- and so does any running fetch
 any_running : (out : SlotContent) → is_running_out out ≡ is_running_for (λ _. true) out
 any_running (Unspent fetch) = refl
 any_running (Running fetch) = refl
 any_running Nothing = refl
 
--- all that is read
 pub reads_alike : TellingReadsAlike
 reads_alike t unspent running greatest tells = record {
   unspent_numbers = unspent_numbers t unspent running greatest tells;
@@ -238,7 +217,6 @@ reads_alike t unspent running greatest tells = record {
     one number token url (Running fetch) = refl
     one number token url Nothing = refl
 
--- greatest generations that are the same
 pub greatest_alike : GreatestAlike
 greatest_alike t unspent running greatest others tells same = record {
   within = tells.within;

@@ -1,25 +1,25 @@
--- Sets of numbers as the bits of words of 64, and how a word of bits sums up words below it.
--- The free slots of the table are kept so (`free_slots.rt`).
+-- Sets of numbers as bits of 64-bit words, and words of bits that summarize other words.
+-- Used for a table's free slots (`free_slots.rt`).
 use Rattle.std.specs.Prelude.{◌≡◌, ◌≢◌, ℕ, ◌/◌, ◌%◌, ◌<◌, ◌==◌, ◌&&◌, nat_lt, List, if◌then◌else◌, slice_index}
 use Rattle.std.specs.Int.{bit_at}
 
--- bit i of the words, counted from the lowest of the first word: 1 where it is set, else 0
+-- bit i, from the lowest of the first word: 1 if set, else 0
 abbrev pub bit_of : List ℕ → ℕ → ℕ
 bit_of words i = bit_at (slice_index words (i / 64)) (i % 64)
 
--- bit i is now this one, and the other bits are as they were
+-- only bit i may have changed, to this one
 abbrev pub SetsBit : List ℕ → ℕ → ℕ → List ℕ → Type 0
 SetsBit old i bit new = (j : ℕ) → bit_of new j ≡ (if j == i then bit else bit_of old j)
 
--- the words at other places are as they were
+-- the words at other places are unchanged
 abbrev pub KeepsOthers : List ℕ → ℕ → List ℕ → Type 0
 KeepsOthers old place new = (k : ℕ) → k ≢ place → slice_index new k ≡ slice_index old k
 
--- a word without bits at this place has none still
+-- an empty word at this place stays empty
 abbrev pub KeepsEmpty : List ℕ → ℕ → List ℕ → Type 0
 KeepsEmpty old place new = slice_index old place ≡ 0 → slice_index new place ≡ 0
 
--- the bits that are set are the first ones, this many
+-- exactly the first bits, this many, are set
 abbrev pub AreFirst : List ℕ → ℕ → Type 0
 AreFirst words count = (j : ℕ) → bit_of words j ≡ (if nat_lt j count then 1 else 0)
 
@@ -27,16 +27,16 @@ AreFirst words count = (j : ℕ) → bit_of words j ≡ (if nat_lt j count then 
 abbrev pub IsClear : List ℕ → Type 0
 IsClear words = (j : ℕ) → bit_of words j ≡ 0
 
--- i is the lowest bit that is set
+-- i is the lowest set bit
 pub record IsLowestBit (words : List ℕ) (i : ℕ) : Type 0 where
   pub set : bit_of words i ≡ 1
   pub lowest : (j : ℕ) → j < i → bit_of words j ≡ 0
 
--- bit j of the upper words is set exactly where word j of the lower ones has a bit set
+-- upper bit j is set exactly if lower word j is not 0
 abbrev pub Summarizes : List ℕ → List ℕ → Type 0
 Summarizes upper lower = (j : ℕ) → bit_of upper j ≡ (if slice_index lower j == 0 then 0 else 1)
 
--- the bit for the lower word at this place is cleared where that word has no bit, and no other
+-- only the bit for the lower word at this place is cleared, if that word is 0
 abbrev pub SumsUp : List ℕ → List ℕ → ℕ → List ℕ → Type 0
 SumsUp old lower place new =
     (j : ℕ) → bit_of new j ≡ (if j == place && slice_index lower place == 0 then 0 else bit_of old j)

@@ -1,4 +1,4 @@
--- What is true of every table: its limits, and that the free slots and the counts are those of its slots.
+-- The invariant of tables: limits, and free slots and counts that match the slots.
 -- The invariant of `permits.rt`.
 use Rattle.std.specs.Prelude.{◌≡◌, ℕ, ◌*◌, ◌≤◌, ◌==◌, ◌&&◌, List, if◌then◌else◌, length, slice_index_or, slice_set}
 use Rattle.permit_book.specs.declared.out.Slot.{Slot}
@@ -12,11 +12,11 @@ use Rattle.permit_book.specs.Next.{is_free_in}
 abbrev pub table_of : Inside → Table
 table_of p = record { first_generation = p.first_generation; slots = p.slots.items }
 
--- the bits that are set are those of the free slots
+-- the set bits are those of the free slots
 abbrev pub ShowsFree : List ℕ → Table → Type 0
 ShowsFree bits t = (slot : ℕ) → bit_of bits slot ≡ (if is_free_in t slot then 1 else 0)
 
--- the slot of this place has nothing out any more, and is among the free ones unless it is retired
+-- the slot at this place is idle now, and free unless it is retired
 pub record Vacates (old : List Slot) (bits : List ℕ) (place : ℕ) (new : List Slot) (bits' : List ℕ) : Type 0 where
   pub slots : new ≡ slice_set old place (vacated (slice_index_or old place unused))
   pub free : (slot : ℕ) → bit_of bits' slot ≡
@@ -29,7 +29,7 @@ pub record IsWithin (t : Table) : Type 0 where
   pub generations : t.first_generation ≤ last_generation
   pub slots : length t.slots ≤ most_slots
 
--- the free slots and the counts are those of the table, and no grant is of a generation above the last
+-- the free slots and the counts are the table's, and no generation is above the last
 pub record IsKept (t : Table) (bits : List ℕ) (unspent running : ℕ) : Type 0 where
   pub within : IsWithin t
   pub free : ShowsFree bits t
@@ -38,6 +38,6 @@ pub record IsKept (t : Table) (bits : List ℕ) (unspent running : ℕ) : Type 0
   pub running_is : running ≡ running_count t
   pub lasts : (slot : ℕ) → last_in t slot ≤ last_generation
 
--- what is true of every table of permits
+-- the invariant of a table of permits
 abbrev pub IsSound : Inside → Type 0
 IsSound p = IsKept (table_of p) p.free p.unspent p.running

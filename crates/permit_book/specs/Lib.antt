@@ -1,5 +1,5 @@
--- What the contracts of the table of permits cite.
--- Each file is about one of numbers, the table, what is out, and the lists of it.
+-- Definitions for the contracts of the table of permits.
+-- Files: numbers, the table, what is outstanding, and its lists.
 pub mod Numbers
 pub mod Bits
 pub mod FreeSlots

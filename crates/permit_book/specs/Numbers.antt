@@ -1,8 +1,8 @@
 -- The numbers of permits and their limits.
--- Cited by the contracts of `PermitNo`, and by the definition of a legal history.
+-- Used by `PermitNo`, and by the definition of a legal history.
 use Rattle.std.specs.Prelude.{ℕ, ◌+◌, ◌*◌, ◌/◌, ◌%◌}
 
--- the most slots that a table has
+-- the most slots of a table
 abbrev pub most_slots : ℕ
 most_slots = 65536
 
@@ -10,7 +10,7 @@ most_slots = 65536
 abbrev pub last_generation : ℕ
 last_generation = 281474976710655
 
--- how many numbers a generation has, one for each slot that there may be
+-- the numbers of a generation, one for each possible slot
 abbrev pub numbers_of_generation : ℕ
 numbers_of_generation = 65536
 

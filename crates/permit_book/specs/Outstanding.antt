@@ -1,6 +1,6 @@
--- What is out by the lists of a history: its unspent permits, its running ones, and the greatest
--- generation that was granted in each slot; and a table that says the same.
--- Cited by the contracts of `Permits`, and by those of the book.
+-- What is outstanding by a history's lists: its unspent and running permits, and each slot's greatest generation; and
+-- a table that agrees with them.
+-- Used by `Permits`, and by the contracts of the book.
 use Rattle.std.specs.Prelude.{◌≡◌, ℕ, ◌<◌, ◌==◌, Bool, true, false, not, ◌&&◌, ◌||◌, nat_lt, List, [], ◌∷◌, if◌then◌else◌, length, filter}
 use Rattle.std.specs.List.{list_any}
 use Rattle.std.specs.Str.{bytes_eq}
@@ -20,7 +20,7 @@ use Rattle.permit_book.specs.Kept.{IsWithin}
 abbrev pub is_numbered : ℕ → GrantedPermit → Bool
 is_numbered number p = p.number == number
 
--- the fetch that the permit is for
+-- the permit's fetch
 abbrev pub fetch_of : GrantedPermit → Fetch
 fetch_of p = record { token = p.token; url = p.url }
 
@@ -28,54 +28,54 @@ fetch_of p = record { token = p.token; url = p.url }
 abbrev pub permit_for : ℕ → Fetch → GrantedPermit
 permit_for number fetch = record { number = number; token = fetch.token; url = fetch.url }
 
--- the permit of the number, where what is out is unspent
+-- the number's permit, if unspent
 abbrev pub unspent_in : ℕ → SlotContent → List GrantedPermit
 unspent_in number (Unspent fetch) = permit_for number fetch ∷ []
 unspent_in number _ = []
 
--- the permit of the number, where what is out is running
+-- the number's permit, if running
 abbrev pub running_in : ℕ → SlotContent → List GrantedPermit
 running_in number (Running fetch) = permit_for number fetch ∷ []
 running_in number _ = []
 
--- the permit of the number, where what is out has come so far
+-- the number's permit, if at this stage
 abbrev pub listed_in : PermitState → ℕ → SlotContent → List GrantedPermit
 listed_in stages.Unspent = unspent_in
 listed_in stages.Running = running_in
 
--- the list has of each number the permits that there are
+-- the list has each number's permits
 abbrev pub ListsEach : (ℕ → List GrantedPermit) → List GrantedPermit → Type 0
 ListsEach permits_of permits = (number : ℕ) → filter (is_numbered number) permits ≡ permits_of number
 
--- the list has each permit that is out and has come so far, once
+-- the list has each permit at this stage once
 abbrev pub ListsAt : PermitState → Table → List GrantedPermit → Type 0
 ListsAt stage t = ListsEach (λ number. listed_in stage number (out_under t number))
 
--- the list has each unspent permit that is out, once
+-- the list has each unspent permit once
 abbrev pub ListsUnspent : Table → List GrantedPermit → Type 0
 ListsUnspent = ListsAt stages.Unspent
 
--- the list has each running one, once
+-- the list has each running permit once
 abbrev pub ListsRunning : Table → List GrantedPermit → Type 0
 ListsRunning = ListsAt stages.Running
 
--- what is out is an unspent permit whose fetch passes the test
+-- an unspent permit whose fetch passes the test
 abbrev pub is_unspent_for : (Fetch → Bool) → SlotContent → Bool
 is_unspent_for test (Unspent fetch) = test fetch
 is_unspent_for test _ = false
 
--- what is out is a running fetch that passes the test
+-- a running fetch that passes the test
 abbrev pub is_running_for : (Fetch → Bool) → SlotContent → Bool
 is_running_for test (Running fetch) = test fetch
 is_running_for test _ = false
 
--- how many of the permits are for a fetch that passes the test
+-- how many permits have a fetch that passes the test
 abbrev pub count_for : (Fetch → Bool) → List GrantedPermit → ℕ
 count_for test permits = length (filter (λ p. test (fetch_of p)) permits)
 
--- the table says what the lists say: of each number the unspent permits are none or the one that is
--- out, and so are the running ones; of each test, as many of each list pass as of the slots; and
--- each slot's last grant is of its greatest generation
+-- the table agrees with the lists: each number has its unspent permit in the one list, its running one in the other,
+-- or none; as many of each list pass each test as of the slots; and each slot's last grant is of its greatest
+-- generation
 pub record TellsPermits (t : Table) (unspent running : List GrantedPermit) (greatest : ℕ → ℕ) : Type 0 where
   pub within : IsWithin t
   pub last : (slot : ℕ) → slot < length t.slots → last_in t slot ≡ greatest slot
@@ -86,29 +86,29 @@ pub record TellsPermits (t : Table) (unspent running : List GrantedPermit) (grea
   pub running_for : (test : Fetch → Bool)
       → count_for test running ≡ length (filter (λ slot. is_running_for test slot.out) t.slots)
 
--- an unspent permit of this number is listed
+-- the number has an unspent permit listed
 abbrev pub is_listed : List GrantedPermit → ℕ → Bool
 is_listed permits number = list_any (is_numbered number) permits
 
--- a permit of this number for this token and URL is listed
+-- the number has a permit for this token and URL listed
 abbrev pub is_listed_for : List GrantedPermit → ℕ → List ℕ → List ℕ → Bool
 is_listed_for permits number token url =
     list_any (λ p. is_numbered number p && is_fetch_of token url (fetch_of p)) permits
 
--- how many of the permits are for pages of this authority
+-- how many permits are for pages of this authority
 abbrev pub listed_for : List GrantedPermit → List ℕ → ℕ
 listed_for permits authority = length (filter (λ p. bytes_eq (authority_of p.url) authority) permits)
 
--- a permit of the slot is listed
+-- the slot has a listed permit
 abbrev pub holds_slot : List GrantedPermit → ℕ → Bool
 holds_slot permits slot = list_any (λ p. slot_of p.number == slot) permits
 
--- the slot is free by the lists: none of its numbers is out, and its last generation was not granted
+-- the slot is free by the lists: no permit, and its last generation was not granted
 abbrev pub is_free_by : List GrantedPermit → List GrantedPermit → (ℕ → ℕ) → ℕ → Bool
 is_free_by unspent running greatest slot =
     not (holds_slot unspent slot || holds_slot running slot) && nat_lt (greatest slot) last_generation
 
--- the next number by the lists: the lowest free slot, with the generation after its greatest
+-- the next number by the lists: the lowest free slot's, after its greatest generation
 pub record IsNextBy (slots first : ℕ) (unspent running : List GrantedPermit) (greatest : ℕ → ℕ)
     (number : ℕ) : Type 0 where
   pub in_range : slot_of number < slots
@@ -120,7 +120,7 @@ pub record IsNextBy (slots first : ℕ) (unspent running : List GrantedPermit) (
 abbrev pub NoneFreeBy : ℕ → List GrantedPermit → List GrantedPermit → (ℕ → ℕ) → Type 0
 NoneFreeBy slots unspent running greatest = (slot : ℕ) → slot < slots → is_free_by unspent running greatest slot ≡ false
 
--- the generation that a grant of this number brings to a slot
+-- the generation that a grant of this number gives a slot
 abbrev pub granted_in : ℕ → ℕ → ℕ
 granted_in number slot = if slot_of number == slot then generation_of number else 0
 

@@ -1,5 +1,5 @@
-//! The draft of a permit: a free slot that is looked at and not yet taken.
-//! Used by `Book::ask`, which commits it once nothing can refuse the grant any more.
+//! The draft of a permit: a free slot, found but not yet taken.
+//! Used by `Book::ask`, which commits it once the grant can't be refused.
 ghost use Rattle.std.specs.Prelude.{◌≡◌, IfOk, MatchOption, OnErr};
 ghost use Rattle.std.specs.Borrow.{sem, RestsIfErr};
 ghost use Rattle.permit_book.specs.declared.out.SlotContent.TheVariants.{Unspent};
@@ -14,8 +14,7 @@ use crate::refusal::PermitsFull;
 use path_normal::PageUrl;
 use robots_text::Token;
 
-/// The next permit, not granted yet. The table changes only when it is committed: a draft that is
-/// dropped leaves no trace.
+/// The next permit, not granted yet. Only a commit changes the table: a draft can be dropped.
 #[derive(Drop)]
 pub struct Draft<'a> {
     permits: &'a mut Permits,
@@ -23,7 +22,7 @@ pub struct Draft<'a> {
 }
 
 impl Permits {
-    /// Drafts the next permit: in the lowest free slot, with the generation after its last.
+    /// Drafts the next permit, in the lowest free slot, with the generation after its last.
     pub fn draft(&mut self) -> Result<Draft<'_>, PermitsFull>
         ensures* full { sem 𝓛 (RestsIfErr the_row self.entry
             (λ draft. draft.permits.ghost_name) result (λ last. last ≡ self.old)) }
@@ -42,7 +41,6 @@ impl Permits {
         }
     }
 
-    // The number of the next grant.
     fn next_number(&self) -> Option<PermitNo>
         ensures { MatchOption result (NoneFree self.now) (IsNext self.now) }
     {
@@ -56,7 +54,6 @@ impl Permits {
         Some(PermitNo::granted_in(slot, generation))
     }
 
-    // Grants the next permit.
     fn grant(&mut self, number: PermitNo, fetch: Fetch)
         requires { IsNext self.old number }
         ensures { self.new ≡ with_out self.old number (Unspent fetch) }
@@ -71,14 +68,14 @@ impl Permits {
 }
 
 impl Draft<'_> {
-    /// The number that the permit will have.
+    /// The permit's future number.
     pub fn number(&self) -> PermitNo
         ensures { result ≡ self.now.number }
     {
         self.number
     }
 
-    /// Grants the permit, for one fetch of a URL under a token.
+    /// Grants the permit for one fetch of a URL under a token.
     pub fn commit(self, token: Token, url: PageUrl) -> PermitNo
         requires { IsNext self.permits.now self.number }
         ensures number { result ≡ self.entry.number }

@@ -1,4 +1,4 @@
-//! The ends of a permit: a start that spends it, its return, and the end of its fetch.
+//! The ends of a permit: a start, which spends it, a return, and the end of its fetch.
 //! Used by `Book::start`, `Book::back` and `Book::finish`.
 ghost use Rattle.std.specs.Prelude.{◌≡◌, ◌↔◌, ◌*◌, ◌<◌, ◌≤◌, true, IsOk, IsTrue, OnErr, OnOk, length};
 ghost use Rattle.permit_book.specs.declared.out.SlotContent.TheVariants.{Nothing};
@@ -12,8 +12,8 @@ use crate::permits::Permits;
 use crate::refusal::NotOut;
 
 impl Permits {
-    /// Decides the start of an unspent permit, which spends it: an allowed one runs from now on,
-    /// and of a denied one nothing is out.
+    /// Spends an unspent permit by its start: if allowed, its fetch runs from now on; if denied, nothing is
+    /// outstanding.
     pub fn decide(&mut self, number: PermitNo, allowed: bool)
         requires { IsTrue (is_unspent self.old number) }
         ensures { self.new
@@ -53,7 +53,6 @@ impl Permits {
         Ok(())
     }
 
-    // Starts the fetch of an unspent permit.
     fn run(&mut self, number: PermitNo)
         requires { IsTrue (is_unspent self.old number) }
         ensures { self.new ≡ with_out self.old number (decided true (out_under self.old number)) }
@@ -63,7 +62,6 @@ impl Permits {
         self.running += 1;
     }
 
-    // Ends an unspent permit.
     fn withdraw(&mut self, number: PermitNo)
         requires { IsTrue (is_unspent self.old number) }
         ensures { self.new ≡ with_out self.old number Nothing }
@@ -73,7 +71,7 @@ impl Permits {
     }
 }
 
-// Ends what is out in a slot, which is free again but after its last generation.
+// Ends what is outstanding in a slot, and frees the slot unless its last generation was granted.
 fn vacate(slots: &mut [Slot], free: &mut FreeSlots, place: u64)
     requires within { place < length slots.old }
     requires room { length slots.old ≤ 64 * length free.old }

@@ -1,5 +1,5 @@
-//! The free slots of a table: one bit a slot, and two levels of words that sum the words up.
-//! So the lowest free slot is found in three steps, however many slots there are.
+//! A table's free slots: a bit for each, and two levels of words that summarize the words below.
+//! The lowest free slot is found in three steps, however many slots there are.
 ghost use Rattle.std.specs.Prelude.{◌≡◌, ◌*◌, ◌<◌, ◌≤◌, length, replicate, IfOk, MatchOption};
 ghost use Rattle.permit_book.specs.Bits.{IsClear, IsLowestBit, SetsBit};
 ghost use Rattle.permit_book.specs.Numbers.{most_slots};
@@ -8,14 +8,14 @@ use crate::words::{clear_bit, lowest_in, set_bit, sum_up};
 use std::alloc::{AllocError, Global};
 use std::marker::Model;
 
-/// The free ones among at most 65,536 slots. A clause sees the words of their bits.
+/// The free slots among at most 65,536. A clause sees the words of their bits.
 #[derive(Drop)]
 pub struct FreeSlots {
-    // A bit for each slot, which is set while the slot is free.
+    // A bit for each slot, set while it is free.
     low: Vec<u64>,
-    // A bit for each word of `low`, which is set while that word has one.
+    // A bit for each word of `low`, set while that word has one.
     middle: Vec<u64>,
-    // A bit for each word of `middle`, of which there are at most 64.
+    // A bit for each word of `middle`, at most 64.
     top: [u64; 1],
 }
 
@@ -35,7 +35,7 @@ impl Model for FreeSlots {
 }
 
 impl FreeSlots {
-    /// No free slot, and room for this many.
+    /// No free slots, with room for this many.
     pub fn with_room(alloc: Global, slots: u64) -> Result<FreeSlots, AllocError>
         requires { slots ≤ most_slots }
         ensures clear { IfOk result IsClear }
@@ -60,7 +60,7 @@ impl FreeSlots {
         set_bit(&mut self.top, slot / 64 / 64);
     }
 
-    /// Takes a slot out of the free ones.
+    /// Removes a slot.
     pub fn remove(&mut self, slot: u64)
         requires { slot < 64 * length self.old }
         ensures bits { SetsBit self.old slot 0 self.new }
@@ -84,7 +84,7 @@ impl FreeSlots {
     }
 }
 
-// As many words without a bit.
+// This many words without bits.
 fn no_bits(alloc: Global, words: u64) -> Result<Vec<u64>, AllocError>
     ensures { IfOk result (λ v. v.items ≡ replicate words 0) }
 {

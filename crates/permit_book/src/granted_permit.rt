@@ -1,4 +1,4 @@
-//! A permit as lists of permits have it: that of a history, or of a segment of one.
+//! A permit in lists: those of a history, or of a segment.
 //! Used by bases, by the texts of histories, and by audits.
 
 use crate::number::PermitNo;
@@ -8,10 +8,10 @@ use robots_text::Token;
 /// A permit for one fetch of a URL under a token, with its number.
 #[derive(Drop)]
 pub struct GrantedPermit {
-    /// The permit's number.
+    /// Its number.
     pub number: PermitNo,
     /// The product token that may use it.
     pub token: Token,
-    /// The URL for which it was granted.
+    /// Its URL.
     pub url: PageUrl,
 }

@@ -1,5 +1,5 @@
-//! The permits of a gate: a table of slots, each with the generation of its last grant and what is
-//! out in it. Permits make each fetch look at the robots answer then in force (RFC 9309, 2.4).
+//! The permits of a gate: a table of slots, each with its last generation and what is outstanding.
+//! Permits make each fetch check the robots answer then in force (RFC 9309, 2.4).
 #![tactic(auto)]
 
 mod drafts;

@@ -1,4 +1,4 @@
-//! What is out, in lists that outlive the table.
+//! What is outstanding, in lists that outlive the table.
 //! Used by `Book::seal` for the base that it leaves.
 ghost use Rattle.std.specs.Prelude.{◌≡◌, ◌<◌, ◌≤◌, ◌++◌, IfOk, OnOk};
 ghost use Rattle.permit_book.specs.Numbers.{last_generation, most_slots, number_in};
@@ -10,31 +10,30 @@ use crate::out::{Fetch, Slot, SlotContent};
 use crate::permits::Permits;
 use std::alloc::{AllocError, Global};
 
-// How far a permit has come that is out.
+// The stage of an outstanding permit.
 #[derive(Clone, Copy)]
 pub(crate) enum PermitState {
-    // No start has spent it.
     Unspent,
     // Its fetch was started.
     Running,
 }
 
 impl Permits {
-    /// The permits that no start has spent, in the order of their slots.
+    /// The unspent permits, in the order of their slots.
     pub fn unspent_permits(&self, alloc: Global) -> Result<Vec<GrantedPermit>, AllocError>
         ensures { IfOk result (λ permits. ListsUnspent self.now permits.items) }
     {
         self.permits_at(alloc, PermitState::Unspent)
     }
 
-    /// The permits whose fetch was started and has not ended, in the order of their slots.
+    /// The permits whose fetch runs, in the order of their slots.
     pub fn running_permits(&self, alloc: Global) -> Result<Vec<GrantedPermit>, AllocError>
         ensures { IfOk result (λ permits. ListsRunning self.now permits.items) }
     {
         self.permits_at(alloc, PermitState::Running)
     }
 
-    // The permits that have come so far, in the order of their slots.
+    // The permits at this stage, in the order of their slots.
     fn permits_at(
         &self,
         alloc: Global,
@@ -50,7 +49,7 @@ impl Permits {
     }
 }
 
-// Adds the permit of a slot, where one is out that has come so far.
+// Adds a slot's permit, if it is at this stage.
 fn push_at(
     permits: &mut Vec<GrantedPermit>,
     stage: PermitState,
@@ -72,7 +71,6 @@ fn push_at(
     Ok(())
 }
 
-// The permit of a slot's last grant.
 fn permit_for(place: u64, last: u64, fetch: &Fetch) -> Result<GrantedPermit, AllocError>
     requires place { place < most_slots }
     requires last { last ≤ last_generation }

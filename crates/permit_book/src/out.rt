@@ -1,4 +1,4 @@
-//! A slot of the table, and what is out in it.
+//! A slot of the table, and what is outstanding in it.
 //! A permit is for one fetch of a URL under a token (RFC 9309, 2.2.1).
 ghost use Rattle.std.specs.Prelude.{◌≡◌, true};
 ghost use Rattle.std.specs.Option.{option_copied};
@@ -12,18 +12,18 @@ use std::mem;
 /// One fetch of a URL under a product token.
 #[derive(Drop)]
 pub struct Fetch {
-    /// The product token that may make it.
+    /// The token that may make it.
     pub token: Token,
     /// The URL to fetch.
     pub url: PageUrl,
 }
 
-/// What is out in a slot.
+/// What a slot has outstanding.
 #[derive(Drop)]
 pub enum SlotContent {
-    /// No permit: none was granted, or the last one has ended.
+    /// None was granted, or the last one has ended.
     Nothing,
-    /// A permit that no start has spent.
+    /// A permit that is not used yet.
     Unspent(Fetch),
     /// A fetch that was started and has not ended.
     Running(Fetch),
@@ -32,14 +32,14 @@ pub enum SlotContent {
 /// A slot of the table.
 #[derive(Drop)]
 pub struct Slot {
-    /// The generation of its last grant, 0 where none was.
+    /// The generation of its last grant, or 0.
     pub last: u64,
-    /// What is out under the number of that grant.
+    /// What is outstanding under that grant's number.
     pub out: SlotContent,
 }
 
 impl Fetch {
-    /// Whether it is a fetch of this URL under this token.
+    /// Whether it has this URL and token.
     pub fn is_of(&self, token: &Token, url: &PageUrl) -> bool
         ensures { result ≡ is_fetch_of token.now url.now self.now }
     {
@@ -48,28 +48,28 @@ impl Fetch {
 }
 
 impl SlotContent {
-    /// Whether nothing is out.
+    /// Whether there is no permit.
     pub fn is_nothing(&self) -> bool
         ensures { result ≡ is_nothing self.now }
     {
         matches!(self, SlotContent::Nothing)
     }
 
-    /// Whether an unspent permit is out.
+    /// Whether it is an unspent permit.
     pub fn is_unspent(&self) -> bool
         ensures { result ≡ is_unspent_out self.now }
     {
         matches!(self, SlotContent::Unspent(_))
     }
 
-    /// Whether a running fetch is out.
+    /// Whether it is a running fetch.
     pub fn is_running(&self) -> bool
         ensures { result ≡ is_running_out self.now }
     {
         matches!(self, SlotContent::Running(_))
     }
 
-    /// Whether an unspent permit for this token and URL is out.
+    /// Whether it is an unspent permit for this token and URL.
     pub fn is_permit_for(&self, token: &Token, url: &PageUrl) -> bool
         ensures { result ≡ is_permit_for token.now url.now self.now }
     {
@@ -79,7 +79,7 @@ impl SlotContent {
         }
     }
 
-    /// Whether what is out is for a page of this authority.
+    /// Whether it is for a page of this authority.
     pub fn is_for(&self, authority: &str) -> bool
         ensures { result ≡ is_out_for authority.now self.now }
     {
@@ -90,7 +90,7 @@ impl SlotContent {
         }
     }
 
-    /// The URL of the fetch that is out.
+    /// The URL of the outstanding fetch.
     pub fn url(&self) -> Option<&PageUrl>
         ensures { option_copied result ≡ url_out self.now }
     {
@@ -100,7 +100,6 @@ impl SlotContent {
         }
     }
 
-    /// Starts the fetch of an unspent permit.
     pub(crate) fn start(&mut self)
         ensures { self.new ≡ decided true self.old }
     {
@@ -112,7 +111,7 @@ impl SlotContent {
 }
 
 impl Slot {
-    /// Whether the next permit may be granted in it.
+    /// Whether it may take the next permit.
     pub fn is_free(&self) -> bool
         ensures { result ≡ is_free self.now }
     {

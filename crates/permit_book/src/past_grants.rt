@@ -1,4 +1,4 @@
-//! Grants of before the table was made, as a history that goes on has them.
+//! Grants from before the table was made, in a history that continues.
 //! Used by `Book::resume`.
 ghost use Rattle.std.specs.Prelude.{◌≡◌, ◌<◌, ◌≤◌, IsTrue, length};
 ghost use Rattle.permit_book.specs.Numbers.{last_generation};
@@ -8,9 +8,9 @@ use crate::number::LAST_GENERATION;
 use crate::permits::Permits;
 
 impl Permits {
-    /// Notes that this generation was granted before in a slot in which nothing is out: the next
-    /// grant there has a higher one, and after [`LAST_GENERATION`] there is none. A generation of
-    /// 0, or one that is not above the slot's last, changes nothing. It takes no memory.
+    /// Notes an earlier grant of this generation in an idle slot: the next grant there has a higher one,
+    /// and after [`LAST_GENERATION`] there is none. A generation of 0, or one not above the slot's last,
+    /// changes nothing. It allocates nothing.
     pub fn note_grant(&mut self, slot: u64, generation: u64)
         requires slot { slot < length self.old.slots }
         requires generation { generation ≤ last_generation }

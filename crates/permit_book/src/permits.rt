@@ -1,4 +1,4 @@
-//! The table of permits, and what is read of it.
+//! The table of permits, and its readers.
 //! Used by the book, which has one table.
 ghost use Rattle.std.specs.Prelude.{◌≡◌, ◌*◌, ◌≤◌, length, replicate, IfNone, IfOk, IfSome};
 ghost use Rattle.permit_book.specs.declared.out.SlotContent.TheVariants.{Nothing};
@@ -16,13 +16,13 @@ use robots_text::Token;
 use std::alloc::{AllocError, Global};
 use std::marker::Model;
 
-/// The permits of a gate, in slots of which each has one permit out at most.
+/// A gate's permits, in slots with at most one outstanding permit each.
 #[derive(Drop)]
 pub struct Permits {
     pub(crate) first_generation: u64,
     pub(crate) slots: Vec<Slot>,
     pub(crate) free: FreeSlots,
-    // How many unspent permits and how many running fetches are out.
+    // The counts of unspent permits and running fetches.
     pub(crate) unspent: u64,
     pub(crate) running: u64,
 }
@@ -40,8 +40,8 @@ impl Model for Permits {
 }
 
 impl Permits {
-    /// As many free slots, from 1 to [`crate::MAX_SLOTS`]. The first grant of each slot will have
-    /// this generation, from 1 to [`crate::LAST_GENERATION`]. No later call takes memory.
+    /// This many free slots, from 1 to [`crate::MAX_SLOTS`]. Each slot's first generation is this one, from
+    /// 1 to [`crate::LAST_GENERATION`]. No later call allocates.
     pub fn with_slots(
         alloc: Global,
         slots: u64,
@@ -70,7 +70,7 @@ impl Permits {
         self.slots.as_slice()
     }
 
-    /// Whether an unspent permit of this number stands.
+    /// Whether the number has an unspent permit.
     pub fn is_unspent(&self, number: PermitNo) -> bool
         ensures { result ≡ is_unspent self.now number }
     {
@@ -90,7 +90,7 @@ impl Permits {
         }
     }
 
-    /// Whether an unspent permit of this number for this token and URL stands.
+    /// Whether the number has an unspent permit for this token and URL.
     pub fn stands(&self, number: PermitNo, token: &Token, url: &PageUrl) -> bool
         ensures { result ≡ stands self.now number token.now url.now }
     {
@@ -100,14 +100,14 @@ impl Permits {
         }
     }
 
-    /// The URL of the permit that is out under the number, unspent or running.
+    /// The URL of the number's permit, unspent or running.
     pub fn url_of(&self, number: PermitNo) -> Option<&PageUrl>
         ensures { option_copied result ≡ url_out (out_under self.now number) }
     {
         self.granted(number)?.out.url()
     }
 
-    /// How many unspent permits are out.
+    /// Unspent permits.
     pub fn unspent_count(&self) -> u64
         ensures value { result ≡ unspent_count self.now }
         ensures bound { result ≤ most_slots }
@@ -115,7 +115,7 @@ impl Permits {
         self.unspent
     }
 
-    /// How many fetches are running.
+    /// Running fetches.
     pub fn running_count(&self) -> u64
         ensures value { result ≡ running_count self.now }
         ensures bound { result ≤ most_slots }
@@ -123,7 +123,7 @@ impl Permits {
         self.running
     }
 
-    /// How many permits are out for an authority, unspent or running. It looks at every slot.
+    /// The authority's outstanding permits, unspent or running. It looks at every slot.
     pub fn held(&self, authority: &str) -> u64
         ensures value { result ≡ held_count self.now authority.now }
         ensures bound { result ≤ most_slots }
@@ -134,7 +134,7 @@ impl Permits {
             .count() as u64
     }
 
-    // The slot in which the number was granted, where no later one was granted there.
+    // The number's slot, if no later number was granted there.
     fn granted(&self, number: PermitNo) -> Option<&Slot>
         ensures some { IfSome result (λ slot. out_under self.now number ≡ slot.now.out) }
         ensures none { IfNone result (out_under self.now number ≡ Nothing) }
@@ -146,7 +146,7 @@ impl Permits {
     }
 }
 
-// As many slots in which nothing was granted.
+// This many slots in which nothing was granted.
 fn unused_slots(alloc: Global, count: u64) -> Result<Vec<Slot>, AllocError>
     ensures { IfOk result (λ slots. slots.items ≡ replicate count unused) }
 {
@@ -160,7 +160,7 @@ fn unused_slots(alloc: Global, count: u64) -> Result<Vec<Slot>, AllocError>
     Ok(slots)
 }
 
-// As many free slots.
+// This many free slots.
 fn all_free(alloc: Global, count: u64) -> Result<FreeSlots, AllocError>
     requires { count ≤ most_slots }
     ensures bits { IfOk result (λ free. AreFirst free count) }

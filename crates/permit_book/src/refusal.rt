@@ -1,5 +1,5 @@
-//! Why a call on the permits was refused. Nothing has changed then.
-//! Answered by `draft`, `give_back` and `finish`.
+//! Why a call on the permits was refused, which then changed nothing.
+//! Returned by `draft`, `give_back` and `finish`.
 
 use std::error::Error;
 use std::fmt;
@@ -8,7 +8,7 @@ use std::fmt;
 #[derive(Clone, Copy, Debug, PartialEq, Eq)]
 pub struct PermitsFull;
 
-/// No permit of that number is out in the state that the call needs.
+/// The number has no permit in the state that the call needs.
 #[derive(Clone, Copy, Debug, PartialEq, Eq)]
 pub struct NotOut;
 

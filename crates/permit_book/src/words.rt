@@ -1,5 +1,5 @@
-//! Words of 64 bits, read and written by the number of a bit.
-//! The sets of free slots are made of them.
+//! Words of 64 bits, read and written by bit number.
+//! Used for the sets of free slots.
 ghost use Rattle.std.specs.Prelude.{◌≡◌, ◌≢◌, ℕ, ◌/◌, ◌<◌, ◌≤◌, length, slice_index};
 ghost use Rattle.permit_book.specs.Bits.{bit_of, KeepsEmpty, KeepsOthers, SetsBit, SumsUp};
 
@@ -22,7 +22,7 @@ pub fn clear_bit(words: &mut [u64], i: u64)
     words[(i / 64) as usize] &= !(1 << (i % 64));
 }
 
-/// Clears the bit for the word of `lower` at this place, where that word has no bit.
+/// Clears the bit for the word of `lower` at this place, if that word is 0.
 pub fn sum_up(upper: &mut [u64], lower: &[u64], place: u64)
     requires upper { place / 64 < length upper.old }
     requires lower { place < length lower.now }
@@ -35,7 +35,7 @@ pub fn sum_up(upper: &mut [u64], lower: &[u64], place: u64)
     }
 }
 
-/// The lowest bit that is set in the word at this place, which has one.
+/// The lowest bit set in the word at this place, which is not 0.
 pub fn lowest_in(words: &[u64], place: u64) -> u64
     requires few { length words.now ≤ 4096 }
     requires full { slice_index words.now place ≢ 0 }

@@ -1,5 +1,5 @@
--- Where the journal of a gate stands, and when it is synced, as options say.
--- Cited by the contracts of `journal` and `words`; docs/crawlgate.1.md has the options.
+-- The folder of a gate's journal, and when it is synced, by the options.
+-- Cited by `journal` and `words`; docs/crawlgate.1.md has the options.
 use Rattle.std.specs.Prelude.{◌≡◌, ◌≢◌, List, ℕ, Option, Some, None, codes, string_bytes}
 use Rattle.clap.specs.Words.{first_value}
 use Rattle.clap.specs.declared.parser.matches.Found.{Found}
@@ -7,30 +7,30 @@ use Rattle.journal_files.specs.declared.policy.SyncPolicy.{SyncPolicy}
 use Rattle.journal_files.specs.declared.policy.SyncPolicy.TheVariants as syncs
 use Rattle.program_arguments.specs.declared.subcommand.JournalOptions.{JournalOptions}
 
--- the word for each time of a sync
+-- the word for each sync policy
 abbrev pub sync_word : SyncPolicy → List ℕ
 sync_word syncs.Always = codes "always"
 sync_word syncs.Second = codes "second"
 sync_word syncs.Never = codes "never"
 
--- what the word says, or nothing does
+-- the policy of the word, if any
 abbrev pub IsSyncBy : Option (List ℕ) → SyncPolicy → Type 0
 IsSyncBy None sync = sync ≡ syncs.Always
 IsSyncBy (Some word) sync = word ≡ sync_word sync
 
--- the journal is synced when the option says, and always where it is left out
+-- the journal is synced by the option, always without it
 abbrev pub IsSyncOf : Found → SyncPolicy → Type 0
 IsSyncOf words sync = IsSyncBy (first_value words (codes "journal-sync")) sync
 
--- the word is none of these
+-- the word names no policy
 abbrev pub IsNoSync : List ℕ → Type 0
 IsNoSync word = (word ≢ sync_word syncs.Always) × (word ≢ sync_word syncs.Second) × (word ≢ sync_word syncs.Never)
 
--- so it is with the word of the option
+-- the option's word names no policy
 abbrev pub NamesNoSync : Found → Type 0
 NamesNoSync words = (word : List ℕ) × ((first_value words (codes "journal-sync") ≡ Some word) × IsNoSync word)
 
--- the journal stands in the folder that was matched; where none was there is none
+-- the journal is in the matched folder, if any
 abbrev pub IsJournalOf : Found → Option JournalOptions → Type 0
 IsJournalOf words None = first_value words (codes "journal") ≡ None
 IsJournalOf words (Some journal) =

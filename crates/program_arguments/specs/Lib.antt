@@ -1,4 +1,4 @@
--- What contracts say of the program's words.
+-- Definitions for the contracts of the program's arguments.
 pub mod Contacts
 pub mod Journals
 pub mod Options

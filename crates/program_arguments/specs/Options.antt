@@ -1,5 +1,5 @@
--- What the program's words may ask for: where they are taken, each option is a number in its range, and
--- the one that was matched under its own name. docs/crawlgate.1.md has the ranges.
+-- What the program's arguments may ask for: each option is in its range, and is
+-- the one matched under its own name. docs/crawlgate.1.md has the ranges.
 use Rattle.std.specs.Prelude.{◌≡◌, ◌≤◌, ℕ, ◌^◌, ◌-◌, IfSome, List, Option, Some, None, codes, string_bytes}
 use Rattle.std.specs.Str.Parse.{digits_value, without_leading_plus}
 use Rattle.clap.specs.Words.{first_value, one_text}
@@ -42,12 +42,12 @@ use Rattle.http_client.specs.declared.reach.Reach.{Reach}
 use Rattle.http_client.specs.declared.reach.Reach.TheVariants.{Anywhere, PublicOnly}
 use Rattle.http_client.specs.declared.time_limits.TimeLimits.{TimeLimits}
 
--- so many seconds may lie between the begins of two fetches at a site: none, or up to ten minutes
+-- the seconds allowed between the starts of two fetches at a site: up to ten minutes
 abbrev pub IsDelay : ℕ → Type 0
 IsDelay seconds = seconds ≤ 600
 
--- a shift has as many workers as may share it and pauses no longer than may be, its book's limits are in their ranges,
--- its fetches take no longer than those of crawlers, and what opens TLS for them is a program of this machine
+-- a shift has as many workers as may share it and pauses within the limit, its book's limits are in range, its
+-- fetches take no longer than those of crawlers, and the program that opens TLS is on this machine
 pub record AreForShift (options : ShiftOptions) : Type 0 where
   pub crew : IsCrew options.workers
   pub delay : IsDelay options.delay
@@ -56,13 +56,13 @@ pub record AreForShift (options : ShiftOptions) : Type 0 where
   pub tls : IfSome options.tls_by IsLoopback
   pub contact : IsAllowedContact options.contact
 
--- the gate may fetch for lines that are sent ahead as long as may be allowed
+-- the gate's time for lines sent ahead is within the limit
 abbrev pub IsAllowedAhead : Ahead → Type 0
 IsAllowedAhead aheads.Unbounded = Unit {0}
 IsAllowedAhead (aheads.Seconds seconds) = IsAhead seconds
 
--- a server has as many workers as may share a gate, takes as many connections as may be, and waits for a client
--- no longer than may be; its book's limits and its fetches are as those of a shift
+-- a server's workers, connections and patience are within their limits; its book's limits and its fetches are as for
+-- a shift
 pub record AreForServe (options : ServeOptions) : Type 0 where
   pub crew : IsCrew options.workers
   pub connections : AreServed options.connections
@@ -83,33 +83,33 @@ IsInRange (Audit schemes) = Unit {0}
 IsInRange (Shift options) = AreForShift options
 IsInRange (Serve options) = AreForServe options
 
--- the same of what is taken
+-- a taken subcommand's options are in range
 abbrev pub IsChosen : Chosen → Type 0
 IsChosen (Taken subcommand) = IsInRange subcommand
 IsChosen (Refused reason) = Unit {0}
 
--- the number is the one whose digits were matched under this name
+-- the number matched under this name, by its digits
 abbrev pub IsNumberOf : Found → List ℕ → ℕ → Type 0
 IsNumberOf words name number =
     (text : List ℕ) × ((one_text words name ≡ Some text) × (number ≡ digits_value 10 (without_leading_plus text)))
 
--- what is bound by an option that has this first value, or has none
+-- the bound by an option's first value, if any
 abbrev pub IsBoundBy : Option (List ℕ) → Found → List ℕ → ℕ → Type 0
 IsBoundBy None words name bound = bound ≡ 2 ^ 64 - 1
 IsBoundBy (Some text) words name bound = IsNumberOf words name bound
 
--- the bound is the number that was matched under this name, and where none was no number is above it
+-- the bound is the number matched under this name, else unlimited
 abbrev pub IsBoundOf : Found → List ℕ → ℕ → Type 0
 IsBoundOf words name bound = IsBoundBy (first_value words name) words name bound
 
--- the limits of a book but for its first generation are those that were matched, each under its own name
+-- the book's limits but its first generation are those matched, each under its own name
 pub record AreLimitsOf (words : Found) (limits : Limits) : Type 0 where
   pub slots : IsNumberOf words (codes "slots") limits.slots
   pub log : IsNumberOf words (codes "log") limits.log_limit
   pub authorities : IsNumberOf words (codes "authorities") limits.authority_limit
   pub places : IsNumberOf words (codes "places") limits.places
 
--- the limits of time are the seconds that were matched, each under its own name
+-- the time limits are the seconds matched, each under its own name
 pub record AreTimesOf (words : Found) (times : TimeLimits) : Type 0 where
   pub connect : ℕ
   pub step : ℕ
@@ -119,27 +119,27 @@ pub record AreTimesOf (words : Found) (times : TimeLimits) : Type 0 where
   pub whole_is : IsNumberOf words (codes "fetch-timeout") whole
   pub are : AreOfSeconds connect step whole times
 
--- fetches connect to addresses of the public internet alone where the flag says so, and else to each
+-- fetches reach only public internet addresses if the flag says so, else all
 pub record IsReachOf (words : Found) (reach : Reach) : Type 0 where
   pub public : one_text words (codes "public") ≡ Some (codes "true") → reach ≡ PublicOnly
   pub anywhere : one_text words (codes "public") ≡ Some (codes "false") → reach ≡ Anywhere
 
--- pages of `https` are read too where the flag says so, and else not
+-- pages of `https` are read too if the flag says so
 pub record AreSchemesOf (words : Found) (schemes : Schemes) : Type 0 where
   pub both : one_text words (codes "https") ≡ Some (codes "true") → schemes ≡ HttpAndHttps
   pub http : one_text words (codes "https") ≡ Some (codes "false") → schemes ≡ Http
 
--- notes are told where the flag says so, and else not
+-- notes are told if the flag says so
 pub record AreNotesOf (words : Found) (asked : Notes) : Type 0 where
   pub told : one_text words (codes "notes") ≡ Some (codes "true") → asked ≡ notes.Told
   pub untold : one_text words (codes "notes") ≡ Some (codes "false") → asked ≡ notes.Untold
 
--- lines that are no jobs are skipped where the flag says so, and else end the shift
+-- lines that are no jobs are skipped if the flag says so, else end the shift
 pub record AreBadJobsOf (words : Found) (asked : BadJobs) : Type 0 where
   pub skip : one_text words (codes "skip") ≡ Some (codes "true") → asked ≡ bad_jobs.Skip
   pub end : one_text words (codes "skip") ≡ Some (codes "false") → asked ≡ bad_jobs.End
 
--- the options of a shift are those that were matched
+-- the options of a shift are those matched
 pub record AreShiftOf (words : Found) (options : ShiftOptions) : Type 0 where
   pub reach : IsReachOf words options.reach
   pub tls : IsTlsByOf words options.tls_by
@@ -151,32 +151,32 @@ pub record AreShiftOf (words : Found) (options : ShiftOptions) : Type 0 where
   pub skips : AreBadJobsOf words options.bad_jobs
   pub journal : IsJournalOf words options.journal
 
--- a number that was matched under its own name, and no end
+-- the limit is the number matched under its own name
 abbrev pub AreCounted : Found → Connections → Type 0
 AreCounted words (AtMost count) = IsNumberOf words (codes "connections") count
 AreCounted words Endless = ⊥
 
--- the connections have no end where the flag says so, and else are as many as were matched
+-- the connections are unlimited if the flag says so, else as many as matched
 pub record AreConnectionsOf (words : Found) (connections : Connections) : Type 0 where
   pub endless : one_text words (codes "endless") ≡ Some (codes "true") → connections ≡ Endless
   pub counted : one_text words (codes "endless") ≡ Some (codes "false") → AreCounted words connections
 
--- clients connect at the socket that was matched, and where none was at the port
+-- clients connect at the matched socket, else at the port
 abbrev pub IsPlaceOf : Found → ListenAddress → Type 0
 IsPlaceOf words (places.Port port) = (first_value words (codes "socket") ≡ None) × IsNumberOf words (codes "port") port
 IsPlaceOf words (places.Socket path) = first_value words (codes "socket") ≡ Some (string_bytes path)
 
--- overseers connect at the port that was matched, and without the option nobody does
+-- overseers connect at the matched port, if any
 abbrev pub IsSealPortOf : Found → Option ℕ → Type 0
 IsSealPortOf words None = first_value words (codes "seal-port") ≡ None
 IsSealPortOf words (Some port) = IsNumberOf words (codes "seal-port") port
 
--- the seconds are the number that was matched, and without the option there is no bound
+-- the seconds are the number matched, else unlimited
 abbrev pub IsAheadOf : Found → Ahead → Type 0
 IsAheadOf words aheads.Unbounded = first_value words (codes "ahead") ≡ None
 IsAheadOf words (aheads.Seconds seconds) = IsNumberOf words (codes "ahead") seconds
 
--- the options of a server are those that were matched
+-- the options of a server are those matched
 pub record AreServeOf (words : Found) (options : ServeOptions) : Type 0 where
   pub reach : IsReachOf words options.reach
   pub tls : IsTlsByOf words options.tls_by
@@ -193,28 +193,28 @@ pub record AreServeOf (words : Found) (options : ServeOptions) : Type 0 where
   pub client_authorities : IsBoundOf words (codes "client-authorities") options.client_authorities
   pub journal : IsJournalOf words options.journal
 
--- the options of a replay are those that were matched
+-- the options of a replay are those matched
 pub record AreReplayOf (words : Found) (options : ReplayOptions) : Type 0 where
   pub limits_are : AreLimitsOf words options.limits
   pub generation : IsNumberOf words (codes "generation") options.limits.first_generation
   pub schemes_are : AreSchemesOf words options.schemes
 
--- the robots text is the file whose name was matched under `robots`, and without one the input
+-- the robots text is the file matched under `robots`, else the input
 abbrev pub IsTextOf : Found → CheckedText → Type 0
 IsTextOf words Input = first_value words (codes "robots") ≡ None
 IsTextOf words (File name) = first_value words (codes "robots") ≡ Some (string_bytes name)
 
--- answers are explained where the flag says so, and else not
+-- answers are explained if the flag says so
 pub record IsDetailOf (words : Found) (detail : Detail) : Type 0 where
   pub explained : one_text words (codes "explain") ≡ Some (codes "true") → detail ≡ Explained
   pub plain : one_text words (codes "explain") ≡ Some (codes "false") → detail ≡ Plain
 
--- the options of a check, but for its token and its URLs, are those that were matched
+-- a check's options but its token and its URLs are those matched
 pub record AreCheckOf (words : Found) (options : CheckOptions) : Type 0 where
   pub text : IsTextOf words options.text
   pub detail : IsDetailOf words options.detail
 
--- the options of the subcommand are those that were matched, each under its own name
+-- the subcommand's options are those matched, each under its own name
 abbrev pub IsSetBy : Found → Subcommand → Type 0
 IsSetBy words (Replay options) = AreReplayOf words options
 IsSetBy words (Export options) = AreReplayOf words options
@@ -224,7 +224,7 @@ IsSetBy words (Audit schemes) = AreSchemesOf words schemes
 IsSetBy words (Shift options) = AreShiftOf words options
 IsSetBy words (Serve options) = AreServeOf words options
 
--- the same of what is taken
+-- a taken subcommand's options are those matched
 abbrev pub IsChosenBy : Found → Chosen → Type 0
 IsChosenBy words (Taken subcommand) = IsSetBy words subcommand
 IsChosenBy words (Refused reason) = Unit {0}

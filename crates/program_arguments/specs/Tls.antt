@@ -1,5 +1,5 @@
--- Where the program listens that opens TLS: at an address of this machine, which an option names.
--- Cited by the contracts of `tls` and `words`; docs/crawlgate.1.md has the option.
+-- The address of the program that opens TLS, on this machine, by an option.
+-- Cited by `tls` and `words`; docs/crawlgate.1.md has the option.
 use Rattle.std.specs.Prelude.{◌≡◌, ◌⊎◌, List, ℕ, Option, Some, None, codes}
 use Rattle.std.specs.Net.Addr.{IsLoopbackV4, IsLoopbackV6, MatchIp}
 use Rattle.std.specs.Net.Grammar.{IsSocketText}
@@ -12,18 +12,18 @@ use Rattle.clap.specs.declared.parser.matches.Found.{Found}
 abbrev pub IsLoopback : SocketAddr → Type 0
 IsLoopback address = MatchIp (socket_ip address) IsLoopbackV4 IsLoopbackV6
 
--- the text of the option writes the address; without the option there is none
+-- the option's text writes the address; without the option there is none
 abbrev pub IsTlsByOf : Found → Option SocketAddr → Type 0
 IsTlsByOf words None = first_value words (codes "tls-by") ≡ None
 IsTlsByOf words (Some address) =
     (text : List ℕ) × ((first_value words (codes "tls-by") ≡ Some text) × IsSocketText text address)
 
--- the text writes no address with a port, or one that is not of this machine
+-- the text writes no address with a port, or none of this machine
 abbrev pub IsNoLoopback : List ℕ → Type 0
 IsNoLoopback text =
     ((address : SocketAddr) → ¬ (IsSocketText text address))
     ⊎ ((address : SocketAddr) × (IsSocketText text address × ¬ (IsLoopback address)))
 
--- so it is with the text of the option
+-- the option's text writes no such address
 abbrev pub NamesNoLoopback : Found → Type 0
 NamesNoLoopback words = (text : List ℕ) × ((first_value words (codes "tls-by") ≡ Some text) × IsNoLoopback text)

@@ -1,5 +1,5 @@
-//! The words of `check`: its token, its URLs, and where its robots text comes from.
-//! docs/crawlgate.1.md has them.
+//! The arguments of `check`: its token, its URLs, and the source of its robots text.
+//! See docs/crawlgate.1.md.
 ghost use Rattle.std.specs.Prelude.{IfOk};
 ghost use Rattle.clap.specs.Words.{found_of};
 ghost use Rattle.program_arguments.specs.Options.{IsChosen, IsChosenBy, IsDetailOf, IsTextOf};
@@ -11,7 +11,7 @@ use robots_check::Detail;
 use robots_text::{Token, TokenFault};
 use std::alloc::{AllocError, Global};
 
-// Why a word that `clap` takes is refused.
+// Why arguments that `clap` takes are refused.
 const BAD_TOKEN: &str = "a product token has 1 to 64 letters, - and _";
 
 /// The check that was matched.
@@ -32,7 +32,6 @@ pub(crate) fn check_of(alloc: Global, matches: &ArgMatches<'_>) -> Result<Chosen
     }
 }
 
-// The robots text of a check: the file that the option names, and without it the input.
 fn text_of(alloc: Global, matches: &ArgMatches<'_>) -> Result<CheckedText, AllocError>
     ensures { IfOk result (IsTextOf (found_of matches.now)) }
 {
@@ -52,7 +51,7 @@ fn detail_of(matches: &ArgMatches<'_>) -> Detail
     }
 }
 
-// The URLs of a check: `-` alone stands for lines of the input.
+// The URLs of a check: a lone `-` means lines of the input.
 fn urls_of(alloc: Global, matches: &ArgMatches<'_>) -> Result<CheckedUrls, AllocError> {
     let words = matches.get_strs("url").unwrap_or(&[]);
     if words.len() == 1 && words[0] == "-" {

@@ -1,5 +1,5 @@
-//! The words that `clap` takes, with their ranges and their help.
-//! docs/crawlgate.1.md has them all.
+//! The arguments for `clap`, with their ranges and their help.
+//! See docs/crawlgate.1.md.
 ghost use Rattle.std.specs.Prelude.{◌≡◌, Some};
 
 use crate::help;
@@ -10,7 +10,7 @@ use crate::number_options::{
 use clap::{Arg, ArgAction, Command};
 use std::alloc::{AllocError, Global};
 
-/// The program, with its subcommands.
+/// The program with its subcommands.
 pub(crate) fn program<'a>(
     alloc: Global,
     texts: &'a OptionTexts,
@@ -43,7 +43,6 @@ pub(crate) fn program<'a>(
         .subcommand(audit)
 }
 
-// The words of `replay`.
 fn replay_words<'a>(alloc: Global, texts: &'a OptionTexts) -> Result<Command<'a>, AllocError> {
     let replay = Command::new(alloc, "replay")
         .about("Answers the lines of standard input, one reply a line")
@@ -58,7 +57,6 @@ fn replay_words<'a>(alloc: Global, texts: &'a OptionTexts) -> Result<Command<'a>
         ))
 }
 
-// The words of `shift`.
 fn shift_words<'a>(alloc: Global, texts: &'a OptionTexts) -> Result<Command<'a>, AllocError> {
     let shift = Command::new(alloc, "shift")
         .about("Fetches the pages of the jobs on standard input, and writes what came of them")
@@ -86,7 +84,6 @@ fn shift_words<'a>(alloc: Global, texts: &'a OptionTexts) -> Result<Command<'a>,
         .arg(sync_word(alloc)?)
 }
 
-// The words of `serve`.
 fn serve_words<'a>(alloc: Global, texts: &'a OptionTexts) -> Result<Command<'a>, AllocError> {
     let serve = Command::new(alloc, "serve")
         .about(
@@ -114,7 +111,6 @@ fn serve_words<'a>(alloc: Global, texts: &'a OptionTexts) -> Result<Command<'a>,
     .conflicts_with("connections")?)
 }
 
-// The words of `check`.
 fn check_words<'a>(alloc: Global) -> Result<Command<'a>, AllocError> {
     Command::new(alloc, "check")
         .about("Says of URLs whether a robots.txt allows them, and by which line")
@@ -148,7 +144,8 @@ fn check_words<'a>(alloc: Global) -> Result<Command<'a>, AllocError> {
         ))
 }
 
-// The limits of time of fetches, in seconds, where they lead, and by which program to https sites.
+// The time limits of fetches, in seconds, the addresses that they may reach, and the TLS program for https
+// sites.
 fn time_words<'a>(
     alloc: Global,
     texts: &'a OptionTexts,
@@ -178,7 +175,6 @@ fn time_words<'a>(
         )
 }
 
-// Where the journal of the gate stands.
 fn journal_word<'a>(alloc: Global) -> Arg<'a> {
     Arg::new(alloc, "journal")
         .long("journal")
@@ -189,7 +185,6 @@ fn journal_word<'a>(alloc: Global) -> Arg<'a> {
         )
 }
 
-// When it is synced.
 fn sync_word<'a>(alloc: Global) -> Result<Arg<'a>, AllocError> {
     Arg::new(alloc, "journal-sync")
         .long("journal-sync")
@@ -201,7 +196,7 @@ fn sync_word<'a>(alloc: Global) -> Result<Arg<'a>, AllocError> {
         .requires_arg("journal")
 }
 
-// The options that are numbers, with what the help shows of each.
+// The number options, with their texts for the help.
 fn numbers<'a>(
     alloc: Global,
     options: &[NumberOption],
@@ -215,7 +210,7 @@ fn numbers<'a>(
     Ok(command)
 }
 
-// An option with a number in its range, which is matched under the name that it has in the words, and has its usual one.
+// A number option with its range and its default, matched under its own name.
 fn number<'a>(alloc: Global, option: NumberOption, text: &'a OptionText) -> Arg<'a>
     ensures id { result.id.now ≡ option.name.now }
     ensures long { result.long ≡ Some option.name }
@@ -232,7 +227,6 @@ fn number<'a>(alloc: Global, option: NumberOption, text: &'a OptionText) -> Arg<
     }
 }
 
-// An option that is there or not.
 fn flag<'a>(alloc: Global, name: &'static str, about: &'static str) -> Arg<'a> {
     Arg::new(alloc, name)
         .long(name)

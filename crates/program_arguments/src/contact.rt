@@ -1,5 +1,6 @@
-//! Whom a site may write to about a crawl: a comment behind the agent of each request. RFC 9110, sections 5.6.5 and 10.1.5.
-//! docs/crawlgate.1.md has the option.
+//! Whom a site may write to about a crawl: a comment after the agent of each request. RFC 9110, sections
+//! 5.6.5 and 10.1.5.
+//! See docs/crawlgate.1.md.
 ghost use Rattle.std.specs.Prelude.{◌≡◌, ◌↔◌, IfOk, IfSome, IsTrue, None, All};
 ghost use Rattle.clap.specs.Words.{found_of};
 ghost use Rattle.program_arguments.specs.Contacts.{IsAllowedContact, IsContactOctet, IsContactOf, IsContactText, NamesNoContact};
@@ -11,7 +12,7 @@ use std::alloc::{AllocError, Global};
 // The most octets of a contact.
 const MAX_CONTACT: usize = 256;
 
-/// The contact that the option names; `Untold` without the option, and none where no comment can be made of its text.
+/// The contact from the option; `Untold` without the option, `None` if its text can't be a comment.
 pub(crate) fn contact_of(
     alloc: Global,
     matches: &ArgMatches<'_>,
@@ -41,7 +42,7 @@ fn are_contact(text: &[u8]) -> bool
     text.iter().all(|octet| is_contact_octet(*octet))
 }
 
-// A parenthesis would end the comment or begin another, and a backslash quotes what stands behind it.
+// A parenthesis would end the comment or begin another, and a backslash quotes the next octet.
 fn is_contact_octet(octet: u8) -> bool
     ensures { IsTrue result ↔ IsContactOctet octet }
 {

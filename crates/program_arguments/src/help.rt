@@ -1,5 +1,5 @@
-//! What the help of each subcommand says of its lines, with an example.
-//! docs/FORMATS.md has them all.
+//! The help of each subcommand on its lines, with an example.
+//! See docs/FORMATS.md.
 
 /// The version of the program.
 pub(crate) const VERSION: &str = "0.1.0";
@@ -27,7 +27,7 @@ With --tsv it is a table, and with --export a history, which audit reads.
 A line that is no job ends it, and is told with its fault on standard error. With --skip the others are
 done; the exit status is 1 in both cases.";
 
-/// The lines of `serve`, and how clients of other machines come.
+/// The lines of `serve`, and how clients of other machines connect.
 pub(crate) const SERVE: &str =
     "Each line of a client is a verb and its words, and is answered by a line:
     ASK foobot http://a.example/x

@@ -1,5 +1,5 @@
-//! Where a gate's journal stands, and when it is synced.
-//! docs/crawlgate.1.md has the options.
+//! The folder of a gate's journal, and when it is synced.
+//! See docs/crawlgate.1.md.
 ghost use Rattle.std.specs.Prelude.{IfErr, IfOk};
 ghost use Rattle.clap.specs.Words.{found_of};
 ghost use Rattle.program_arguments.specs.Journals.{IsJournalOf, IsSyncOf, NamesNoSync};
@@ -9,11 +9,11 @@ use clap::ArgMatches;
 use journal_files::SyncPolicy;
 use std::alloc::{AllocError, Global};
 
-/// What an option names is no time at which a journal is synced.
+/// The option names no time to sync a journal.
 #[derive(Clone, Copy, Debug, PartialEq, Eq)]
 pub(crate) struct NoSync;
 
-/// When the option says that the journal is synced; always, where it is left out.
+/// When to sync the journal by the option; always without it.
 pub(crate) fn sync_of(matches: &ArgMatches<'_>) -> Result<SyncPolicy, NoSync>
     ensures words { IfOk result (IsSyncOf (found_of matches.now)) }
     ensures refused { IfErr result (λ _. NamesNoSync (found_of matches.now)) }
@@ -26,7 +26,7 @@ pub(crate) fn sync_of(matches: &ArgMatches<'_>) -> Result<SyncPolicy, NoSync>
     }
 }
 
-/// The journal in the folder that the option names, if it is there.
+/// The journal in the option's folder, if any.
 pub(crate) fn journal_of(
     alloc: Global,
     sync: SyncPolicy,

@@ -1,5 +1,5 @@
 //! The arguments of the program's command line, and the options that they set.
-//! docs/crawlgate.1.md has them all.
+//! See docs/crawlgate.1.md.
 #![tactic(auto)]
 
 mod checked;

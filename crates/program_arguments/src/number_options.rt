@@ -1,5 +1,5 @@
-//! The options that are numbers: their names, their ranges, the numbers that they have where nobody sets them, and what the
-//! help says of them. The words are built from this table, and read by it; docs/crawlgate.1.md has it in words.
+//! The number options: their names, ranges, defaults and help. The arguments are built and read
+//! by this table; docs/crawlgate.1.md describes it.
 ghost use Rattle.std.specs.Prelude.{◌≡◌, ◌≤◌, true};
 ghost use Rattle.permit_book.specs.Numbers.{last_generation};
 
@@ -16,9 +16,9 @@ pub(crate) struct NumberOption {
     pub(crate) name: &'static str,
     pub(crate) least: u64,
     pub(crate) most: u64,
-    /// The number where nobody sets it, if it has one then.
+    /// The default, if any.
     pub(crate) usual: Option<u64>,
-    /// What the help says before its range.
+    /// The help before its range.
     about: &'static str,
     ghost fits: { (least ≤ last_generation) × (most ≤ last_generation) },
 }
@@ -32,7 +32,7 @@ pub(crate) const SLOTS: NumberOption = NumberOption {
     about: "Permits that may be out at a time",
 };
 
-/// With which generation a replay begins.
+/// The first generation of a replay.
 pub(crate) const GENERATION: NumberOption = NumberOption {
     name: "generation",
     least: 1,
@@ -113,7 +113,7 @@ pub(crate) const FETCH: NumberOption = NumberOption {
     about: "Seconds for a page, or a robots file with its redirects",
 };
 
-/// Where clients connect.
+/// The port for clients.
 pub(crate) const PORT: NumberOption = NumberOption {
     name: "port",
     least: 0,
@@ -122,7 +122,7 @@ pub(crate) const PORT: NumberOption = NumberOption {
     about: "Port to listen at, where 0 takes one that is free",
 };
 
-/// Where overseers connect.
+/// The port for overseers.
 pub(crate) const SEAL_PORT: NumberOption = NumberOption {
     name: "seal-port",
     least: 0,
@@ -149,7 +149,7 @@ pub(crate) const CONNECTIONS: NumberOption = NumberOption {
     about: "Connections that are taken in all",
 };
 
-/// How long a client is waited for.
+/// How long to wait for a client.
 pub(crate) const PATIENCE: NumberOption = NumberOption {
     name: "patience",
     least: 1,
@@ -158,7 +158,7 @@ pub(crate) const PATIENCE: NumberOption = NumberOption {
     about: "Seconds that a client is waited for between two ends of lines",
 };
 
-/// How long a client may have the gate fetch ahead.
+/// How long the gate may fetch for lines that a client sent ahead.
 pub(crate) const AHEAD: NumberOption = NumberOption {
     name: "ahead",
     least: 1,
@@ -176,7 +176,7 @@ pub(crate) const CLIENT_PERMITS: NumberOption = NumberOption {
     about: "Permits that one client may have out; all, where it is left out",
 };
 
-/// The sites that one client makes known.
+/// The sites that one client may make known.
 pub(crate) const CLIENT_AUTHORITIES: NumberOption = NumberOption {
     name: "client-authorities",
     least: 1,
@@ -185,7 +185,7 @@ pub(crate) const CLIENT_AUTHORITIES: NumberOption = NumberOption {
     about: "Authorities that may become known by one client; all, where it is left out",
 };
 
-/// Whether the usual limits of the table are those of a book for which nobody chose others. They are.
+/// Whether the defaults of the limits are those of a book. Always true.
 pub(crate) fn limits_are_usual() -> bool
     ensures { result ≡ true }
 {
@@ -203,16 +203,16 @@ pub(crate) const OF_GATES: [NumberOption; 4] = [SLOTS, LOG, AUTHORITIES, PLACES]
 /// The times of fetches.
 pub(crate) const OF_FETCHES: [NumberOption; 3] = [CONNECT, READ, FETCH];
 
-/// Those of a replay alone.
+/// The options of a replay only.
 pub(crate) const OF_REPLAYS: [NumberOption; 1] = [GENERATION];
 
-/// Those of a shift alone.
+/// The options of a shift only.
 pub(crate) const OF_SHIFTS: [NumberOption; 2] = [JOBS, DELAY];
 
-/// Where clients connect.
+/// The port for clients.
 pub(crate) const OF_PORTS: [NumberOption; 1] = [PORT];
 
-/// How many connect.
+/// The other options of a server.
 pub(crate) const OF_SERVERS: [NumberOption; 3] = [SEAL_PORT, CLIENTS, CONNECTIONS];
 
 /// What one client may have.
@@ -223,14 +223,14 @@ pub(crate) const OF_CLIENTS: [NumberOption; 4] = [
     CLIENT_AUTHORITIES,
 ];
 
-/// What the help shows of an option.
+/// The help's text of an option.
 #[derive(Drop)]
 pub(crate) struct OptionText {
     pub(crate) about: String,
     pub(crate) usual: Option<String>,
 }
 
-/// What it shows of each, in the order of the lists.
+/// The help's texts, in the order of the lists.
 #[derive(Drop)]
 pub(crate) struct OptionTexts {
     pub(crate) of_gates: Vec<OptionText>,
@@ -243,7 +243,7 @@ pub(crate) struct OptionTexts {
 }
 
 impl OptionTexts {
-    /// All of them.
+    /// All texts.
     pub(crate) fn new(alloc: Global) -> Result<OptionTexts, AllocError> {
         Ok(OptionTexts {
             of_gates: texts_of(alloc, &OF_GATES)?,

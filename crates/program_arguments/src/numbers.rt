@@ -1,4 +1,4 @@
-//! The options that are numbers, each matched under its own name and in its range.
+//! The values of number options, each matched under its own name and in its range.
 //! `number_options` has their table.
 ghost use Rattle.std.specs.Prelude.{◌≡◌, ◌≤◌, IfSome};
 ghost use Rattle.permit_book.specs.Numbers.{last_generation};
@@ -17,7 +17,7 @@ use client_connections::Connections;
 use gate_core::Limits;
 use http_client::TimeLimits;
 
-/// The limits that the options set, where each is in its range.
+/// The limits from the options, if in range.
 pub(crate) fn limits_of(matches: &ArgMatches<'_>, first_generation: u64) -> Option<Limits>
     requires { (1 ≤ first_generation) × (first_generation ≤ last_generation) }
     ensures range { IfSome result AreLimits }
@@ -33,7 +33,7 @@ pub(crate) fn limits_of(matches: &ArgMatches<'_>, first_generation: u64) -> Opti
     })
 }
 
-/// What an option bounds, and no bound where it was left out.
+/// The bound from an option; unlimited without it.
 pub(crate) fn bound_of(matches: &ArgMatches<'_>, option: NumberOption) -> Option<u64>
     ensures { IfSome result (IsBoundOf (found_of matches.now) option.name.now) }
 {
@@ -43,7 +43,7 @@ pub(crate) fn bound_of(matches: &ArgMatches<'_>, option: NumberOption) -> Option
     }
 }
 
-/// The number that was matched under the option's name, where it is in its range.
+/// The number from the option, if in range.
 pub(crate) fn number_of(matches: &ArgMatches<'_>, option: NumberOption) -> Option<u64>
     ensures least { IfSome result (λ number. option.least ≤ number) }
     ensures most { IfSome result (λ number. number ≤ option.most) }
@@ -57,14 +57,14 @@ pub(crate) fn number_of(matches: &ArgMatches<'_>, option: NumberOption) -> Optio
     }
 }
 
-/// The port that was matched under the option's name.
+/// The port from the option.
 pub(crate) fn port_of(matches: &ArgMatches<'_>, option: NumberOption) -> Option<u16>
     ensures { IfSome result (IsNumberOf (found_of matches.now) option.name.now) }
 {
     u16::try_from(number_of(matches, option)?).ok()
 }
 
-/// The limits of time that the options set, where each is in its range.
+/// The time limits from the options, if in range.
 pub(crate) fn times_of(matches: &ArgMatches<'_>) -> Option<TimeLimits>
     ensures within { IfSome result AreWithin }
     ensures words { IfSome result (AreTimesOf (found_of matches.now)) }
@@ -75,7 +75,7 @@ pub(crate) fn times_of(matches: &ArgMatches<'_>) -> Option<TimeLimits>
     Some(TimeLimits::of_seconds(connect, step, whole))
 }
 
-/// How long the gate fetches for lines sent ahead, and no bound where the option was left out.
+/// How long the gate fetches for lines sent ahead; unlimited without the option.
 pub(crate) fn ahead_of(matches: &ArgMatches<'_>) -> Option<Ahead>
     ensures range { IfSome result IsAllowedAhead }
     ensures words { IfSome result (IsAheadOf (found_of matches.now)) }
@@ -86,7 +86,7 @@ pub(crate) fn ahead_of(matches: &ArgMatches<'_>) -> Option<Ahead>
     }
 }
 
-/// So many connections as the option says, or no end of them.
+/// The number of connections from the option, or no limit.
 pub(crate) fn connections_of(matches: &ArgMatches<'_>) -> Option<Connections>
     ensures range { IfSome result AreServed }
     ensures words { IfSome result (AreConnectionsOf (found_of matches.now)) }

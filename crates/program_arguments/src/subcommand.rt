@@ -1,5 +1,5 @@
-//! What the program may be asked to do, and the options of each subcommand.
-//! docs/crawlgate.1.md has them all.
+//! The subcommands of the program, and their options.
+//! See docs/crawlgate.1.md.
 use client_connections::Connections;
 use gate_core::Limits;
 use http_client::{Reach, TimeLimits};
@@ -9,85 +9,85 @@ use robots_check::Detail;
 use robots_text::Token;
 use std::net::SocketAddr;
 
-/// What the program is asked to do.
+/// What the program should do.
 #[derive(Drop)]
 pub enum Subcommand {
-    /// Reads replay lines from standard input, and writes their replies to standard output.
+    /// Reads replay lines from standard input, and writes the replies to standard output.
     Replay(ReplayOptions),
     /// Reads replay lines from standard input, and writes the text of the book's history at the end.
     Export(ReplayOptions),
-    /// Reads a robots text from standard input, and writes what each of its lines says.
+    /// Reads a robots text from standard input, and explains each of its lines.
     Lines(Notes),
-    /// Says of URLs whether a robots text allows them.
+    /// Says whether a robots text allows URLs.
     Check(CheckOptions),
-    /// Audits the text of a history, or those of its segments, on standard input, with pages of these schemes.
+    /// Audits a history, whole or in segments, from standard input, with pages of these schemes.
     Audit(Schemes),
-    /// Has workers do the jobs on standard input, and writes what is told of them to standard output.
+    /// Workers do the jobs on standard input, and the report goes to standard output.
     Shift(ShiftOptions),
-    /// Has workers serve clients of this machine.
+    /// Workers serve clients of this machine.
     Serve(ServeOptions),
 }
 
-/// How lines are replayed.
+/// How to replay lines.
 #[derive(Clone, Copy)]
 pub struct ReplayOptions {
-    /// The limits of the book.
+    /// The book's limits.
     pub limits: Limits,
-    /// The schemes of the pages that the lines may name.
+    /// The schemes that the lines' pages may have.
     pub schemes: Schemes,
 }
 
-/// Whether notes are told of a robots text: what in it may surprise.
+/// Whether to note what may surprise in a robots text.
 #[derive(Clone, Copy, Debug, PartialEq, Eq)]
 pub enum Notes {
-    /// They are told on standard error.
+    /// Notes go to standard error.
     Told,
-    /// Nothing is told there.
+    /// No notes.
     Untold,
 }
 
-/// How a shift is done.
+/// The options of a shift.
 #[derive(Drop)]
 pub struct ShiftOptions {
-    /// How many jobs are done at a time.
+    /// How many jobs are done at once.
     pub workers: u64,
-    /// The seconds, from 0 to 600, that lie at least between the begins of two fetches at a site.
+    /// The least seconds, from 0 to 600, between the starts of two fetches at a site.
     pub delay: u64,
-    /// The limits of its book.
+    /// Its book's limits.
     pub limits: Limits,
-    /// The limits of time of its fetches.
+    /// The time limits of its fetches.
     pub times: TimeLimits,
-    /// To which addresses they connect.
+    /// The addresses that fetches may reach.
     pub reach: Reach,
-    /// Where the program listens that opens TLS for them; without one they are of `http` alone.
+    /// The address of the program that opens TLS; without one only `http` is fetched.
     pub tls_by: Option<SocketAddr>,
-    /// Whom requests name behind the agent.
+    /// The contact that requests name after the agent.
     pub contact: Contact,
     pub told: ShiftOutput,
     pub bad_jobs: BadJobs,
-    /// What the gate's history is written to before anything of it is told, if anything.
+    /// The journal, if any: the gate's history is written there before it is told.
     pub journal: Option<JournalOptions>,
 }
 
 /// What a line that is no job does to a shift.
 #[derive(Clone, Copy, Debug, PartialEq, Eq)]
 pub enum BadJobs {
-    /// It ends the shift before anything is fetched.
+    /// Ends the shift before any fetch.
     End,
-    /// It is told, and the other jobs are done.
+    /// It is reported, and the other jobs are done.
     Skip,
 }
 
 /// Where clients connect.
 #[derive(Drop)]
 pub enum ListenAddress {
-    /// At this port of the loopback; for 0 at one that is free.
+    /// At this port of the loopback; 0 for any free one.
     Port(u16),
-    /// At a socket that is a file of this path.
+    /// At a socket file of this path.
     Socket(String),
 }
 
-/// Where a gate's journal stands, and when it is synced.
+/// The folder of a gate's journal, and when it is synced.
 #[derive(Drop)]
 pub struct JournalOptions {
     /// The folder of its files.
@@ -98,86 +98,86 @@ pub struct JournalOptions {
 /// Whom a site may write to about a crawl.
 #[derive(Drop)]
 pub enum Contact {
-    /// Requests don't tell.
+    /// Requests name nobody.
     Untold,
-    /// Requests have this comment behind the agent, in parentheses: 1 to 256 octets from 32 to 126, with no parenthesis and no
-    /// backslash.
+    /// Requests have this comment after the agent, in parentheses: 1 to 256 octets from 32 to 126, without
+    /// parentheses and backslashes.
     Text(String),
 }
 
-/// How long the gate fetches for lines that a client has sent ahead of the replies.
+/// How long the gate fetches for lines that a client sent ahead of the replies.
 #[derive(Clone, Copy, Debug, PartialEq, Eq)]
 pub enum Ahead {
     /// As long as it takes.
     Unbounded,
-    /// So many seconds, from 1 to 3,600, between two times that the client had to be waited for.
+    /// For so many seconds, from 1 to 3,600, between two waits for the client.
     Seconds(u64),
 }
 
-/// How clients are served.
+/// The options of a server.
 #[derive(Drop)]
 pub struct ServeOptions {
     pub place: ListenAddress,
-    /// The port of the loopback at which overseers connect, 0 for one that is free; without one nobody does.
+    /// The loopback port for overseers, 0 for any free one; none without it.
     pub seal_port: Option<u16>,
-    /// How many are served at a time.
+    /// How many clients are served at once.
     pub workers: u64,
-    /// How many connections are taken in all.
+    /// How many connections are accepted in all.
     pub connections: Connections,
-    /// The limits of the book.
+    /// The book's limits.
     pub limits: Limits,
-    /// The limits of time of fetches.
+    /// The time limits of fetches.
     pub times: TimeLimits,
-    /// To which addresses they connect.
+    /// The addresses that fetches may reach.
     pub reach: Reach,
-    /// Where the program listens that opens TLS for them; without one they are of `http` alone.
+    /// The address of the program that opens TLS; without one only `http` is fetched.
     pub tls_by: Option<SocketAddr>,
-    /// Whom requests name behind the agent.
+    /// The contact that requests name after the agent.
     pub contact: Contact,
-    /// The seconds that a client is waited for between two ends of lines.
+    /// The seconds to wait for a client between two line ends.
     pub patience: u64,
-    /// How long a client may have the gate fetch for lines that it has sent ahead.
+    /// How long the gate may fetch for lines sent ahead.
     pub ahead: Ahead,
-    /// How many permits a client may have out; the greatest number, where it may have all.
+    /// How many permits a client may have out; the largest number for no limit.
     pub client_permits: u64,
-    /// How many authorities may become known by a client; the greatest number, where all may.
+    /// How many authorities a client may make known; the largest number for no limit.
     pub client_authorities: u64,
-    /// What the gate's history is written to before anything of it is told, if anything.
+    /// The journal, if any: the gate's history is written there before it is told.
     pub journal: Option<JournalOptions>,
 }
 
-/// What is checked.
+/// The options of a check.
 #[derive(Drop)]
 pub struct CheckOptions {
-    /// The crawler for which it is.
+    /// The crawler's token.
     pub token: Token,
     pub text: CheckedText,
     pub urls: CheckedUrls,
     pub detail: Detail,
 }
 
-/// Where the robots text of a check comes from.
+/// The source of the robots text.
 #[derive(Drop)]
 pub enum CheckedText {
-    /// It is the input, or where the URLs are lines of that, what stands before them.
+    /// The input, or its part before the URLs if these are its lines.
     Input,
-    /// It is the content of the file of this name.
+    /// The file of this name.
     File(String),
 }
 
-/// Where the URLs of a check come from.
+/// The source of the URLs.
 #[derive(Drop)]
 pub enum CheckedUrls {
-    /// They are arguments of the command line.
+    /// Arguments of the command line.
     Words(Vec<String>),
-    /// They are lines of the input: all, or where the robots text is there too, those behind it.
+    /// Lines of the input, after the robots text if that is there too.
     Input,
 }
 
-/// What is written of a shift.
+/// What a shift writes.
 #[derive(Clone, Copy, Debug, PartialEq, Eq)]
 pub enum ShiftOutput {
-    /// What came of its jobs.
+    /// The outcomes of its jobs.
     Outcomes,
     /// A table of its hops.
     Table,

@@ -1,5 +1,5 @@
-//! Where the program listens that opens TLS: an address of this machine alone, since what goes there is plain.
-//! docs/crawlgate.1.md has the option.
+//! The address of the program that opens TLS, on this machine only, since what goes there is plain.
+//! See docs/crawlgate.1.md.
 ghost use Rattle.std.specs.Prelude.{IfErr, IfOk, IfSome};
 ghost use Rattle.clap.specs.Words.{found_of};
 ghost use Rattle.program_arguments.specs.Tls.{IsLoopback, IsTlsByOf, NamesNoLoopback};
@@ -7,11 +7,11 @@ ghost use Rattle.program_arguments.specs.Tls.{IsLoopback, IsTlsByOf, NamesNoLoop
 use clap::ArgMatches;
 use std::net::SocketAddr;
 
-/// What an option names is no address and port of this machine.
+/// The option names no address and port of this machine.
 #[derive(Clone, Copy, Debug, PartialEq, Eq)]
 pub(crate) struct NotLoopback;
 
-/// The address and port that the option names, if it is there.
+/// The address and port from the option, if any.
 pub(crate) fn tls_by_of(matches: &ArgMatches<'_>) -> Result<Option<SocketAddr>, NotLoopback>
     ensures range { IfOk result (λ found. IfSome found IsLoopback) }
     ensures words { IfOk result (IsTlsByOf (found_of matches.now)) }

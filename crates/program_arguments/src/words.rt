@@ -1,5 +1,5 @@
 //! The arguments of the program's command line, read by `clap`.
-//! Nothing below sees `clap`.
+//! No lower crate sees `clap`.
 ghost use Rattle.std.specs.Prelude.{◌≡◌, IfOk, IfSome};
 ghost use Rattle.clap.specs.Words.{found_of};
 ghost use Rattle.program_arguments.specs.Contacts.{IsAllowedContact, IsContactOf};
@@ -29,7 +29,7 @@ use path_normal::Schemes;
 use std::alloc::{AllocError, Global};
 use std::net::SocketAddr;
 
-// Why words that `clap` takes are refused.
+// Why arguments that `clap` takes are refused.
 const BAD_NUMBER: &str = "a number is written in digits alone";
 
 const BAD_PATH: &str = "a socket's path has 1 to 96 octets, and no control characters";
@@ -42,19 +42,19 @@ const BAD_SYNC: &str = "a journal is synced always, each second or never";
 const BAD_TLS_BY: &str =
     "--tls-by names an address of this machine and a port, as 127.0.0.1:3131 or [::1]:3131";
 
-// The most octets of a socket's path. (Linux takes 107, and the socket is made at a path with 11 more.)
+// The most octets of a socket's path. (Linux takes 107; the socket is made at a path with 11 more.)
 const MAX_PATH: usize = 96;
 
-/// What the words come to.
+/// The result of reading the arguments.
 #[derive(Drop)]
 pub(crate) enum Chosen {
     Taken(Subcommand),
-    /// They are refused for this reason, though `clap` takes them.
+    /// Refused for this reason, though `clap` takes them.
     Refused(&'static str),
 }
 
-/// Reads the program's words, of which the first is its own name. The error has what `clap`
-/// answers in their place: its help, or why it refuses them.
+/// Reads the program's arguments, the first of which is its own name. The error is `clap`'s answer: its
+/// help, or why it refuses them.
 pub fn options<'a>(alloc: Global, words: &'a [&'a str]) -> Result<Subcommand, Error>
     ensures { IfOk result IsInRange }
 {
@@ -63,7 +63,7 @@ pub fn options<'a>(alloc: Global, words: &'a [&'a str]) -> Result<Subcommand, Er
     read_words(alloc, &mut program, words)
 }
 
-// (`clap`'s own values are large: each has one owner, which makes one call.)
+// (`clap`'s values are large: each has one owner, which makes one call.)
 fn read_words<'a>(
     alloc: Global,
     program: &mut Command<'a>,
@@ -77,7 +77,7 @@ fn read_words<'a>(
     }
 }
 
-// The subcommand of the arguments, where each option is in its range and no number has a sign.
+// The subcommand of the arguments, with options in range and no plus signs.
 fn chosen_by<'a>(
     alloc: Global,
     program: &mut Command<'a>,
@@ -101,7 +101,8 @@ fn chosen_by<'a>(
     Ok(chosen_of(&matches))
 }
 
-// Whether a word, or what stands behind its `=`, begins with a plus sign. (Rust reads `+5` as a number.) A contact may.
+// Whether an argument, or its part after `=`, begins with a plus sign. (Rust reads `+5` as a number.) A
+// contact may.
 fn has_sign(words: &[&str]) -> bool {
     let mut before = "";
     for word in words {
@@ -114,7 +115,7 @@ fn has_sign(words: &[&str]) -> bool {
     false
 }
 
-// `clap` has refused numbers out of their ranges.
+// `clap` has refused numbers out of range.
 fn chosen_of(matches: &ArgMatches<'_>) -> Chosen
     ensures { IsChosen result }
 {
@@ -131,7 +132,7 @@ fn subcommand_of(matches: &ArgMatches<'_>) -> Option<Subcommand>
         Some(("replay", replay)) => replay_of(replay),
         Some(("audit", audit)) => Some(audit_of(audit)),
         Some((_, lines)) => Some(lines_of(lines)),
-        // One is required.
+        // A subcommand is required.
         None => Some(Subcommand::Lines(Notes::Untold)),
     }
 }
@@ -166,7 +167,6 @@ fn lines_of(matches: &ArgMatches<'_>) -> Subcommand
     Subcommand::Lines(notes_of(matches))
 }
 
-// The schemes of the pages that are read.
 fn schemes_of(matches: &ArgMatches<'_>) -> Schemes
     ensures { AreSchemesOf (found_of matches.now) result }
 {
@@ -177,7 +177,6 @@ fn schemes_of(matches: &ArgMatches<'_>) -> Schemes
     }
 }
 
-// Whether notes are told.
 fn notes_of(matches: &ArgMatches<'_>) -> Notes
     ensures { AreNotesOf (found_of matches.now) result }
 {
@@ -323,7 +322,6 @@ fn served_at(
     }))
 }
 
-// The socket that the option names, or else the port.
 fn place_of(alloc: Global, matches: &ArgMatches<'_>) -> Result<Option<ListenAddress>, AllocError>
     ensures { IfOk result (λ found. IfSome found (IsPlaceOf (found_of matches.now))) }
 {
@@ -336,14 +334,13 @@ fn place_of(alloc: Global, matches: &ArgMatches<'_>) -> Result<Option<ListenAddr
     Ok(Some(ListenAddress::Socket(String::from_str(alloc, path)?)))
 }
 
-// Whether a socket may have this path: one line of text, as long as the system takes for a socket that is made beside it.
+// Whether a socket may have this path: one line of text, short enough for a socket made beside it.
 fn is_path(path: &str) -> bool {
     !path.is_empty()
         && path.len() <= MAX_PATH
         && !path.bytes().any(|octet| octet.is_ascii_control())
 }
 
-// The port for overseers, if one is named.
 fn seal_port_of(matches: &ArgMatches<'_>) -> Option<Option<u16>>
     ensures { IfSome result (IsSealPortOf (found_of matches.now)) }
 {
@@ -353,7 +350,6 @@ fn seal_port_of(matches: &ArgMatches<'_>) -> Option<Option<u16>>
     }
 }
 
-// To which addresses fetches connect.
 fn reach_of(matches: &ArgMatches<'_>) -> Reach
     ensures { IsReachOf (found_of matches.now) result }
 {
@@ -364,7 +360,6 @@ fn reach_of(matches: &ArgMatches<'_>) -> Reach
     }
 }
 
-// What a line that is no job does.
 fn bad_jobs_of(matches: &ArgMatches<'_>) -> BadJobs
     ensures { AreBadJobsOf (found_of matches.now) result }
 {

@@ -1,4 +1,4 @@
--- How the program ends: the exit status of each ending, and what is told on standard error.
+-- How the program ends: each ending's exit status, and its message on standard error.
 -- docs/crawlgate.1.md has the same table.
 use Rattle.std.specs.Prelude.{ℕ, List, ◌++◌, Option, Some, None, codes, Result, Ok, Err}
 use Rattle.std.specs.Net.Text.{socket_text}
@@ -34,17 +34,17 @@ exit_status endings.ToldDevice = 3
 exit_status (endings.NoTlsProgram at) = 3
 exit_status endings.NoJournal = 3
 
--- that nobody takes connections where the program that opens TLS should be
+-- nobody listens at the address of the program that opens TLS
 abbrev pub no_tls_text : SocketAddr → List ℕ
 no_tls_text at = codes "device: no TLS program at " ++ socket_text at
 
--- what a standard stream is called
+-- a standard stream's name
 abbrev pub stream_name : Stream → List ℕ
 stream_name streams.Input = codes "standard input"
 stream_name streams.Output = codes "standard output"
 stream_name streams.Errors = codes "standard error"
 
--- that a standard stream is closed
+-- a standard stream is closed
 abbrev pub closed_text : Stream → List ℕ
 closed_text stream = codes "device: " ++ (stream_name stream ++ codes ": closed")
 
@@ -54,8 +54,8 @@ message_text (messages.Words words) = words.now
 message_text (messages.Closed stream) = closed_text stream
 message_text (messages.NoTlsProgram at) = no_tls_text at
 
--- what is told behind the program's name; what is wrong with the words, or with a file, is told by
--- their reader, and the system's reason why a device failed where it did
+-- the message after the program's name; faults in the arguments or a file are printed by their reader, and the
+-- system's reason where a device failed
 abbrev pub message_of : Ending → Option (List ℕ)
 message_of endings.Done = None
 message_of endings.LongLine = Some (codes "line too long")
@@ -73,7 +73,7 @@ message_of endings.ToldDevice = None
 message_of (endings.NoTlsProgram at) = Some (no_tls_text at)
 message_of endings.NoJournal = None
 
--- how the program ends where its work came to this
+-- the program's ending by the result of its session
 abbrev pub ending_of : Result (Unit {0}) SessionFault → Ending
 ending_of (Ok _) = endings.Done
 ending_of (Err faults.LongLine) = endings.LongLine
@@ -82,18 +82,18 @@ ending_of (Err faults.Read) = endings.Device
 ending_of (Err faults.Write) = endings.Device
 ending_of (Err faults.NoMemory) = endings.NoMemory
 
--- how the program ends where what is told of a robots text stopped
+-- the ending after a fault in a report on a robots text
 abbrev pub ending_of_fault : TextFault → Ending
 ending_of_fault text_faults.Read = endings.Device
 ending_of_fault text_faults.Write = endings.Device
 ending_of_fault text_faults.NoMemory = endings.NoMemory
 
--- how the program ends where `lines` came to this
+-- the ending by the result of `lines`
 abbrev pub ending_of_lines : Result (Unit {0}) TextFault → Ending
 ending_of_lines (Ok _) = endings.Done
 ending_of_lines (Err fault) = ending_of_fault fault
 
--- how the program ends where a check came to this
+-- the ending by the result of a check
 abbrev pub ending_of_check : Result CheckOutcome TextFault → Ending
 ending_of_check (Ok outcomes.NoUrls) = endings.NoUrls
 ending_of_check (Ok outcomes.Allowed) = endings.Done

@@ -1,4 +1,4 @@
--- What contracts say of how the program goes on, of what it tells, and of how it ends.
+-- Definitions for the contracts of the program's next step, its messages and its endings.
 pub mod Endings
 pub mod AuditResult
 pub mod ServerLines

@@ -1,5 +1,5 @@
--- What the program needs to go on with a shift or a server.
--- The contract of `run` cites it.
+-- What the program needs for a shift or a server.
+-- Cited by `run`.
 use Rattle.program_arguments.specs.Options.{AreForServe, AreForShift}
 use Rattle.program_commands.specs.declared.next.Next.{Next}
 use Rattle.program_commands.specs.declared.next.Next.TheVariants.{Ends, Shift, Serve}

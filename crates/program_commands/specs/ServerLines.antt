@@ -1,5 +1,5 @@
--- The lines that a server writes. docs/FORMATS.md has them.
--- Cited by the contract of `ServerLine::pieces`.
+-- The lines of a server. docs/FORMATS.md has them.
+-- Cited by `ServerLine::pieces`.
 use Rattle.std.specs.Prelude.{ℕ, List, [], ◌∷◌, ◌++◌, codes, decimal}
 use Rattle.line_text.specs.Pieces.{line_of}
 use Rattle.program_commands.specs.declared.server_line.ServerLine.{ServerLine}

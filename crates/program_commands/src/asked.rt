@@ -1,5 +1,5 @@
-//! The program's words, and what they ask for.
-//! docs/crawlgate.1.md has them.
+//! Carries out the program's arguments.
+//! See docs/crawlgate.1.md.
 ghost use Rattle.std.specs.Prelude.{IfOk};
 ghost use Rattle.program_arguments.specs.Options.{IsInRange};
 ghost use Rattle.program_commands.specs.Ready.{IsReady};
@@ -15,14 +15,14 @@ use clap::error::ErrorKind;
 use program_arguments::{Subcommand, options};
 use std::{env, io};
 
-/// Reads the program's words, and does what they ask for, but for a shift and a server.
+/// Reads the program's arguments, and does what they ask for, except a shift or a server.
 pub fn run(rt: &HostRuntime) -> Next
     ensures { IsReady result }
 {
     let mut owned = Vec::new(rt.alloc());
     match run_taken(rt, &mut owned) {
         Ok(next) => next,
-        // An error is one of printing, or of memory outside a session.
+        // The error comes from printing, or from a lack of memory outside a session.
         Err(error) if error.kind() == io::ErrorKind::OutOfMemory => Next::Ends(Ending::NoMemory),
         Err(_) => Next::Ends(Ending::Device),
     }
@@ -37,7 +37,7 @@ fn run_taken(rt: &HostRuntime, owned: &mut Vec<String>) -> io::Result<Next>
     }
 }
 
-// Takes the program's words, or tells how it ends without them.
+// Takes the program's arguments, or the ending without them.
 fn take_words(rt: &HostRuntime, owned: &mut Vec<String>) -> io::Result<Option<Ending>> {
     match env::args(rt) {
         Ok(given) => {
@@ -48,7 +48,7 @@ fn take_words(rt: &HostRuntime, owned: &mut Vec<String>) -> io::Result<Option<En
         }
         Err(error) if error.kind() == io::ErrorKind::OutOfMemory => Ok(Some(Ending::NoMemory)),
         Err(_) => {
-            // The words are bad, whether or not that can be told.
+            // The arguments are bad even if this can't be printed.
             let _ = eprintln!(rt; "crawlgate: an argument is not UTF-8");
             Ok(Some(Ending::BadWords))
         }

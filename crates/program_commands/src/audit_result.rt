@@ -1,22 +1,22 @@
-//! The lines that the program writes of its own: what an audit found, and the first bad line.
-//! docs/FORMATS.md has them.
+//! The program's own lines: the result of an audit, or the first bad line.
+//! See docs/FORMATS.md.
 ghost use Rattle.std.specs.Prelude.{◌≡◌};
 ghost use Rattle.line_text.specs.Pieces.{pieces_text};
 ghost use Rattle.program_commands.specs.AuditResult.{audit_result_text};
 
 use line_text::{Piece, Pieces};
 
-/// What was found in the lines of the input.
+/// The result of reading the lines of the input.
 #[derive(Clone, Copy)]
 pub enum AuditResult {
-    /// Each is right: what they tell, and how many starts are among it.
+    /// All are right: their entries, and the starts among these.
     Right { events: u64, starts: u64 },
-    /// The first that is bad, from 1 on.
+    /// The number of the first bad one, from 1.
     BadLine(u64),
 }
 
 impl AuditResult {
-    /// The line that tells it.
+    /// The line.
     pub fn pieces(self) -> Pieces<'static>
         ensures { pieces_text result ≡ audit_result_text self }
     {

@@ -1,5 +1,5 @@
 //! `audit` over the standard streams.
-//! docs/FORMATS.md has what it reads and writes.
+//! Input and output are in docs/FORMATS.md.
 ghost use Rattle.std.specs.Prelude.{◌≡◌, List, Some, ℕ};
 ghost use Rattle.program_commands.specs.Messages.{BlamesDevice, TellsAudit};
 
@@ -14,8 +14,7 @@ use path_normal::Schemes;
 use std::alloc::Global;
 use std::hash::RandomState;
 
-/// Audits standard input, whose lines may name pages of these schemes. The keys of the audit's tables are
-/// drawn anew.
+/// Audits standard input, with pages of these schemes. The audit's tables get new random keys.
 pub(crate) fn audit_streams(rt: &HostRuntime, schemes: Schemes) -> Ending {
     let Ok(keys) = RandomState::new(rt) else {
         return Ending::Device;
@@ -27,7 +26,7 @@ pub(crate) fn audit_streams(rt: &HostRuntime, schemes: Schemes) -> Ending {
     tell_failed(rt, end, Stream::Output, writer)
 }
 
-// Audits a source, and tells what was found.
+// Audits a source, and writes the result.
 fn audit_over<R: Source, W: Sink>(
     alloc: Global,
     keys: RandomState,

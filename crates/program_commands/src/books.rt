@@ -1,5 +1,5 @@
-//! The book that the program begins with.
-//! `replay`, `export` and a shift take it.
+//! The book at the start of the program.
+//! Used by `replay`, `export` and a shift.
 ghost use Rattle.std.specs.Prelude.{◌≡◌, [], IfOk};
 ghost use Rattle.gate_history.specs.Base.{empty_base};
 ghost use Rattle.gate_core.specs.Limits.{AreLimits};
@@ -8,7 +8,7 @@ use crate::ending::Ending;
 use gate_core::{Book, Config, Limits};
 use std::hash::RandomState;
 
-/// A new book. The keys of its tables are drawn anew. Without them the program ends so.
+/// A new book with new random keys for its tables. Without them the program ends as returned.
 pub fn new_book(rt: &HostRuntime, limits: Limits) -> Result<Book, Ending>
     requires { AreLimits limits }
     ensures { IfOk result (λ book. (book.base ≡ empty_base) × (book.entries ≡ [])) }

@@ -1,5 +1,5 @@
-//! `check` over the standard streams, and a file with the robots text where one is named.
-//! docs/FORMATS.md has what it reads and writes.
+//! `check` over the standard streams, with a file for the robots text if named.
+//! Input and output are in docs/FORMATS.md.
 use crate::ending::Ending;
 use crate::reasoned::Reasoned;
 use crate::robots_file::read_file;
@@ -10,7 +10,7 @@ use program_arguments::{CheckOptions, CheckedText, CheckedUrls};
 use robots_check::{Detail, check, check_input, check_lines};
 use robots_text::Token;
 
-/// Checks URLs against the robots text on standard input, or in a file.
+/// Checks URLs against the robots text on standard input or in a file.
 pub(crate) fn check_streams(rt: &HostRuntime, options: CheckOptions) -> Ending {
     let CheckOptions {
         token,
@@ -27,7 +27,6 @@ pub(crate) fn check_streams(rt: &HostRuntime, options: CheckOptions) -> Ending {
     }
 }
 
-// Checks URLs against the robots text on standard input.
 fn check_by_input(rt: &HostRuntime, token: &Token, urls: CheckedUrls, detail: Detail) -> Ending {
     let mut reader = Counted::new(Reasoned::new(rt.stdin()));
     let end = match urls {
@@ -37,7 +36,6 @@ fn check_by_input(rt: &HostRuntime, token: &Token, urls: CheckedUrls, detail: De
     tell_failed(rt, end, Stream::Input, reader)
 }
 
-// Checks the URLs that follow the robots text of a reader.
 fn check_read<R: Source>(
     rt: &HostRuntime,
     reader: &mut R,
@@ -50,7 +48,6 @@ fn check_read<R: Source>(
     tell_failed(rt, Ending::of_check(end), Stream::Output, writer)
 }
 
-// Checks URLs against the robots text of a file.
 fn check_by_body(
     rt: &HostRuntime,
     body: &[u8],
@@ -67,7 +64,6 @@ fn check_by_body(
     }
 }
 
-// Checks the URLs on standard input against the robots text of a file.
 fn check_given(rt: &HostRuntime, body: &[u8], token: &Token, detail: Detail) -> Ending {
     let mut reader = Counted::new(Reasoned::new(rt.stdin()));
     let mut writer = Counted::new(Reasoned::new(rt.stdout()));
@@ -85,7 +81,6 @@ fn check_given(rt: &HostRuntime, body: &[u8], token: &Token, detail: Detail) -> 
     tell_failed(rt, end, Stream::Output, writer)
 }
 
-// Checks the URLs of the command line against the robots text of a reader.
 fn check_words<R: Source>(
     rt: &HostRuntime,
     reader: &mut R,

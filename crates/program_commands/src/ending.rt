@@ -1,4 +1,4 @@
-//! How the program ends: its exit status, and what it tells on standard error.
+//! How the program ends: its exit status, and its message on standard error.
 //! docs/crawlgate.1.md has the table.
 ghost use Rattle.std.specs.Prelude.{◌≡◌, option_map};
 ghost use Rattle.program_commands.specs.Endings.{ending_of, ending_of_check, ending_of_fault, ending_of_lines, message_of, message_text, exit_status};
@@ -14,33 +14,33 @@ use std::net::SocketAddr;
 pub enum Ending {
     /// All was done.
     Done,
-    /// A line of the input is over the limit.
+    /// A line of the input is longer than the limit.
     LongLine,
     /// The input has more lines than a session takes.
     ManyLines,
-    /// The audit found a bad line, and told its number.
+    /// The audit found a bad line, and printed its number.
     BadLine,
-    /// A check found that a URL is denied, and each could be read.
+    /// A check found a denied URL, and could read all URLs.
     DeniedUrl,
     /// A check met a URL that could not be read.
     BadUrl,
     /// A check found no URL in its input.
     NoUrls,
-    /// The file of a robots text could not be opened or read, which was told.
+    /// The file of a robots text could not be opened or read; printed already.
     BadFile,
-    /// The program's words were refused, or asked for help.
+    /// The arguments were refused, or asked for help.
     BadWords,
-    /// A growth of memory was refused.
+    /// Out of memory.
     NoMemory,
     /// A standard stream failed.
     Device,
     /// This standard stream was closed from the start.
     ClosedStream(Stream),
-    /// A stream failed, or nothing can listen where the words say, which was told with the system's reason.
+    /// A stream failed, or nothing can listen at the place; printed already with the system's reason.
     ToldDevice,
-    /// Nobody takes connections where the program that opens TLS should be.
+    /// Nobody listens at the address of the program that opens TLS.
     NoTlsProgram(SocketAddr),
-    /// The folder of a journal can't be one, or the journal has failed, which was told.
+    /// The folder can't be a journal's, or the journal failed; printed already.
     NoJournal,
 }
 
@@ -81,7 +81,7 @@ impl Ending {
         }
     }
 
-    // The ending where what is told of a robots text stopped.
+    // The ending after a fault in a report on a robots text.
     fn of_fault(fault: TextFault) -> Ending
         ensures { result ≡ ending_of_fault fault }
     {
@@ -104,7 +104,7 @@ impl Ending {
         }
     }
 
-    /// What is told on standard error behind the program's name, where that isn't told already.
+    /// The message after the program's name on standard error, unless printed already.
     pub fn message(self) -> Option<Message>
         ensures { option_map message_text result ≡ message_of self }
     {

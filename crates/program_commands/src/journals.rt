@@ -1,11 +1,11 @@
-//! What is told where a folder can't be a journal's, and where a journal has failed.
+//! The messages for a bad journal folder and for a failed journal.
 //! docs/FAULTS.md has each.
 
 use crate::ending::Ending;
 use journal_files::{FolderFault, JournalFault};
 use std::io;
 
-/// Tells why a folder can't be a journal's, with which the program ends.
+/// Prints why a folder can't be a journal's; the program ends.
 pub fn tell_bad_folder(rt: &HostRuntime, folder: &str, fault: FolderFault) -> Ending {
     match fault {
         FolderFault::OtherFiles => tell(rt, folder, "has files that are not a journal's"),
@@ -15,46 +15,46 @@ pub fn tell_bad_folder(rt: &HostRuntime, folder: &str, fault: FolderFault) -> En
     }
 }
 
-/// Tells which line of a journal's file is wrong, so that no gate goes on from it, with which the program ends.
+/// Prints which line of a journal's file is wrong, so that no gate can continue it; the program ends.
 pub fn tell_bad_journal(rt: &HostRuntime, file: &str, line: u64) -> Ending {
-    // A standard error that fails too leaves the status alone.
+    // If standard error fails too, the status stays.
     let _ = eprintln!(rt; "crawlgate: journal: {file:?} line {line} is wrong");
     Ending::NoJournal
 }
 
-/// Tells at which line a journal's file ends, where no entry may come yet, with which the program ends.
+/// Prints at which line a journal's file ends before an entry may come; the program ends.
 pub fn tell_short_journal(rt: &HostRuntime, file: &str, line: u64) -> Ending {
-    // A standard error that fails too leaves the status alone.
+    // If standard error fails too, the status stays.
     let _ = eprintln!(rt;
         "crawlgate: journal: {file:?} ends at line {line}, before its entries begin"
     );
     Ending::NoJournal
 }
 
-/// Tells that so many octets of a line that a crash tore are removed from a journal's file. The program goes on.
+/// Prints how many octets of a line torn by a crash are removed from a journal's file. The program goes on.
 pub fn tell_torn_line(rt: &HostRuntime, file: &str, octets: u64) {
-    // A standard error that fails leaves the journal alone.
+    // If standard error fails, the journal stays.
     let _ = eprintln!(rt;
         "crawlgate: journal: {file:?} ends in a torn line, whose {octets} octets are removed"
     );
 }
 
-/// Tells that a journal's file has no room for the lines that would end what is out, with which the program ends.
+/// Prints that a journal's file has no room for the lines that would end what is out; the program ends.
 pub fn tell_full_journal(rt: &HostRuntime, file: &str) -> Ending {
     tell(rt, file, "has as many entries as a text may have")
 }
 
-/// Tells that a journal's file has permits of more slots than the gate may have, with which the program ends.
+/// Prints that a journal's file has permits of more slots than the gate may have; the program ends.
 pub fn tell_few_slots(rt: &HostRuntime, file: &str) -> Ending {
     tell(rt, file, "has permits of more slots than --slots allows")
 }
 
-/// Tells that a journal's file can't be read, and why, with which the program ends.
+/// Prints why a journal's file can't be read; the program ends.
 pub fn tell_unread_journal(rt: &HostRuntime, cause: Option<io::Error>) -> Ending {
     tell_cause(rt, cause)
 }
 
-/// Tells why a journal has failed, with which the program ends.
+/// Prints why a journal failed; the program ends.
 pub fn tell_failed_journal(rt: &HostRuntime, folder: &str, fault: JournalFault) -> Ending {
     match fault {
         JournalFault::Device(cause) => tell_cause(rt, cause),
@@ -63,14 +63,14 @@ pub fn tell_failed_journal(rt: &HostRuntime, folder: &str, fault: JournalFault) 
     }
 }
 
-// Tells what is wrong with a folder.
+// Prints what is wrong with a folder.
 fn tell(rt: &HostRuntime, folder: &str, what: &str) -> Ending {
-    // A standard error that fails too leaves the status alone.
+    // If standard error fails too, the status stays.
     let _ = eprintln!(rt; "crawlgate: journal: {folder:?} {what}");
     Ending::NoJournal
 }
 
-// Tells what the system says of a file, where that is known.
+// Prints the system's reason, if known.
 fn tell_cause(rt: &HostRuntime, cause: Option<io::Error>) -> Ending {
     let _ = match cause {
         Some(cause) => eprintln!(rt; "crawlgate: device: journal: {cause}"),

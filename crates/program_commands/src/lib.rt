@@ -1,5 +1,4 @@
-//! What the program's words ask for, but for a shift and a server, done over the standard streams; how it
-//! ends.
+//! The program's commands over the standard streams, except a shift and a server, and its endings.
 //! docs/crawlgate.1.md is the program's manual page.
 #![tactic(auto)]
 

@@ -1,18 +1,18 @@
-//! What is told on standard error of how the program ended.
+//! The message on standard error at the end of the program.
 //! docs/crawlgate.1.md has the table.
 
 use crate::streams::Stream;
 use std::fmt;
 use std::net::SocketAddr;
 
-/// What is told behind the program's name.
+/// The message after the program's name.
 #[derive(Clone, Copy, Debug, PartialEq, Eq)]
 pub enum Message {
     /// These words.
     Words(&'static str),
-    /// That a standard stream is closed.
+    /// A standard stream is closed.
     Closed(Stream),
-    /// That nobody takes connections here, where the program that opens TLS should be.
+    /// Nobody listens here, at the address of the program that opens TLS.
     NoTlsProgram(SocketAddr),
 }
 

@@ -1,10 +1,10 @@
-//! A reader or a writer that keeps why it failed: the standard streams are read and written through it.
+//! A reader or writer that keeps why it failed, for the standard streams.
 ghost use Rattle.std.specs.Prelude.{◌≡◌, None};
 
 use std::io;
 use std::io::{ErrorKind, Read, Write};
 
-/// A reader or a writer of std, and what kind of error its last failure was, if a call of it failed.
+/// A std reader or writer, and the kind of its last failure, if any.
 #[derive(Drop)]
 pub struct Reasoned<D> {
     pub device: D,
@@ -12,7 +12,7 @@ pub struct Reasoned<D> {
 }
 
 impl<D> Reasoned<D> {
-    /// No call has failed yet.
+    /// A device without failures so far.
     pub fn new(device: D) -> Reasoned<D>
         ensures device { result.device ≡ device }
         ensures reason { result.reason ≡ None }

@@ -1,5 +1,5 @@
 //! `lines` and `lines --notes` over the standard streams.
-//! docs/FORMATS.md has what they read and write.
+//! Input and output are in docs/FORMATS.md.
 ghost use Rattle.std.specs.Prelude.{◌≡◌, IfOk};
 ghost use Rattle.robots_check.specs.Checks.{failures_after_reads, failures_after_writes};
 ghost use Rattle.robots_check.specs.Notes.{IsNoted, NotesText, notes_text};
@@ -15,8 +15,7 @@ use robots_check::{TextFault, lines, lines_of, read_body, tell_notes};
 use robots_text::RobotsText;
 use std::alloc::{AllocError, Global};
 
-/// Writes the records of standard input to standard output, and where they are asked for, notes on it to standard
-/// error before.
+/// Writes the records of standard input to standard output, on request after notes on standard error.
 pub(crate) fn lines_streams(rt: &HostRuntime, notes: Notes) -> Ending {
     let mut reader = Counted::new(Reasoned::new(rt.stdin()));
     let mut writer = Counted::new(Reasoned::new(rt.stdout()));
@@ -31,7 +30,7 @@ pub(crate) fn lines_streams(rt: &HostRuntime, notes: Notes) -> Ending {
     tell_failed(rt, end, Stream::Output, writer)
 }
 
-// Writes the lines of a source as `lines` does, and tells before what in it may surprise.
+// Writes the lines of a source like `lines`, after notes on what may surprise.
 fn lines_noted<R: Source, W: Sink, E: Sink>(
     alloc: Global,
     reader: &mut R,
@@ -52,7 +51,6 @@ fn lines_noted<R: Source, W: Sink, E: Sink>(
     lines_of(alloc, body.as_slice(), writer)
 }
 
-// Tells what in a body may surprise.
 fn note_body<E: Sink>(alloc: Global, body: &[u8], errors: &mut E) -> Result<(), AllocError>
     ensures { IfOk result (λ _. IsNoted (notes_text body.now)
         (E.written errors.old) (E.written errors.new)

@@ -1,5 +1,5 @@
 //! `replay` and `replay --export` over the standard streams.
-//! docs/FORMATS.md has what they read and write.
+//! Input and output are in docs/FORMATS.md.
 ghost use Rattle.std.specs.Prelude.{◌≡◌, []};
 ghost use Rattle.gate_core.specs.Limits.{AreLimits};
 ghost use Rattle.program_commands.specs.Messages.{BlamesDevice, CountsWrite, TellsExport, TellsReplay, WritesBehind, WritesPresent};
@@ -36,7 +36,7 @@ fn replay_from(rt: &HostRuntime, schemes: Schemes, book: &mut Book) -> Ending {
     tell_failed(rt, end, Stream::Output, writer)
 }
 
-// Replays a source over a book, and writes the replies.
+// Replays a source over a book.
 fn replay_over<R: Source, W: Sink>(
     alloc: Global,
     schemes: Schemes,
@@ -53,8 +53,8 @@ fn replay_over<R: Source, W: Sink>(
     Ending::of(replay_among(alloc, schemes, reader, replies, book))
 }
 
-/// Replays standard input, and writes the history at the end to standard output, where no device
-/// failed and memory sufficed.
+/// Replays standard input, and then writes the history to standard output, unless a device failed or memory
+/// ran out.
 pub(crate) fn export_streams(rt: &HostRuntime, options: ReplayOptions) -> Ending
     requires { AreLimits options.limits }
 {
@@ -64,7 +64,7 @@ pub(crate) fn export_streams(rt: &HostRuntime, options: ReplayOptions) -> Ending
     }
 }
 
-// The room of the export's output is taken before a line is.
+// The export's output is allocated before a line is read.
 fn export_from(rt: &HostRuntime, schemes: Schemes, book: &mut Book) -> Ending {
     match Output::new(rt.alloc()) {
         Ok(mut output) => export_through(rt, schemes, book, &mut output),
@@ -96,7 +96,7 @@ fn export_through(
     tell_failed(rt, end, Stream::Output, writer)
 }
 
-// Replays a source over a book, and writes the history at the end.
+// Replays a source over a book, and then writes the history.
 fn export_over<R: Source, N: Sink, W: Sink>(
     alloc: Global,
     schemes: Schemes,
@@ -115,7 +115,7 @@ fn export_over<R: Source, N: Sink, W: Sink>(
     write_behind(book, output, writer, ended)
 }
 
-// Writes the history of a book behind a session that ended so.
+// Writes the history of a book after such a session.
 fn write_behind<W: Sink>(book: &Book, output: &mut Output, writer: &mut W, ended: Ending) -> Ending
     requires { output.old ≡ [] }
     ensures { WritesBehind book.now (W.written writer.old) (W.written writer.new) ended result }

@@ -1,21 +1,21 @@
-//! The lines that a server writes: where it listens, and what it has done.
-//! docs/FORMATS.md has them.
+//! The lines of a server: where it listens, and what it has done.
+//! See docs/FORMATS.md.
 ghost use Rattle.std.specs.Prelude.{◌≡◌};
 ghost use Rattle.line_text.specs.Pieces.{pieces_text};
 ghost use Rattle.program_commands.specs.ServerLines.{server_text};
 
 use line_text::{Piece, Pieces};
 
-/// A line that a server writes.
+/// A line of a server.
 #[derive(Clone, Copy)]
 pub enum ServerLine<'a> {
-    /// Clients may connect at this port of the loopback.
+    /// Clients may connect at this loopback port.
     Listens { port: u16 },
     /// Clients may connect at the socket of this path.
     ListensAt { path: &'a str },
-    /// Overseers may connect at this port of the loopback.
+    /// Overseers may connect at this loopback port.
     SealsAt { port: u16 },
-    /// So many connections were accepted, and so many entries the history has.
+    /// The connections accepted, and the entries of the history.
     Served { connections: u64, events: u64 },
 }
 

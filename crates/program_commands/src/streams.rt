@@ -1,5 +1,5 @@
 //! Whether the standard streams are open.
-//! What is opened later takes the lowest number that is free: a socket in the place of standard output
+//! What is opened later takes the lowest free number: a socket in place of standard output
 //! would send the report of a shift to a site, and the port of a server to a client.
 ghost use Rattle.std.specs.Prelude.{◌≡◌};
 ghost use Rattle.program_commands.specs.Endings.{stream_name};
@@ -15,7 +15,7 @@ pub enum Stream {
 }
 
 impl Stream {
-    /// What it is called where it is told.
+    /// Its name in messages.
     pub(crate) fn name(self) -> &'static str
         ensures { result.now ≡ stream_name self }
     {
@@ -27,7 +27,7 @@ impl Stream {
     }
 }
 
-/// The first of the three that is closed, if one is.
+/// The first closed one of the three, if any.
 pub(crate) fn closed_stream(rt: &HostRuntime) -> Option<Stream> {
     if !is_open(&rt.stdin()) {
         Some(Stream::Input)
@@ -40,7 +40,7 @@ pub(crate) fn closed_stream(rt: &HostRuntime) -> Option<Stream> {
     }
 }
 
-// A stream that is closed has no second descriptor.
+// A closed stream has no second descriptor.
 fn is_open<S: AsFd>(stream: &S) -> bool {
     stream.as_fd().try_clone_to_owned().is_ok()
 }

@@ -1,5 +1,5 @@
-//! What the program tells of its work: what was found, and how it ended.
-//! docs/FORMATS.md has the lines of the first, docs/crawlgate.1.md those of the second.
+//! Prints results and endings of the program.
+//! docs/FORMATS.md has the lines of results, docs/crawlgate.1.md those of endings.
 ghost use Rattle.std.specs.Prelude.{◌≡◌, [], OnOk};
 ghost use Rattle.std.specs.Io.KnownBytes.{Appends};
 ghost use Rattle.counted_io.specs.Device.{failures_after};
@@ -17,41 +17,41 @@ use program_arguments::ListenAddress;
 use std::alloc::Global;
 use std::io;
 
-/// Tells how the program ended, where that isn't told already.
+/// Prints how the program ended, unless printed already.
 pub fn tell_ending(rt: &HostRuntime, ending: Ending) {
     if let Some(message) = ending.message() {
-        // A standard error that fails too leaves the status alone.
+        // If standard error fails too, the status stays.
         let _ = eprintln!(rt; "crawlgate: {message}");
     }
 }
 
-/// Tells the first bad line of the input, with which the program ends.
+/// Prints the number of the first bad line of the input; the program ends.
 pub fn tell_bad_line(rt: &HostRuntime, line: u64) -> Ending {
     tell(rt, AuditResult::BadLine(line).pieces(), Ending::BadLine)
 }
 
-/// Tells the port at which clients may connect, or how the program ends where that can't be told.
+/// Prints the port for clients; returns the ending.
 pub fn tell_listening(rt: &HostRuntime, port: u16) -> Ending {
     tell(rt, ServerLine::Listens { port }.pieces(), Ending::Done)
 }
 
-/// Tells the path of the socket at which clients may connect, or how the program ends where that can't be told.
+/// Prints the path of the socket for clients; returns the ending.
 pub fn tell_listening_at(rt: &HostRuntime, path: &str) -> Ending {
     tell(rt, ServerLine::ListensAt { path }.pieces(), Ending::Done)
 }
 
-/// Tells the port at which overseers may connect, or how the program ends where that can't be told.
+/// Prints the port for overseers; returns the ending.
 pub fn tell_sealing(rt: &HostRuntime, port: u16) -> Ending {
     tell(rt, ServerLine::SealsAt { port }.pieces(), Ending::Done)
 }
 
-/// Tells why nothing can listen at a place, with which the program ends.
+/// Prints why nothing can listen at a place; the program ends.
 pub fn tell_no_place(rt: &HostRuntime, place: &ListenAddress, error: &io::Error) -> Ending {
     let reason = error.kind();
     if !is_named(reason) {
         return Ending::Device;
     }
-    // A standard error that fails too leaves the status alone.
+    // If standard error fails too, the status stays.
     let _ = match place {
         ListenAddress::Port(port) => eprintln!(rt; "crawlgate: device: port {port}: {reason}"),
         ListenAddress::Socket(path) => eprintln!(rt; "crawlgate: device: socket {path}: {reason}"),
@@ -59,7 +59,7 @@ pub fn tell_no_place(rt: &HostRuntime, place: &ListenAddress, error: &io::Error)
     Ending::ToldDevice
 }
 
-/// Tells why a standard stream failed, where the program ends for a device and this one did.
+/// Prints why a standard stream failed, if it did and the program ends for a device.
 pub fn tell_failed<D: Drop>(
     rt: &HostRuntime,
     ending: Ending,
@@ -76,7 +76,6 @@ pub fn tell_failed<D: Drop>(
     }
 }
 
-// Whether the system gave a reason.
 fn is_named(reason: io::ErrorKind) -> bool {
     match reason {
         io::ErrorKind::Other | io::ErrorKind::Uncategorized => false,
@@ -84,7 +83,7 @@ fn is_named(reason: io::ErrorKind) -> bool {
     }
 }
 
-/// Tells what a server has done, with which the program ends.
+/// Prints what a server has done; the program ends.
 pub fn tell_served(rt: &HostRuntime, connections: u64, events: u64) -> Ending {
     let line = ServerLine::Served {
         connections,
@@ -93,19 +92,19 @@ pub fn tell_served(rt: &HostRuntime, connections: u64, events: u64) -> Ending {
     tell(rt, line.pieces(), Ending::Done)
 }
 
-/// Tells that the history of a server's gate is full.
+/// Prints that the history of a server's gate is full.
 pub fn tell_full_log(rt: &HostRuntime) {
     let _ = eprintln!(rt; "crawlgate: the log is full");
 }
 
-// Writes a line to standard output, with which the program ends so.
+// Writes a line to standard output, and returns the program's ending.
 fn tell(rt: &HostRuntime, line: Pieces<'_>, ending: Ending) -> Ending {
     let mut writer = Counted::new(Reasoned::new(rt.stdout()));
     let end = tell_to(rt.alloc(), &mut writer, line, ending);
     tell_failed(rt, end, Stream::Output, writer)
 }
 
-/// Writes a line to a sink, with which the program ends so.
+/// Writes a line to a sink, and returns the program's ending.
 pub(crate) fn tell_to<W: Sink>(
     alloc: Global,
     writer: &mut W,
@@ -139,7 +138,6 @@ fn tell_through<W: Sink>(
     }
 }
 
-// Writes a line, or fails where a write fails.
 fn write_line<W: Sink>(
     line: Pieces<'_>,
     output: &mut Output,

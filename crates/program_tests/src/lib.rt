@@ -1,5 +1,5 @@
-//! The tests of whole sessions, of shifts and of the program's words. The crate has nothing else.
-//! Rows of the built program stand under checks/rows.
+//! Tests of whole sessions, of shifts and of the program's arguments.
+//! Rows of the built program are under checks/rows.
 #![tactic(auto)]
 
 #[cfg(test)]

@@ -1,5 +1,5 @@
 //! Sessions, shifts and lines over memory.
-//! Each value has one owner, which makes one call: its check is short then.
+//! Each value has one owner, which makes one call: this keeps its check short.
 ghost use Rattle.std.specs.Prelude.{◌≡◌, ◌<◌, [], IfOk};
 ghost use Rattle.gate_history.specs.Base.{empty_base};
 
@@ -29,19 +29,17 @@ fn new_book<R: AllocGlobal + RandomSource>(rt: &R) -> Result<Book, Fail>
     Ok(Book::new(rt.alloc(), config)?)
 }
 
-// A reader of these octets, at most so many a read.
 fn reader_of(alloc: Global, octets: &[u8], per_read: usize) -> Result<FailAt, AllocError>
     requires { 0 < per_read }
 {
     Ok(FailAt::new(octets.to_vec(alloc)?, per_read, None))
 }
 
-// A writer that takes all.
 fn new_writer(alloc: Global) -> FailAt {
     FailAt::new(Vec::new(alloc), 65_536, None)
 }
 
-// Holds where the row of this name is as it must be.
+// Fails with the row's name unless the condition holds.
 fn demand(holds: bool, name: &str, at: usize) -> Result<(), Fail> {
     if holds {
         Ok(())
@@ -50,7 +48,7 @@ fn demand(holds: bool, name: &str, at: usize) -> Result<(), Fail> {
     }
 }
 
-// A session over a new book: its end, and how many entries the history has then.
+// A session over a new book: its end, and the entries of the history.
 fn session(
     rt: &HostRuntime,
     input: &mut FailAt,

@@ -1,4 +1,4 @@
--- The rows of rule lines, one after another, and the strongest of those so far.
+-- The rows of rule lines in order, and the strongest so far.
 -- Used by `rows_of` and `second`.
 use Rattle.std.proofs.Common.{◌≡◌, ◌<◌, ◌+◌, ◌⊎◌, inl, inr, ℕ, Bool, true, false, List, [], ◌∷◌, ◌++◌, Contains, length, map, take, refl, sym, ap, subst, ◌∙◌, slice_index_or}
 use Rattle.std.specs.Prelude.{Option, Some, None}
@@ -21,7 +21,6 @@ rows_more path [] more (tried ∷ rows) others are after = absurd are
 rows_more path (ruled ∷ rules) more [] others are after = absurd are
 rows_more path (ruled ∷ rules) more (tried ∷ rows) others are after = (are.0, rows_more path rules more rows others are.1 after)
 
--- a row more
 pub row_added : (path : List ℕ) {X : Type 0} (f : X → Ruled) (xs : List X) (i : ℕ) (d : X) (rows : List Tried) (tried : Tried) → i < length xs → AreRows path (map f (take i xs)) rows → IsRow path (f (slice_index_or xs i d)) tried →
     AreRows path (map f (take (i + 1) xs)) (rows ++ tried ∷ [])
 row_added path f xs i d rows tried within are is =
@@ -46,14 +45,12 @@ less Greater is = absurd (true≢false (sym is))
 itself : (t : Tried) → is_row_above t t ≡ false
 itself t = ap is_lt (tied_itself rows_total t)
 
--- what is not above the best is not above what is above the best
 through : (t first best : Tried) (is : Bool) → is_row_above t first ≡ is → is_row_above t best ≡ false → is_row_above first best ≡ true → is ≡ false
 through t first best true above not up =
     let whole = rows_total.trans t first best (less (falling_rows t first) above) (less (falling_rows first best) up) in
     absurd (true≢false (sym (ap is_lt whole) ∙ not))
 through t first best false above not up = refl
 
--- an entry of a list with one more at its end
 entry_more : (rows : List Tried) (last tried : Tried) → Contains (rows ++ last ∷ []) tried → Contains rows tried ⊎ (last ≡ tried)
 entry_more rows last tried stands = elim (Contains-append_cases rows (last ∷ []) tried stands) [
   | inl before ↦ inl before
@@ -66,7 +63,6 @@ entry_more rows last tried stands = elim (Contains-append_cases rows (last ∷ [
 last_stands : (rows : List Tried) (last : Tried) → Contains (rows ++ last ∷ []) last
 last_stands rows last = Contains-append_right rows (last ∷ []) last (first_of last [])
 
--- a row that is no other is passed over
 passed_over : (rows : List Tried) (line : ℕ) (best : Option Tried) (last : Tried) → is_other line last ≡ false → IsSecond rows line best → IsSecond (rows ++ last ∷ []) line best
 passed_over rows line None last misses is = λ tried stands other. elim (entry_more rows last tried stands) [
   | inl before ↦ is tried before other
@@ -81,7 +77,6 @@ passed_over rows line (Some best) last misses is = record {
   ];
 }
 
--- one that is another is weighed
 weighs : (rows : List Tried) (line : ℕ) (best : Option Tried) (last : Tried) → is_other line last ≡ true → IsSecond rows line best → IsSecond (rows ++ last ∷ []) line (Some (stronger_row best last))
 weighs rows line None last other is = record {
   stands = last_stands rows last;
@@ -115,7 +110,6 @@ step_by : (rows : List Tried) (line : ℕ) (best : Option Tried) (last : Tried) 
 step_by rows line best last true other second = subst (IsSecond (rows ++ last ∷ []) line) (sym (cond-true (is_other line last) (Some (stronger_row best last)) best other)) (weighs rows line best last other second)
 step_by rows line best last false misses second = subst (IsSecond (rows ++ last ∷ []) line) (sym (cond-false (is_other line last) (Some (stronger_row best last)) best misses)) (passed_over rows line best last misses second)
 
--- the strongest of the others with a row more
 pub second_more : {X : Type 0} (f : X → Tried) (xs : List X) (i : ℕ) (d : X) (line : ℕ) (best found : Option Tried) → i < length xs → IsSecond (map f (take i xs)) line best → found ≡ weighed_row line best (f (slice_index_or xs i d)) →
     IsSecond (map f (take (i + 1) xs)) line found
 second_more f xs i d line best found within second is =

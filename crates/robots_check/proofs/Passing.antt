@@ -34,7 +34,6 @@ text_more detail lines word (url ∷ urls) more (answer ∷ answers) others are 
     ap (λ l. told_text url answer ++ l) (text_more detail lines word urls more answers others are.1)
     ∙ sym (append_assoc (told_text url answer) (answers_text urls answers) (answers_text more others))
 
--- what two lists come to, by whether each has one that was not read, and one that is denied
 both_come : (u d v e : Bool) → (if (u || v) then outcomes.Unread else if (d || e) then outcomes.Denied else outcomes.Allowed) ≡ worse (if u then outcomes.Unread else if d then outcomes.Denied else outcomes.Allowed) (if v then outcomes.Unread else if e then outcomes.Denied else outcomes.Allowed)
 both_come true d true e = refl
 both_come true d false true = refl
@@ -52,7 +51,6 @@ some_more answers others =
     ∙ ap (λ b. if (list_any (λ told. is_unread told.answer) answers || list_any (λ told. is_unread told.answer) others) then outcomes.Unread else if b then outcomes.Denied else outcomes.Allowed) (list_any-append (λ (told : Told). is_denied told.answer) answers others)
     ∙ both_come (list_any (λ told. is_unread told.answer) answers) (list_any (λ told. is_denied told.answer) answers) (list_any (λ told. is_unread told.answer) others) (list_any (λ told. is_denied told.answer) others)
 
--- with no more it stays as it was
 worse_none : (u d : Bool) → worse (if u then outcomes.Unread else if d then outcomes.Denied else outcomes.Allowed) outcomes.NoUrls ≡ (if u then outcomes.Unread else if d then outcomes.Denied else outcomes.Allowed)
 worse_none true d = refl
 worse_none false true = refl
@@ -65,7 +63,6 @@ outcome_more (told ∷ answers) [] =
     ∙ sym (worse_none (list_any (λ told. is_unread told.answer) (told ∷ answers)) (list_any (λ told. is_denied told.answer) (told ∷ answers)))
 outcome_more (told ∷ answers) (other ∷ others) = some_more (told ∷ answers) (other ∷ others)
 
--- more answers pass behind those before
 pub passing_more : (detail : Detail) (lines : List Numbered) (word : List ℕ) (urls more : List (List ℕ)) (a b c : Option (List ℕ)) (pending mid left : List ℕ) (one other outcome : CheckOutcome) →
     Passing detail lines word urls a b pending mid one → Passing detail lines word more b c mid left other → outcome ≡ worse one other → Passing detail lines word (urls ++ more) a c pending left outcome
 passing_more detail lines word urls more a b c pending mid left one other outcome before next is = record {
@@ -76,7 +73,6 @@ passing_more detail lines word urls more a b c pending mid left one other outcom
   come_to = is ∙ ap (λ o. worse o other) before.come_to ∙ ap (worse (outcome_of before.answers)) next.come_to ∙ sym (outcome_more before.answers next.answers);
 }
 
--- the answers before a fault, and a front of those at it
 pub passing_cut : (detail : Detail) (lines : List Numbered) (word : List ℕ) (urls more rest : List (List ℕ)) (a b c : Option (List ℕ)) (pending mid : List ℕ) (one : CheckOutcome) →
     Passing detail lines word urls a b pending mid one → PassingFront detail lines word more b c mid → PassingFront detail lines word (urls ++ (more ++ rest)) a c pending
 passing_cut detail lines word urls more rest a b c pending mid one before next = record {
@@ -89,7 +85,6 @@ passing_cut detail lines word urls more rest a b c pending mid one before next =
       (Passes-cut-piece a b c pending (answers_text urls before.answers) mid (answers_text next.first next.answers) before.passed next.wrote);
 }
 
--- nothing has passed yet
 pub passing_none : (detail : Detail) (lines : List Numbered) (word : List ℕ) (a : Option (List ℕ)) (pending : List ℕ) → Passing detail lines word [] a a pending pending outcomes.NoUrls
 passing_none detail lines word a pending = record {
   answers = [];
@@ -98,7 +93,6 @@ passing_none detail lines word a pending = record {
   come_to = refl;
 }
 
--- nothing was written at all
 pub cut_none : (detail : Detail) (lines : List Numbered) (word : List ℕ) (urls : List (List ℕ)) (a : Option (List ℕ)) (pending : List ℕ) → PassingFront detail lines word urls a a pending
 cut_none detail lines word urls a pending = record {
   first = [];
@@ -109,7 +103,6 @@ cut_none detail lines word urls a pending = record {
   wrote = (0, Appends-nil a);
 }
 
--- what is told of one URL passes
 pub passing_one : (detail : Detail) (lines : List Numbered) (word url : List ℕ) (told : Told) (a b : Option (List ℕ)) (pending left : List ℕ) (outcome : CheckOutcome) →
     IsTold detail lines word url told → Passes a b (pending ++ told_text url told) left → outcome ≡ outcome_of (told ∷ []) → Passing detail lines word (url ∷ []) a b pending left outcome
 passing_one detail lines word url told a b pending left outcome is passed comes = record {
@@ -119,7 +112,6 @@ passing_one detail lines word url told a b pending left outcome is passed comes 
   come_to = comes;
 }
 
--- it is cut
 pub cut_one : (detail : Detail) (lines : List Numbered) (word url : List ℕ) (told : Told) (a b : Option (List ℕ)) (pending : List ℕ) →
     IsTold detail lines word url told → AppendsPrefix a b (pending ++ told_text url told) → PassingFront detail lines word (url ∷ []) a b pending
 cut_one detail lines word url told a b pending is cut = record {
@@ -131,7 +123,6 @@ cut_one detail lines word url told a b pending is cut = record {
   wrote = subst (λ t. AppendsPrefix a b (pending ++ t)) (sym (append-nil (told_text url told))) cut;
 }
 
--- what one answer comes to
 pub outcome_one : (before : List ℕ) (answer : Answer) → outcome_of_one answer ≡ outcome_of (record { before = before; answer = answer } ∷ [])
 outcome_one before (allowed_by ruled) = refl
 outcome_one before allowed_unruled = refl
@@ -139,7 +130,6 @@ outcome_one before allowed_robots = refl
 outcome_one before (denied_by ruled) = refl
 outcome_one before (unread fault) = refl
 
--- nothing was told
 pub front_none : (detail : Detail) (lines : List Numbered) (word : List ℕ) (urls : List (List ℕ)) (a : Option (List ℕ)) → AnswersFront detail lines word urls a a
 front_none detail lines word urls a = record {
   first = [];
@@ -150,7 +140,6 @@ front_none detail lines word urls a = record {
   wrote = (0, Appends-nil a);
 }
 
--- what passed was written in part
 pub front_all : (detail : Detail) (lines : List Numbered) (word : List ℕ) (urls : List (List ℕ)) (a b c : Option (List ℕ)) (pending mid : List ℕ) (outcome : CheckOutcome) → pending ≡ [] →
     Passing detail lines word urls a b pending mid outcome → AppendsPrefix b c mid → AnswersFront detail lines word urls a c
 front_all detail lines word urls a b c pending mid outcome none passing cut = record {
@@ -162,7 +151,6 @@ front_all detail lines word urls a b c pending mid outcome none passing cut = re
   wrote = subst (λ l. AppendsPrefix a c (l ++ answers_text urls passing.answers)) none (Passes-cut-all a b c (pending ++ answers_text urls passing.answers) mid passing.passed cut);
 }
 
--- a front was written
 pub front_cut : (detail : Detail) (lines : List Numbered) (word : List ℕ) (urls : List (List ℕ)) (a b : Option (List ℕ)) (pending : List ℕ) → pending ≡ [] →
     PassingFront detail lines word urls a b pending → AnswersFront detail lines word urls a b
 front_cut detail lines word urls a b pending none cut = record {
@@ -174,7 +162,6 @@ front_cut detail lines word urls a b pending none cut = record {
   wrote = subst (λ l. AppendsPrefix a b (l ++ answers_text cut.first cut.answers)) none cut.wrote;
 }
 
--- what passed was written
 pub all_written : (detail : Detail) (lines : List Numbered) (word : List ℕ) (urls : List (List ℕ)) (a b c : Option (List ℕ)) (pending mid : List ℕ) (outcome : CheckOutcome) → pending ≡ [] →
     Passing detail lines word urls a b pending mid outcome → Appends b c mid → Answers detail lines word urls a c outcome
 all_written detail lines word urls a b c pending mid outcome none passing wrote = record {
@@ -185,7 +172,6 @@ all_written detail lines word urls a b c pending mid outcome none passing wrote 
   come_to = passing.come_to;
 }
 
--- an answer more passes behind those to the first URLs
 pub passing_next : (detail : Detail) (lines : List Numbered) (word : List ℕ) {X : Type 0} (f : X → List ℕ) (xs : List X) (i : ℕ) (d : X) (a b c : Option (List ℕ)) (pending mid left : List ℕ) (one other outcome : CheckOutcome) → i < length xs →
     Passing detail lines word (map f (take i xs)) a b pending mid one → Passing detail lines word (f (slice_index_or xs i d) ∷ []) b c mid left other → outcome ≡ worse one other →
     Passing detail lines word (map f (take (i + 1) xs)) a c pending left outcome
@@ -193,7 +179,6 @@ passing_next detail lines word f xs i d a b c pending mid left one other outcome
     subst (λ urls. Passing detail lines word urls a c pending left outcome) (sym (map_more f xs i d within))
     (passing_more detail lines word (map f (take i xs)) (f (slice_index_or xs i d) ∷ []) a b c pending mid left one other outcome before next is)
 
--- the answer at which there was a fault comes behind those to the first URLs
 pub passing_stop : (detail : Detail) (lines : List Numbered) (word : List ℕ) {X : Type 0} (f : X → List ℕ) (xs : List X) (i : ℕ) (d : X) (a b c : Option (List ℕ)) (pending mid : List ℕ) (one : CheckOutcome) → i < length xs →
     Passing detail lines word (map f (take i xs)) a b pending mid one → PassingFront detail lines word (f (slice_index_or xs i d) ∷ []) b c mid → PassingFront detail lines word (map f xs) a c pending
 passing_stop detail lines word f xs i d a b c pending mid one within before next =
@@ -201,7 +186,6 @@ passing_stop detail lines word f xs i d a b c pending mid one within before next
     (sym (ap (map f) (sym (take-append-drop i xs)) ∙ map-append f (take i xs) (drop i xs) ∙ ap (λ l. map f (take i xs) ++ map f l) (drop-cons xs i d within)))
     (passing_cut detail lines word (map f (take i xs)) (f (slice_index_or xs i d) ∷ []) (map f (drop (suc i) xs)) a b c pending mid one before next)
 
--- what was told of a policy's text was told of the text that it was made of
 pub told_all : (detail : Detail) (text policy word : List ℕ) (urls : List (List ℕ)) (a b c : Option (List ℕ)) (pending mid : List ℕ) (outcome : CheckOutcome) → policy ≡ text → pending ≡ [] →
     Passing detail (numbered_records policy) word urls a b pending mid outcome → Appends b c mid → Answers detail (numbered_records text) word urls a c outcome
 told_all detail text policy word urls a b c pending mid outcome same none passing wrote =

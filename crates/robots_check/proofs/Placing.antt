@@ -1,4 +1,4 @@
--- Where the rule line of a number stands.
+-- The place of a numbered rule line.
 -- Used by `place_of`.
 use Rattle.std.proofs.Common.{◌≡◌, ◌≤◌, ◌<◌, slice_index_or, inl, inr, ℕ, ◌+◌, List, length, map, ap, arith}
 use Rattle.std.proofs.lemmas.Bool.{cases_order}
@@ -7,7 +7,7 @@ use Rattle.std.proofs.lemmas.List.Kept.{AllPairs-from_increasing}
 use Rattle.robots_text.specs.Groups.{Ruled}
 use Rattle.robots_check.specs.Rules.{IsRising, IsRuleAt, no_rule, rule_at}
 
--- the rule line of this number stands from the first place to the second
+-- this number's rule line is between the two places
 pub record IsBetween (rules : List Ruled) (line low high : ℕ) : Type 0 where
   pub place : ℕ
   pub at : IsRuleAt rules line place
@@ -22,13 +22,11 @@ number_of ruled = ruled.line
 number_at : (rules : List Ruled) (i : ℕ) → i < length rules → slice_index_or (map number_of rules) i 0 ≡ (rule_at rules i).line
 number_at rules i within = get_or-map number_of rules i no_rule 0 within
 
--- a later line has a greater number
 rises : (rules : List Ruled) → IsRising rules → (i j : ℕ) → i < j → j < length rules → (rule_at rules i).line < (rule_at rules j).line
 rises rules rising i j before within =
     let pairs = AllPairs-from_increasing (map number_of rules) rising i j 0 before (omega (arith, within, length-map rules number_of)) in
     omega (arith, pairs, number_at rules i (omega (arith, before, within)), number_at rules j within)
 
--- the line in the middle has a smaller number
 pub above_middle : (rules : List Ruled) (line low high middle : ℕ) → IsRising rules → IsBetween rules line low high → middle < high → (rule_at rules middle).line < line →
     IsBetween rules line (middle + 1) high
 above_middle rules line low high middle rising between to less = record {
@@ -43,7 +41,6 @@ above_middle rules line low high middle rising between to less = record {
   within = between.within;
 }
 
--- the line in the middle has no smaller number
 pub up_to_middle : (rules : List Ruled) (line low high middle : ℕ) → IsRising rules → IsBetween rules line low high → middle < high → line ≤ (rule_at rules middle).line →
     IsBetween rules line low middle
 up_to_middle rules line low high middle rising between to more = record {
@@ -58,7 +55,6 @@ up_to_middle rules line low high middle rising between to more = record {
   within = omega (arith, to, between.within);
 }
 
--- there is one rule line of a number
 pub one_place : (rules : List Ruled) → IsRising rules → (line i j : ℕ) → IsRuleAt rules line i → IsRuleAt rules line j → i ≡ j
 one_place rules rising line i j at there = elim (cases_order i j) [
   | inl same ↦ same

@@ -9,11 +9,9 @@ use Rattle.robots_check.specs.Prints.{Prints, WritesLines}
 use Rattle.robots_check.specs.declared.fault.TextFault.{TextFault}
 use Rattle.robots_check.specs.declared.fault.TextFault.TheVariants.{Read, Write, NoMemory}
 
--- a body that was read is a front of the input
 pub as_front : (a b : Option (List ℕ)) (body : List ℕ) → ReadsBody a b body → ReadsFront (text_limit + 1) a b
 as_front a b body body_is = record { front = body; consumed = body_is.reads.consumed; fits = body_is.reads.fits }
 
--- as the result tells
 printed : (a b : Option (List ℕ)) (body : List ℕ) (written new : Option (List ℕ)) (result : Result (Unit {0}) TextFault) →
     ReadsBody a b body → WritesLines body written new result → Prints a b written new result
 printed a b body written new (Ok _) reads lines = (body, reads, lines)
@@ -21,13 +19,11 @@ printed a b body written new (Err Read) reads lines = absurd lines
 printed a b body written new (Err Write) reads lines = (body, reads, lines)
 printed a b body written new (Err NoMemory) reads lines = (as_front a b body reads, lines)
 
--- what was written of a slice of the body
 pub prints_of : (a b : Option (List ℕ)) (body slice : List ℕ) (written new : Option (List ℕ)) (result : Result (Unit {0}) TextFault) →
     ReadsBody a b body → slice ≡ body → WritesLines slice written new result → Prints a b written new result
 prints_of a b body slice written new result reads same lines =
     printed a b body written new result reads (subst (λ (l : List ℕ). WritesLines l written new result) same lines)
 
--- no read fails where lines are written
 pub reads_none : (failures : ℕ) (body : List ℕ) (written new : Option (List ℕ)) (result : Result (Unit {0}) TextFault) →
     WritesLines body written new result → failures_after_reads failures result ≡ failures
 reads_none failures body written new (Ok _) lines = refl

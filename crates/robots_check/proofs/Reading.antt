@@ -1,4 +1,4 @@
--- What was read is the body of a robots text, and what was told of what is kept of it is what was told of the input.
+-- The body of a robots text was read; what is kept of it has the same answers as the input.
 -- Used by `read_body` and `check`.
 use Rattle.std.proofs.Common.{◌≡◌, ◌+◌, inr, ℕ, List, Option}
 use Rattle.std.specs.Prelude.{Result, Ok, Err}
@@ -11,15 +11,12 @@ use Rattle.robots_check.specs.declared.fault.TextFault.{TextFault}
 use Rattle.robots_check.specs.declared.fault.TextFault.TheVariants.{Read, Write, NoMemory}
 use Rattle.robots_check.specs.declared.check_outcome.CheckOutcome.{CheckOutcome}
 
--- what is kept of what was read is what is kept of the input
 pub body_read : (old new : Option (List ℕ)) (body : List ℕ) → ReadsTo (text_limit + 1) old new body → ReadsBody old new body
 body_read old new body reads = record { reads = reads; same = same_kept old new body reads.consumed reads.all }
 
--- what is kept of the body is the robots text
 pub text_read : (old new : Option (List ℕ)) (body text : List ℕ) → ReadsBody old new body → text ≡ kept body → ReadsText old new text
 text_read old new body text reads is = record { body = body; reads = reads; text_is = is }
 
--- what was told of the text is what was told of the input
 pub checks_of : (detail : Detail) (input left : Option (List ℕ)) (word : List ℕ) (urls : List (List ℕ)) (written new : Option (List ℕ)) (text : List ℕ) (result : Result CheckOutcome TextFault) →
     ReadsText input left text → Tells detail text word urls written new result → Checks detail input left word urls written new result
 checks_of detail input left word urls written new text (Ok outcome) reads tells = (text, reads, tells)

@@ -1,6 +1,5 @@
--- The rule lines of a robots text: each of its rules is among them, in the order of their numbers, and what is told of
--- the lines is told of them.
--- Used by `Judge` and by what tells notes.
+-- The rule lines of a robots text: its rules in the order of their numbers, and their notes.
+-- Used by `Judge` and by the notes.
 use Rattle.std.proofs.Common.{◌≡◌, ◌≤◌, ◌<◌, ℕ, ◌+◌, zero, suc, inl, inr, List, [], ◌∷◌, ◌++◌, Contains, length, map, flat_map, slice_index, refl, sym, ap, subst, ◌∙◌, arith}
 use Rattle.std.proofs.lemmas.List.Elements.{Contains-append_left, Contains-append_right}
 use Rattle.robots_text.proofs.CallerLemmas.{entry_of, first_of, none_of}
@@ -11,7 +10,6 @@ use Rattle.robots_text.specs.declared.groups.RuleLine.{RuleLine}
 use Rattle.robots_check.specs.Notes.{line_note, record_note, rule_note}
 use Rattle.robots_check.specs.Rules.{IsRising, rules_among, rules_at}
 
--- each rule of the text is among them
 pub stands_among : (lines : List Numbered) (ruled : Ruled) → Contains lines (record_ruled ruled) → Contains (rules_among lines) ruled
 stands_among [] ruled stands = absurd (none_of (record_ruled ruled) stands)
 stands_among (item ∷ lines) ruled stands = elim (entry_of item (record_ruled ruled) lines stands) [
@@ -32,7 +30,6 @@ above_among n (rule kind value ∷ ks) zero within = omega arith
 above_among n (rule kind value ∷ ks) (suc i) within =
     let above : n + 1 ≤ slice_index (numbers_of (rules_among (numbered_from (n + 1) ks))) i = above_among (n + 1) ks i (omega arith) in omega arith
 
--- their numbers rise
 pub rises_among : (n : ℕ) (ks : List Record) → IsRising (rules_among (numbered_from n ks))
 rises_among n [] i within = absurd (omega arith)
 rises_among n (agent who ∷ ks) i within = rises_among (n + 1) ks i within
@@ -44,7 +41,7 @@ rises_among n (rule kind value ∷ ks) (suc i) within =
     let rest = numbers_of (rules_among (numbered_from (n + 1) ks)) in
     subst (λ j. slice_index rest i < slice_index (n ∷ rest) j) next (rises_among (n + 1) ks i (omega arith))
 
--- what is told of a rule line
+-- the note on a rule line
 abbrev ruled_note : Ruled → List ℕ
 ruled_note ruled = rule_note ruled.line ruled.pattern
 
@@ -61,6 +58,5 @@ notes_seen : (rules : List RuleLine) → flat_map (λ one. rule_note one.line on
 notes_seen [] = refl
 notes_seen (one ∷ rules) = ap (λ l. rule_note one.line one.pattern.now ++ l) (notes_seen rules)
 
--- what is told of the rule lines of a text is told of its lines
 pub notes_of_rules : (rules : List RuleLine) (lines : List Numbered) → map rule_seen rules ≡ rules_among lines → flat_map (λ one. rule_note one.line one.pattern.now) rules ≡ flat_map line_note lines
 notes_of_rules rules lines same = notes_seen rules ∙ ap (flat_map ruled_note) same ∙ sym (notes_of_ruled lines)

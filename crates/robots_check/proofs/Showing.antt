@@ -1,4 +1,4 @@
--- Two tests that agree find the same groups, and show the same lines of them.
+-- Two tests that agree find the same groups, and the same lines of them.
 use Rattle.std.proofs.Common.{◌≡◌, ◌∙◌, ℕ, Bool, List, [], ◌∷◌, ap, map, refl}
 use Rattle.std.specs.Prelude.{filter}
 use Rattle.std.proofs.lemmas.List.Elements.{filter_agree}
@@ -16,7 +16,6 @@ same_shown f g same (line ∷ lines) =
     ap (λ (b : Bool). record { line = line.line; kind = line.kind; speaks = b } ∷ map (shown_of f) lines) (same line.kind)
     ∙ ap (λ l. shown_of g line ∷ l) (same_shown f g same lines)
 
--- what one test finds in two readings of the lines is what the other finds
 pub all_shown : (f g : Record → Bool) → ((kind : Record) → f kind ≡ g kind) → (lines first second : List Grouped) (groups given : List ℕ) (heads : List Shown) →
     first ≡ lines → second ≡ lines → groups ≡ groups_that f first → given ≡ groups → heads ≡ heads_in f given second → heads ≡ heads_in g (groups_that g lines) lines
 all_shown f g same lines first second groups given heads first_is second_is groups_are given_are heads_are =

@@ -1,12 +1,12 @@
 -- The lines that a check writes, as docs/FORMATS.md has them.
--- Cited by the contracts of `check` and of the pieces of a line.
+-- Used by `check` and a line's pieces.
 use Rattle.std.specs.Prelude.{ℕ, List, ◌++◌, codes, decimal}
 use Rattle.line_text.specs.Escapes.{escaped}
 use Rattle.path_normal.specs.declared.fault.UrlFault.{UrlFault}
 use Rattle.path_normal.specs.declared.fault.UrlFault.TheVariants as urls
 use Rattle.robots_check.specs.Answers.{Answer, allowed_by, allowed_unruled, allowed_robots, denied_by, unread}
 
--- the word of a fault of a URL, as the replies of a gate have it
+-- the word of a URL's fault, as in a gate's replies
 abbrev pub fault_word : UrlFault → List ℕ
 fault_word urls.TooLong = codes "long"
 fault_word urls.BadUrl = codes "bad"
@@ -14,11 +14,11 @@ fault_word urls.NotHttp = codes "scheme"
 fault_word urls.HasUser = codes "user"
 fault_word urls.NoMemory = codes "memory"
 
--- some words with a URL behind them
+-- some words and a URL
 abbrev pub url_answer_text : List ℕ → List ℕ → List ℕ
 url_answer_text front url = front ++ (escaped url ++ codes "\n")
 
--- some words with a line's number, its kind and its value behind them, and then a URL
+-- some words, a line's number, kind and value, and a URL
 abbrev pub rule_answer_text : (front : List ℕ) (line : ℕ) (kind value url : List ℕ) → List ℕ
 rule_answer_text front line kind value url =
     front ++ (decimal line ++ (kind ++ (escaped value ++ (codes " " ++ (escaped url ++ codes "\n")))))

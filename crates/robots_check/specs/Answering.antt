@@ -1,5 +1,5 @@
--- The answers to URLs as they pass through an output.
--- Cited by the contracts of what pushes them.
+-- The answers to URLs on their way through an output.
+-- Used by the contracts that push them.
 use Rattle.std.specs.Prelude.{◌≡◌, ◌⊎◌, ℕ, List, [], ◌++◌, Option}
 use Rattle.counted_io.specs.Device.{AppendsPrefix}
 use Rattle.counted_io.specs.Output.{Passes}
@@ -12,7 +12,7 @@ use Rattle.robots_check.specs.declared.detail.Detail.{Detail}
 use Rattle.robots_check.specs.declared.detail.Detail.TheVariants.{Plain, Explained}
 use Rattle.robots_check.specs.declared.check_outcome.CheckOutcome.{CheckOutcome}
 
--- the answers to all URLs passed behind what was pending, and come to this
+-- the answers to all URLs passed, with this outcome
 pub record Passing (detail : Detail) (lines : List Numbered) (word : List ℕ) (urls : List (List ℕ))
     (old new : Option (List ℕ)) (pending left : List ℕ) (outcome : CheckOutcome) : Type 0 where
   pub answers : List Told
@@ -20,7 +20,7 @@ pub record Passing (detail : Detail) (lines : List Numbered) (word : List ℕ) (
   pub passed : Passes old new (pending ++ answers_text urls answers) left
   pub come_to : outcome ≡ outcome_of answers
 
--- no more than a front of the answers to the first URLs was written behind what was pending
+-- at most a prefix of the answers to the first URLs was written
 pub record PassingFront (detail : Detail) (lines : List Numbered) (word : List ℕ) (urls : List (List ℕ))
     (old new : Option (List ℕ)) (pending : List ℕ) : Type 0 where
   pub first : List (List ℕ)
@@ -30,26 +30,26 @@ pub record PassingFront (detail : Detail) (lines : List Numbered) (word : List �
   pub are : AreTold detail lines word first answers
   pub wrote : AppendsPrefix old new (pending ++ answers_text first answers)
 
--- what stands before the answer on a path: nothing, or its explanation
+-- the text before an answer: none, or its explanation
 abbrev pub IsBeforeOn : Detail → List Numbered → (word path : List ℕ) → Answer → List ℕ → Type 0
 IsBeforeOn Plain lines word path answer before = before ≡ []
 IsBeforeOn Explained lines word path answer before = Explains lines word path answer before
 
--- it passed behind what was pending
+-- that text passed
 pub record PassesBefore (detail : Detail) (lines : List Numbered) (word path : List ℕ) (answer : Answer)
     (old new : Option (List ℕ)) (pending left : List ℕ) : Type 0 where
   pub before : List ℕ
   pub is : IsBeforeOn detail lines word path answer before
   pub passed : Passes old new (pending ++ before) left
 
--- no more than a front of it was written behind what was pending
+-- at most a prefix of that text was written
 pub record CutsWithin (detail : Detail) (lines : List Numbered) (word path : List ℕ) (answer : Answer)
     (old new : Option (List ℕ)) (pending : List ℕ) : Type 0 where
   pub before : List ℕ
   pub is : IsBeforeOn detail lines word path answer before
   pub wrote : AppendsPrefix old new (pending ++ before)
 
--- so it is, or nothing was written
+-- a prefix of it was written, or nothing
 abbrev pub CutsBefore : Detail → List Numbered → (word path : List ℕ) → Answer → (old new : Option (List ℕ)) → List ℕ
     → Type 0
 CutsBefore detail lines word path answer old new pending =

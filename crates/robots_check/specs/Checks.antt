@@ -1,5 +1,5 @@
--- What a check read and wrote, by its result; and what was read of a robots text.
--- The contracts of `check` and of `lines` cite it.
+-- What a check read and wrote, by its result, and what was read of a robots text.
+-- Used by `check` and `lines`.
 use Rattle.std.specs.Prelude.{◌≡◌, ◌⊎◌, ◌+◌, ℕ, List, [], ◌++◌, Option, Result, Ok, Err}
 use Rattle.std.specs.Io.KnownBytes.{Consumes, Appends, IsAtEnd}
 use Rattle.counted_io.specs.Device.{AppendsPrefix, one_more}
@@ -16,18 +16,18 @@ use Rattle.robots_check.specs.Told.{Told, AreTold, answers_text}
 use Rattle.robots_check.specs.declared.detail.Detail.{Detail}
 use Rattle.robots_check.specs.declared.check_outcome.CheckOutcome.{CheckOutcome}
 
--- the body of a robots text was read: all that the input has, but at most one octet more than the limit
+-- the body of a robots text was read: all, but at most one octet more than the limit
 pub record ReadsBody (old new : Option (List ℕ)) (body : List ℕ) : Type 0 where
   pub reads : ReadsTo (text_limit + 1) old new body
   pub same : KeepsSame old body
 
--- these are what was kept of the input as a robots text
+-- this text was kept of the input
 pub record ReadsText (old new : Option (List ℕ)) (text : List ℕ) : Type 0 where
   pub body : List ℕ
   pub reads : ReadsBody old new body
   pub text_is : text ≡ kept body
 
--- the answers to all URLs were written, and come to this
+-- the answers to all URLs were written, with this outcome
 pub record Answers (detail : Detail) (lines : List Numbered) (word : List ℕ) (urls : List (List ℕ))
     (old new : Option (List ℕ)) (outcome : CheckOutcome) : Type 0 where
   pub answers : List Told
@@ -35,7 +35,7 @@ pub record Answers (detail : Detail) (lines : List Numbered) (word : List ℕ) (
   pub wrote : Appends old new (answers_text urls answers)
   pub come_to : outcome ≡ outcome_of answers
 
--- no more than a front of the answers to the first URLs was written
+-- at most a prefix of the answers was written
 pub record AnswersFront (detail : Detail) (lines : List Numbered) (word : List ℕ) (urls : List (List ℕ))
     (old new : Option (List ℕ)) : Type 0 where
   pub first : List (List ℕ)
@@ -45,7 +45,7 @@ pub record AnswersFront (detail : Detail) (lines : List Numbered) (word : List �
   pub are : AreTold detail lines word first answers
   pub wrote : AppendsPrefix old new (answers_text first answers)
 
--- what was written of a text for the token, by the result
+-- what was written of a text, by the result
 abbrev pub Tells : Detail → List ℕ → List ℕ → List (List ℕ) → (written new : Option (List ℕ))
     → Result CheckOutcome TextFault → Type 0
 Tells detail text word urls written new (Ok outcome) =
@@ -55,18 +55,18 @@ Tells detail text word urls written new (Err Write) = AnswersFront detail (numbe
 Tells detail text word urls written new (Err NoMemory) =
     AnswersFront detail (numbered_records text) word urls written new
 
--- the input was read no further than a robots text needs, and nothing was written
+-- no more was read than a robots text needs, and nothing was written
 abbrev pub StopsAtInput : (input left written new : Option (List ℕ)) → Type 0
 StopsAtInput input left written new = ReadsFront (text_limit + 1) input left × Appends written new []
 
--- the text was read, and what is told of it was written
+-- the text was read, and its answers were written
 abbrev pub ReadsAndTells : Detail → (input left : Option (List ℕ)) → List ℕ → List (List ℕ)
     → (written new : Option (List ℕ)) → Result CheckOutcome TextFault → Type 0
 ReadsAndTells detail input left word urls written new result =
     (text : List ℕ) × ReadsText input left text × Tells detail text word urls written new result
 
--- the text was read and all was told; or a read failed or memory was refused, and nothing was written; or a write
--- failed or memory was refused later, and no more than a front of what was to be told was written
+-- all was read and written; or a read failed or memory was refused before any writing; or a write failed or memory
+-- was refused later, after at most a prefix of the output
 abbrev pub Checks : Detail → (input left : Option (List ℕ)) → List ℕ → List (List ℕ) → (written new : Option (List ℕ))
     → Result CheckOutcome TextFault → Type 0
 Checks detail input left word urls written new (Ok outcome) =
@@ -82,11 +82,11 @@ pub record ReadsWhole (old new : Option (List ℕ)) (input : List ℕ) : Type 0 
   pub consumed : Consumes old new input
   pub all : IsAtEnd new
 
--- no more than a front of the input was read, and nothing was written
+-- at most a prefix of the input was read, and nothing was written
 abbrev pub StopsWithin : (input left written new : Option (List ℕ)) → Type 0
 StopsWithin input left written new = ((front : List ℕ) × Consumes input left front) × Appends written new []
 
--- the whole input was read, and what is told of its text and its URLs was written
+-- the whole input was read, and the answers for its text and URLs were written
 pub record ReadsAndTellsWhole (detail : Detail) (input left : Option (List ℕ)) (word : List ℕ)
     (written new : Option (List ℕ)) (result : Result CheckOutcome TextFault) : Type 0 where
   pub whole : List ℕ
@@ -96,7 +96,7 @@ pub record ReadsAndTellsWhole (detail : Detail) (input left : Option (List ℕ))
   pub has : HasUrls whole text urls
   pub tells : Tells detail text word urls written new result
 
--- the same as `Checks` where the URLs stand in the input behind the text
+-- like `Checks`, with the URLs in the input after the text
 abbrev pub ChecksInput : Detail → (input left : Option (List ℕ)) → List ℕ → (written new : Option (List ℕ))
     → Result CheckOutcome TextFault → Type 0
 ChecksInput detail input left word written new (Ok outcome) =
@@ -107,7 +107,7 @@ ChecksInput detail input left word written new (Err Write) =
 ChecksInput detail input left word written new (Err NoMemory) =
     StopsWithin input left written new ⊎ ReadsAndTellsWhole detail input left word written new (Err NoMemory)
 
--- the whole input was read, and what is told of what is kept of a body and of the URLs of the lines was written
+-- the whole input was read, and the answers for a body's text and the input's URLs were written
 pub record ReadsLinesAndTells (detail : Detail) (body : List ℕ) (input left : Option (List ℕ)) (word : List ℕ)
     (written new : Option (List ℕ)) (result : Result CheckOutcome TextFault) : Type 0 where
   pub lines : List ℕ
@@ -116,7 +116,7 @@ pub record ReadsLinesAndTells (detail : Detail) (body : List ℕ) (input left : 
   pub urls_are : AreUrlLines lines urls
   pub tells : Tells detail (kept body) word urls written new result
 
--- the same as `Checks` where the input has the URLs alone, and the text is what is kept of a body
+-- like `Checks`, with only URLs in the input, and the text from a body
 abbrev pub ChecksLines : Detail → (body : List ℕ) → (input left : Option (List ℕ)) → List ℕ
     → (written new : Option (List ℕ)) → Result CheckOutcome TextFault → Type 0
 ChecksLines detail body input left word written new (Ok outcome) =
@@ -127,27 +127,27 @@ ChecksLines detail body input left word written new (Err Write) =
 ChecksLines detail body input left word written new (Err NoMemory) =
     StopsWithin input left written new ⊎ ReadsLinesAndTells detail body input left word written new (Err NoMemory)
 
--- the fault where a read failed so
+-- the fault of a failed read
 abbrev pub text_fault : ReadLineFault → TextFault
 text_fault causes.Read = Read
 text_fault causes.NoMemory = NoMemory
 
--- the fault is one of reading
+-- the fault is a read's
 abbrev pub IsReadFault : TextFault → Type 0
 IsReadFault fault = (fault ≡ Read) ⊎ (fault ≡ NoMemory)
 
--- the fault is one of telling
+-- the fault is a writer's
 abbrev pub IsTellFault : TextFault → Type 0
 IsTellFault fault = (fault ≡ Write) ⊎ (fault ≡ NoMemory)
 
--- the reader's count of failures behind it: it rises exactly where a read failed
+-- the reader's failures: one more exactly if a read failed
 abbrev pub failures_after_reads : {T : Type 0} → ℕ → Result T TextFault → ℕ
 failures_after_reads failures (Ok _) = failures
 failures_after_reads failures (Err Read) = one_more failures
 failures_after_reads failures (Err Write) = failures
 failures_after_reads failures (Err NoMemory) = failures
 
--- the writer's count of failures behind it: it rises exactly where a write failed
+-- the writer's failures: one more exactly if a write failed
 abbrev pub failures_after_writes : {T : Type 0} → ℕ → Result T TextFault → ℕ
 failures_after_writes failures (Ok _) = failures
 failures_after_writes failures (Err Read) = failures

@@ -1,6 +1,5 @@
--- What an explanation says of a path before the answer: the user-agent lines of the groups that speak to the token,
--- each rule line for it, and why the one that gives the verdict is above the others. RFC 9309, section 2.2;
--- docs/FORMATS.md has the lines.
+-- An explanation before an answer: the user-agent lines of the token's groups, each rule line for it, and why the
+-- winning one outranks the others. RFC 9309, section 2.2; see docs/FORMATS.md.
 use Rattle.std.specs.Prelude.{◌≡◌, ◌==◌, ℕ, Bool, List, [], ◌++◌, Option, Some, None, codes, decimal, flat_map, length, if◌then◌else◌}
 use Rattle.line_text.specs.RuleWords.{rule_word, value_text}
 use Rattle.path_normal.specs.Normal.{normal_pattern}
@@ -11,17 +10,17 @@ use Rattle.robots_check.specs.AgentText.{agents_for, agents_text}
 use Rattle.robots_check.specs.Answers.{Answer, allowed_by, allowed_unruled, allowed_robots, denied_by, unread}
 use Rattle.robots_check.specs.Rows.{AreRows, IsSecond, Tried}
 
--- whether a pattern matches the path
+-- the word for whether a pattern matches
 abbrev pub hits_text : Bool → List ℕ
 hits_text hits = if hits then codes " matches\n" else codes " no\n"
 
--- the line of a rule line: its number, its kind, its value, its octets, and whether it matches
+-- a rule line's row: number, kind, value, octets, and whether it matches
 abbrev pub row_text : Tried → List ℕ
 row_text tried =
     codes "rule line " ++ (decimal tried.ruled.line ++ (codes " " ++ (rule_word tried.ruled.kind
     ++ (value_text tried.ruled.pattern ++ (codes " octets " ++ (decimal tried.octets ++ hits_text tried.hits))))))
 
--- the octets of the pattern of the rule line that gives the verdict, in normal form
+-- the octets of the winning line's normalized pattern
 abbrev pub winner_octets : Answer → ℕ
 winner_octets (allowed_by ruled) = length (normal_pattern ruled.pattern)
 winner_octets allowed_unruled = 0
@@ -29,21 +28,21 @@ winner_octets allowed_robots = 0
 winner_octets (denied_by ruled) = length (normal_pattern ruled.pattern)
 winner_octets (unread fault) = 0
 
--- why a line is above another of as many octets: as allow above disallow, or as the first of two that are alike
+-- why a line outranks another with as many octets: allow over disallow, or the first of two alike
 abbrev pub alike_text : Ruled → Ruled → List ℕ
 alike_text ruled other =
     if kind_place ruled.kind == kind_place other.kind
     then codes "because first of line " ++ (decimal ruled.line ++ (codes " and " ++ (decimal other.line ++ codes "\n")))
     else codes "because allow above disallow of line " ++ (decimal other.line ++ codes "\n")
 
--- why a line with so many octets is above another
+-- why a line with this many octets outranks another
 abbrev pub above_text : ℕ → Ruled → Tried → List ℕ
 above_text octets ruled other =
     if octets == other.octets then alike_text ruled other.ruled
     else codes "because octets " ++ (decimal octets ++ (codes " above " ++ (decimal other.octets
     ++ (codes " of line " ++ (decimal other.ruled.line ++ codes "\n")))))
 
--- why a line is above the strongest of the others that match
+-- why a line outranks the strongest of the others that match
 abbrev pub because_by : ℕ → Ruled → Option Tried → List ℕ
 because_by octets ruled None = codes "because only\n"
 because_by octets ruled (Some other) = above_text octets ruled other
@@ -56,7 +55,7 @@ because_text octets allowed_robots second = codes "because robots\n"
 because_text octets (denied_by ruled) second = because_by octets ruled second
 because_text octets (unread fault) second = []
 
--- the strongest row that matches, but for that of the line that gives the verdict
+-- the strongest matching row other than the winning line's
 abbrev pub IsSecondFor : List Tried → Answer → Option Tried → Type 0
 IsSecondFor rows (allowed_by ruled) second = IsSecond rows ruled.line second
 IsSecondFor rows allowed_unruled second = second ≡ None

@@ -1,4 +1,4 @@
--- Rule lines with their patterns in normal form, from which the rows beside each path are made.
+-- Rule lines with normalized patterns, from which each path's rows are made.
 -- RFC 9309, section 2.2.2.
 use Rattle.std.specs.Prelude.{◌≡◌, ℕ, List, map}
 use Rattle.std.specs.List.{All}
@@ -18,12 +18,12 @@ formed_rule formed = rule_seen formed.rule
 abbrev pub IsFormed : Formed → Type 0
 IsFormed formed = formed.form.items ≡ normal_pattern (formed_rule formed).pattern
 
--- these are the rule lines for the token, in order, each with its pattern
+-- the rule lines for the token with their patterns, in order
 pub record AreFormsFor (lines : List Numbered) (word : List ℕ) (forms : List Formed) : Type 0 where
   pub are_rules : AreRulesFor lines word (map formed_rule forms)
   pub formed : All IsFormed forms
 
--- so it is where they are to be explained
+-- these forms, if they are to be explained
 abbrev pub AreFormsAt : Detail → List Numbered → List ℕ → List Formed → Type 0
 AreFormsAt Plain lines word forms = Unit {0}
 AreFormsAt Explained lines word forms = AreFormsFor lines word forms

@@ -1,5 +1,5 @@
--- What contracts say of the lines of a robots text and of a check: which page a URL names, what is said of it, and what
--- was read and written.
+-- Definitions for the lines of a robots text and for checks: the page of a URL, its answer, and what was read and
+-- written.
 pub mod AgentText
 pub mod AnswerText
 pub mod Answering

@@ -1,5 +1,5 @@
 -- The text that `lines` writes, as docs/FORMATS.md has it: one line for each line of a robots text.
--- Cited by the contracts of `lines` and of the pieces of a line.
+-- Used by `lines` and a line's pieces.
 use Rattle.std.specs.Prelude.{ℕ, List, ◌++◌, codes, decimal, flat_map}
 use Rattle.line_text.specs.RuleWords.{rule_word, value_text}
 use Rattle.robots_text.specs.Lines.{kept}
@@ -18,10 +18,10 @@ record_text other = codes "other"
 abbrev pub numbered : ℕ → Record → Numbered
 numbered number said = record { line = number; kind = said }
 
--- a line of the output: the number of a line, a space and the words of its record
+-- an output line: a number, a space and the record's words
 abbrev pub numbered_text : Numbered → List ℕ
 numbered_text item = decimal item.line ++ (codes " " ++ (record_text item.kind ++ codes "\n"))
 
--- the output for a body: a line for each record of what is kept of it
+-- the output for a body: a line for each record kept of it
 abbrev pub lines_text : List ℕ → List ℕ
 lines_text body = flat_map numbered_text (numbered_records (kept body))

@@ -1,6 +1,6 @@
--- What is told of a robots text beside what it says of URLs: that it was cut, that none of its lines is a record, and
--- which of its rules match no URL for an apostrophe.
--- Cited by the contracts of `check` and of `tell_notes`; docs/FORMATS.md has the lines.
+-- The notes on a robots text: that it was cut, that no line is a record, and rules that match no URL because of an
+-- apostrophe.
+-- Used by `check` and `tell_notes`; see docs/FORMATS.md.
 use Rattle.std.specs.Prelude.{◌≡◌, ◌⊎◌, ◌+◌, ◌==◌, ℕ, Bool, true, false, nat_le, List, [], ◌∷◌, ◌++◌, Option, codes, decimal, flat_map, length, if◌then◌else◌}
 use Rattle.std.specs.List.{list_any}
 use Rattle.std.specs.Io.KnownBytes.{Appends}
@@ -23,29 +23,29 @@ question_mark = 63
 abbrev pub is_apostrophe : ℕ → Bool
 is_apostrophe octet = octet == apostrophe
 
--- what stands behind the first question mark
+-- what follows the first question mark
 abbrev pub behind_question : List ℕ → List ℕ
 behind_question [] = []
 behind_question (octet ∷ octets) = if octet == question_mark then octets else behind_question octets
 
--- an apostrophe stands behind a question mark, where a URL has `%27` (URL Standard, query state)
+-- an apostrophe follows a question mark, where URLs have `%27` (URL Standard, query state)
 abbrev pub has_query_apostrophe : List ℕ → Bool
 has_query_apostrophe value = list_any is_apostrophe (behind_question value)
 
--- what is told of a rule line
+-- the note on a rule line
 abbrev pub rule_note : ℕ → List ℕ → List ℕ
 rule_note line value =
     if has_query_apostrophe value
     then codes "crawlgate: line " ++ (decimal line ++ codes " matches no URL: a URL has %27 for ' in its query\n")
     else []
 
--- what is told of the line of this number: of a rule alone
+-- the note on the line of this number, if it is a rule
 abbrev pub record_note : ℕ → Record → List ℕ
 record_note line (agent who) = []
 record_note line (rule kind value) = rule_note line value
 record_note line other = []
 
--- the same of a numbered record
+-- the note on a numbered record
 abbrev pub line_note : Numbered → List ℕ
 line_note item = record_note item.line item.kind
 
@@ -55,7 +55,7 @@ is_said (agent who) = true
 is_said (rule kind value) = true
 is_said other = false
 
--- what is told where there are lines, and none of them is a record
+-- the note if there are lines, but no record
 abbrev pub silent_note : List Numbered → List ℕ
 silent_note [] = []
 silent_note (first ∷ lines) =
@@ -63,32 +63,32 @@ silent_note (first ∷ lines) =
     else if list_any (λ line. is_said line.kind) lines then []
     else codes "crawlgate: no line of the robots.txt is a record, so it allows all\n"
 
--- what is told of a body of so many octets, where that is over the limit
+-- the note on a body whose octets are over the limit
 abbrev pub cut_note : ℕ → List ℕ
 cut_note count =
     if nat_le count text_limit then []
     else codes "crawlgate: of the robots.txt only the lines that end within 512,000 bytes are read\n"
 
--- all that is told of a body of so many octets, of which these lines are kept
+-- all notes on a body of so many octets, with these lines kept
 abbrev pub notes_of : ℕ → List Numbered → List ℕ
 notes_of count lines = (cut_note count ++ silent_note lines) ++ flat_map line_note lines
 
--- all that is told of a body
+-- all notes on a body
 abbrev pub notes_text : List ℕ → List ℕ
 notes_text body = notes_of (length body) (numbered_records (kept body))
 
--- the text was written; or a write failed, and no more than a front of it was
+-- the text was written, or a write failed after at most a prefix
 abbrev pub IsNoted : List ℕ → (written new : Option (List ℕ)) → (failures after : ℕ) → Type 0
 IsNoted text written new failures after =
     ((after ≡ failures) × Appends written new text) ⊎ ((after ≡ one_more failures) × AppendsPrefix written new text)
 
--- a robots text was read, and what is told of it was written
+-- a robots text was read, and its notes were written
 pub record NotesText (input left written new : Option (List ℕ)) (failures after : ℕ) : Type 0 where
   pub body : List ℕ
   pub reads : ReadsTo (text_limit + 1) input left body
   pub noted : IsNoted (notes_text body) written new failures after
 
--- an input was read, and what is told of the robots text in front of its URLs was written
+-- an input was read, and the notes on its robots text were written
 pub record NotesFront (input left written new : Option (List ℕ)) (failures after : ℕ) : Type 0 where
   pub whole : List ℕ
   pub reads : ReadsWhole input left whole

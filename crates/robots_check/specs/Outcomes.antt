@@ -1,5 +1,5 @@
--- What the answers to all URLs come to.
--- The exit status of `crawlgate check` tells it.
+-- The joint outcome of all answers.
+-- It is the exit status of `crawlgate check`.
 use Rattle.std.specs.Prelude.{Bool, true, false, List, [], ◌∷◌, if◌then◌else◌}
 use Rattle.std.specs.List.{list_any}
 use Rattle.robots_check.specs.Answers.{Answer, allowed_by, allowed_unruled, allowed_robots, denied_by, unread}
@@ -23,18 +23,18 @@ is_unread allowed_robots = false
 is_unread (denied_by ruled) = false
 is_unread (unread fault) = true
 
--- of some answers one that could not be read outranks all, and one that is denied those that are allowed
+-- of some answers, an unread one outranks all, and a denied one the allowed ones
 abbrev pub outcome_of_some : List Told → CheckOutcome
 outcome_of_some answers =
     if list_any (λ told. is_unread told.answer) answers then Unread else if list_any
     (λ told. is_denied told.answer) answers then Denied else Allowed
 
--- what the answers come to, if there are any
+-- the outcome of the answers, if any
 abbrev pub outcome_of : List Told → CheckOutcome
 outcome_of [] = NoUrls
 outcome_of (told ∷ later) = outcome_of_some (told ∷ later)
 
--- what one answer comes to
+-- the outcome of one answer
 abbrev pub outcome_of_one : Answer → CheckOutcome
 outcome_of_one (allowed_by ruled) = Allowed
 outcome_of_one allowed_unruled = Allowed
@@ -42,7 +42,7 @@ outcome_of_one allowed_robots = Allowed
 outcome_of_one (denied_by ruled) = Denied
 outcome_of_one (unread fault) = Unread
 
--- what two come to together
+-- the worse of two outcomes
 abbrev pub worse : CheckOutcome → CheckOutcome → CheckOutcome
 worse NoUrls other = other
 worse Allowed NoUrls = Allowed

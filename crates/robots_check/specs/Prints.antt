@@ -1,5 +1,5 @@
 -- What `lines` read and wrote, by its result.
--- The contracts of `lines` and `lines_of` cite it.
+-- Used by `lines` and `lines_of`.
 use Rattle.std.specs.Prelude.{ℕ, List, [], Option, Result, Ok, Err}
 use Rattle.std.specs.Io.KnownBytes.{Appends}
 use Rattle.counted_io.specs.Device.{AppendsPrefix}
@@ -8,16 +8,15 @@ use Rattle.robots_check.specs.LinesText.{lines_text}
 use Rattle.robots_check.specs.declared.fault.TextFault.{TextFault}
 use Rattle.robots_check.specs.declared.fault.TextFault.TheVariants.{Read, Write, NoMemory}
 
--- the text of the body was written; or memory was refused, and nothing was written; or a write failed, and no more
--- than a front of the text was written
+-- the body's text was written; or memory was refused before any writing; or a write failed after at most a prefix
 abbrev pub WritesLines : (body : List ℕ) (written new : Option (List ℕ)) → Result (Unit {0}) TextFault → Type 0
 WritesLines body written new (Ok _) = Appends written new (lines_text body)
 WritesLines body written new (Err Read) = ⊥
 WritesLines body written new (Err Write) = AppendsPrefix written new (lines_text body)
 WritesLines body written new (Err NoMemory) = Appends written new []
 
--- the body was read, and its text was written; or a read failed or memory was refused, and nothing was
--- written; or a write failed, and no more than a front of the text was written
+-- the body was read and its text written; or a read failed or memory was refused before any writing; or a write
+-- failed after at most a prefix
 abbrev pub Prints : (input left written new : Option (List ℕ)) → Result (Unit {0}) TextFault → Type 0
 Prints input left written new (Ok _) =
     (body : List ℕ) × ReadsBody input left body × Appends written new (lines_text body)

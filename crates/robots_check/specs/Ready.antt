@@ -1,5 +1,5 @@
--- What a judge needs to be asked.
--- Cited by the contracts of `Judge`.
+-- What makes a judge ready.
+-- Used by `Judge`.
 use Rattle.std.specs.Prelude.{◌≡◌, map}
 use Rattle.robots_text.specs.Records.{numbered_records}
 use Rattle.robots_text.specs.Walk.{rule_seen}
@@ -8,8 +8,8 @@ use Rattle.robots_check.specs.Forms.{AreFormsAt}
 use Rattle.robots_check.specs.Rules.{rules_among}
 use Rattle.robots_check.specs.declared.judge.Judge.{Judge}
 
--- its rule lines are those of the text; where it explains, it has those that govern its token with their patterns,
--- and the user-agent lines of the groups that speak to the token
+-- it has the text's rule lines; to explain, also those for its token with their patterns, and the user-agent lines of
+-- the token's groups
 pub record IsReady (judge : Judge) : Type 0 where
   pub rules : map rule_seen judge.rules.now ≡ rules_among (numbered_records judge.policy.now)
   pub forms : AreFormsAt judge.detail (numbered_records judge.policy.now) judge.token.now judge.forms.now

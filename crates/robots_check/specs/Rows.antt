@@ -1,4 +1,4 @@
--- The rule lines for a token beside a path: which match it, and which of them is the strongest but for one.
+-- The rule lines for a token and a path: which match, and the strongest of the others.
 -- RFC 9309, section 2.2.2.
 use Rattle.std.specs.Prelude.{◌≡◌, ◌↔◌, ◌&&◌, ◌==◌, not, ℕ, Bool, true, false, IsTrue, List, [], ◌∷◌, Option, Some, None, Contains, length, if◌then◌else◌}
 use Rattle.path_normal.specs.Normal.{normal_pattern}
@@ -8,7 +8,7 @@ use Rattle.robots_text.specs.Walk.{rule_seen}
 use Rattle.robots_verdict.specs.Weights.{is_above}
 use Rattle.robots_check.specs.declared.rows.ComparedRule.{ComparedRule}
 
--- a rule line, the octets of its pattern in normal form, and whether that matches a path
+-- a rule line, its normalized pattern's octets, and whether it matches a path
 pub record Tried : Type 0 where
   pub ruled : Ruled
   pub octets : ℕ
@@ -18,20 +18,20 @@ pub record Tried : Type 0 where
 abbrev pub row_seen : ComparedRule → Tried
 row_seen row = record { ruled = rule_seen row.rule; octets = row.octets; hits = row.matches }
 
--- it is that of the rule line, beside the path
+-- this is the rule line's row for the path
 pub record IsRow (path : List ℕ) (ruled : Ruled) (tried : Tried) : Type 0 where
   pub of_line : tried.ruled ≡ ruled
   pub as_many : tried.octets ≡ length (normal_pattern ruled.pattern)
   pub hits : IsTrue tried.hits ↔ Matches (normal_pattern ruled.pattern) path
 
--- these are those of the rule lines, one of each, in order
+-- these are the rule lines' rows, in order
 abbrev pub AreRows : List ℕ → List Ruled → List Tried → Type 0
 AreRows path [] [] = Unit {0}
 AreRows path (ruled ∷ rules) (tried ∷ rows) = IsRow path ruled tried × AreRows path rules rows
 AreRows path [] (tried ∷ rows) = ⊥
 AreRows path (ruled ∷ rules) [] = ⊥
 
--- the one is stronger than the other, as their rule lines weigh
+-- the one is stronger, by the weights of their rule lines
 abbrev pub is_row_above : Tried → Tried → Bool
 is_row_above one other =
     is_above (record { octets = one.octets; kind = one.ruled.kind; line = one.ruled.line })
@@ -41,13 +41,13 @@ is_row_above one other =
 abbrev pub is_other : ℕ → Tried → Bool
 is_other line tried = tried.hits && not (tried.ruled.line == line)
 
--- it is one of those that match, but for the line of this number, and none of these is stronger
+-- no other matching row than this line's is stronger
 pub record IsBestOther (rows : List Tried) (line : ℕ) (best : Tried) : Type 0 where
   pub stands : Contains rows best
   pub other : is_other line best ≡ true
   pub strongest : (tried : Tried) → Contains rows tried → is_other line tried ≡ true → is_row_above tried best ≡ false
 
--- the strongest that matches, but for the line of this number; or none does
+-- the strongest match other than this line, or none
 abbrev pub IsSecond : List Tried → ℕ → Option Tried → Type 0
 IsSecond rows line None = (tried : Tried) → Contains rows tried → is_other line tried ≡ true → ⊥
 IsSecond rows line (Some best) = IsBestOther rows line best
@@ -57,6 +57,6 @@ abbrev pub stronger_row : Option Tried → Tried → Tried
 stronger_row None other = other
 stronger_row (Some best) other = if is_row_above other best then other else best
 
--- the strongest of the others with a row more
+-- the stronger of the strongest other and one more row
 abbrev pub weighed_row : ℕ → Option Tried → Tried → Option Tried
 weighed_row line best tried = if is_other line tried then Some (stronger_row best tried) else best

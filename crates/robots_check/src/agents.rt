@@ -1,4 +1,4 @@
-//! The user-agent lines of the groups that speak to a token, and their lines of an explanation.
+//! The user-agent lines of a token's groups, and their lines in an explanation.
 //! RFC 9309, section 2.2.1.
 ghost use Rattle.std.specs.Prelude.{◌≡◌, ◌==◌, IfOk, flat_map, map};
 ghost use Rattle.std.specs.List.{list_any};
@@ -17,16 +17,16 @@ use robots_text::{
 };
 use std::alloc::{AllocError, Global};
 
-/// A user-agent line of a group that speaks to the token.
+/// A user-agent line of a group for the token.
 #[derive(Clone, Copy)]
 pub(crate) struct AgentLine<'t> {
     pub(crate) line: u64,
     pub(crate) kind: RecordKind<'t>,
-    /// Whether the line itself speaks to the token.
+    /// Whether the line itself names the token.
     pub(crate) speaks: bool,
 }
 
-/// The user-agent lines of the groups that speak to the token, where they are to be explained.
+/// The token's user-agent lines, if they are to be explained.
 pub(crate) fn agents_at<'t>(
     alloc: Global,
     text: &'t RobotsText,
@@ -56,7 +56,7 @@ fn agents_for<'t>(
     Ok(heads)
 }
 
-// The groups of the lines that are left which speak to them.
+// The groups of the remaining lines that speak to them.
 fn groups_that(
     alloc: Global,
     lines: GroupedRecords<'_>,
@@ -75,7 +75,7 @@ fn groups_that(
     Ok(groups)
 }
 
-// The user-agent lines of these groups among the lines that are left.
+// The user-agent lines of these groups among the remaining lines.
 fn heads_in<'t>(
     alloc: Global,
     lines: GroupedRecords<'t>,
@@ -114,7 +114,7 @@ fn has_group(groups: &[u64], sought: u64) -> bool
     groups.iter().any(|group| *group == sought)
 }
 
-/// Pushes their lines, or one that says that there is none.
+/// Pushes their lines, or one that says that there are none.
 pub(crate) fn push_agents<W: Sink>(
     agents: &[AgentLine<'_>],
     output: &mut Output,

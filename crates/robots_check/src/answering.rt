@@ -1,5 +1,5 @@
 //! The answers to URLs, one after another.
-//! docs/FORMATS.md has their lines.
+//! See docs/FORMATS.md.
 ghost use Rattle.std.specs.Prelude.{◌≡◌, ◌∷◌, [], Ok, IfErr, IfOk, OnErr, map};
 ghost use Rattle.robots_text.specs.Records.{numbered_records};
 ghost use Rattle.robots_check.specs.Answering.{CutsBefore, PassesBefore, Passing, PassingFront};
@@ -27,11 +27,11 @@ use robots_text::{RobotsText, Token};
 use robots_verdict::Policy;
 use std::alloc::{AllocError, Global};
 
-// The most URLs for which no index is made: that takes as long as several walks over the text.
+// The most URLs without an index, which takes as long as several walks over the text.
 const FEW_URLS: usize = 16;
 
-/// Tells what of a text, whose body had so many octets, may surprise. Then it writes what the text says to a crawler of
-/// each URL, and tells what that comes to.
+/// Reports what may surprise in a text, whose body had so many octets. Then writes the answer to each URL,
+/// and returns their joint outcome.
 pub(crate) fn answer<W: Sink, E: Sink>(
     alloc: Global,
     text: RobotsText,
@@ -67,7 +67,7 @@ pub(crate) fn answer<W: Sink, E: Sink>(
     write_answers(alloc, judge, urls, writer)
 }
 
-// The policy of a text that answers so many URLs, with an index if they are many.
+// The policy of a text for this many URLs, indexed if they are many.
 fn policy_for(alloc: Global, text: RobotsText, urls: usize) -> Result<Policy, AllocError>
     ensures { IfOk result (λ policy. policy ≡ text) }
 {
@@ -79,7 +79,6 @@ fn policy_for(alloc: Global, text: RobotsText, urls: usize) -> Result<Policy, Al
     }
 }
 
-// Writes the answer to each URL.
 fn write_answers<W: Sink>(
     alloc: Global,
     judge: Judge<'_>,
@@ -98,7 +97,6 @@ fn write_answers<W: Sink>(
     Ok(outcome)
 }
 
-// Pushes the answer to each URL.
 fn push_answers<W: Sink>(
     alloc: Global,
     judge: Judge<'_>,
@@ -123,7 +121,7 @@ fn push_answers<W: Sink>(
     Ok(outcome)
 }
 
-// Pushes what is told of a URL.
+// Pushes the answer to a URL, with its explanation.
 fn push_answer<W: Sink>(
     alloc: Global,
     judge: Judge<'_>,
@@ -148,7 +146,7 @@ fn push_answer<W: Sink>(
     }
 }
 
-// Pushes what is told of a URL that can't be read.
+// Pushes the answer to an unreadable URL.
 fn push_unread<W: Sink>(
     judge: Judge<'_>,
     url: &[u8],
@@ -171,7 +169,7 @@ fn push_unread<W: Sink>(
     Ok(finding.outcome())
 }
 
-// Pushes what is told of the page of a URL.
+// Pushes the answer to a URL's page.
 fn push_page<W: Sink>(
     alloc: Global,
     judge: Judge<'_>,
@@ -197,7 +195,7 @@ fn push_page<W: Sink>(
     Ok(finding.outcome())
 }
 
-// Pushes what stands before an answer on a path.
+// Pushes what comes before an answer.
 fn push_before<W: Sink>(
     alloc: Global,
     judge: Judge<'_>,
@@ -223,7 +221,7 @@ fn push_before<W: Sink>(
     }
 }
 
-// Pushes the explanation of an answer on a path. All memory is taken before anything is pushed.
+// Pushes an answer's explanation. All memory is allocated before anything is pushed.
 fn push_explained<W: Sink>(
     alloc: Global,
     judge: Judge<'_>,

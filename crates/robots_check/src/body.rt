@@ -1,5 +1,5 @@
-//! The input, read from a source in large pieces.
-//! `check` and `lines` read a robots text with it, and so does who needs its body for more.
+//! Reads a source in large pieces.
+//! Used by `check` and `lines`, and by callers that need the body of a robots text.
 ghost use Rattle.std.specs.Prelude.{◌≡◌, ◌+◌, IfOk, IfErr, OnErr};
 ghost use Rattle.counted_io.specs.Reads.{ReadsFront};
 ghost use Rattle.robots_text.specs.Lines.{text_limit};
@@ -10,14 +10,14 @@ use counted_io::{Source, read_to};
 use robots_text::MAX_TEXT;
 use std::alloc::Global;
 
-/// How many octets of a robots text are read: one more than the limit tells that there is more.
+/// The octets read of a robots text: one more than the limit shows that it is longer.
 pub const MAX_BODY: usize = MAX_TEXT + 1;
 
-// More octets than there can be.
+// More octets than possible.
 const MOST: usize = usize::MAX;
 
-/// Reads the body of a robots text to its end, but no more than `MAX_BODY` octets. It answers
-/// `Read` or `NoMemory` alone.
+/// Reads the body of a robots text to its end, but at most `MAX_BODY` octets. Its only faults are `Read`
+/// and `NoMemory`.
 pub fn read_body<R: Source>(alloc: Global, reader: &mut R) -> Result<Vec<u8>, TextFault>
     ensures body { IfOk result (λ body.
         ReadsBody (R.left reader.old) (R.left reader.new) body.items) }
@@ -30,7 +30,6 @@ pub fn read_body<R: Source>(alloc: Global, reader: &mut R) -> Result<Vec<u8>, Te
     Ok(body)
 }
 
-/// Reads a source to its end.
 pub(crate) fn read_whole<R: Source>(alloc: Global, reader: &mut R) -> Result<Vec<u8>, TextFault>
     ensures whole { IfOk result (λ input.
         ReadsWhole (R.left reader.old) (R.left reader.new) input.items) }

@@ -1,23 +1,23 @@
-//! What the answers to all URLs come to.
-//! The exit status of `crawlgate check` tells it.
+//! The joint outcome of the answers to all URLs.
+//! It is the exit status of `crawlgate check`.
 ghost use Rattle.std.specs.Prelude.{◌≡◌};
 ghost use Rattle.robots_check.specs.Outcomes.{worse};
 
-/// What the answers come to.
+/// The joint outcome of answers.
 #[derive(Clone, Copy, Debug, PartialEq, Eq)]
 pub enum CheckOutcome {
     /// There is no URL.
     NoUrls,
-    /// Each URL is allowed.
+    /// All URLs are allowed.
     Allowed,
-    /// A URL is denied, and each could be read.
+    /// A URL is denied, and all could be read.
     Denied,
     /// A URL could not be read.
     Unread,
 }
 
 impl CheckOutcome {
-    /// What both come to.
+    /// The worse of both.
     pub(crate) fn worse(self, other: CheckOutcome) -> CheckOutcome
         ensures { result ≡ worse self other }
     {

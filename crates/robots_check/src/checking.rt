@@ -14,10 +14,10 @@ use counted_io::{Sink, Source};
 use robots_text::{RobotsText, Token};
 use std::alloc::Global;
 
-/// Reads a robots text, of which it takes at most one octet more than the limit, and writes of each
-/// URL whether a crawler of this token may fetch it, and by which line. A URL may be a path, and
-/// its scheme https. To `errors` it tells beforehand what of the text may surprise: that it is cut,
-/// that no line is a record, and rules that match no URL.
+/// Reads a robots text, at most one octet more than the limit, and writes for each URL whether a crawler of
+/// this token may fetch it, and by which line. A URL may be a path, and its scheme https. First it reports
+/// to `errors` what may surprise: that the text is cut, that no line is a record, and rules that match no
+/// URL.
 pub fn check<R: Source, W: Sink, E: Sink>(
     alloc: Global,
     reader: &mut R,
@@ -42,9 +42,9 @@ pub fn check<R: Source, W: Sink, E: Sink>(
     answer(alloc, text, count, token, urls, detail, writer, errors)
 }
 
-/// `check` where the URLs stand in the input, one a line, behind the robots text: that ends at the
-/// first empty line which a line follows that begins with `/`, `http:` or `https:`. Who writes the
-/// text can end it so, and bring URLs of their own: `check_lines` keeps the two apart.
+/// `check` with the URLs in the input, one a line, after the robots text: that ends at the first empty line
+/// before a line that begins with `/`, `http:` or `https:`. The author of the text can thus end it and add
+/// URLs: `check_lines` keeps the two apart.
 pub fn check_input<R: Source, W: Sink, E: Sink>(
     alloc: Global,
     reader: &mut R,
@@ -71,8 +71,8 @@ pub fn check_input<R: Source, W: Sink, E: Sink>(
     answer(alloc, text, count, token, urls, detail, writer, errors)
 }
 
-/// `check` where the input has the URLs alone, one a line, and the robots text is what is kept of
-/// this body: nothing in the body is read as a URL.
+/// `check` with only URLs in the input, one a line, and the robots text from this body: nothing in the body
+/// is read as a URL.
 pub fn check_lines<R: Source, W: Sink, E: Sink>(
     alloc: Global,
     body: &[u8],

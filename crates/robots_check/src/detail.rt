@@ -1,11 +1,11 @@
-//! How much is told of each URL.
-//! docs/FORMATS.md has the lines.
+//! How much a check writes for each URL.
+//! See docs/FORMATS.md.
 
-/// How much a check tells of each URL.
+/// How much a check writes for each URL.
 #[derive(Clone, Copy, Debug, PartialEq, Eq)]
 pub enum Detail {
-    /// The answer alone.
+    /// Only the answer.
     Plain,
-    /// Before the answer the lines that it comes from, and why the one that decides does.
+    /// Before the answer, the lines that it comes from, and why the winning one wins.
     Explained,
 }

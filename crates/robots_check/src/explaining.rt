@@ -1,5 +1,5 @@
-//! Why the answer to a URL is what it is: the lines that it comes from, and the reason for the one that decides.
-//! RFC 9309, section 2.2; docs/FORMATS.md has the lines.
+//! Explains an answer: the lines that it comes from, and why the winning one wins.
+//! RFC 9309, section 2.2; see docs/FORMATS.md.
 ghost use Rattle.std.specs.Prelude.{◌≡◌, ◌++◌, IfOk, flat_map, map, option_map};
 ghost use Rattle.counted_io.specs.Output.{Pushes};
 ghost use Rattle.line_text.specs.Pieces.{pieces_text};
@@ -18,7 +18,7 @@ use path_normal::normal_pattern;
 use robots_text::RuleLine;
 use std::alloc::{AllocError, Global};
 
-/// Pushes the explanation of a finding: the user-agent lines, the rows, and the reason.
+/// Pushes the explanation: the user-agent lines, the rows, and the reason.
 pub(crate) fn push_explanation<W: Sink>(
     agents: &[AgentLine<'_>],
     rows: &[ComparedRule<'_>],
@@ -86,7 +86,7 @@ fn hits_word(hits: bool) -> &'static str
     if hits { " matches\n" } else { " no\n" }
 }
 
-/// The strongest row that matches, but for that of the line that decides.
+/// The strongest matching row other than the winning line's.
 pub(crate) fn second_for<'t>(
     rows: &[ComparedRule<'t>],
     finding: Finding<'t>,
@@ -100,7 +100,7 @@ pub(crate) fn second_for<'t>(
     }
 }
 
-/// The octets of the pattern of the line that decides, in normal form.
+/// The octets of the winning line's normalized pattern.
 pub(crate) fn winner_octets(alloc: Global, finding: Finding<'_>) -> Result<usize, AllocError>
     ensures { IfOk result (λ octets. octets ≡ winner_octets (answer_seen finding.entry)) }
 {
@@ -112,7 +112,7 @@ pub(crate) fn winner_octets(alloc: Global, finding: Finding<'_>) -> Result<usize
     }
 }
 
-/// The line with the reason of a finding.
+/// The line with the reason.
 pub(crate) fn reason_pieces<'a>(
     octets: usize,
     finding: Finding<'a>,

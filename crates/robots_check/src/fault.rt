@@ -1,5 +1,5 @@
-//! Why what is told of a robots text stopped before its end.
-//! `check` and `lines` answer with it.
+//! Why `check` or `lines` stopped early.
+//! Their error type.
 use counted_io::{DeviceFault, ReadLineFault};
 use std::alloc::AllocError;
 
@@ -8,9 +8,9 @@ use std::alloc::AllocError;
 pub enum TextFault {
     /// A read failed. Nothing was written.
     Read,
-    /// A write failed. What was written is a part of what was to be written.
+    /// A write failed. Part of the output was written.
     Write,
-    /// There is no memory. What was written is a part of what was to be written.
+    /// Out of memory. Part of the output was written.
     NoMemory,
 }
 
@@ -31,7 +31,7 @@ impl From<DeviceFault> for TextFault {
 
     ghost from_gives = { λ _ fault. fault ≡ Write };
 
-    /// Only writes report a device's fault as it is.
+    /// Only writes report a device's fault unchanged.
     fn from(_: DeviceFault) -> TextFault {
         TextFault::Write
     }

@@ -1,5 +1,5 @@
-//! What is said of a URL, and its line.
-//! docs/FORMATS.md has the lines.
+//! The answer to a URL, and its line.
+//! See docs/FORMATS.md.
 ghost use Rattle.std.specs.Prelude.{◌≡◌};
 ghost use Rattle.line_text.specs.Pieces.{pieces_text};
 ghost use Rattle.robots_check.specs.AnswerText.{answer_text, fault_word, rule_answer_text, url_answer_text};
@@ -11,23 +11,19 @@ use line_text::{Piece, Pieces};
 use path_normal::UrlFault;
 use robots_text::RuleLine;
 
-/// What is said of a URL.
+/// The answer to a URL.
 #[derive(Clone, Copy)]
 pub(crate) enum Finding<'t> {
-    /// This rule line allows it.
     Allowed(RuleLine<'t>),
     /// No rule line for the token matches it.
     NoRule,
     /// It is the URL of a robots.txt.
     RobotsFile,
-    /// This rule line denies it.
     Denied(RuleLine<'t>),
-    /// It could not be read.
     Unread(UrlFault),
 }
 
 impl<'t> Finding<'t> {
-    /// What it comes to.
     pub(crate) fn outcome(self) -> CheckOutcome
         ensures { result ≡ outcome_of_one (answer_seen self.entry) }
     {
@@ -39,7 +35,7 @@ impl<'t> Finding<'t> {
     }
 }
 
-/// The line that says it of a URL.
+/// The answer's line for a URL.
 pub(crate) fn finding_pieces<'a>(finding: Finding<'a>, url: &'a [u8]) -> Pieces<'a>
     ensures { pieces_text result ≡ answer_text url.now (answer_seen finding.entry) }
 {
@@ -79,7 +75,7 @@ fn url_pieces<'a>(front: &'a str, url: &'a [u8]) -> Pieces<'a>
     Pieces::of(&[Piece::Text(front), Piece::Escaped(url), Piece::Text("\n")])
 }
 
-// The word of a fault, as in the replies of a gate.
+// A fault's word, as in a gate's replies.
 fn fault_word(fault: UrlFault) -> &'static str
     ensures { result.now ≡ fault_word fault }
 {

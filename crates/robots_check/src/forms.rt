@@ -1,5 +1,5 @@
-//! The rule lines that explanations compare, each with its pattern in normal form.
-//! They are made once, for all URLs; RFC 9309, section 2.2.2.
+//! The rule lines that explanations compare, with their patterns normalized once for all URLs.
+//! RFC 9309, section 2.2.2.
 ghost use Rattle.std.specs.Prelude.{IfOk};
 ghost use Rattle.robots_text.specs.Records.{numbered_records};
 ghost use Rattle.robots_check.specs.Forms.{AreFormsAt, AreFormsFor};
@@ -9,14 +9,14 @@ use path_normal::normal_pattern;
 use robots_text::{RobotsText, RuleLine, Token};
 use std::alloc::{AllocError, Global};
 
-/// A rule line with its pattern in normal form.
+/// A rule line with its normalized pattern.
 #[derive(Drop)]
 pub(crate) struct Formed<'t> {
     pub(crate) rule: RuleLine<'t>,
     pub(crate) form: Vec<u8>,
 }
 
-/// The rule lines for the token with their patterns, where they are to be explained.
+/// The token's rule lines with their patterns, if they are to be explained.
 pub(crate) fn forms_at<'t>(
     alloc: Global,
     text: &'t RobotsText,

@@ -1,5 +1,5 @@
-//! An input of a robots text and the lines of URLs behind it.
-//! docs/FORMATS.md says where the one ends and the others begin.
+//! An input with a robots text and then lines of URLs.
+//! docs/FORMATS.md says where the URLs begin.
 ghost use Rattle.std.specs.Prelude.{◌≡◌, ◌<◌, ◌∷◌, ℕ, List, IfOk, IfSome, IfNone, length, map};
 ghost use Rattle.counted_io.specs.Lines.{IsPart, line_feed, without_cr};
 ghost use Rattle.robots_check.specs.Input.{AreUrlLines, FollowsEmpty, IsLineLen, IsSplit, TakesUrl, UrlsFollow, begins_http, begins_url};
@@ -10,7 +10,7 @@ use memchr::memchr;
 use robots_text::is_same_word;
 use std::alloc::{AllocError, Global};
 
-/// The robots text of an input, and the lines of URLs behind it.
+/// The robots text of an input, and its lines of URLs.
 pub(crate) fn split_input(input: &[u8]) -> (&[u8], &[u8])
     ensures { IsSplit input.now result.0.now result.1.now }
 {
@@ -25,7 +25,7 @@ pub(crate) fn split_input(input: &[u8]) -> (&[u8], &[u8])
     (input, &[])
 }
 
-/// The URLs of lines, one of each.
+/// The URLs of these lines.
 pub(crate) fn urls_of(alloc: Global, lines: &[u8]) -> Result<Vec<&[u8]>, AllocError>
     ensures { IfOk result (λ urls. AreUrlLines lines.now (map (λ url. url.now) urls.items)) }
 {
@@ -39,7 +39,7 @@ pub(crate) fn urls_of(alloc: Global, lines: &[u8]) -> Result<Vec<&[u8]>, AllocEr
     Ok(urls)
 }
 
-// The lines behind the empty line with which the text begins, where the first is of a URL.
+// The lines after the empty line at the start of the text, if the first is of a URL.
 fn urls_behind(text: &[u8]) -> Option<&[u8]>
     ensures some { IfSome result (λ rest. UrlsFollow text.now rest.now) }
     ensures none { IfNone result ((rest : List ℕ) → UrlsFollow text.now rest → ⊥) }
@@ -50,7 +50,7 @@ fn urls_behind(text: &[u8]) -> Option<&[u8]>
     }
 }
 
-// What follows the empty line with which the text begins.
+// What follows the empty line at the start of the text.
 fn behind_empty(text: &[u8]) -> Option<&[u8]>
     ensures some { IfSome result (λ rest. FollowsEmpty text.now rest.now) }
     ensures none { IfNone result ((rest : List ℕ) → FollowsEmpty text.now rest → ⊥) }
@@ -61,7 +61,7 @@ fn behind_empty(text: &[u8]) -> Option<&[u8]>
     }
 }
 
-// What follows the LF with which the text begins.
+// What follows the LF at the start of the text.
 fn behind_feed(text: &[u8]) -> Option<&[u8]>
     ensures some { IfSome result (λ rest. text.now ≡ line_feed ∷ rest.now) }
     ensures none { IfNone result ((rest : List ℕ) → text.now ≡ line_feed ∷ rest → ⊥) }
@@ -72,7 +72,7 @@ fn behind_feed(text: &[u8]) -> Option<&[u8]>
     }
 }
 
-// How many octets the first line has, with its end.
+// The octets of the first line, with its end.
 fn line_len(text: &[u8]) -> usize
     requires { 0 < length text.now }
     ensures { IsLineLen text.now result }
@@ -104,7 +104,7 @@ fn without_cr(raw: &[u8]) -> &[u8]
     }
 }
 
-// How many octets stand before the first line feed, or all.
+// The octets before the first line feed, or all.
 fn part_len(octets: &[u8]) -> usize
     ensures { IsPart octets.now result }
 {
@@ -114,7 +114,6 @@ fn part_len(octets: &[u8]) -> usize
     }
 }
 
-// Whether a line of a URL begins here.
 fn begins_url(text: &[u8]) -> bool
     ensures { result ≡ begins_url text.now }
 {

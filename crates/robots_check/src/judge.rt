@@ -1,4 +1,4 @@
-//! What a robots text says to a crawler of each page.
+//! Judges pages by a robots text for one crawler.
 //! RFC 9309, section 2.2.2.
 ghost use Rattle.path_normal.specs.Normal.{normal_path};
 ghost use Rattle.path_normal.specs.PageText.{target_of};
@@ -15,7 +15,7 @@ use path_normal::PageUrl;
 use robots_text::{RuleLine, Token};
 use robots_verdict::{Allowed, Policy, Verdict};
 
-/// A robots text that is ready to be asked, and the crawler for which it is.
+/// A robots text, prepared to judge pages for a crawler.
 #[derive(Clone, Copy)]
 pub(crate) struct Judge<'t> {
     pub(crate) policy: &'t Policy,
@@ -27,7 +27,7 @@ pub(crate) struct Judge<'t> {
 }
 
 impl<'t> Judge<'t> {
-    /// What it says of a page.
+    /// The finding for a page.
     pub(crate) fn find_page(self, page: &PageUrl) -> Finding<'t>
         requires { IsReady self }
         ensures { IsAnswerOn (numbered_records self.entry.policy.now) self.entry.token.now

@@ -1,4 +1,4 @@
-//! What is true of the rows of an explanation.
+//! Laws of an explanation's rows.
 //! RFC 9309, section 2.2.2.
 ghost use Rattle.std.specs.Prelude.{◌≡◌, ℕ, List};
 ghost use Rattle.robots_text.specs.Groups.{Ruled};

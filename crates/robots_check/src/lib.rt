@@ -1,6 +1,6 @@
-//! What each line of a robots text says, and whether it allows URLs to a crawler, by which line and
-//! why; from any reader to any writer.
-//! docs/FORMATS.md has the lines; RFC 9309, section 2.2.
+//! What each line of a robots text says, and whether it allows URLs to a crawler, by which line and why;
+//! from any reader to any writer.
+//! See docs/FORMATS.md; RFC 9309, section 2.2.
 #![tactic(auto)]
 
 mod agents;

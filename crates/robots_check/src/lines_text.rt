@@ -1,5 +1,5 @@
 //! The line that `lines` writes for a record.
-//! Its text is that of docs/FORMATS.md.
+//! See docs/FORMATS.md.
 ghost use Rattle.std.specs.Prelude.{◌≡◌};
 ghost use Rattle.robots_text.specs.Records.{agent, agent_seen, line_seen, rule};
 ghost use Rattle.robots_check.specs.LinesText.{numbered, numbered_text};
@@ -8,7 +8,7 @@ ghost use Rattle.line_text.specs.Pieces.{pieces_text};
 use line_text::{Piece, Pieces, gap_before};
 use robots_text::{Agent, RecordKind, RecordLine, RuleKind};
 
-/// The line of a record, with its number.
+/// A record's line, with its number.
 pub(crate) fn record_pieces(item: RecordLine<'_>) -> Pieces<'_>
     ensures { pieces_text result ≡ numbered_text (line_seen item.entry) }
 {

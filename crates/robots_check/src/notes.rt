@@ -1,5 +1,5 @@
-//! What is told of a robots text beside what it says of URLs.
-//! docs/FORMATS.md has the lines.
+//! Notes on a robots text, apart from its answers.
+//! See docs/FORMATS.md.
 ghost use Rattle.std.specs.Prelude.{◌≡◌, ◌++◌, [], IfOk, flat_map, map};
 ghost use Rattle.std.specs.List.{list_any};
 ghost use Rattle.counted_io.specs.Output.{Pushes};
@@ -16,8 +16,8 @@ use line_text::{Piece, Pieces};
 use robots_text::{MAX_TEXT, RecordKind, Records, RobotsText, RuleLine};
 use std::alloc::{AllocError, Global};
 
-/// Tells of a text, whose body had so many octets, what may surprise who reads its verdicts. A write
-/// that fails ends it, and nothing else.
+/// Notes on a text, whose body had so many octets, that may surprise readers of its verdicts. A failed
+/// write ends the notes only.
 pub fn tell_notes<E: Sink>(
     alloc: Global,
     text: &RobotsText,
@@ -32,7 +32,7 @@ pub fn tell_notes<E: Sink>(
     tell_rule_notes(alloc, text, rules.as_slice(), count, errors)
 }
 
-/// Tells the same of a text with these rule lines.
+/// Like `tell_notes`, for a text with these rule lines.
 pub(crate) fn tell_rule_notes<E: Sink>(
     alloc: Global,
     text: &RobotsText,
@@ -84,7 +84,7 @@ fn push_notes<E: Sink>(
     push_rule_notes(rules, output, errors)
 }
 
-// What is told of the text as a whole.
+// The notes on the whole text.
 fn head_pieces(text: &RobotsText, count: usize) -> Pieces<'static>
     ensures { pieces_text result ≡ cut_note count ++ silent_note (numbered_records text.now) }
 {
@@ -116,7 +116,7 @@ fn silent_note(records: Records<'_>) -> &'static str
     }
 }
 
-// Whether one of the lines that are left is a record.
+// Whether a remaining line is a record.
 fn has_said(records: Records<'_>) -> bool
     ensures { result ≡ list_any (λ line. is_said line.kind) (records_left records.entry) }
 {
@@ -138,7 +138,6 @@ fn is_said(kind: RecordKind<'_>) -> bool
     }
 }
 
-// Pushes what is told of each rule line.
 fn push_rule_notes<E: Sink>(
     rules: &[RuleLine<'_>],
     output: &mut Output,
@@ -167,7 +166,7 @@ fn rule_note_pieces(rule: RuleLine<'_>) -> Pieces<'static>
     ])
 }
 
-// Whether an apostrophe stands behind a question mark.
+// Whether an apostrophe follows a question mark.
 fn has_query_apostrophe(value: &[u8]) -> bool
     ensures { result ≡ has_query_apostrophe value.now }
 {

@@ -1,5 +1,5 @@
-//! The page that a URL of a check names: a path stands for one of any host, and https for http.
-//! Only its path and query count; RFC 9309, section 2.2.2.
+//! The page that a URL of a check names: a path has any host, and https is read as http.
+//! Only path and query count; RFC 9309, section 2.2.2.
 ghost use Rattle.std.specs.Prelude.{◌≡◌, ◌++◌, false, true, IfNone, IfSome, drop};
 ghost use Rattle.robots_check.specs.Targets.{IsReadAs, begins_https, page_named, page_octets, page_read};
 
@@ -7,7 +7,6 @@ use path_normal::{PageUrl, Unread, UrlFault};
 use robots_text::is_same_word;
 use std::alloc::Global;
 
-/// Reads the page that a URL names.
 pub(crate) fn read_page(alloc: Global, url: &[u8]) -> Result<PageUrl, Unread>
     ensures { IsReadAs (page_named url.now) result }
 {
@@ -20,7 +19,7 @@ pub(crate) fn read_page(alloc: Global, url: &[u8]) -> Result<PageUrl, Unread>
     read_octets(alloc, octets.as_slice())
 }
 
-// What is put in front of a URL, and which part of it follows.
+// A prefix for the URL, and the part of the URL after it.
 fn split_url(url: &[u8]) -> (&[u8], &[u8])
     ensures { page_octets url.now ≡ result.0.now ++ result.1.now }
 {
@@ -31,7 +30,7 @@ fn split_url(url: &[u8]) -> (&[u8], &[u8])
     }
 }
 
-/// What follows the `https:` with which a URL begins, in whatever case.
+/// What follows a leading `https:`, in any case.
 pub(crate) fn behind_https(url: &[u8]) -> Option<&[u8]>
     ensures some { IfSome result
         (λ rest. (begins_https url.now ≡ true) × (rest.now ≡ drop 6 url.now)) }

@@ -1,4 +1,4 @@
-//! The rule lines for a token beside a path: which match it, and the strongest of the others.
+//! The rule lines for a token compared with a path: which match, and the strongest of the others.
 //! RFC 9309, section 2.2.2.
 ghost use Rattle.std.specs.Prelude.{◌≡◌, IfOk, map, option_map};
 ghost use Rattle.std.specs.List.{All};
@@ -11,17 +11,16 @@ use robots_text::RuleLine;
 use robots_verdict::compare_kinds;
 use std::alloc::{AllocError, Global};
 
-/// A rule line beside a path.
+/// A rule line compared with a path.
 #[derive(Clone, Copy)]
 pub(crate) struct ComparedRule<'t> {
     pub(crate) rule: RuleLine<'t>,
-    /// The octets of its pattern in normal form.
+    /// The octets of its normalized pattern.
     pub(crate) octets: usize,
-    /// Whether that matches the path.
+    /// Whether it matches the path.
     pub(crate) matches: bool,
 }
 
-/// The rows of the rule lines that have these forms.
 pub(crate) fn rows_of<'t>(
     alloc: Global,
     forms: &[Formed<'t>],
@@ -50,7 +49,7 @@ fn row_of<'t>(formed: &Formed<'t>, path: &[u8]) -> ComparedRule<'t>
     }
 }
 
-/// The strongest row that matches, but for that of the line of this number.
+/// The strongest matching row other than this line's.
 pub(crate) fn second<'t>(rows: &[ComparedRule<'t>], line: u64) -> Option<ComparedRule<'t>>
     ensures { IsSecond (map row_seen rows.now) line (option_map row_seen result) }
 {
@@ -61,7 +60,7 @@ pub(crate) fn second<'t>(rows: &[ComparedRule<'t>], line: u64) -> Option<Compare
     best
 }
 
-// The best with a row more.
+// The better of the best and one more row.
 fn weighed<'t>(
     best: Option<ComparedRule<'t>>,
     row: ComparedRule<'t>,

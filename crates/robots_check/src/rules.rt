@@ -1,4 +1,4 @@
-//! The rule lines of a robots text, in order, and the one of a line.
+//! The rule lines of a robots text in order, and their places by number.
 //! RFC 9309, section 2.2.
 ghost use Rattle.std.specs.Prelude.{◌≡◌, ◌<◌, ℕ, IfOk, map};
 ghost use Rattle.robots_text.specs.Left.{records_left};
@@ -8,7 +8,7 @@ ghost use Rattle.robots_check.specs.Rules.{IsRising, IsRuleAt, rules_among};
 use robots_text::{RecordKind, Records, RuleLine};
 use std::alloc::{AllocError, Global};
 
-/// The rule lines among the records that are left, whomever they govern.
+/// The rule lines among the remaining records, of any group.
 pub(crate) fn rules_among<'t>(
     alloc: Global,
     records: Records<'t>,
@@ -31,7 +31,7 @@ pub(crate) fn rules_among<'t>(
     Ok(rules)
 }
 
-/// The place of the rule line of a number, which is to be there.
+/// The place of the rule line with a number, which must exist.
 pub(crate) fn place_of(rules: &[RuleLine<'_>], line: u64) -> usize
     requires rising { IsRising (map rule_seen rules.now) }
     requires there { (place : ℕ) × IsRuleAt (map rule_seen rules.now) line place }

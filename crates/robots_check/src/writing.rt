@@ -14,8 +14,8 @@ use counted_io::{DeviceFault, Output, Sink, Source};
 use robots_text::{Records, RobotsText};
 use std::alloc::Global;
 
-/// Reads a robots text, of which it takes at most one octet more than the limit, and writes what
-/// each of its lines says. It answers `Read`, `Write` or `NoMemory` alone.
+/// Reads a robots text, at most one octet more than the limit, and writes what each of its lines says. Its
+/// only faults are `Read`, `Write` and `NoMemory`.
 pub fn lines<R: Source, W: Sink>(
     alloc: Global,
     reader: &mut R,
@@ -31,8 +31,7 @@ pub fn lines<R: Source, W: Sink>(
     lines_of(alloc, body.as_slice(), writer)
 }
 
-/// Writes what each line of a body says, as `lines` does behind its reading. It answers `Write` or
-/// `NoMemory` alone.
+/// Writes what each line of a body says. Its only faults are `Write` and `NoMemory`.
 pub fn lines_of<W: Sink>(alloc: Global, body: &[u8], writer: &mut W) -> Result<(), TextFault>
     ensures lines { WritesLines body.now (W.written writer.old) (W.written writer.new) result }
     ensures writes { W.failures writer.new
@@ -45,7 +44,6 @@ pub fn lines_of<W: Sink>(alloc: Global, body: &[u8], writer: &mut W) -> Result<(
     Ok(())
 }
 
-// Pushes the line of each record that is left.
 fn push_records<W: Sink>(
     records: Records<'_>,
     output: &mut Output,

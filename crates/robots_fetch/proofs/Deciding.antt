@@ -14,7 +14,6 @@ use Rattle.robots_fetch.specs.Walk.{AnswerOfAmong, EndsWalkAmong, LeadsOverAmong
 use Rattle.robots_fetch.proofs.Replies.{Decide, decide_one, way_decides}
 use Rattle.robots_fetch.proofs.Taken.{done_over, few_over, gone_over, leads_over}
 
--- the replies of an answer decide it from the robots URL on
 decides : (schemes : Schemes) (authority : List ℕ) (replies : List RobotsReply) (says : Said) (life : ℕ) →
     AnswerOfAmong schemes authority replies says life → Decide schemes 0 (robots_url_of authority) replies says life
 decides schemes authority replies says life answer =
@@ -23,7 +22,6 @@ decides schemes authority replies says life answer =
     (way_decides schemes 0 (robots_url_of authority) answer.way answer.last answer.url says life (omega (arith, answer.are_few)) answer.leads
     (subst (λ n. EndsWalkAmong schemes n answer.url answer.last says) all answer.ends) answer.lives)
 
--- the same at a walk that begins there
 decides_at : (schemes : Schemes) (authority : List ℕ) (walk : Walk) (replies : List RobotsReply) (says : Said) (life : ℕ) →
     IsBegun authority walk → AnswerOfAmong schemes authority replies says life → Decide schemes walk.followed walk.url replies says life
 decides_at schemes authority walk replies says life begun answer =

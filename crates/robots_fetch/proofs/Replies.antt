@@ -1,4 +1,4 @@
--- A list of replies read from its first on, with the number of redirects before it.
+-- A list of replies from its first on, after a number of redirects.
 -- Used by the laws on answers and on steps.
 use Rattle.std.proofs.Common.{◌≡◌, ◌<◌, ◌≤◌, ◌+◌, ◌++◌, ◌∷◌, ◌⊎◌, [], ℕ, List, Result, Ok, Err, length, inl, inr, refl, sym, ap, subst, ◌∙◌, arith}
 use Rattle.std.specs.Prelude.{string_bytes}
@@ -17,18 +17,15 @@ use Rattle.robots_fetch.specs.Redirects.{location_target_among, most_redirects, 
 use Rattle.robots_fetch.specs.Statuses.{class_of}
 use Rattle.robots_fetch.specs.Walk.{EndsWalkAmong, LeadsAmong, LeadsOverAmong, ResponseSays, StopSays, asked_life}
 
--- a result is of one URL
 ok_one : (target : Result (List ℕ) Stop) (a b : List ℕ) → target ≡ Ok a → target ≡ Ok b → a ≡ b
 ok_one target a b one other = cc
 
--- a redirect leads to one URL
 pub leads_one : (schemes : Schemes) (url : List ℕ) (reply : RobotsReply) (a b : List ℕ) → LeadsAmong schemes url reply a → LeadsAmong schemes url reply b → a ≡ b
 leads_one schemes url (Status code location body max_age) a b one other =
     ok_one (location_target_among schemes url (option_map string_bytes location)) a b one.1 other.1
 leads_one schemes url CodingFault a b one other = absurd one
 leads_one schemes url NetworkFault a b one other = absurd one
 
--- what is said of a class is one thing
 response_one : (class : StatusClass) (target : Result (List ℕ) Stop) (body : List ℕ) (a b : Said) →
     ResponseSays class target body a → ResponseSays class target body b → a ≡ b
 response_one classes.Successful target body a b one other = one ∙ sym other
@@ -40,7 +37,6 @@ response_one classes.Unavailable target body a b one other = one ∙ sym other
 response_one classes.Unreachable target body a b one other = one ∙ sym other
 response_one classes.Other target body a b one other = one ∙ sym other
 
--- a reply that ends a walk says one thing
 ends_one : (schemes : Schemes) (followed : ℕ) (url : List ℕ) (reply : RobotsReply) (a b : Said) →
     EndsWalkAmong schemes followed url reply a → EndsWalkAmong schemes followed url reply b → a ≡ b
 ends_one schemes followed url (Status code location body max_age) a b one other =
@@ -48,7 +44,6 @@ ends_one schemes followed url (Status code location body max_age) a b one other 
 ends_one schemes followed url CodingFault a b one other = one ∙ sym other
 ends_one schemes followed url NetworkFault a b one other = one ∙ sym other
 
--- a redirect that may be followed ends no walk
 pub leads_on : (schemes : Schemes) (followed : ℕ) (url : List ℕ) (reply : RobotsReply) (next : List ℕ) (says : Said) →
     followed < most_redirects → LeadsAmong schemes url reply next → EndsWalkAmong schemes followed url reply says → ⊥
 leads_on schemes followed url (Status code location body max_age) next says few leads ends =
@@ -59,23 +54,21 @@ leads_on schemes followed url (Status code location body max_age) next says few 
 leads_on schemes followed url CodingFault next says few leads ends = absurd leads
 leads_on schemes followed url NetworkFault next says few leads ends = absurd leads
 
--- the reply ends the walk, and none is left
+-- the reply ends the walk and is the last
 abbrev Stands : Schemes → ℕ → List ℕ → RobotsReply → List RobotsReply → Said → ℕ → Type 0
 Stands schemes followed url reply rest says life =
     (rest ≡ []) × EndsWalkAmong schemes followed url reply says × (life ≡ life_of says (asked_life reply))
 
--- the replies decide from a URL on, with so many redirects before it
+-- the replies decide from a URL on, after so many redirects
 abbrev pub Decide : Schemes → ℕ → List ℕ → List RobotsReply → Said → ℕ → Type 0
 Decide schemes followed url [] says life = ⊥
 Decide schemes followed url (reply ∷ rest) says life =
     Stands schemes followed url reply rest says life
     ⊎ ((next : List ℕ) × (followed < most_redirects) × LeadsAmong schemes url reply next × Decide schemes (followed + 1) next rest says life)
 
--- a list with something in it is not empty
 not_empty : {A : Type 0} (x : A) (xs : List A) → x ∷ xs ≡ [] → ⊥
 not_empty x xs empty = cc
 
--- what is behind a front that decides is empty, and the front decides one answer
 pub decide_one : (schemes : Schemes) (followed : ℕ) (url : List ℕ) (front rest : List RobotsReply) (a b : Said) (l m : ℕ) →
     Decide schemes followed url front a l → Decide schemes followed url (front ++ rest) b m → (rest ≡ []) × (a ≡ b) × (l ≡ m)
 decide_one schemes followed url [] rest a b l m one other = absurd one
@@ -94,7 +87,6 @@ decide_one schemes followed url (reply ∷ front) rest a b l m (inr one) (inr ot
     decide_one schemes (followed + 1) one.0 front rest a b l m one.3
     (subst (λ next. Decide schemes (followed + 1) next (front ++ rest) b m) same other.3)
 
--- redirects and a reply that ends the walk decide
 pub way_decides : (schemes : Schemes) (followed : ℕ) (url : List ℕ) (way : List RobotsReply) (last : RobotsReply) (end : List ℕ) (says : Said) (life : ℕ) →
     followed + length way ≤ most_redirects → LeadsOverAmong schemes url way end → EndsWalkAmong schemes (followed + length way) end last says →
     life ≡ life_of says (asked_life last) → Decide schemes followed url (way ++ last ∷ []) says life

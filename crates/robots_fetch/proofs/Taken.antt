@@ -12,7 +12,6 @@ use Rattle.robots_fetch.specs.Steps.{StepsAmong, StepsOverAmong}
 use Rattle.robots_fetch.specs.Walk.{EndsWalkAmong, LeadsOverAmong, asked_life}
 use Rattle.robots_fetch.proofs.Replies.{Decide, leads_on, leads_one}
 
--- what replies decide, the others decide behind a reply that the walk went on at
 gone : (schemes : Schemes) (walk next : Walk) (reply : RobotsReply) (rest : List RobotsReply) (says : Said) (life : ℕ) →
     StepsAmong schemes walk reply (Go next) → Decide schemes walk.followed walk.url (reply ∷ rest) says life →
     Decide schemes next.followed next.url rest says life
@@ -22,7 +21,6 @@ gone schemes walk next reply rest says life step (inr on) =
     subst (λ n. Decide schemes n next.url rest says life) one
     (subst (λ u. Decide schemes (walk.followed + 1) u rest says life) (leads_one schemes walk.url reply on.0 next.url on.2 step.0) on.3)
 
--- the same behind a front
 pub gone_over : (schemes : Schemes) (walk next : Walk) (front rest : List RobotsReply) (says : Said) (life : ℕ) →
     StepsOverAmong schemes walk front (Go next) → Decide schemes walk.followed walk.url (front ++ rest) says life →
     Decide schemes next.followed next.url rest says life
@@ -32,7 +30,7 @@ gone_over schemes walk next (reply ∷ (other ∷ front)) rest says life steps d
     gone_over schemes steps.0 next (other ∷ front) rest says life steps.1.1
     (gone schemes walk steps.0 reply ((other ∷ front) ++ rest) says life steps.1.0 decide)
 
--- redirects from a URL on, with so many before it, and a reply that ends the walk
+-- redirects from a URL on, after so many, and a reply that ends the walk
 pub record IsWay (schemes : Schemes) (followed : ℕ) (url : List ℕ) (replies : List RobotsReply) (says : Said) (life : ℕ) : Type 0 where
   pub way : List RobotsReply
   pub last : RobotsReply
@@ -43,7 +41,6 @@ pub record IsWay (schemes : Schemes) (followed : ℕ) (url : List ℕ) (replies 
   pub ends : EndsWalkAmong schemes (followed + length way) end last says
   pub lives : life ≡ life_of says (asked_life last)
 
--- a walk that is done has gone such a way
 pub done_over : (schemes : Schemes) (walk : Walk) (replies : List RobotsReply) (answer : Timed) →
     walk.followed ≤ most_redirects → StepsOverAmong schemes walk replies (Done answer) →
     IsWay schemes walk.followed walk.url replies answer.says answer.life
@@ -76,7 +73,6 @@ done_over schemes walk (reply ∷ (other ∷ replies)) answer few steps =
       lives = more.lives;
     }
 
--- a walk that goes on goes where the replies lead
 pub leads_over : (schemes : Schemes) (walk next : Walk) (replies : List RobotsReply) →
     StepsOverAmong schemes walk replies (Go next) → LeadsOverAmong schemes walk.url replies next.url
 leads_over schemes walk next [] steps = absurd steps
@@ -85,7 +81,7 @@ leads_over schemes walk next (reply ∷ (other ∷ replies)) steps =
     let more : LeadsOverAmong schemes steps.0.url (other ∷ replies) next.url = leads_over schemes steps.0 next (other ∷ replies) steps.1.1 in
     (steps.0.url, (steps.1.0.0, more))
 
--- a walk that goes on has followed each of the replies, and no more redirects than may be
+-- a walk that goes on has followed each reply, within the limit of redirects
 pub few_over : (schemes : Schemes) (walk next : Walk) (replies : List RobotsReply) → StepsOverAmong schemes walk replies (Go next) →
     (walk.followed + length replies ≡ next.followed) × (next.followed ≤ most_redirects)
 few_over schemes walk next [] steps = absurd steps

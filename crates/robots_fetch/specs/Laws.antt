@@ -1,4 +1,4 @@
--- What is true of the answers that replies decide, and of steps over them.
+-- Laws of the answers that replies decide, and of steps over them.
 -- Cited by the laws of the crate.
 use Rattle.std.specs.Prelude.{◌≡◌, ◌≢◌, ◌≤◌, ◌++◌, [], ℕ, List, length}
 use Rattle.path_normal.specs.declared.schemes.Schemes.{Schemes}
@@ -13,37 +13,36 @@ use Rattle.robots_fetch.specs.Redirects.{most_redirects}
 use Rattle.robots_fetch.specs.Steps.{IsBegun, StepsOverAmong}
 use Rattle.robots_fetch.specs.Walk.{AnswerOfAmong, LeadsOverAmong}
 
--- a list decides one answer at most, of one life, whichever schemes are read
+-- a list decides at most one answer with one lifetime, in any schemes
 abbrev pub OneAnswer : Type 0
 OneAnswer = (schemes : Schemes) (authority : List ℕ) (replies : List RobotsReply) (one other : Said) (life life' : ℕ) →
     AnswerOfAmong schemes authority replies one life → AnswerOfAmong schemes authority replies other life'
     → (one ≡ other) × (life ≡ life')
 
--- a list that decides goes no further than a front of it that decides
+-- a list that decides is no longer than its prefix that decides
 abbrev pub DecidedOnce : Type 0
 DecidedOnce =
     (schemes : Schemes) (authority : List ℕ) (front rest : List RobotsReply) (one other : Said) (life life' : ℕ) →
     AnswerOfAmong schemes authority front one life → AnswerOfAmong schemes authority (front ++ rest) other life'
     → rest ≡ []
 
--- a walk over a list is done with the answer that the list decides, where these schemes are read
+-- a walk over a list is done with the list's answer, in these schemes
 abbrev pub IsDoneAmong : Schemes → Type 0
 IsDoneAmong schemes = (authority : List ℕ) (walk : Walk) (replies : List RobotsReply) (answer : Timed) →
     IsBegun authority walk → StepsOverAmong schemes walk replies (Done answer)
     → AnswerOfAmong schemes authority replies answer.says answer.life
 
--- it is so whichever schemes are read
+-- a walk is done with the list's answer, in any schemes
 abbrev pub IsDoneWithAnswer : Type 0
 IsDoneWithAnswer = (schemes : Schemes) → IsDoneAmong schemes
 
--- a step behind a front of replies that decide, where these replies are left: done with the answer where
--- none is left, and on where one is
+-- a step after a prefix of deciding replies: done with the answer if none is left, else on
 abbrev pub IsAsDecided : List RobotsReply → Said → ℕ → Step → Type 0
 IsAsDecided rest says life (Go next) = rest ≢ []
 IsAsDecided rest says life (Done answer) = (rest ≡ []) × (answer.says ≡ says) × (answer.life ≡ life)
 IsAsDecided rest says life (NoMemory kept) = Unit {0}
 
--- a walk over a front of replies that decide steps as they decide, where these schemes are read
+-- a walk over a prefix of deciding replies steps as they decide, in these schemes
 abbrev pub DecideSteps : Schemes → Type 0
 DecideSteps schemes =
     (authority : List ℕ) (walk : Walk) (front rest : List RobotsReply) (says : Said) (life : ℕ) (step : Step) →
@@ -51,7 +50,7 @@ DecideSteps schemes =
     → StepsOverAmong schemes walk front step →
     IsAsDecided rest says life step
 
--- it is so whichever schemes are read
+-- a walk steps as the replies decide, in any schemes
 abbrev pub StepsAsDecided : Type 0
 StepsAsDecided = (schemes : Schemes) → DecideSteps schemes
 
@@ -61,7 +60,7 @@ GoesWhereTheyLead = (schemes : Schemes) (authority : List ℕ) (walk next : Walk
     IsBegun authority walk → StepsOverAmong schemes walk replies (Go next)
     → LeadsOverAmong schemes (robots_url_of authority) replies next.url
 
--- a walk goes on behind five replies at most
+-- a walk goes on after at most five replies
 abbrev pub GoesOnFiveTimes : Type 0
 GoesOnFiveTimes = (schemes : Schemes) (authority : List ℕ) (walk next : Walk) (replies : List RobotsReply) →
     IsBegun authority walk → StepsOverAmong schemes walk replies (Go next) → length replies ≤ most_redirects

@@ -1,4 +1,4 @@
--- What the contracts of robots fetches cite.
+-- Definitions for the contracts of robots fetches.
 -- RFC 9309, section 2.3.1.
 pub mod Statuses
 pub mod Redirects

@@ -15,20 +15,20 @@ use Rattle.robots_fetch.specs.declared.walk.Walk.{Walk}
 use Rattle.robots_fetch.specs.Redirects.{location_target_among, most_redirects, redirect_target_among}
 use Rattle.robots_fetch.specs.Walk.{EndsWalkAmong, LeadsAmong, StopSays, asked_life}
 
--- the URL that the walk fetches next
+-- the next URL to fetch
 abbrev pub next_url : Walk → List ℕ
 next_url walk = walk.url
 
--- the walk begins at the robots URL of the authority
+-- the walk begins at the authority's robots URL
 abbrev pub IsBegun : List ℕ → Walk → Type 0
 IsBegun authority walk = (walk.url ≡ robots_url_of authority) × (walk.followed ≡ 0)
 
--- what is said without rules, for a day
+-- an answer without rules, for a day
 abbrev pub for_a_day : Said → Timed
 for_a_day says = record { says = says; spares = 2; life = greatest_life }
 
--- a step where these schemes are read: on to where the reply leads, with one more redirect followed; done
--- with what the reply says and its life, and two twins to spare; or the walk as it was
+-- a step in these schemes: on to where the reply leads, one redirect more; done with its answer and lifetime, and two
+-- spare twins; or the unchanged walk
 abbrev pub StepsAmong : Schemes → Walk → RobotsReply → Step → Type 0
 StepsAmong schemes walk reply (Go next) =
     LeadsAmong schemes walk.url reply next.url × (walk.followed < most_redirects) × (next.followed ≡ walk.followed + 1)
@@ -38,15 +38,14 @@ StepsAmong schemes walk reply (Done answer) =
     × (answer.spares ≡ 2)
 StepsAmong schemes walk reply (NoMemory kept) = kept ≡ walk
 
--- the step that is made of a walk by the last of the replies, where it goes on at all before that and these
--- schemes are read
+-- the step by the last reply, if the walk goes on before it, in these schemes
 abbrev pub StepsOverAmong : Schemes → Walk → List RobotsReply → Step → Type 0
 StepsOverAmong schemes walk [] step = ⊥
 StepsOverAmong schemes walk (reply ∷ []) step = StepsAmong schemes walk reply step
 StepsOverAmong schemes walk (reply ∷ (other ∷ replies)) step =
     (next : Walk) × (StepsAmong schemes walk reply (Go next) × StepsOverAmong schemes next (other ∷ replies) step)
 
--- a step by a response whose body has the rules
+-- a step by a response with rules in its body
 abbrev pub GivesRules : Walk → List ℕ → Option ℕ → Step → Type 0
 GivesRules walk body max_age (Go next) = ⊥
 GivesRules walk body max_age (Done answer) =
@@ -54,7 +53,7 @@ GivesRules walk body max_age (Done answer) =
     × (answer.spares ≡ 2)
 GivesRules walk body max_age (NoMemory kept) = kept ≡ walk
 
--- a step by a redirect, where these schemes are read
+-- a step by a redirect, in these schemes
 abbrev pub FollowsRedirect : Schemes → Walk → Option (List ℕ) → Step → Type 0
 FollowsRedirect schemes walk location (Go next) =
     (location_target_among schemes walk.url location ≡ Ok next.url) × (walk.followed < most_redirects)
@@ -64,10 +63,10 @@ FollowsRedirect schemes walk location (Done answer) =
     × ((asked : ℕ) → answer.life ≡ life_of answer.says asked) × (answer.spares ≡ 2)
 FollowsRedirect schemes walk location (NoMemory kept) = kept ≡ walk
 
--- a step where `http` alone is read
+-- a step if only `http` is read
 abbrev pub Steps : Walk → RobotsReply → Step → Type 0
 Steps = StepsAmong Http
 
--- the step that is made of a walk by the last of the replies, where `http` alone is read
+-- the step by the last reply, if only `http` is read
 abbrev pub StepsOver : Walk → List RobotsReply → Step → Type 0
 StepsOver = StepsOverAmong Http

@@ -1,4 +1,4 @@
--- The answer that a list of replies decides for an authority, and the life of that answer.
+-- The answer that replies decide for an authority, and its lifetime.
 -- RFC 9309, sections 2.3.1.1 to 2.3.1.5 and 2.4.
 use Rattle.std.specs.Prelude.{◌≡◌, ◌≤◌, ◌++◌, ◌∷◌, [], ℕ, List, Result, Ok, Err, length, string_bytes, unwrap_or}
 use Rattle.std.specs.Option.{option_map}
@@ -20,14 +20,14 @@ use Rattle.robots_fetch.specs.declared.status.StatusClass.TheVariants as classes
 use Rattle.robots_fetch.specs.Redirects.{location_target_among, most_redirects, redirect_target_among}
 use Rattle.robots_fetch.specs.Statuses.{class_of}
 
--- what a redirect says that isn't followed; one that leads on says nothing
+-- the answer by a redirect that isn't followed; a followed one gives none
 abbrev pub StopSays : Result (List ℕ) Stop → Said → Type 0
 StopSays (Ok url) says = ⊥
 StopSays (Err stops.TooManyRedirects) says = says ≡ Open openings.TooManyRedirects
 StopSays (Err stops.BadRedirect) says = says ≡ Closed closures.BadRedirect
 StopSays (Err stops.Scheme) says = says ≡ Closed closures.Scheme
 
--- what a response says of each class, with this target of a redirect and this body
+-- a response's answer by its class, redirect target and body
 abbrev pub ResponseSays : StatusClass → Result (List ℕ) Stop → List ℕ → Said → Type 0
 ResponseSays classes.Successful target body says = says ≡ Rules (kept body)
 ResponseSays classes.Redirect target body says = StopSays target says
@@ -35,8 +35,7 @@ ResponseSays classes.Unavailable target body says = says ≡ Open openings.Unava
 ResponseSays classes.Unreachable target body says = says ≡ Closed closures.Server
 ResponseSays classes.Other target body says = says ≡ Closed closures.Other
 
--- the reply ends a walk at the URL that it answers, where these schemes are read and with so many redirects
--- before it, and says so
+-- the reply ends a walk at its URL with this answer, after so many redirects, in these schemes
 abbrev pub EndsWalkAmong : Schemes → ℕ → List ℕ → RobotsReply → Said → Type 0
 EndsWalkAmong schemes followed url (Status code location body max_age) says =
     ResponseSays (class_of code)
@@ -44,7 +43,7 @@ EndsWalkAmong schemes followed url (Status code location body max_age) says =
 EndsWalkAmong schemes followed url CodingFault says = says ≡ Closed closures.Coding
 EndsWalkAmong schemes followed url NetworkFault says = says ≡ Closed closures.Network
 
--- the reply is a redirect from the one URL to the other, where these schemes are read
+-- the reply redirects from the first URL to the second, in these schemes
 abbrev pub LeadsAmong : Schemes → List ℕ → RobotsReply → List ℕ → Type 0
 LeadsAmong schemes url (Status code location body max_age) next =
     (class_of code ≡ classes.Redirect)
@@ -52,7 +51,7 @@ LeadsAmong schemes url (Status code location body max_age) next =
 LeadsAmong schemes url CodingFault next = ⊥
 LeadsAmong schemes url NetworkFault next = ⊥
 
--- the replies are redirects from the one URL to the other, each from where the one before it led
+-- the replies lead in a row from the first URL to the second, in these schemes
 abbrev pub LeadsOverAmong : Schemes → List ℕ → List RobotsReply → List ℕ → Type 0
 LeadsOverAmong schemes url [] last = url ≡ last
 LeadsOverAmong schemes url (reply ∷ replies) last =
@@ -64,9 +63,8 @@ asked_life (Status code location body max_age) = unwrap_or max_age greatest_life
 asked_life CodingFault = greatest_life
 asked_life NetworkFault = greatest_life
 
--- the replies decide an answer for the authority, of this life, where these schemes are read: all but the
--- last are redirects, at most five, that begin at the URL of its robots.txt, and the last ends the walk
--- where they led
+-- the replies decide an answer for the authority, with this lifetime, in these schemes: all but the last, at most
+-- five, redirect from its robots.txt URL on, and the last ends the walk
 pub record AnswerOfAmong (schemes : Schemes) (authority : List ℕ) (replies : List RobotsReply) (says : Said)
     (life : ℕ) : Type 0 where
   pub way : List RobotsReply
@@ -78,18 +76,18 @@ pub record AnswerOfAmong (schemes : Schemes) (authority : List ℕ) (replies : L
   pub ends : EndsWalkAmong schemes (length way) url last says
   pub lives : life ≡ life_of says (asked_life last)
 
--- the reply ends a walk and says so, where `http` alone is read
+-- the reply ends a walk with this answer, if only `http` is read
 abbrev pub EndsWalk : ℕ → List ℕ → RobotsReply → Said → Type 0
 EndsWalk = EndsWalkAmong Http
 
--- the reply is a redirect from the one URL to the other, where `http` alone is read
+-- the reply redirects from the first URL to the second, if only `http` is read
 abbrev pub Leads : List ℕ → RobotsReply → List ℕ → Type 0
 Leads = LeadsAmong Http
 
--- the replies are such redirects
+-- the replies redirect in a row, if only `http` is read
 abbrev pub LeadsOver : List ℕ → List RobotsReply → List ℕ → Type 0
 LeadsOver = LeadsOverAmong Http
 
--- the replies decide an answer for the authority, of this life, where `http` alone is read
+-- the replies decide an answer for the authority, with this lifetime, if only `http` is read
 abbrev pub AnswerOf : List ℕ → List RobotsReply → Said → ℕ → Type 0
 AnswerOf = AnswerOfAmong Http

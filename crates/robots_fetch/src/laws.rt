@@ -1,35 +1,34 @@
-//! What is true of the answers that replies decide, and of steps over a list of replies.
+//! Laws of answers by replies, and of steps over replies.
 //! RFC 9309, sections 2.3.1.1 to 2.3.1.5.
 ghost use Rattle.robots_fetch.specs.Laws.{DecidedOnce, GoesOnFiveTimes, GoesWhereTheyLead};
 ghost use Rattle.robots_fetch.specs.Laws.{IsDoneWithAnswer, OneAnswer, StepsAsDecided};
 
-/// A list of replies decides at most one answer, of one life.
+/// Replies decide at most one answer with one lifetime.
 pub fn one_answer()
     ensures { OneAnswer }
 {}
 
-/// Of the fronts of a list of replies at most one decides.
+/// At most one prefix of some replies decides.
 pub fn decided_once()
     ensures { DecidedOnce }
 {}
 
-/// A walk that is taken over replies is done only where they decide, with their answer.
+/// A walk over replies is done only if they decide, with their answer.
 pub fn done_with_the_answer()
     ensures { IsDoneWithAnswer }
 {}
 
-/// A walk that is taken over replies that decide goes on before the last of them, and is done at it
-/// with their answer.
+/// A walk over replies that decide goes on before the last, which ends it with their answer.
 pub fn steps_as_decided()
     ensures { StepsAsDecided }
 {}
 
-/// A walk that goes on behind replies has the URL to which they lead.
+/// A walk that goes on has the URL to which its replies lead.
 pub fn goes_where_they_lead()
     ensures { GoesWhereTheyLead }
 {}
 
-/// A walk goes on behind five replies at most.
+/// A walk goes on after at most five replies.
 pub fn goes_on_five_times()
     ensures { GoesOnFiveTimes }
 {}

@@ -6,34 +6,32 @@ ghost use Rattle.robots_fetch.specs.Redirects.{IsTarget, redirect_target, redire
 
 use path_normal::{PageUrl, Schemes, Unread, UrlFault};
 
-/// The most redirects that are followed, one after another: RFC 9309 asks for five at least.
+/// The most redirects in a row: RFC 9309 asks for at least five.
 pub const MAX_REDIRECTS: u64 = 5;
 
 /// Why a redirect is not followed.
 #[derive(Clone, Copy, Debug, PartialEq, Eq)]
 pub enum Stop {
-    /// As many as may be were followed before it.
+    /// The most redirects were followed before it.
     TooManyRedirects,
-    /// Its Location is missing or is not the URL of a page.
+    /// Its Location is missing or no page URL.
     BadRedirect,
-    /// Its Location has a scheme that is not read: one other than http, where that alone is.
+    /// Its Location has a scheme that is not read: other than http, if only that is.
     Scheme,
 }
 
-/// Why there is no URL to follow a redirect to.
+/// Why a redirect has no target URL.
 #[derive(Clone, Copy, Debug, PartialEq, Eq)]
 pub enum Nowhere {
     /// The redirect is not followed.
     Stop(Stop),
-    /// The allocator had no memory for the URL, or the crate `url` overflowed.
+    /// No memory for the URL, or the crate `url` overflowed.
     NoMemory,
 }
 
-/// Where a redirect leads from the URL that it answers, with so many redirects followed before it,
-/// where `http` alone is read.
-///
-/// `TooManyRedirects` comes first, whatever the Location, which may be relative (RFC 9110, 10.2.2).
-/// Of several faults the one decides that `PageUrl::read_on` tells.
+/// Where a redirect from this URL leads, after so many redirects, if only `http` is read.
+/// `TooManyRedirects` comes first, whatever the Location, which may be relative (RFC 9110, 10.2.2). Of
+/// several faults the one that `PageUrl::read_on` reports decides.
 pub fn redirect_target(
     followed: u64,
     url: &PageUrl,
@@ -45,8 +43,8 @@ pub fn redirect_target(
     redirect_target_among(Schemes::Http, followed, url, location)
 }
 
-/// Where a redirect leads as `redirect_target` tells it, where these schemes are read: both ways
-/// between them are followed (RFC 9309, 2.3.1.2 has no rule on schemes).
+/// Like `redirect_target`, with these schemes: redirects lead both ways between them (RFC 9309, 2.3.1.2 has
+/// no rule on schemes).
 pub fn redirect_target_among(
     schemes: Schemes,
     followed: u64,
@@ -66,7 +64,7 @@ pub fn redirect_target_among(
         Ok(page) => Ok(page),
         Err(Unread::Fault(UrlFault::NotHttp)) => Err(Nowhere::Stop(Stop::Scheme)),
         Err(Unread::Fault(_)) => Err(Nowhere::Stop(Stop::BadRedirect)),
-        // An overflow says nothing of the Location, so no site may be closed for it.
+        // An overflow is no fault of the Location, so it must not close a site.
         Err(Unread::Overflow | Unread::NoMemory) => Err(Nowhere::NoMemory),
     }
 }

@@ -1,4 +1,4 @@
-//! The classes of statuses that a robots.txt may be answered with.
+//! The classes of statuses of a robots.txt.
 //! RFC 9309, sections 2.3.1.1 to 2.3.1.4.
 ghost use Rattle.std.specs.Prelude.{◌≡◌};
 ghost use Rattle.robots_fetch.specs.Statuses.{class_of};
@@ -12,7 +12,7 @@ pub enum StatusClass {
     Redirect,
     /// 400 to 499: there is no file.
     Unavailable,
-    /// 500 to 599: the server can't say.
+    /// 500 to 599: the server failed.
     Unreachable,
     /// Every other status.
     Other,

@@ -17,23 +17,22 @@ use robots_text::RobotsText;
 use robots_verdict::{Answer, Closure, Opening};
 use std::alloc::{AllocError, Global};
 
-/// A robots fetch under way: the URL to fetch next, and how many redirects led to it, 5 at most.
+/// A robots fetch under way: the next URL, and how many redirects led to it, at most 5.
 #[derive(Drop)]
 pub struct Walk {
     url: PageUrl,
     followed: u64,
 }
 
-/// What a reply makes of a walk.
+/// The effect of a reply on a walk.
 #[derive(Drop)]
 pub enum Step {
     /// It goes on: fetch its URL next.
     Go(Walk),
-    /// It is done: the answer, and the seconds for which that is in force: 60 to 86,400 for rules,
-    /// 86,400 for the others (RFC 9309, 2.4).
+    /// It is done: the answer, and its lifetime in seconds: 60 to 86,400 for rules, else 86,400 (RFC 9309,
+    /// 2.4).
     Done(TimedAnswer),
-    /// The allocator had no memory, or the crate `url` overflowed: the walk as it was, to be handed
-    /// the same reply again.
+    /// Out of memory, or the crate `url` overflowed: the unchanged walk, for the same reply again.
     NoMemory(Walk),
 }
 
@@ -55,15 +54,15 @@ impl Walk {
         &self.url
     }
 
-    /// Takes the reply to a request for the walk's URL, where `http` alone is read. The answer holds
-    /// for the authority at which the walk began, wherever redirects led (RFC 9309, 2.3.1.2).
+    /// Takes the reply for the walk's URL, if only `http` is read. The answer holds for the authority where
+    /// the walk began, wherever redirects led (RFC 9309, 2.3.1.2).
     pub fn step(self, alloc: Global, reply: &RobotsReply) -> Step
         ensures { Steps self reply.now result }
     {
         self.step_among(alloc, Schemes::Http, reply)
     }
 
-    /// Takes the reply as `step` does, where these schemes are read.
+    /// Like `step`, with these schemes.
     pub fn step_among(self, alloc: Global, schemes: Schemes, reply: &RobotsReply) -> Step
         ensures { StepsAmong schemes self reply.now result }
     {
@@ -85,7 +84,6 @@ impl Walk {
         }
     }
 
-    // Ends with the rules of a body.
     fn rules(self, alloc: Global, body: &[u8], max_age: Option<u64>) -> Step
         ensures { GivesRules self body.now max_age result }
     {
@@ -95,7 +93,6 @@ impl Walk {
         }
     }
 
-    // Goes on where a redirect leads, or ends with the answer where it leads nowhere.
     fn follow(self, schemes: Schemes, location: &Option<String>) -> Step
         ensures { FollowsRedirect schemes self (option_map string_bytes location.now) result }
     {

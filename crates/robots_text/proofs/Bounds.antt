@@ -1,4 +1,4 @@
--- A text has at most as many lines as octets, and what its records name lies in it once.
+-- A text has at most as many lines as octets, and its records name each part of it once.
 -- Used by `RobotsText::records` and `RobotsText::groups`.
 use Rattle.std.proofs.Common.{◌≡◌, ℕ, ◌+◌, ◌≤◌, suc, Bool, true, false, List, [], ◌∷◌, length, take, drop, map, All, refl, ap, arith}
 use Rattle.std.specs.Prelude.{◌==◌, Option, Some, None, codes, if◌then◌else◌}
@@ -41,7 +41,6 @@ few_lines cr (octet ∷ text) =
     let here = with_few (octet == carriage_return) (octet == line_feed) cr octet (lines_from (octet == carriage_return) text) in
     (omega (arith, later.0, here.0), omega (arith, later.1, here.1))
 
--- parts of a line are no longer than it
 take_within : (n : ℕ) (line : List ℕ) → length (take n line) ≤ length line
 take_within n line = omega (arith, length-take n line)
 
@@ -68,7 +67,6 @@ trailing_within (octet ∷ line) =
 trimmed_within : (line : List ℕ) → length (trimmed line) ≤ length line
 trimmed_within line = omega (arith, leading_within line, trailing_within (without_leading line))
 
--- so is what a record names
 named_within : (word : List ℕ) → name_octets (named_by word) ≤ length word
 named_within [] = omega arith
 named_within (octet ∷ word) = omega arith
@@ -110,7 +108,6 @@ small_values group begins n [] = omega arith
 small_values group begins n (line ∷ lines) =
     omega (arith, record_within line, small_values (group_at group begins n (record_of line)) (begins_behind begins (record_of line)) (n + 1) lines)
 
--- there are as many grouped records as lines
 pub as_many : (group : ℕ) (begins : Bool) (n : ℕ) (records : List Record) →
     (length (grouped_from group begins (numbered_from n records)) ≡ length records) × (length (numbered_from n records) ≡ length records)
 as_many group begins n [] = (refl, refl)
@@ -132,7 +129,6 @@ few_grouped text =
     let lines = lines_from false text in
     omega (arith, (as_many 0 true 1 (map record_of lines)).0, length_records lines, (few_lines false text).0)
 
--- the number of a group is at most that of the line
 group_below : (group : ℕ) (begins : Bool) (n : ℕ) (first : Record) → group ≤ n → group_at group begins n first ≤ n
 group_below group true n (agent who) low = omega arith
 group_below group false n (agent who) low = low

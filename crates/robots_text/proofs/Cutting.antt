@@ -23,7 +23,7 @@ pub second : (a b : Bool) → (a || b) ≡ true → a ≡ false → b ≡ true
 second true b e other = absurd (grind arith)
 second false b e other = e
 
--- behind a CR an LF ends nothing, and else the lines are as they stand
+-- LF after CR ends nothing; otherwise the lines are as written
 pub behind_cr : (text : List ℕ) → lines_from true text ≡ lines_from false (behind_end (carriage_return ∷ text))
 behind_cr [] = refl
 behind_cr (c ∷ text) = elim (tells (c == line_feed)) [
@@ -31,7 +31,6 @@ behind_cr (c ∷ text) = elim (tells (c == line_feed)) [
   | inr e ↦ rw e (rw e refl)
 ]
 
--- an octet that is no line end belongs to the first line
 pub plain_octet : (c : ℕ) (text : List ℕ) → is_line_end c ≡ false → lines_from false (c ∷ text) ≡ onto_first c (lines_from false text)
 plain_octet c text e =
     let parts = plain_parts (c == carriage_return) (c == line_feed) e in
@@ -41,7 +40,6 @@ pub behind_lf : (text : List ℕ) → behind_end (line_feed ∷ text) ≡ text
 behind_lf [] = refl
 behind_lf (c ∷ text) = refl
 
--- at a line end the first line is empty
 pub end_octet : (c : ℕ) (text : List ℕ) → is_line_end c ≡ true → lines_from false (c ∷ text) ≡ [] ∷ lines_from false (behind_end (c ∷ text))
 end_octet c text e = elim (tells (c == carriage_return)) [
   | inl cr ↦ subst (λ d. lines_from false (d ∷ text) ≡ [] ∷ lines_from false (behind_end (d ∷ text))) (sym (is_number c carriage_return cr)) (ap (λ l. [] ∷ l) (behind_cr text))
@@ -55,7 +53,6 @@ first_len c text e = rw e (omega arith)
 no_len : (c : ℕ) (text : List ℕ) → is_line_end c ≡ true → position_or_len is_line_end (c ∷ text) ≡ 0
 no_len c text e = rw e refl
 
--- the first line stands before the first line end, and the others behind it
 pub first_at : (text : List ℕ) → 0 < length text → lines_from false text ≡ before_first is_line_end text ∷ lines_from false (behind_end (drop (position_or_len is_line_end text) text))
 first_at [] some = absurd (omega (arith, some))
 first_at (c ∷ []) some = elim (tells (is_line_end c)) [

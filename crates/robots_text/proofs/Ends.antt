@@ -1,4 +1,4 @@
--- What is kept of octets with one more at their end: blanks go, and octets behind the last line end.
+-- Octets with one more at the end: trailing blanks go, and octets after the last line end.
 -- Used by `without_trailing` and `whole_lines`.
 use Rattle.std.proofs.Common.{◌≡◌, ℕ, Bool, true, false, List, [], ◌∷◌, ◌++◌, refl, ap, arith}
 use Rattle.std.specs.Prelude.{◌||◌, ◌&&◌}
@@ -22,22 +22,18 @@ all_last : (p : ℕ → Bool) (xs : List ℕ) (x : ℕ) → p x ≡ false → li
 all_last p [] x e = rw e refl
 all_last p (c ∷ xs) x e = rw (all_last p xs x e) (grind arith)
 
--- an octet that is no line end goes
 pub whole_plain : (xs : List ℕ) (x : ℕ) → is_line_end x ≡ false → whole_lines (xs ++ x ∷ []) ≡ whole_lines xs
 whole_plain [] x e = rw e refl
 whole_plain (c ∷ xs) x e = rw (any_plain is_line_end xs x e) (rw (whole_plain xs x e) refl)
 
--- with a line end at the end all is kept
 pub whole_end : (xs : List ℕ) (x : ℕ) → is_line_end x ≡ true → whole_lines (xs ++ x ∷ []) ≡ xs ++ x ∷ []
 whole_end [] x e = rw e refl
 whole_end (c ∷ xs) x e = rw (any_last is_line_end (c ∷ xs) x e) (rw (whole_end xs x e) refl)
 
--- a blank at the end goes
 pub trailing_blank : (xs : List ℕ) (x : ℕ) → is_blank x ≡ true → without_trailing (xs ++ x ∷ []) ≡ without_trailing xs
 trailing_blank [] x e = rw e refl
 trailing_blank (c ∷ xs) x e = rw (all_more is_blank xs x e) (rw (trailing_blank xs x e) refl)
 
--- with another octet at the end all is kept
 pub trailing_other : (xs : List ℕ) (x : ℕ) → is_blank x ≡ false → without_trailing (xs ++ x ∷ []) ≡ xs ++ x ∷ []
 trailing_other [] x e = rw e refl
 trailing_other (c ∷ xs) x e = rw (all_last is_blank (c ∷ xs) x e) (rw (trailing_other xs x e) refl)

@@ -1,4 +1,4 @@
--- A walk gives just the rule lines that it reaches.
+-- A walk gives exactly the rule lines that it reaches.
 -- Used by `Walks`.
 use Rattle.std.proofs.Common.{◌≡◌, ℕ, ◌+◌, ◌<◌, ◌≤◌, Bool, true, false, inl, inr, List, [], ◌∷◌, Contains, sym, ap, subst, arith}
 use Rattle.std.specs.Prelude.{Option, Some, None}
@@ -11,7 +11,7 @@ use Rattle.robots_text.specs.Walk.{after_record, ruled_at, onto, rules_from}
 use Rattle.robots_text.proofs.LineEntries.{at, entry_of, behind, first_of, none_of, numbered_above, late_from}
 use Rattle.robots_text.proofs.Reaches.{Carried, Through, Reached, step_up, step_down}
 
--- a rule that is given stands in the lines and is reached
+-- a given rule is in the lines and is reached
 abbrev pub Given : (Record → Bool) → Group → List Numbered → Ruled → Type 0
 Given test group lines ruled = Contains lines (record_ruled ruled) × Reached test group lines ruled.line
 
@@ -53,18 +53,16 @@ gives_only test Rules n (rule kind value ∷ ks) ruled stands =
       | inr rest ↦ given_behind test Rules n (rule kind value) ks ruled (gives_only test Rules (n + 1) ks ruled rest)
     ]
 
--- a rule that stands in the lines and is reached is given
 onto_behind : (here : Option Ruled) (rules : List Ruled) (ruled : Ruled) → Contains rules ruled → Contains (onto here rules) ruled
 onto_behind None rules ruled stands = stands
 onto_behind (Some first) rules ruled stands = behind first ruled rules stands
 
--- the rule line that a record with its number is, or another
+-- the rule line of a numbered record, or another
 abbrev ruled_or : Ruled → ℕ → Record → Ruled
 ruled_or usual line (agent who) = usual
 ruled_or usual line (rule kind value) = record { line = line; kind = kind; pattern = value }
 ruled_or usual line other = usual
 
--- nothing that begins among the lines reaches the first
 none_through : (test : Record → Bool) (n : ℕ) (ks : List Record) → Through test (numbered_from n ks) n → ⊥
 none_through test n ks t =
     let above : n ≤ t.head.line = numbered_above n ks t.head t.stands in

@@ -1,4 +1,4 @@
--- A user-agent line governs just the rule lines that have the number of its group.
+-- A user-agent line governs exactly the rule lines with its group's number.
 -- Used by the law `same_group`.
 use Rattle.std.proofs.Common.{◌≡◌, ℕ, ◌+◌, ◌<◌, ◌≤◌, Bool, true, false, ◌⊎◌, inl, inr, List, [], ◌∷◌, Contains, refl, sym, ap, ◌∙◌, subst, arith}
 use Rattle.std.specs.Prelude.{◌↔◌}
@@ -16,12 +16,11 @@ use Rattle.robots_text.proofs.Reaches.{Carried, NoBreak, break_behind_rule, brea
 abbrev in_group : ℕ → ℕ → Record → Grouped
 in_group group line kind = record { group = group; line = line; kind = kind }
 
--- where a walk that carries the group stands
+-- the state of a walk that carries the group
 abbrev reach : Bool → Group
 reach true = Rules
 reach false = Heads
 
--- what stands among the grouped records stands among the records
 pub numbered_stands : (group : ℕ) (begins : Bool) (n : ℕ) (ks : List Record) (one : Grouped) →
     Contains (grouped_from group begins (numbered_from n ks)) one → Contains (numbered_from n ks) (numbered_of one)
 numbered_stands group begins n [] one stands = absurd (none_of one stands)
@@ -30,7 +29,6 @@ numbered_stands group begins n (k ∷ ks) one stands = elim (entry_of (in_group 
   | inr rest ↦ behind (at n k) (numbered_of one) (numbered_from (n + 1) ks) (numbered_stands (group_at group begins n k) (begins_behind begins k) (n + 1) ks one rest)
 ]
 
--- and the other way round, in some group
 pub grouped_stands : (group : ℕ) (begins : Bool) (n : ℕ) (ks : List Record) (one : Numbered) → Contains (numbered_from n ks) one →
     (number : ℕ) × Contains (grouped_from group begins (numbered_from n ks)) (in_group number one.line one.kind)
 grouped_stands group begins n [] one stands = absurd (none_of one stands)
@@ -45,7 +43,7 @@ grouped_stands group begins n (k ∷ ks) one stands =
           )
     ]
 
--- the group of a line is the one in which the walk stands, or begins at a later line
+-- a line's group is the walk's, or begins at a later line
 group_cases : (group : ℕ) (begins : Bool) (n : ℕ) (k : Record) → (group_at group begins n k ≡ group) ⊎ (group_at group begins n k ≡ n)
 group_cases group true n (agent who) = inr refl
 group_cases group false n (agent who) = inl refl
@@ -73,7 +71,7 @@ old_or_new group begins n (k ∷ ks) one stands =
       ]
     ]
 
--- behind a rule line each user-agent line stands in a group that begins later
+-- after a rule line each user-agent line is in a later group
 new_head : (group n : ℕ) (ks : List Record) (one : Grouped) → Contains (grouped_from group true (numbered_from n ks)) one →
     is_agent one.kind ≡ true → n ≤ one.group
 new_head group n [] one stands heads = absurd (none_of one stands)
@@ -93,12 +91,11 @@ new_head group n (other ∷ ks) one stands heads = elim (entry_of (in_group grou
   | inr rest ↦ (let above : n + 1 ≤ one.group = new_head group (n + 1) ks one rest heads in omega arith)
 ]
 
--- the first line of all is reached
 reached_here : (begins : Bool) (n : ℕ) (ks : List Record) → Carried (reach begins) (numbered_from n ks) n
 reached_here true n ks = λ begun b heads less. let above : n ≤ begun.line = numbered_above n ks begun b in absurd (omega arith)
 reached_here false n ks = λ ended begun e b rules heads next less. let above : n ≤ begun.line = numbered_above n ks begun b in absurd (omega arith)
 
--- a rule line has the number of the group in which the walk stands just where that group reaches it
+-- a rule line has the number of the walk's group exactly if that group reaches it
 pub same_carried : (group : ℕ) (begins : Bool) (n : ℕ) (ks : List Record) (one : Grouped) → group < n →
     Contains (grouped_from group begins (numbered_from n ks)) one → is_rule one.kind ≡ true →
     (one.group ≡ group) ↔ Carried (reach begins) (numbered_from n ks) one.line
@@ -231,7 +228,6 @@ none_between n k ks line governs ended begun e b rules heads next less =
     let tail = numbered_from (n + 1) ks in
     governs.one_group ended begun (behind (at n k) ended tail e) (behind (at n k) begun tail b) rules heads (late_from n ks ended e) next less
 
--- a head that is the first line, of this group, which no rule line closes yet
 from_first : (group n : ℕ) (k : Record) (ks : List Record) (line : Grouped) → group ≤ n → is_agent k ≡ true → is_rule line.kind ≡ true →
     Contains (grouped_from group false (numbered_from (n + 1) ks)) line →
     (group ≡ line.group) ↔ Governs (at n k ∷ numbered_from (n + 1) ks) (at n k) (numbered_of line)
@@ -242,7 +238,6 @@ from_first group n k ks line low heads rules stands =
       λ governs. sym (carried.1 (none_between n k ks (numbered_of line) governs)),
     )
 
--- a head never governs a line before it, nor has such a line the number of its group
 not_before : (group : ℕ) (n : ℕ) (k : Record) (ks : List Record) (head : Grouped) → group < n → is_agent head.kind ≡ true →
     Contains (grouped_from group true (numbered_from (n + 1) ks)) head →
     (head.group ≡ group) ↔ Governs (at n k ∷ numbered_from (n + 1) ks) (numbered_of head) (at n k)
@@ -253,7 +248,6 @@ not_before group n k ks head low heads stands =
       λ governs. let before : head.line < n = governs.before in absurd (omega arith),
     )
 
--- both in the rest
 both_later : (n : ℕ) (k : Record) (ks : List Record) (head line : Grouped) → Contains (numbered_from (n + 1) ks) (numbered_of head) → Contains (numbered_from (n + 1) ks) (numbered_of line) →
     ((head.group ≡ line.group) ↔ Governs (numbered_from (n + 1) ks) (numbered_of head) (numbered_of line)) →
     (head.group ≡ line.group) ↔ Governs (at n k ∷ numbered_from (n + 1) ks) (numbered_of head) (numbered_of line)

@@ -1,5 +1,5 @@
--- What is kept of an input is known from one octet more than the limit.
--- The readers of robots texts cite it.
+-- One octet more than the limit decides what is kept of an input.
+-- Used by the readers of robots texts.
 use Rattle.std.proofs.Common.{◌≡◌, ◌<◌, ◌+◌, ◌⊎◌, inl, inr, ℕ, Bool, true, false, List, ◌++◌, length, take, append-nil, length-append, Option, None, Some, sym, refl, ap, ◌∙◌, arith}
 use Rattle.std.specs.Prelude.{nat_le}
 use Rattle.std.specs.Io.KnownBytes.{Consumes, IsAtEnd}
@@ -31,7 +31,6 @@ either false = inr refl
 below_or_over : (n limit : ℕ) → (n < limit + 1) ⊎ (limit < n)
 below_or_over n limit = elim (either (nat_le n limit)) [ inl e ↦ inl (grind (arith, nat_tests)) | inr e ↦ inr (grind (arith, nat_tests)) ]
 
--- the whole body was read, or enough of it
 pub same_kept : (old new : Option (List ℕ)) (body : List ℕ) → Consumes old new body → (length body < text_limit + 1 → IsAtEnd new) → KeepsSame old body
 same_kept None new body took all = tt
 same_kept (Some input) None body took all = absurd took

@@ -1,4 +1,4 @@
--- The whole lines of octets are their longest front that ends with a line end.
+-- The whole lines of octets are their longest prefix that ends with a line end.
 -- Used by `kept` and `RobotsText::of`.
 use Rattle.std.proofs.Common.{◌≡◌, ◌≤◌, ◌<◌, ℕ, ◌+◌, ◌-◌, Bool, true, false, List, [], ◌∷◌, ◌++◌, length, take, drop, append_assoc, length-append, sym, refl, ap, ◌∙◌, subst, arith, inl, inr}
 use Rattle.std.proofs.lemmas.List.{take-append-drop, length-take}
@@ -8,7 +8,7 @@ use Rattle.std.specs.List.{list_any}
 use Rattle.robots_text.specs.Lines.{is_line_end, kept, text_limit, whole_lines, IsWholeFront, IsLongestFront}
 use Rattle.robots_text.proofs.Cutting.{tells}
 
--- octets as a front that ends with a line end, and a rest
+-- a prefix that ends with a line end, and a rest
 record EndsWhole (octets : List ℕ) : Type 0 where
   rest : List ℕ
   split : octets ≡ whole_lines octets ++ rest
@@ -25,7 +25,6 @@ first_is : (a b : Bool) → (a || b) ≡ true → b ≡ false → a ≡ true
 first_is true b e none = refl
 first_is false b e none = e_absurd b e none
 
--- without a line end nothing is kept
 none_whole : (octets : List ℕ) → list_any is_line_end octets ≡ false → whole_lines octets ≡ []
 none_whole [] e = refl
 none_whole (c ∷ octets) e = rw e refl
@@ -33,7 +32,6 @@ none_whole (c ∷ octets) e = rw e refl
 begins : (c : ℕ) (octets : List ℕ) → list_any is_line_end (c ∷ octets) ≡ true → whole_lines (c ∷ octets) ≡ c ∷ whole_lines octets
 begins c octets e = rw e refl
 
--- with one there is such a front
 some_whole : (octets : List ℕ) → list_any is_line_end octets ≡ true → EndsWhole octets
 some_whole [] e = absurd (grind arith)
 some_whole (c ∷ octets) e = elim (tells (list_any is_line_end octets)) [
@@ -63,13 +61,11 @@ any_there : (before : List ℕ) (last : ℕ) (rest : List ℕ) → is_line_end l
 any_there [] last rest e = rw e refl
 any_there (c ∷ before) last rest e = rw (any_there before last rest e) (or_true (is_line_end c))
 
--- each front that ends with a line end is kept
 keeps : (before : List ℕ) (last : ℕ) (rest : List ℕ) → is_line_end last ≡ true → length (before ++ last ∷ []) ≤ length (whole_lines ((before ++ last ∷ []) ++ rest))
 keeps [] last rest e = rw (begins last rest (any_there [] last rest e)) (omega arith)
 keeps (c ∷ before) last rest e =
     rw (begins c ((before ++ last ∷ []) ++ rest) (any_there (c ∷ before) last rest e)) (omega (arith, keeps before last rest e))
 
--- the same of octets that begin with such a front
 keeps_front : (front within rest before : List ℕ) (last : ℕ) → within ≡ front ++ rest → front ≡ before ++ last ∷ [] → is_line_end last ≡ true → length front ≤ length (whole_lines within)
 keeps_front front within rest before last split ends e =
     subst (λ w. length front ≤ length (whole_lines w)) (sym split)
@@ -78,7 +74,6 @@ keeps_front front within rest before last split ends e =
 some_octet : (front before : List ℕ) (last : ℕ) → front ≡ before ++ last ∷ [] → 0 < length front
 some_octet front before last ends = subst (λ f. 0 < length f) (sym ends) (rw (length-append before (last ∷ [])) (omega arith))
 
--- a front within the limit is one of what the limit leaves
 front_within : (limit : ℕ) (body front rest : List ℕ) → body ≡ front ++ rest → length front ≤ limit → take limit body ≡ front ++ take (limit - length front) rest
 front_within limit body front rest split fits =
     let sum : limit ≡ length front + (limit - length front) = omega (arith, fits) in
@@ -116,7 +111,6 @@ no_front body other e front =
     let none : length (whole_lines (take text_limit body)) ≡ 0 = ap length (none_whole (take text_limit body) e) in
     absurd (omega (arith, none, no_longer body other front, some_octet other front.before front.last front.ends))
 
--- the whole lines within the limit are the longest such front of a body
 pub longest_front : (body : List ℕ) → IsLongestFront body (whole_lines (take text_limit body))
 longest_front body = record {
   whole = elim (tells (list_any is_line_end (take text_limit body))) [
@@ -126,14 +120,12 @@ longest_front body = record {
   longest = no_longer body;
 }
 
--- such a front is as many octets of the body as it has
 front_taken : (body front : List ℕ) → IsLongestFront body front → take (length front) body ≡ front
 front_taken body front is = elim is.whole [
   | inl whole ↦ ap (take (length front)) whole.split ∙ take-append_seam front whole.rest
   | inr none ↦ subst (λ (f : List ℕ). take (length f) body ≡ f) (sym none.0) refl
 ]
 
--- and so is what is kept of a body
 pub kept_taken : (body : List ℕ) → take (length (kept body)) body ≡ kept body
 kept_taken body = by (nat_le (length body) text_limit)
   where

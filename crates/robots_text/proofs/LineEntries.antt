@@ -1,4 +1,4 @@
--- Numbered lines as entries of a list: the first, the others, and what their numbers are.
+-- Numbered lines as list entries: the first, the others, and their numbers.
 -- Used by `Reaches`, `Gives` and `Walks`.
 use Rattle.std.proofs.Common.{◌≡◌, ℕ, ◌+◌, ◌<◌, ◌≤◌, ◌⊎◌, inl, inr, List, [], ◌∷◌, length, zero, suc, slice_index_or, Contains, refl, ap, arith}
 use Rattle.robots_text.specs.Groups.{Ruled}
@@ -8,7 +8,6 @@ use Rattle.robots_text.specs.Records.{Record, Numbered, numbered_from}
 abbrev pub at : ℕ → Record → Numbered
 at line kind = record { line = line; kind = kind }
 
--- an entry of a list is its first or one of the others
 entry_at : {A : Type 0} (x y : A) (xs : List A) (k : ℕ) → k < length (x ∷ xs) → slice_index_or (x ∷ xs) k y ≡ y → (x ≡ y) ⊎ Contains xs y
 entry_at x y xs zero within is = inl is
 entry_at x y xs (suc k) within is = inr (k, omega arith, is)
@@ -16,18 +15,15 @@ entry_at x y xs (suc k) within is = inr (k, omega arith, is)
 pub entry_of : {A : Type 0} (x y : A) (xs : List A) → Contains (x ∷ xs) y → (x ≡ y) ⊎ Contains xs y
 entry_of x y xs stands = entry_at x y xs stands.0 stands.1 stands.2
 
--- an entry stays one with one more in front
 pub behind : {A : Type 0} (x y : A) (xs : List A) → Contains xs y → Contains (x ∷ xs) y
 behind x y xs stands = let within = stands.1 in (suc stands.0, omega arith, stands.2)
 
--- the first is an entry
 pub first_of : {A : Type 0} (x : A) (xs : List A) → Contains (x ∷ xs) x
 first_of x xs = (0, omega arith, refl)
 
 pub none_of : {A : Type 0} (y : A) → Contains [] y → ⊥
 none_of y stands = let within = stands.1 in absurd (omega arith)
 
--- lines are numbered from the first number on
 pub numbered_above : (n : ℕ) (ks : List Record) (y : Numbered) → Contains (numbered_from n ks) y → n ≤ y.line
 numbered_above n [] y stands = absurd (none_of y stands)
 numbered_above n (k ∷ ks) y stands = elim (entry_of (at n k) y (numbered_from (n + 1) ks) stands) [
@@ -35,20 +31,17 @@ numbered_above n (k ∷ ks) y stands = elim (entry_of (at n k) y (numbered_from 
   | inr rest ↦ (let late : n + 1 ≤ y.line = numbered_above (n + 1) ks y rest in omega arith)
 ]
 
--- the lines behind a number
+-- the lines after a number
 abbrev pub Late : ℕ → List Numbered → Type 0
 Late n tail = (y : Numbered) → Contains tail y → n < y.line
 
--- lines that are numbered from the next number on stand behind a number
 pub late_from : (n : ℕ) (ks : List Record) → Late n (numbered_from (n + 1) ks)
 late_from n ks y stands = let above : n + 1 ≤ y.line = numbered_above (n + 1) ks y stands in omega arith
 
--- places past the end count for nothing
 same_default : (rules : List Ruled) (i : ℕ) (a b : Ruled) → i < length rules → slice_index_or rules i a ≡ slice_index_or rules i b
 same_default [] i a b within = absurd (omega arith)
 same_default (r ∷ rules) zero a b within = refl
 same_default (r ∷ rules) (suc i) a b within = same_default rules i a b (omega arith)
 
--- an entry is one whatever stands for places past the end
 pub stands_at : (rules : List Ruled) (i : ℕ) (past : Ruled) → i < length rules → Contains rules (slice_index_or rules i past)
 stands_at rules i past within = (i, within, same_default rules i (slice_index_or rules i past) past within)

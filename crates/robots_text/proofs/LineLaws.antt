@@ -1,4 +1,4 @@
--- The lines of a text are the one way to write it as lines and their ends.
+-- A text is written as lines and their ends in exactly one way.
 -- Used by `one_way_to_write_lines`.
 use Rattle.std.proofs.Common.{◌≡◌, ◌≢◌, ◌⊎◌, ℕ, false, List, [], ◌∷◌, ◌++◌, length, append-nil, sym, refl, ap, ◌∙◌, subst, arith, inl, inr}
 use Rattle.std.specs.Prelude.{◌==◌, if◌then◌else◌}
@@ -14,7 +14,6 @@ longer c line end rest (inr (inl e)) = inr (inl e)
 longer c line end rest (inr (inr (inl e))) = inr (inr (inl e))
 longer c line end rest (inr (inr (inr e))) = inr (inr (inr (e.0, e.1, λ n. absurd (omega (arith, ap length n)))))
 
--- an octet more in front of a text belongs to its first line
 with_plain : (c : ℕ) (text : List ℕ) (lines : List (List ℕ)) → is_line_end c ≡ false → AreLines text lines → AreLines (c ∷ text) (onto_first c lines)
 with_plain c text [] plain none = record {
   end = [];
@@ -33,7 +32,6 @@ with_plain c text (line ∷ lines) plain more = record {
   goes_on = more.goes_on;
 }
 
--- a CR in front of a text ends an empty line
 with_cr : (text : List ℕ) (lines : List (List ℕ)) → AreLines (behind_end (carriage_return ∷ text)) lines → AreLines (carriage_return ∷ text) ([] ∷ lines)
 with_cr [] lines more = record {
   end = carriage_return ∷ [];
@@ -62,7 +60,6 @@ with_cr (d ∷ text) lines more = elim (tells (d == line_feed)) [
   }
 ]
 
--- so does an LF
 with_lf : (text : List ℕ) (lines : List (List ℕ)) → AreLines text lines → AreLines (line_feed ∷ text) ([] ∷ lines)
 with_lf text lines more = record {
   end = line_feed ∷ [];
@@ -73,7 +70,6 @@ with_lf text lines more = record {
   goes_on = more;
 }
 
--- one octet more, where both the text behind it and that behind a CR are known
 one_more : (c : ℕ) (text : List ℕ) → AreLines text (lines_from false text) → AreLines (behind_end (carriage_return ∷ text)) (lines_from false (behind_end (carriage_return ∷ text))) → AreLines (c ∷ text) (lines_from false (c ∷ text))
 one_more c text as_text behind = elim (tells (is_line_end c)) [
   | inl e ↦ elim (tells (c == carriage_return)) [
@@ -97,7 +93,6 @@ both (c ∷ text) =
       ],
     )
 
--- the lines make up the text
 pub are_lines : (text : List ℕ) → AreLines text (lines_from false text)
 are_lines text = (both text).0
 
@@ -105,7 +100,7 @@ no_lf : (rest : List ℕ) → begins_with_lf rest ≡ false → behind_end (carr
 no_lf [] e = refl
 no_lf (d ∷ rest) e = rw e refl
 
--- a line end, and not the end of the text
+-- a line end that is not the end of the text
 abbrev Ended : (end rest : List ℕ) → Type 0
 Ended end rest = (end ≡ carriage_return ∷ line_feed ∷ []) ⊎ ((end ≡ carriage_return ∷ []) × (begins_with_lf rest ≡ false)) ⊎ (end ≡ line_feed ∷ [])
 
@@ -141,7 +136,6 @@ by_end line end rest plain (inr (inr (inr e))) =
     (subst (λ x. lines_from false (line ++ x) ≡ line ∷ lines_from false x) (sym e.1)
     (ap (lines_from false) (append-nil line) ∙ last_line line plain e.2))
 
--- no other lines make up the text
 pub only_lines : (text : List ℕ) (lines : List (List ℕ)) → AreLines text lines → lines ≡ lines_from false text
 only_lines text [] written = subst (λ t. [] ≡ lines_from false t) (sym written) refl
 only_lines text (line ∷ lines) written =

@@ -1,5 +1,5 @@
--- Where the first octet that passes stands.
--- Used by the proofs that cut a line or a text there.
+-- The place of the first octet that passes.
+-- Used to cut a line or a text there.
 use Rattle.std.proofs.Common.{◌≡◌, ◌≤◌, ℕ, Bool, true, false, List, length, None, Some, refl, arith}
 use Rattle.std.specs.Prelude.{nat_lt, if◌then◌else◌}
 use Rattle.std.specs.List.{position, position_or_len}
@@ -17,11 +17,9 @@ none_place false n e = refl
 not_below : (a b : ℕ) → nat_lt a b ≡ false → a ≤ b → a ≡ b
 not_below a b e h = grind (arith, nat_tests)
 
--- the place is that of the first which passes
 pub place_found : (p : ℕ → Bool) (xs : List ℕ) (i : ℕ) → position p xs ≡ Some i → position_or_len p xs ≡ i
 place_found p xs i e = some_place (nat_lt (position_or_len p xs) (length xs)) (position_or_len p xs) i e
 
--- where none passes, all stand before
 pub place_missing : (p : ℕ → Bool) (xs : List ℕ) → position p xs ≡ None → position_or_len p xs ≡ length xs
 place_missing p xs e =
     not_below (position_or_len p xs) (length xs)

@@ -1,5 +1,5 @@
--- Some element passes a test where an element that passes stands.
--- Used by the crates above, of groups and of turns.
+-- Some element passes a test if an element that passes is there.
+-- Used by the crates above, for groups and turns.
 use Rattle.std.proofs.Common.{◌≡◌, Bool, true, false, ◌||◌, inl, inr, List, [], ◌∷◌, Contains, ◌∙◌, ap, subst, refl, arith}
 use Rattle.std.specs.List.{list_any}
 use Rattle.std.proofs.lemmas.Bool.Decides.{nat_tests}

@@ -1,4 +1,4 @@
--- Which lines a walk reaches: those of the group in which it stands, and those of a group to come.
+-- Which lines a walk reaches: those of its group, and those of later groups.
 -- Used by `Gives`.
 use Rattle.std.proofs.Common.{◌≡◌, ℕ, ◌<◌, Bool, true, false, ◌⊎◌, inl, inr, List, ◌∷◌, Contains, refl, ◌∙◌, ap, arith}
 use Rattle.std.specs.Prelude.{if◌then◌else◌}
@@ -9,22 +9,22 @@ use Rattle.robots_text.specs.Records.{Record, agent, rule, other, Numbered}
 use Rattle.robots_text.specs.Walk.{after_head, after_rule, after_record}
 use Rattle.robots_text.proofs.LineEntries.{at, entry_of, behind, first_of, Late}
 
--- no user-agent line stands behind a rule line before a line
+-- no user-agent line follows a rule line before this line
 abbrev pub NoBreak : List Numbered → ℕ → Type 0
 NoBreak lines to = (ended begun : Numbered) → Contains lines ended → Contains lines begun →
     is_rule ended.kind ≡ true → is_agent begun.kind ≡ true → ended.line < begun.line → begun.line < to → ⊥
 
--- no user-agent line stands before a line
+-- no user-agent line precedes this line
 abbrev pub NoHead : List Numbered → ℕ → Type 0
 NoHead lines to = (begun : Numbered) → Contains lines begun → is_agent begun.kind ≡ true → begun.line < to → ⊥
 
--- the group in which the walk stands reaches a line
+-- the walk's current group reaches a line
 abbrev pub Carried : Group → List Numbered → ℕ → Type 0
 Carried Foreign lines to = ⊥
 Carried Heads lines to = NoBreak lines to
 Carried Rules lines to = NoHead lines to
 
--- a group that begins among the lines and speaks reaches a line
+-- a group that begins among the lines and passes the test reaches a line
 pub record Through (test : Record → Bool) (lines : List Numbered) (to : ℕ) : Type 0 where
   pub head : Numbered
   pub stands : Contains lines head
@@ -138,7 +138,6 @@ module _ (n : ℕ) (k : Record) (tail : List Numbered) (late : Late n tail) (to 
   head_carries test Heads heads plain none = break_up plain none
   head_carries test Rules heads plain none = absurd none
 
-  -- what a head that speaks reaches, and one that doesn't
   head_reaches : (test : Record → Bool) (group : Group) (speaks : Bool) → test k ≡ speaks → is_agent k ≡ true → is_rule k ≡ false → n < to →
       Reached test (if speaks then Heads else after_head group) tail to → Reached test group (at n k ∷ tail) to
   head_reaches test group true is heads plain before (inl none) = inr (through_new test heads is before none)
@@ -156,7 +155,6 @@ module _ (n : ℕ) (k : Record) (tail : List Numbered) (late : Late n tail) (to 
   other_carries Heads heads rules none = break_up rules none
   other_carries Rules heads rules none = head_up heads none
 
-  -- and what was reached is so behind the record
   head_carried : (group : Group) → is_agent k ≡ true → n < to → Carried group (at n k ∷ tail) to → Carried (after_head group) tail to
   head_carried Foreign heads before none = none
   head_carried Heads heads before none = break_down none
@@ -196,7 +194,6 @@ module _ (n : ℕ) (k : Record) (tail : List Numbered) (late : Late n tail) (to 
     | inr old ↦ old
   ]
 
--- one step of the walk, up and down
 pub step_up : (n : ℕ) (k : Record) (tail : List Numbered) → Late n tail → (to : ℕ) (test : Record → Bool) (group : Group) → n < to →
     Reached test (after_record test group k) tail to → Reached test group (at n k ∷ tail) to
 step_up n (agent who) tail late to test group before reached =

@@ -1,4 +1,4 @@
--- The rules that a walk gives come in the order of their lines.
+-- A walk gives rules in line order.
 -- Used by `Walks`.
 use Rattle.std.proofs.Common.{◌≡◌, ℕ, ◌+◌, ◌<◌, ◌≤◌, Bool, true, false, List, [], ◌∷◌, map, length, zero, suc, slice_index, refl, sym, ap, subst, arith}
 use Rattle.std.specs.Prelude.{Option, Some, None, is_some}
@@ -9,7 +9,7 @@ use Rattle.robots_text.specs.Groups.{Ruled}
 use Rattle.robots_text.specs.Records.{Record, agent, rule, other, numbered_from}
 use Rattle.robots_text.specs.Walk.{after_record, ruled_at, onto, rules_from}
 
--- the numbers of the rules that are given rise
+-- the numbers of the rules
 abbrev lines_of_rules : List Ruled → List ℕ
 lines_of_rules rules = map (λ ruled. ruled.line) rules
 
@@ -20,7 +20,6 @@ onto_above n None rules here all i within = all i within
 onto_above n (Some first) rules here all zero within = here first refl
 onto_above n (Some first) rules here all (suc i) within = all i (omega arith)
 
--- the first rule has the number of the record that it is
 pub none_is : (first : Ruled) → None ≡ Some first → ⊥
 none_is first is = let same : false ≡ true = ap is_some is in absurd cc
 

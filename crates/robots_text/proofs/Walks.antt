@@ -1,4 +1,4 @@
--- The walk over the lines gives the rules for a token, and nothing else.
+-- The walk over the lines gives exactly the rules for a token.
 -- Used by `RobotsText::rules_for`.
 use Rattle.std.proofs.Common.{◌≡◌, ℕ, Bool, inl, inr, List, slice_index_or, refl, sym, ◌∙◌}
 use Rattle.robots_text.specs.declared.groups.Group.TheVariants.{Foreign}
@@ -28,7 +28,6 @@ is_rule_for test word ks same ruled given = elim given.1 [
   }
 ]
 
--- a walk that begins in no group at the first line gives just the rules for a token
 pub walk_is : (test : Record → Bool) (word : List ℕ) (ks : List Record) →
     ((k : Record) → test k ≡ speaks_to (numbered_from 1 ks) word k) →
     AreRulesFor (numbered_from 1 ks) word (rules_from test Foreign (numbered_from 1 ks))

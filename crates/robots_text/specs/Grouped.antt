@@ -1,4 +1,4 @@
--- Records with the number of their group, which is that of the user-agent line that begins it.
+-- Records with their group's number: the line of its first user-agent line.
 -- RFC 9309, section 2.2.1.
 use Rattle.std.specs.Prelude.{ℕ, ◌+◌, ◌≤◌, Bool, true, List, [], ◌∷◌, length}
 use Rattle.robots_text.specs.declared.grouped.GroupedRecord.{GroupedRecord}
@@ -7,40 +7,40 @@ use Rattle.robots_text.specs.Grouping.{begins_behind, group_at}
 use Rattle.robots_text.specs.Left.{records_left}
 use Rattle.robots_text.specs.Records.{Named, everybody, token, nobody, Record, agent, rule, other, Numbered, kind_seen, numbered_records}
 
--- a record with the numbers of its line and of its group
+-- a record with its line and group
 pub record Grouped : Type 0 where
   pub group : ℕ
   pub line : ℕ
   pub kind : Record
 
--- the record with the number of its line alone
+-- the record with its line
 abbrev pub numbered_of : Grouped → Numbered
 numbered_of grouped = record { line = grouped.line; kind = grouped.kind }
 
--- the records behind those of a group
+-- the records after those of a group
 abbrev pub grouped_from : ℕ → Bool → List Numbered → List Grouped
 grouped_from group begins [] = []
 grouped_from group begins (first ∷ lines) =
     record { group = group_at group begins first.line first.kind; line = first.line; kind = first.kind }
     ∷ grouped_from (group_at group begins first.line first.kind) (begins_behind begins first.kind) lines
 
--- the records of a text with their groups; before the first group stand those of the group 0
+-- the records of a text with their groups; those before the first group are in group 0
 abbrev pub grouped_records : List ℕ → List Grouped
 grouped_records text = grouped_from 0 true (numbered_records text)
 
--- the record that a grouped record stands for
+-- a grouped record, as seen
 abbrev pub grouped_seen : GroupedRecord → Grouped
 grouped_seen item = record { group = item.group; line = item.line; kind = kind_seen item.kind }
 
--- the records that are still to come
+-- the remaining records
 abbrev pub grouped_left : GroupedRecords → List Grouped
 grouped_left walk = grouped_from walk.group walk.begins (records_left walk.records)
 
--- the numbers of its line and of its group are at most this
+-- its line and group are at most this
 abbrev pub IsWithin : ℕ → Grouped → Type 0
 IsWithin most grouped = (grouped.line ≤ most) × (grouped.group ≤ grouped.line)
 
--- how many octets the name has
+-- the name's length in octets
 abbrev pub name_octets : Named → ℕ
 name_octets everybody = 0
 name_octets (token name) = length name
@@ -52,7 +52,7 @@ value_octets (agent who) = name_octets who
 value_octets (rule kind value) = length value
 value_octets other = 0
 
--- how many all records have
+-- the octets of all records
 abbrev pub values_octets : List Grouped → ℕ
 values_octets [] = 0
 values_octets (first ∷ lines) = value_octets first.kind + values_octets lines

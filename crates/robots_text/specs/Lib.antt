@@ -1,4 +1,4 @@
--- What contracts say of a robots.txt, a file for each concept.
+-- Definitions for the contracts of a robots.txt.
 -- RFC 9309, section 2.2.
 pub mod Cut
 pub mod Faults

@@ -1,4 +1,4 @@
-//! The records of a robots text, each with the group in which it stands.
+//! The records of a robots text, each with its group.
 //! RFC 9309, section 2.2.1.
 ghost use Rattle.std.specs.Prelude.{◌≡◌};
 ghost use Rattle.robots_text.specs.Grouping.{begins_behind, group_at};
@@ -7,8 +7,8 @@ ghost use Rattle.robots_text.specs.Records.{kind_seen};
 use crate::record::RecordKind;
 use crate::records::Records;
 
-/// A record, and the number of the user-agent line that begins its group. A line before the first
-/// user-agent line stands in no group, for which 0 is said.
+/// A record, and the line number of the user-agent line that begins its group; 0 before the first
+/// user-agent line.
 #[derive(Clone, Copy, Debug, PartialEq, Eq)]
 pub struct GroupedRecord<'a> {
     pub group: u64,
@@ -16,7 +16,7 @@ pub struct GroupedRecord<'a> {
     pub kind: RecordKind<'a>,
 }
 
-/// The records that are still to come, one for each line. It takes no memory.
+/// The remaining records, one for each line. Takes no memory.
 #[derive(Drop)]
 pub struct GroupedRecords<'a> {
     records: Records<'a>,
@@ -65,7 +65,6 @@ impl<'a> Iterator for GroupedRecords<'a> {
     }
 }
 
-// The group of a record behind others.
 fn group_at(group: u64, begins: bool, line: u64, kind: RecordKind<'_>) -> u64
     ensures { result ≡ group_at group begins line (kind_seen kind.entry) }
 {
@@ -75,7 +74,7 @@ fn group_at(group: u64, begins: bool, line: u64, kind: RecordKind<'_>) -> u64
     }
 }
 
-// Whether a user-agent line behind the record would begin a group.
+// Whether a user-agent line after the record would begin a group.
 fn begins_behind(begins: bool, kind: RecordKind<'_>) -> bool
     ensures { result ≡ begins_behind begins (kind_seen kind.entry) }
 {

@@ -12,7 +12,7 @@ use crate::text::RobotsText;
 use crate::token::Token;
 use crate::words::is_same_word;
 
-/// A rule line. Lines count from 1; the pattern is that of the text, as it stands.
+/// A rule line. Lines count from 1; the pattern is as in the text.
 #[derive(Clone, Copy, Debug, PartialEq, Eq)]
 pub struct RuleLine<'a> {
     pub line: u64,
@@ -20,27 +20,27 @@ pub struct RuleLine<'a> {
     pub pattern: &'a [u8],
 }
 
-/// Whose rules are looked for.
+/// Whose rules to find.
 #[derive(Clone, Copy)]
 pub enum Whom<'a> {
-    /// Those of this token.
+    /// Those for this token.
     Token(&'a [u8]),
-    /// Those of `*`, where no line names the token.
+    /// Those for `*`, if no line names the token.
     Everybody,
 }
 
-// Where a walk over the lines stands.
+// The state of a walk over the lines.
 #[derive(Clone, Copy)]
 enum Group {
     // In no group, or in one for others.
     Foreign,
-    // Among the user-agent lines of a group that speaks to those who are looked for.
+    // Among the user-agent lines of a matching group.
     Heads,
-    // Behind a rule of such a group.
+    // After a rule of such a group.
     Rules,
 }
 
-/// The rule lines for a token that are still to come. It takes no memory.
+/// The remaining rule lines for a token. Takes no memory.
 #[derive(Drop)]
 pub struct RulesFor<'t, 'k> {
     records: Records<'t>,
@@ -53,8 +53,8 @@ impl RobotsText {
     ghost use Rattle.robots_text.specs.Records.{numbered_records};
     ghost use Rattle.robots_text.specs.Walk.{rules_left};
 
-    /// The rule lines that govern a token, in the order of their lines: of all groups that name it, or of
-    /// all groups for `*` where none does. The text is walked twice, whatever it holds.
+    /// The rule lines that govern a token, in line order: of all groups that name it, or else of all groups
+    /// for `*`. Walks over the text exactly twice.
     pub fn rules_for<'t, 'k>(&'t self, token: &'k Token) -> RulesFor<'t, 'k>
         ensures { AreRulesFor (numbered_records self.now) token.now (rules_left result) }
     {
@@ -88,7 +88,7 @@ impl<'t, 'k> Iterator for RulesFor<'t, 'k> {
     }
 }
 
-/// Whose rules are looked for: those of the token where a line names it, and else those of everybody.
+/// Whose rules to find: the token's if a line names it, else those for `*`.
 pub fn whom_for<'a>(records: Records<'_>, word: &'a [u8]) -> Whom<'a>
     ensures { (kind : Record) → speaks result kind
         ≡ speaks_to (records_left records.entry) word.now kind }
@@ -100,7 +100,6 @@ pub fn whom_for<'a>(records: Records<'_>, word: &'a [u8]) -> Whom<'a>
     }
 }
 
-// Whether a line names the token.
 fn is_named(records: Records<'_>, word: &[u8]) -> bool
     ensures { result ≡ is_named (records_left records.entry) word.now }
 {
@@ -128,7 +127,7 @@ fn names_everybody(kind: RecordKind<'_>) -> bool
     matches!(kind, RecordKind::Agent(Agent::All))
 }
 
-/// Whether a record is a user-agent line that speaks to them.
+/// Whether a record is a user-agent line for them.
 pub fn speaks(whom: Whom<'_>, kind: RecordKind<'_>) -> bool
     ensures { result ≡ speaks whom.entry (kind_seen kind.entry) }
 {
@@ -138,7 +137,6 @@ pub fn speaks(whom: Whom<'_>, kind: RecordKind<'_>) -> bool
     }
 }
 
-// The rule of a line, where it is one of a group that speaks.
 fn rule_at(group: Group, line: u64, kind: RecordKind<'_>) -> Option<RuleLine<'_>>
     ensures { option_map rule_seen result ≡ ruled_at group line (kind_seen kind.entry) }
 {
@@ -152,7 +150,6 @@ fn rule_at(group: Group, line: u64, kind: RecordKind<'_>) -> Option<RuleLine<'_>
     }
 }
 
-// Where a walk stands behind a record.
 fn after_record(whom: Whom<'_>, group: Group, kind: RecordKind<'_>) -> Group
     ensures { result ≡ after_record (speaks whom.entry) group (kind_seen kind.entry) }
 {
@@ -164,7 +161,7 @@ fn after_record(whom: Whom<'_>, group: Group, kind: RecordKind<'_>) -> Group
     }
 }
 
-// A head behind a rule begins another group.
+// A user-agent line after a rule begins another group.
 fn after_head(group: Group) -> Group
     ensures { result ≡ after_head group }
 {

@@ -1,4 +1,4 @@
-//! What is true of the lines and of the groups of every text, and of the limits.
+//! Laws of the lines and groups of every text, and of the limits.
 //! RFC 9309, section 2.2.
 ghost use Rattle.std.specs.Prelude.{◌≡◌, ◌↔◌, ℕ, true, Contains, List};
 ghost use Rattle.robots_text.specs.Grouped.{Grouped, grouped_records, numbered_of};
@@ -10,14 +10,14 @@ ghost use Rattle.robots_text.specs.Token.{token_limit};
 use crate::text::MAX_TEXT;
 use crate::token::MAX_TOKEN;
 
-/// The lines of a text are the one way to write it, without its byte order mark, as lines and their ends.
+/// Without its byte order mark, a text is written by its lines in exactly one way.
 pub fn one_way_to_write_lines()
     ensures lines { (text : List ℕ) → AreLines (unmarked text) (lines_of text) }
     ensures only { (text : List ℕ) (lines : List (List ℕ))
         → AreLines (unmarked text) lines → lines ≡ lines_of text }
 {}
 
-/// A user-agent line governs the rule lines of its group, and no others.
+/// A user-agent line governs exactly the rule lines of its group.
 pub fn same_group()
     ensures { (text : List ℕ) (head line : Grouped)
         → Contains (grouped_records text) head → Contains (grouped_records text) line
@@ -26,7 +26,7 @@ pub fn same_group()
         ↔ Governs (numbered_records text) (numbered_of head) (numbered_of line) }
 {}
 
-/// The limits of the code are those of the definitions.
+/// The code's limits are those of the definitions.
 pub fn limits()
     ensures text { MAX_TEXT ≡ text_limit }
     ensures token { MAX_TOKEN ≡ token_limit }

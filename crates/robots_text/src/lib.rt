@@ -1,4 +1,4 @@
-//! What a robots.txt is made of: its lines, its records, and the product token that names a crawler.
+//! The parts of a robots.txt: its lines, its records, and the product token that names a crawler.
 //! RFC 9309, sections 2.2 and 2.5.
 #![tactic(auto)]
 

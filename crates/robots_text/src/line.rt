@@ -1,4 +1,4 @@
-//! The lines of a robots text, and where its last whole line ends.
+//! The lines of a robots text, and the end of its last whole line.
 //! RFC 9309, sections 2.2 and 2.5.
 ghost use Rattle.std.specs.Prelude.{◌≡◌, ◌<◌, ◌≤◌, ◌∷◌, false, length, IfSome};
 ghost use Rattle.std.specs.List.{position, position_or_len};
@@ -16,7 +16,7 @@ pub(crate) fn unmarked(text: &[u8]) -> &[u8]
     }
 }
 
-/// The first line, and the text behind its end.
+/// The first line, and the text after its end.
 pub(crate) fn cut_line(text: &[u8]) -> (&[u8], &[u8])
     requires { 0 < length text.now }
     ensures lines { lines_from false text.now ≡ result.0.now ∷ lines_from false result.1.now }
@@ -26,7 +26,7 @@ pub(crate) fn cut_line(text: &[u8]) -> (&[u8], &[u8])
     (line, behind_end(end))
 }
 
-/// The octets up to and with the last CR or LF, and none where there is none.
+/// The octets up to and including the last CR or LF, or none.
 pub(crate) fn whole_lines(text: &[u8]) -> &[u8]
     ensures value { result.now ≡ whole_lines text.now }
     ensures within { length result.now ≤ length text.now }
@@ -47,7 +47,6 @@ fn is_line_end(octet: u8) -> bool
     octet == b'\r' || octet == b'\n'
 }
 
-// How many octets stand before the first line end, or all.
 fn line_len(text: &[u8]) -> usize
     ensures len { result ≡ position_or_len is_line_end text.now }
     ensures within { result ≤ length text.now }
@@ -65,7 +64,6 @@ fn line_end_place(text: &[u8]) -> Option<usize>
     text.iter().position(|octet| is_line_end(*octet))
 }
 
-// The text behind the line end that it begins with, if it is not at its end.
 fn behind_end(text: &[u8]) -> &[u8]
     ensures { result.now ≡ behind_end text.now }
 {

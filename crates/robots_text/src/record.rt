@@ -1,4 +1,4 @@
-//! A record: what one line of a robots text says.
+//! A record: the meaning of one line of a robots text.
 //! RFC 9309, section 2.2, whose grammar has these rules for a line:
 //! startgroupline = *WS "user-agent" *WS ":" *WS product-token EOL
 //! rule = *WS ("allow" / "disallow") *WS ":" *WS (path-pattern / empty-pattern) EOL
@@ -16,14 +16,14 @@ ghost use Rattle.robots_text.specs.Records.{trimmed, without_leading, without_tr
 use crate::token::is_token_octet;
 use crate::words::is_same_word;
 
-/// Whom a user-agent line names.
+/// The crawlers that a user-agent line names.
 #[derive(Clone, Copy, Debug, PartialEq, Eq)]
 pub enum Agent<'a> {
     /// Everybody, by `*`.
     All,
-    /// The crawlers whose token has these octets, without regard to case.
+    /// The crawlers with this token, in any case.
     Name(&'a [u8]),
-    /// Nobody: the value begins with no octet of a token.
+    /// Nobody: the value begins with no token octet.
     Nobody,
 }
 
@@ -34,25 +34,25 @@ pub enum RuleKind {
     Disallow,
 }
 
-/// What a line says. Its values are those of the text, not copies.
+/// The meaning of a line, with values borrowed from the text.
 #[derive(Clone, Copy, Debug, PartialEq, Eq)]
 pub enum RecordKind<'a> {
     /// A user-agent line.
     Agent(Agent<'a>),
-    /// A rule, with the pattern as it stands.
+    /// A rule, with the pattern as written.
     Rule(RuleKind, &'a [u8]),
-    /// A line that is empty, has no colon or has another name. It ends no group.
+    /// A line that is empty, has no colon or has another name. Ends no group.
     Other,
 }
 
-/// What the line of this number says. Lines count from 1.
+/// The meaning of the line with this number, from 1.
 #[derive(Clone, Copy, Debug, PartialEq, Eq)]
 pub struct RecordLine<'a> {
     pub line: u64,
     pub kind: RecordKind<'a>,
 }
 
-/// The record of a line, which is free of CR and LF.
+/// The record of a line without CR and LF.
 pub(crate) fn record_of(line: &[u8]) -> RecordKind<'_>
     ensures { kind_seen result ≡ record_of line.now }
 {
@@ -119,7 +119,6 @@ fn is_everybody(value: &[u8]) -> bool
     }
 }
 
-// The longest front of token octets.
 fn token_front(value: &[u8]) -> &[u8]
     ensures { result.now ≡ before_first ends_token value.now }
 {

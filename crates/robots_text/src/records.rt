@@ -5,7 +5,7 @@ ghost use Rattle.std.specs.Prelude.{◌≡◌, ◌≤◌, ◌<◌, ◌+◌, ◌^
 use crate::line::cut_line;
 use crate::record::{RecordLine, record_of};
 
-/// The records that are still to come, one for each line. It takes no memory.
+/// The remaining records, one for each line. Takes no memory.
 #[derive(Drop)]
 pub struct Records<'a> {
     rest: &'a [u8],

@@ -1,4 +1,4 @@
-//! A robots text, of which no more than the limit is kept.
+//! A robots text, kept up to the limit.
 //! RFC 9309, sections 2.2 and 2.5.
 ghost use Rattle.std.specs.Prelude.{◌≡◌, ◌≤◌, ◌<◌, All, length, IfOk};
 ghost use Rattle.robots_text.specs.Left.{records_left};
@@ -12,10 +12,10 @@ use crate::records::Records;
 use std::alloc::{AllocError, Global};
 use std::marker::Model;
 
-/// How many octets of a robots text are read (RFC 9309, 2.5).
+/// The most octets that are read of a robots text (RFC 9309, 2.5).
 pub const MAX_TEXT: usize = 512000;
 
-/// A robots text: the octets that are kept of it, its byte order mark included.
+/// A robots text: the octets kept of it, with any byte order mark.
 #[derive(Drop)]
 pub struct RobotsText {
     octets: Vec<u8>,
@@ -33,8 +33,7 @@ impl Model for RobotsText {
 }
 
 impl RobotsText {
-    /// Reads a text, whatever its octets. Of a text over the limit it keeps the lines that end within
-    /// the limit.
+    /// Reads a text of any octets. If it is over the limit, keeps the lines that end within the limit.
     pub fn read(alloc: Global, body: &[u8]) -> Result<RobotsText, AllocError>
         ensures kept { IfOk result (λ text. text ≡ kept body.now) }
         ensures longest { IfOk result (λ text.
@@ -45,7 +44,7 @@ impl RobotsText {
         })
     }
 
-    /// The text of a body, which it takes over: it needs no memory.
+    /// Takes over a body as a text. Takes no memory.
     pub fn of(body: Vec<u8>) -> RobotsText
         ensures { result ≡ kept body.items }
     {
@@ -55,7 +54,7 @@ impl RobotsText {
         RobotsText { octets }
     }
 
-    /// The records of the text, in the order of their lines.
+    /// The records of the text, in line order.
     pub fn records(&self) -> Records<'_>
         ensures records { records_left result ≡ numbered_records self.now }
         ensures few { length (records_left result) ≤ text_limit }
@@ -63,7 +62,7 @@ impl RobotsText {
         Records::of(unmarked(self.octets.as_slice()))
     }
 
-    /// The records of the text with the groups in which they stand, in the order of their lines.
+    /// The records of the text with their groups, in line order.
     pub fn groups(&self) -> GroupedRecords<'_>
         ensures records { grouped_left result ≡ grouped_records self.now }
         ensures within { All (IsWithin text_limit) (grouped_left result) }
@@ -73,7 +72,7 @@ impl RobotsText {
         GroupedRecords::of(Records::of(unmarked(self.octets.as_slice())))
     }
 
-    /// The octets that are kept, the byte order mark included.
+    /// The octets kept, with any byte order mark.
     pub fn bytes(&self) -> &[u8]
         ensures value { result.now ≡ self.now }
         ensures few { length result.now ≤ text_limit }
@@ -83,7 +82,6 @@ impl RobotsText {
     }
 }
 
-// What is kept of a body.
 fn kept(body: &[u8]) -> &[u8]
     ensures value { result.now ≡ kept body.now }
     ensures longest { text_limit < length body.now → IsLongestFront body.now result.now }

@@ -37,12 +37,12 @@ impl Model for Token {
     ghost invariant = { λ token. let text = string_bytes token.text in token_of text ≡ Some text };
 }
 
-/// Why octets were not taken as a token.
+/// Why octets are no token.
 #[derive(Clone, Copy, Debug, PartialEq, Eq)]
 pub enum TokenFault {
-    /// There is no octet, more than 64, or one that is no letter, `-` or `_`.
+    /// No octet, more than 64, or one that is no letter, `-` or `_`.
     BadToken,
-    /// The allocator had no memory.
+    /// Out of memory.
     NoMemory,
 }
 
@@ -74,7 +74,7 @@ impl fmt::Display for TokenFault {
 impl Error for TokenFault {}
 
 impl Token {
-    /// Reads a token, whatever the case of its letters.
+    /// Reads a token in any case.
     pub fn new(alloc: Global, octets: &[u8]) -> Result<Token, TokenFault>
         ensures ok { IfOk result (λ token. token_of octets.now ≡ Some token) }
         ensures bad { IfErr result (λ fault.
@@ -89,7 +89,7 @@ impl Token {
         }
     }
 
-    /// A second token of the same text.
+    /// A copy of the token.
     pub fn copy(&self) -> Result<Token, AllocError>
         ensures { IfOk result (λ copy. copy ≡ self.now) }
     {

@@ -6,7 +6,7 @@ ghost use Rattle.robots_text.specs.Words.{is_same_word};
 
 use std::alloc::{AllocError, Global};
 
-/// Whether the octets are the same but for the case of letters.
+/// Whether the octets are equal in any case.
 pub fn is_same_word(one: &[u8], other: &[u8]) -> bool
     ensures { result ≡ is_same_word one.now other.now }
 {

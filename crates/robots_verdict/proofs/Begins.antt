@@ -1,5 +1,5 @@
--- Texts that begin others, and the order of texts.
--- Used by what searches rows by their texts.
+-- Prefixes, and the order of texts.
+-- Used by searches for rows by their texts.
 use Rattle.std.proofs.Common.{◌≡◌, ℕ, ◌+◌, ◌≤◌, Bool, true, false, List, [], ◌∷◌, length, refl, sym, ap, ◌∙◌, subst, arith, eqb-true}
 use Rattle.std.specs.Prelude.{◌==◌, ◌&&◌, nat_le, if◌then◌else◌}
 use Rattle.std.specs.declared.cmp.Ordering.{Ordering}
@@ -20,7 +20,7 @@ on_both a b p q same is = grind (arith, nat_tests)
 both_true : (a b : ℕ) (q : Bool) → a ≡ b → q ≡ true → ((a == b) && q) ≡ true
 both_true a b q same is = grind (arith, nat_tests)
 
--- what begins the last text begins what stands between
+-- a prefix of the last text is a prefix of every text between
 pub begins_between : (q p s : List ℕ) → is_front_of q s ≡ true → is_lt (words p q) ≡ false → is_lt (words s p) ≡ false → is_front_of q p ≡ true
 begins_between [] p s is low high = refl
 begins_between (x ∷ q) p [] is low high = absurd (true≢false (sym is))
@@ -33,7 +33,6 @@ begins_between (x ∷ q) (z ∷ p) (y ∷ s) is low high =
     let one : x ≡ z = omega (arith, same, below.0, above.0) in
     both_true x z (is_front_of q p) one (begins_between q p s parts.1 (below.1 (sym one)) (above.1 (sym same ∙ one)))
 
--- what begins a text is not behind it
 pub begins_below : (q s : List ℕ) → is_front_of q s ≡ true → is_lt (words s q) ≡ false
 begins_below [] [] is = refl
 begins_below [] (y ∷ s) is = refl
@@ -70,7 +69,7 @@ begins_whole (x ∷ q) (y ∷ s) is same =
     let parts = and_parts (x == y) (is_front_of q s) is in
     λ i. eqb-true x y parts.0 i ∷ begins_whole q s parts.1 (omega (arith, same)) i
 
--- what begins one text begins another just where it is no longer than what both begin with
+-- a prefix of one text is a prefix of another exactly if it is no longer than their common prefix
 pub begins_common : (q p s : List ℕ) → is_front_of q p ≡ true → is_front_of q s ≡ nat_le (length q) (common p s)
 begins_common [] p s is = grind (arith, nat_tests)
 begins_common (x ∷ q) [] s is = absurd (true≢false (sym is))

@@ -1,4 +1,4 @@
--- The chain of the keys that begin one another.
+-- The chain of keys that are prefixes of one another.
 -- Used by `last_begun`.
 use Rattle.std.proofs.Common.{◌≡◌, ℕ, ◌+◌, ◌-◌, ◌<◌, ◌≤◌, Bool, true, false, inl, inr, List, [], ◌∷◌, ◌++◌, length, refl, sym, ap, ◌∙◌, subst, suc, arith, eqb-true}
 use Rattle.std.specs.Prelude.{◌==◌, ◌≢◌, nat_le, Option, Some, None, slice_index}
@@ -38,7 +38,7 @@ far rows places rise i j order within = sorted_far (λ one other. is_lt (compare
 pub keys_rise : (rows : List Placed) (places : List ℕ) → Rise rows places → (i j : ℕ) → i ≤ j → j < length places → is_lt (words (key_at rows places j) (key_at rows places i)) ≡ false
 keys_rise rows places rise i j order within = first_text (words (key_at rows places j) (key_at rows places i)) _ (far rows places rise i j order within)
 
--- all that begin the text stand in the chain of this one, which begins the top
+-- all prefixes of the text are in the chain of this one, itself a prefix of the top
 pub record IsNear (rows : List Placed) (places : List ℕ) (count : ℕ) (text top : List ℕ) (last : ℕ) : Type 0 where
   pub within : last < count
   pub in_chain : is_front_of (key_at rows places last) top ≡ true
@@ -46,7 +46,6 @@ pub record IsNear (rows : List Placed) (places : List ℕ) (count : ℕ) (text t
 
 module _ (rows : List Placed) (places : List ℕ) (rise : Rise rows places) (count : ℕ) (fits : count ≤ length places) (text : List ℕ)
     (behind : (index : ℕ) → index < count → is_lt (words text (key_at rows places index)) ≡ false) (some : 0 < count) where
-  -- what begins the text begins the top
   pub near_top : IsNear rows places count text (key_at rows places (count - 1)) (count - 1)
   near_top = record {
     within = omega arith;
@@ -59,14 +58,12 @@ module _ (rows : List Placed) (places : List ℕ) (rise : Rise rows places) (cou
   }
 
   module _ (last : ℕ) (near : IsNear rows places count text (key_at rows places (count - 1)) last) where
-    -- whether this one begins the text
     pub begun : is_front_of (key_at rows places last) text ≡ nat_le (length (key_at rows places last)) (common (key_at rows places (count - 1)) text)
     begun = begins_common (key_at rows places last) (key_at rows places (count - 1)) text near.in_chain
 
     pub found : is_front_of (key_at rows places last) text ≡ true → IsLastBegun rows places count text (Some last)
     found is = (near.within, is, λ index less also. (near.all index less also).0)
 
-    -- where it does not, none does or its parent is near
     earlier : is_front_of (key_at rows places last) text ≡ false → (index : ℕ) → index < count → is_front_of (key_at rows places index) text ≡ true → index < last
     earlier not index less is = elim (cases_lt index last) [
       | inl below ↦ below
@@ -101,14 +98,12 @@ module _ (rows : List Placed) (places : List ℕ) (rise : Rise rows places) (cou
           );
     }
 
--- the test of the lengths, as the code makes it
 pub reaches : (g g' len n : ℕ) (one other : List ℕ) → g ≡ g' → n ≡ common one other → len ≤ n → nat_le (suc len) (common (g ∷ one) (g' ∷ other)) ≡ true
 reaches g g' len n one other same is fits = rw (eq-eqb g g' same) (grind (arith, nat_tests))
 
 pub falls_short : (g g' len n : ℕ) (one other : List ℕ) → g ≡ g' → n ≡ common one other → n < len → nat_le (suc len) (common (g ∷ one) (g' ∷ other)) ≡ false
 falls_short g g' len n one other same is short = rw (eq-eqb g g' same) (grind (arith, nat_tests))
 
--- where the top is of another group, none begins the text
 pub none_of_group : (rows : List Placed) (places : List ℕ) (rise : Rise rows places) (count : ℕ) (fits : count ≤ length places) (group : ℕ) (path : List ℕ)
     (behind : (index : ℕ) → index < count → is_lt (words (group ∷ path) (key_at rows places index)) ≡ false) (some : 0 < count) →
     ((row_at rows (slice_index places (count - 1))).group ≢ group) → IsLastBegun rows places count (group ∷ path) None
@@ -125,7 +120,6 @@ none_of_group rows places rise count fits group path behind some other index les
         let there = eqb-true one.group top.group (and_parts (one.group == top.group) (is_front_of one.form top.form) inside).0 in
         absurd (other (sym there ∙ here))
 
--- one parent more
 pub parents_pushed : (rows : List Placed) (places : List ℕ) (parents : List (Option ℕ)) (count : ℕ) (parent : Option ℕ) → length parents ≡ count →
     AreParents rows places parents count → IsLastBegun rows places count (key_at rows places count) parent → AreParents rows places (parents ++ parent ∷ []) (count + 1)
 parents_pushed rows places parents count parent many known is index past less = elim (cases_lt index count) [

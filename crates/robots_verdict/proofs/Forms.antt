@@ -1,4 +1,4 @@
--- The forms that a text keeps, as they are kept and as they are seen.
+-- The forms kept of a text, as kept and as seen.
 -- Used by `Rewritten`.
 use Rattle.std.proofs.Common.{◌≡◌, ◌⊎◌, ℕ, ◌-◌, ◌<◌, ◌≤◌, All, Contains, List, [], ◌∷◌, ◌++◌, length, map, get_or, inl, inr, refl, sym, ap, ◌∙◌, subst, arith}
 use Rattle.std.specs.Prelude.{Err, MatchResult, Ok, Result}
@@ -28,7 +28,6 @@ form_with form octets = record { line = form.line; form = octets }
 pub there_more : (octets more : List ℕ) (forms : List Form) → length octets ≤ length more → All (HasOctets octets) forms → All (HasOctets more) forms
 there_more = parts.there_more form_start form_len form_with
 
--- a form more, of which the octets were appended
 pub form_pushed : (octets form new : List ℕ) (forms more : List Form) (kept : Form) → All (HasOctets octets) forms → new ≡ octets ++ form → more ≡ forms ++ kept ∷ [] →
     kept.start ≡ length octets → kept.len ≡ length form → map (form_seen new) more ≡ map (form_seen octets) forms ++ record { line = kept.line; form = form } ∷ []
 form_pushed = parts.pushed form_start form_len form_with
@@ -45,7 +44,6 @@ past = record { line = 0; start = 0; len = 0 }
 abbrev line_kept : Form → ℕ
 line_kept form = form.line
 
--- the search among the forms is one among the numbers of their lines
 search_of_lines : (forms : List Form) (line : ℕ) (found : Result ℕ ℕ) → IsSearchInRange found (length forms) → IsBinarySearchResult (λ form. nat_cmp (line_kept form) line) forms found →
     IsBinarySearchResult (λ n. nat_cmp n line) (map line_kept forms) found
 search_of_lines forms line (Ok place) within found = λ d. ap (λ n. nat_cmp n line) (get_or-map line_kept forms place past d within) ∙ found past
@@ -77,7 +75,6 @@ nowhere seen lines line i are low high form stands same =
       | inr more ↦ (let over = high k more (omega (arith, few, stands.1)) in omega (arith, over, is))
     ]
 
--- what the search finds is that of the line, and where it finds nothing none is
 pub found : (octets : List ℕ) (forms : List Form) (seen : List FormOfLine) (line : ℕ) (r : Result ℕ ℕ) → map (form_seen octets) forms ≡ seen → IsNonDecreasing (map line_of seen) →
     IsSearchInRange r (length forms) → IsBinarySearchResult (λ form. nat_cmp (line_kept form) line) forms r →
     MatchResult r (λ i. (i < length seen) × ((form_at seen i).line ≡ line)) (λ i. (form : FormOfLine) → Contains seen form → form.line ≡ line → ⊥)
@@ -95,7 +92,6 @@ found octets forms seen line (Err i) is up within searches =
     let at = searched lines line (Err i) (search_of_lines forms line (Err i) within searches) (λ j k order last. rise j k 0 order last) in
     nowhere seen lines line i are at.1 at.2
 
--- where the forms before a place are of lines before this one, and that at the place is of one behind it, none is of this one
 pub none_at_gap : (seen : List FormOfLine) (line i : ℕ) → IsNonDecreasing (map line_of seen) → i ≤ length seen → (i ≡ 0) ⊎ ((form_at seen (i - 1)).line < line) → (i ≡ length seen) ⊎ (line < (form_at seen i).line) →
     (form : FormOfLine) → Contains seen form → form.line ≡ line → ⊥
 none_at_gap seen line i up within before behind =

@@ -1,4 +1,4 @@
--- Names in order, and the part of them that has one name.
+-- Sorted names, and the range of one name.
 -- Used by `Heads::groups_for`.
 use Rattle.std.proofs.Common.{◌≡◌, ℕ, ◌+◌, ◌-◌, ◌<◌, ◌≤◌, Bool, true, false, not, inl, inr, List, [], ◌∷◌, length, map, take, drop, get_or, Contains, refl, sym, ap, ◌∙◌, subst, arith}
 use Rattle.std.specs.Prelude.{◌↔◌, bytes_eq, MatchBool}
@@ -45,13 +45,11 @@ less_of Less is = refl
 less_of Equal is = absurd (true≢false (sym is))
 less_of Greater is = absurd (true≢false (sym is))
 
--- what is not above what is less is less too
 pub below_less : (o : Ordering) (a b c : List ℕ) → words a b ≡ o → is_lt (words b a) ≡ false → words b c ≡ Less → is_lt (words a c) ≡ true
 below_less Less a b c is low less = ap is_lt (nat_list_cmp_total.trans a b c is less)
 below_less Equal a b c is low less = ap is_lt (nat_list_cmp_total.congr a b c is ∙ less)
 below_less Greater a b c is low less = absurd (true≢false (sym (turned b a ∙ ap is_gt is) ∙ low))
 
--- what is not above what is no greater is no greater too
 pub below_not : (o : Ordering) (a b c : List ℕ) → words a c ≡ o → is_lt (words b a) ≡ false → is_gt (words b c) ≡ false → is_gt (words a c) ≡ false
 below_not Less a b c is low not_gt = ap is_gt is
 below_not Equal a b c is low not_gt = ap is_gt is
@@ -69,7 +67,6 @@ later_text Less o' is = is
 later_text Equal o' is = refl
 later_text Greater o' is = refl
 
--- what holds of each element within bounds holds of what it is seen as
 pub within_map : {X Y : Type 0} (f : X → Y) (Q : Y → Type 0) (xs : List X) (low high : ℕ) → high ≤ length xs → AllWithin (λ x. Q (f x)) xs low high → AllWithin Q (map f xs) low high
 within_map f Q [] low high fits all k e from to = absurd (omega arith)
 within_map f Q (x ∷ xs) low high fits all k e from to = subst Q (sym (get_or-map f (x ∷ xs) k x e (omega arith))) (all k x from to)
@@ -77,7 +74,6 @@ within_map f Q (x ∷ xs) low high fits all k e from to = subst Q (sym (get_or-m
 no_name : NamedGroup
 no_name = record { name = []; group = 0 }
 
--- of names in order the text of a later one is never before that of an earlier one
 pub rises : (named : List NamedGroup) → IsSortedBy is_name_before named → (i j : ℕ) (d : NamedGroup) → i ≤ j → j < length named →
     is_lt (words (get_or named j d).name (get_or named i d).name) ≡ false
 rises named sorted i j d order within =
@@ -136,7 +132,6 @@ run_of named token low high low_fits fits lows highs = record {
 group_of : NamedGroup → ℕ
 group_of n = n.group
 
--- a group of the literal is one of the name
 pub run_groups : (named : List NamedGroup) (groups token : List ℕ) (low high : ℕ) → groups ≡ map (λ (n : NamedGroup). n.group) named → IsRun named token low high → (group : ℕ) →
     Contains (take (high - low) (drop low groups)) group ↔ Contains named (record { name = token; group = group })
 run_groups named groups token low high are run group = (
@@ -172,7 +167,6 @@ run_groups named groups token low high are run group = (
       ),
 )
 
--- and the groups of the literal rise
 pub run_rises : (named : List NamedGroup) (groups token : List ℕ) (low high : ℕ) → groups ≡ map (λ (n : NamedGroup). n.group) named → IsSortedBy is_name_before named → IsRun named token low high →
     IsNonDecreasing (take (high - low) (drop low groups))
 run_rises named groups token low high are sorted run = IsNonDecreasingBy-from_default (λ (n : ℕ). n) (take (high - low) (drop low groups)) 0 rise
@@ -201,7 +195,6 @@ run_rises named groups token low high are sorted run = IsNonDecreasingBy-from_de
         let less : j < high - low = omega (arith, within, few) in
         omega (arith, read i (omega (arith, order, less)), read j less, no_later i j order less)
 
--- whether a group has the name
 pub has_run : (named : List NamedGroup) (token : List ℕ) (low high : ℕ) → IsRun named token low high → low < high → has_name named token ≡ true
 has_run named token low high run order =
     let fits = run.fits in
@@ -219,7 +212,6 @@ pub choose : (is : Bool) (P Q R : Type 0) → (is ≡ true → P ↔ Q) → (is 
 choose true P Q R yes' no' = yes' refl
 choose false P Q R yes' no' = no' refl
 
--- the tests of names as they are kept
 pub partitioned_kept : {X Y : Type 0} (f : X → Y) (q : Y → Bool) (xs : List X) → IsPartitionedBy q (map f xs) → IsPartitionedBy (λ x. q (f x)) xs
 partitioned_kept f q xs parted i j d order within is =
     let few = length-map xs f in
@@ -234,7 +226,6 @@ point_seen f q xs i fits point = (
   subst (AllWithin (λ y. q y ≡ false) (map f xs) i) (sym (length-map xs f)) (within_map f (λ y. q y ≡ false) xs i (length xs) (omega arith) point.1),
 )
 
--- what is in order as it is kept is so as it is seen
 pub sorted_map : {X Y : Type 0} (f : X → Y) (lt : Y → Y → Bool) (xs : List X) → IsSortedBy (λ a b. lt (f a) (f b)) xs → IsSortedBy lt (map f xs)
 sorted_map f lt [] sorted k d low within = absurd (omega arith)
 sorted_map f lt (x ∷ xs) sorted k d low within =

@@ -19,17 +19,14 @@ some_is one other same = ap (λ (o : Option ℕ). unwrap_or o one) same
 abbrev pub Reaches : Option ℕ → ℕ → Type 0
 Reaches found place = (best : ℕ) × (found ≡ Some best) × (best ≤ place)
 
--- what is found passes the test
 pub passes : (Test : ℕ → Type 0) (found : Option ℕ) → FindsLeast Test found → (place : ℕ) → found ≡ Some place → Test place
 passes Test None least place is = absurd (true≢false (ap is_some (sym is)))
 passes Test (Some best) least place is = subst Test (some_is best place is) least.0
 
--- and what passes is reached by what is found
 pub reaches : (Test : ℕ → Type 0) (found : Option ℕ) → FindsLeast Test found → (place : ℕ) → Test place → Reaches found place
 reaches Test None least place test = absurd (least place test)
 reaches Test (Some best) least place test = (best, refl, least.1 place test)
 
--- both say that it is the least
 pub least_by : (Test : ℕ → Type 0) (found : Option ℕ) → ((place : ℕ) → found ≡ Some place → Test place) → ((place : ℕ) → Test place → Reaches found place) → FindsLeast Test found
 least_by Test None sound complete = λ place test. true≢false (ap is_some (sym (complete place test).1))
 least_by Test (Some best) sound complete = (sound best refl, λ place test. let one = complete place test in let same = some_is best one.0 one.1 in omega (arith, same, one.2))
@@ -39,7 +36,6 @@ further Test found later place least keeps one =
     let next = reaches Test later least one.0 (keeps one.0 one.1) in
     (next.0, next.1, omega (arith, one.2, next.2))
 
--- a plain row or another one
 kind_of : (rows : List Placed) (group : ℕ) (path : List ℕ) (place : ℕ) (plain : Bool) → is_plain_pattern (row_at rows place).form ≡ plain → IsHitIn rows group path place →
     IsPlainHit rows group path place ⊎ IsOtherHit rows group path place
 kind_of rows group path place true is hit =
@@ -53,7 +49,6 @@ hit_of_plain rows group path place hit =
 hit_of_other : (rows : List Placed) (group : ℕ) (path : List ℕ) (place : ℕ) → IsOtherHit rows group path place → IsHitIn rows group path place
 hit_of_other rows group path place hit = record { within = hit.within; in_group = hit.in_group; matches = hit.matches }
 
--- the least of a group is the least of its plain rows and its others
 pub first_in_group : (rows : List Placed) (group : ℕ) (path : List ℕ) (found plain stronger result : Option ℕ) → FindsLeast (IsPlainHit rows group path) plain →
     FindsLeast (λ place. IsFound found place ⊎ IsFound plain place) stronger → FindsLeast (λ place. IsFound stronger place ⊎ IsOtherHit rows group path place) result →
     FindsLeast (λ place. IsFound found place ⊎ IsHitIn rows group path place) result
@@ -81,7 +76,6 @@ first_in_group rows group path found plain stronger result plain_least stronger_
     complete place (inl is) = from_found place (reaches _ stronger stronger_least place (inl is))
     complete place (inr hit) = from_kind place (kind_of rows group path place (is_plain_pattern (row_at rows place).form) refl hit)
 
--- one group more
 pub one_group_more : (rows : List Placed) (groups : List ℕ) (group : ℕ) (more path : List ℕ) (found result : Option ℕ) → more ≡ groups ++ group ∷ [] →
     FindsLeast (IsHit rows groups path) found → FindsLeast (λ place. IsFound found place ⊎ IsHitIn rows group path place) result → FindsLeast (IsHit rows more path) result
 one_group_more rows groups group more path found result is before least = subst (λ (gs : List ℕ). FindsLeast (IsHit rows gs path) result) (sym is) (least_by _ result sound complete)
@@ -104,7 +98,6 @@ one_group_more rows groups group more path found result is before least = subst 
     complete : (place : ℕ) → IsHit rows (groups ++ group ∷ []) path place → Reaches result place
     complete place hit = of_group place hit (Contains-push_cases groups group (row_at rows place).group hit.governs)
 
--- a group that was tried before adds nothing
 pub same_group_again : (rows : List Placed) (groups : List ℕ) (group : ℕ) (more path : List ℕ) (found : Option ℕ) → more ≡ groups ++ group ∷ [] → Contains groups group →
     FindsLeast (IsHit rows groups path) found → FindsLeast (IsHit rows more path) found
 same_group_again rows groups group more path found is known before = subst (λ (gs : List ℕ). FindsLeast (IsHit rows gs path) found) (sym is) (least_by _ found sound complete)
@@ -121,12 +114,10 @@ same_group_again rows groups group more path found is known before = subst (λ (
     complete : (place : ℕ) → IsHit rows (groups ++ group ∷ []) path place → Reaches found place
     complete place hit = of_group place hit (Contains-push_cases groups group (row_at rows place).group hit.governs)
 
--- the last one that was tried, where it is this one, is among those that were
 pub tried_before : (last : Option ℕ) (group : ℕ) (groups : List ℕ) → IfSome last (Contains groups) → not (option_eq eqb last (Some group)) ≡ false → Contains groups group
 tried_before None group groups tried is = absurd (true≢false is)
 tried_before (Some other) group groups tried is = subst (Contains groups) (eqb-true other group (not-false (eqb other group) is)) tried
 
--- and stays among them when another is tried
 pub still_tried : (last : Option ℕ) (groups : List ℕ) (group : ℕ) (more : List ℕ) → more ≡ groups ++ group ∷ [] → IfSome last (Contains groups) → IfSome last (Contains more)
 still_tried None groups group more is tried = tt
 still_tried (Some other) groups group more is tried = subst (λ (gs : List ℕ). Contains gs other) (sym is) (Contains-append_left groups (group ∷ []) other tried)

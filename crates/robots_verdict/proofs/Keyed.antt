@@ -1,4 +1,4 @@
--- Keys in order have their places in the order of plain places.
+-- Sorted keys have sorted places.
 -- Used by `in_order`.
 use Rattle.std.proofs.Common.{◌≡◌, ℕ, ◌+◌, ◌<◌, All, List, [], ◌∷◌, length, map, get_or, refl, sym, ap, ◌∙◌, arith}
 use Rattle.std.specs.List.Sorted.{IsSortedBy}
@@ -30,7 +30,6 @@ regroup Equal Less c d = refl
 regroup Equal Greater c d = refl
 regroup Equal Equal c d = refl
 
--- keys of rows compare as their places do
 pub same_order : (rows : List Placed) (one other : Key) → IsKeyOf rows one → IsKeyOf rows other → compare_keys rows one other ≡ compare_plain rows one.place other.place
 same_order rows one other is also =
     let p = (row_at rows one.place).form in

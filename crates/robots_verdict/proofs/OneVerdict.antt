@@ -1,4 +1,4 @@
--- The lines have no two verdicts on a path.
+-- A path has one verdict.
 -- Used by the law on verdicts.
 use Rattle.std.proofs.Common.{◌≡◌, ℕ, List, refl, sym, ap, ◌∙◌}
 use Rattle.robots_text.specs.declared.record.RuleKind.{RuleKind}
@@ -11,7 +11,6 @@ use Rattle.robots_verdict.specs.Verdict.{Decides, IsVerdict}
 use Rattle.robots_verdict.specs.Weights.{weight_of}
 use Rattle.robots_verdict.proofs.Weighing.{same_line}
 
--- two lines that decide are one
 one_line : (lines : List Numbered) (word path : List ℕ) (line other : ℕ) (kind kind' : RuleKind) →
     Decides lines word path line kind → Decides lines word path other kind' → (kind ≡ kind') × (line ≡ other)
 one_line lines word path line other kind kind' one two =

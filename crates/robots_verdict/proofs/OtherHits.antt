@@ -1,4 +1,4 @@
--- The first of the other rows of a group that matches is the strongest of them.
+-- The first row of a group that matches is the strongest of its other rows.
 -- Used by `Others`.
 use Rattle.std.proofs.Common.{◌≡◌, ◌≢◌, ◌⊎◌, ℕ, ◌<◌, ◌≤◌, true, false, inl, inr, List, length, get_or, refl, sym, ap, ◌∙◌, subst, arith}
 use Rattle.std.specs.Prelude.{nat_lt, slice_index, Option, Some, None, unwrap_or, is_some}
@@ -24,7 +24,6 @@ others_total rows = then_total (on_total (λ place. (row_at rows place).group) n
 abbrev pub RiseByGroup : List Placed → List ℕ → Type 0
 RiseByGroup rows places = IsSortedBy (λ one other. is_lt (compare_others rows one other)) places
 
--- a later place is of no earlier group, and of the same group of a weaker row
 pub in_order : (rows : List Placed) (places : List ℕ) → RiseByGroup rows places → (i j d : ℕ) → i ≤ j → j < length places →
     let one = get_or places i d in let other = get_or places j d in
     ((row_at rows one).group ≤ (row_at rows other).group) × ((row_at rows other).group ≡ (row_at rows one).group → one ≤ other)
@@ -35,7 +34,6 @@ in_order rows places rise i j d order within =
     (sorted_far (λ a b. is_lt (compare_others rows a b)) (ranks_by (others_total rows) (λ (n : ℕ). n)) places rise i j d order within) in
     (levels.0, λ same. last_level other one (levels.1 same))
 
--- the groups of the places do not fall
 pub groups_rise : (rows : List Placed) (places groups : List ℕ) → RiseByGroup rows places → groups ≡ groups_at rows places → IsNonDecreasing groups
 groups_rise rows places groups rise are = subst IsNonDecreasing (sym are) by
   where
@@ -56,7 +54,6 @@ not_below group of is = grind (arith, nat_tests)
 is_below : (group of : ℕ) → of < group → nat_lt of group ≡ true
 is_below group of less = grind (arith, nat_tests)
 
--- the earlier groups come first
 pub below_falls : (groups : List ℕ) (group : ℕ) → IsNonDecreasing groups → IsPartitionedBy (λ of. nat_lt of group) groups
 below_falls groups group rise i j d order within is = is_below group (get_or groups i d) (omega (arith, rise i j d order within, below group (get_or groups j d) is))
 
@@ -73,14 +70,13 @@ some_is one other same = ap (λ (o : Option ℕ). unwrap_or o one) same
 
 module _ (rows : List Placed) (places groups : List ℕ) (index : IsOtherIndex rows places groups) (group : ℕ) (path : List ℕ) (start : ℕ) (cut : IsGroupCut groups group start)
     (found : Option ℕ) where
-  -- the group at an index, and that there is one
   at_group : (k : ℕ) → k < length places → slice_index groups k ≡ (row_at rows (slice_index places k)).group
   at_group = group_at rows places groups index.groups_are
 
   many : length groups ≡ length places
   many = as_many rows places groups index.groups_are
 
-  -- where a hit stands
+  -- the index of a hit
   record StandsAt (place : ℕ) : Type 0 where
     at : ℕ
     from : start ≤ at
@@ -102,11 +98,10 @@ module _ (rows : List Placed) (places groups : List ℕ) (index : IsOtherIndex r
             )
       ]
 
-  -- it is what was found so far, or such a hit
+  -- what was found so far, or a hit
   abbrev Test : ℕ → Type 0
   Test place = IsFound found place ⊎ IsOtherHit rows group path place
 
-  -- where each hit is behind what was found, that stays
   outranked : (found' : Option ℕ) → found ≡ found' → ((place : ℕ) → IsOtherHit rows group path place → (best : ℕ) × (found ≡ Some best) × (best ≤ place)) → FindsLeast Test found'
   outranked None is behind = none
     where
@@ -126,7 +121,7 @@ module _ (rows : List Placed) (places groups : List ℕ) (index : IsOtherIndex r
           omega (arith, same, one.2)
 
   module _ (at : ℕ) (from : start ≤ at) (passed : IsPassed rows places group path start at) where
-    -- a hit stands no earlier, where the groups are the same and the rows weaker
+    -- the index is in the group, and its place is at most the hit's
     record StandsBehind (place : ℕ) : Type 0 where
       within : at < length places
       in_group : (row_at rows (slice_index places at)).group ≡ group

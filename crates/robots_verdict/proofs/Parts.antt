@@ -1,4 +1,4 @@
--- Parts of a list of octets to which others point: what is there stays where more octets follow.
+-- Parts of a list of octets: they stay when octets are appended.
 -- Used by `Rows` and `Rewritten`.
 use Rattle.std.proofs.Common.{◌≡◌, ℕ, ◌+◌, ◌≤◌, All, List, [], ◌∷◌, ◌++◌, length, map, take, drop, refl, sym, ap, ◌∙◌, subst, arith, length-append}
 use Rattle.std.proofs.lemmas.List.{drop-append-le, take-append-le, length-drop, length-take, map-append}
@@ -18,7 +18,7 @@ new_part octets form = ap (take (length form)) (drop-append_seam octets form) �
 pub part_length : (octets : List ℕ) (start len : ℕ) → start + len ≤ length octets → length (part octets start len) ≡ len
 part_length octets start len there = omega (arith, length-take len (drop start octets), length-drop start octets)
 
--- each x points to a part, and is seen as what is made of it and its part
+-- each x points to a part, and is seen as made of itself and that part
 module _ {X Y : Type 0} (start len : X → ℕ) (make : X → List ℕ → Y) where
   abbrev pub Points : List ℕ → X → Type 0
   Points octets x = start x + len x ≤ length octets
@@ -36,7 +36,6 @@ module _ {X Y : Type 0} (start len : X → ℕ) (make : X → List ℕ → Y) wh
       let later = seen_more octets more xs (All-tail (Points octets) x xs there) in
       λ i. make x (here i) ∷ later i
 
-  -- one more, of which the octets were appended
   pub pushed : (octets form new : List ℕ) (xs more : List X) (x : X) → All (Points octets) xs → new ≡ octets ++ form → more ≡ xs ++ x ∷ [] →
       start x ≡ length octets → len x ≡ length form → map (seen new) more ≡ map (seen octets) xs ++ make x form ∷ []
   pushed octets form new xs more x there is with_x begins long =

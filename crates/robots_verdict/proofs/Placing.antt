@@ -1,4 +1,4 @@
--- One place more, whose row is plain or is not, and the groups beside places.
+-- One more place, plain or not, and the groups of places.
 -- Used by `places_of`, and by the searches of both lists.
 use Rattle.std.proofs.Common.{◌≡◌, ℕ, ◌+◌, ◌<◌, Bool, inl, inr, List, [], ◌∷◌, ◌++◌, Contains, length, ap, ◌∙◌, subst, arith, length-append}
 use Rattle.std.proofs.lemmas.Bool.{cases_lt}
@@ -11,7 +11,6 @@ use Rattle.robots_verdict.specs.Placed.{Placed}
 use Rattle.robots_verdict.specs.Rows.{row_at}
 use Rattle.robots_verdict.specs.Search.{ArePlaces, groups_at, is_plain_pattern}
 
--- the group at an index is that of the row at its place
 pub group_at : (rows : List Placed) (places groups : List ℕ) → groups ≡ groups_at rows places → (k : ℕ) → k < length places →
     slice_index groups k ≡ (row_at rows (slice_index places k)).group
 group_at rows places groups are k within =
@@ -52,7 +51,6 @@ passed rows plain places count known other = record {
   );
 }
 
--- put in another order they are the same places
 pub still_places : (rows : List Placed) (plain : Bool) (places ordered : List ℕ) (count : ℕ) → ArePlaces rows plain places count → IsPermutation places ordered →
     (place : ℕ) → Contains ordered place ↔ ((place < count) × (is_plain_pattern (row_at rows place).form ≡ plain))
 still_places rows plain places ordered count known same place = (

@@ -1,4 +1,4 @@
--- The plain rows that match a path are those that begin it, and the last of them by text is the strongest.
+-- The plain rows that match a path are its prefixes; the last of them by text is the strongest.
 -- Used by `Plain`.
 use Rattle.std.proofs.Common.{◌≡◌, ◌≢◌, ℕ, ◌+◌, ◌-◌, ◌<◌, ◌≤◌, Bool, true, false, not, inl, inr, List, [], ◌∷◌, ◌++◌, length, take, Contains, refl, sym, ap, ◌∙◌, subst, arith, eqb-true}
 use Rattle.std.specs.Prelude.{◌==◌, ◌&&◌, ◌↔◌, nat_lt, slice_index, Some, None}
@@ -79,7 +79,7 @@ plain_matches form path is =
 
 -- ---- the strongest of the plain rows
 
--- the cut stands between these two
+-- the cut is between these two
 pub record IsCutWithin (rows : List Placed) (places text : List ℕ) (low high : ℕ) : Type 0 where
   pub order : low ≤ high
   pub fits : high ≤ length places
@@ -98,7 +98,6 @@ module _ (rows : List Placed) (places text : List ℕ) (rise : Rise rows places)
   inside : middle < length places
   inside = let fits = within.fits in omega arith
 
-  -- where the key in the middle is not behind the text, it stands above
   pub cut_above : is_gt (words (key_at rows places middle) text) ≡ false → IsCutWithin rows places text (middle + 1) high
   cut_above is = record {
     order = omega arith;
@@ -107,7 +106,6 @@ module _ (rows : List Placed) (places text : List ℕ) (rise : Rise rows places)
     above = within.above;
   }
 
-  -- and where it is, below
   pub cut_below : is_gt (words (key_at rows places middle) text) ≡ true → IsCutWithin rows places text low middle
   cut_below is = record {
     order = from;
@@ -127,7 +125,7 @@ module _ (rows : List Placed) (places : List ℕ) (rise : Rise rows places) (gro
   none_behind index less = turned (group ∷ path) (key_at rows places index) ∙ cut.below index less
 
   module _ (are : (place : ℕ) → Contains places place ↔ ((place < length rows) × (is_plain_pattern (row_at rows place).form ≡ true))) where
-    -- where a hit stands
+    -- the index of a hit
     record StandsAt (place : ℕ) : Type 0 where
       index : ℕ
       within : index < count
@@ -158,7 +156,6 @@ module _ (rows : List Placed) (places : List ℕ) (rise : Rise rows places) (gro
           let fits = cut.fits in
           (are (slice_index places k)).0 (k, omega arith, get_or_default places k (slice_index places k) 0 (omega arith))
 
-      -- of two keys that begin the text the later is that of the stronger row
       order : (k last : ℕ) → k ≤ last → last < count → is_front_of (key_at rows places k) (group ∷ path) ≡ true → is_front_of (key_at rows places last) (group ∷ path) ≡ true →
           slice_index places last ≤ slice_index places k
       order k last earlier within begun also = elim (cases_lt (slice_index places k) (slice_index places last)) [

@@ -1,4 +1,4 @@
--- What was read of a text, and what is left of it.
+-- What was read of a text, and what is left.
 -- Used by `read`.
 use Rattle.std.proofs.Common.{◌≡◌, ℕ, ◌+◌, ◌*◌, ◌≤◌, List, ◌∷◌, ◌++◌, All, length, ap, ◌∙◌, append_assoc, length-append, arith}
 use Rattle.std.proofs.lemmas.List.Elements.{All-tail}
@@ -6,7 +6,7 @@ use Rattle.robots_text.specs.Grouped.{Grouped, IsWithin, value_octets, values_oc
 use Rattle.robots_text.specs.Records.{Record, agent, rule, other}
 use Rattle.robots_verdict.specs.Placed.{everybody_at, everybody_in, named_at, named_in, NamedGroup, Placed, placed_at, placed_in}
 
--- what was read, with what is left, makes up the whole; and there is room for its octets
+-- what was read and what is left make up the whole; there is room for its octets
 pub record IsReading (all left : List Grouped) (rows : List Placed) (octets : ℕ) (named : List NamedGroup) (everybody : List ℕ) : Type 0 where
   pub rows_are : rows ++ placed_in left ≡ placed_in all
   pub named_are : named ++ named_in left ≡ named_in all

@@ -17,7 +17,7 @@ use Rattle.robots_verdict.specs.Placed.{Placed, placed_at, placed_in}
 use Rattle.robots_verdict.specs.Rewritten.{FormOfLine, rewritten_at, rewritten_in}
 use Rattle.robots_verdict.proofs.Verdicts.{grouped, of_line}
 
--- what was read, with what is left, makes up the whole; and there is room for its octets
+-- what was read and what is left make up the whole; there is room for its octets
 pub record IsRewriting (all left : List Grouped) (forms : List FormOfLine) (octets : ℕ) : Type 0 where
   pub forms_are : forms ++ rewritten_in left ≡ rewritten_in all
   pub small : octets + 3 * values_octets left ≤ 1536000
@@ -31,7 +31,6 @@ read_one all left first forms forms' octets octets' reading more few = record {
   within = All-tail (IsWithin 512000) first left reading.within;
 }
 
--- a form that was made in empty memory is at most three times as long as its pattern
 pub made_small : (cleared new made pattern : List ℕ) (rule_kind : RuleKind) (kind : Record) → cleared ≡ [] → new ≡ cleared ++ normal_pattern pattern → made ≡ new →
     kind ≡ rule rule_kind pattern → length made ≤ 3 * value_octets kind
 made_small cleared new made pattern rule_kind kind none is same kind_is =
@@ -44,7 +43,7 @@ made_small cleared new made pattern rule_kind kind none is same kind_is =
 abbrev pub kept_of : Placed → FormOfLine
 kept_of row = record { line = row.line; form = row.form }
 
--- the row of which the form is kept
+-- the row whose form is kept
 pub record IsOfRow (rows : List Placed) (form : FormOfLine) : Type 0 where
   pub row : Placed
   pub stands : Contains rows row
@@ -76,7 +75,7 @@ within (first ∷ lines) form stands = elim (Contains-append_cases (rewritten_at
       )
 ]
 
--- ---- and each rule line whose pattern is written otherwise is there
+-- ---- and each rule line with a rewritten pattern is there
 
 abbrev pub form_of : Ruled → FormOfLine
 form_of ruled = record { line = ruled.line; form = normal_pattern ruled.pattern }
@@ -165,7 +164,6 @@ value_of (agent who) = []
 value_of (rule kind value) = value
 value_of other = []
 
--- the form that is kept for the number of a rule line is that of its pattern
 pub kept_form : (text : List ℕ) (ruled : Ruled) (form : FormOfLine) → Contains (numbered_records text) (record_ruled ruled) → Contains (rewritten_in (grouped_records text)) form →
     form.line ≡ ruled.line → form.form ≡ normal_pattern ruled.pattern
 kept_form text ruled form stands kept same =
@@ -176,7 +174,6 @@ kept_form text ruled form stands kept same =
     let is = apart 1 (records_of text) (record_ruled one.ruled) (record_ruled ruled) also stands line in
     sym (ap (λ (r : Placed). r.form) one.is ∙ ap (λ (f : FormOfLine). f.form) at.is) ∙ ap (λ (z : Numbered). normal_pattern (value_of z.kind)) is
 
--- and a line of which none is kept is written in its normal form
 pub own_form : (text : List ℕ) (ruled : Ruled) → Contains (numbered_records text) (record_ruled ruled) →
     ((form : FormOfLine) → Contains (rewritten_in (grouped_records text)) form → form.line ≡ ruled.line → ⊥) → ruled.pattern ≡ normal_pattern ruled.pattern
 own_form text ruled stands none = by (bytes_eq (normal_pattern ruled.pattern) ruled.pattern) refl

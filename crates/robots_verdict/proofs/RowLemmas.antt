@@ -1,4 +1,4 @@
--- Rows as they are kept, and what they are seen as.
+-- Rows as kept, and as seen.
 -- Used by `Rows`.
 use Rattle.std.proofs.Common.{◌≡◌, ℕ, ◌+◌, ◌<◌, ◌≤◌, All, List, [], ◌∷◌, ◌++◌, length, get_or, ap, ◌∙◌, arith}
 use Rattle.std.specs.List.Sorted.{IsSortedBy}
@@ -23,7 +23,6 @@ row_with row form = record { group = row.group; line = row.line; kind = row.kind
 pub there_more : (octets more : List ℕ) (rows : List RuleRow) → length octets ≤ length more → All (IsThere octets) rows → All (IsThere more) rows
 there_more = parts.there_more row_start row_len row_with
 
--- a row more, of which the octets were appended
 pub row_pushed : (octets form new : List ℕ) (rows more : List RuleRow) (row : RuleRow) → All (IsThere octets) rows → new ≡ octets ++ form → more ≡ rows ++ row ∷ [] →
     row.start ≡ length octets → row.len ≡ length form →
     rows_seen new more ≡ rows_seen octets rows ++ record { group = row.group; line = row.line; kind = row.kind; form = form } ∷ []
@@ -38,7 +37,6 @@ same_weight octets row there =
     let octets_are = parts.part_length octets row.start row.len there in
     λ i. record { octets = octets_are i; kind = row.kind; line = row.line }
 
--- rows in order are seen in order
 pub sorted_seen : (octets : List ℕ) (rows : List RuleRow) → All (IsThere octets) rows → IsSortedBy (λ a b. is_above (weight_kept a) (weight_kept b)) rows →
     IsSortedBy is_row_above (rows_seen octets rows)
 sorted_seen octets rows there sorted k d low within =

@@ -39,7 +39,6 @@ grouped group ruled = record { group = group; line = ruled.line; kind = rule rul
 pub placed_here : (one : Grouped) (group : ℕ) (ruled : Ruled) → one ≡ grouped group ruled → Contains (placed_at one.group one.line one.kind) (placed group ruled)
 placed_here one group ruled is = subst (λ (o : Grouped). Contains (placed_at o.group o.line o.kind) (placed group ruled)) (sym is) (first_of (placed group ruled) [])
 
--- each rule line has its row
 placed_stands : (lines : List Grouped) (group : ℕ) (ruled : Ruled) → Contains lines (grouped group ruled) → Contains (placed_in lines) (placed group ruled)
 placed_stands [] group ruled stands = absurd (none_of (grouped group ruled) stands)
 placed_stands (first ∷ lines) group ruled stands = elim (entry_of first (grouped group ruled) lines stands) [
@@ -65,7 +64,6 @@ of_first group line (rule kind value) row stands = elim (entry_of (record { grou
   | inr never ↦ absurd (none_of row never)
 ]
 
--- and each row is one of a rule line
 pub of_line : (lines : List Grouped) (row : Placed) → Contains (placed_in lines) row → IsOfLine lines row
 of_line [] row stands = absurd (none_of row stands)
 of_line (first ∷ lines) row stands = elim (Contains-append_cases (placed_at first.group first.line first.kind) (placed_in lines) row stands) [
@@ -118,7 +116,7 @@ everybody_from group (agent nobody) of stands = absurd (none_of _ stands)
 everybody_from group (rule kind value) of stands = absurd (none_of _ stands)
 everybody_from group other of stands = absurd (none_of _ stands)
 
--- a line that passes the test stands in the group
+-- a line that passes the test is in the group
 record HasHead (test : Record → Bool) (lines : List Grouped) (group : ℕ) : Type 0 where
   pub head : Grouped
   pub stands : Contains lines head
@@ -166,7 +164,6 @@ everybody_heads (first ∷ lines) group stands = elim (Contains-append_cases (ev
   | inr rest ↦ head_behind names_everybody first lines group (everybody_heads lines group rest)
 ]
 
--- some group has the name just where some line names the token
 any_first : (group : ℕ) (kind : Record) (word : List ℕ) (rest : List NamedGroup) (later : Bool) → lower_case word ≡ word → has_name rest word ≡ later →
     has_name (named_at group kind ++ rest) word ≡ (names_token word kind || later)
 any_first group (agent everybody) word rest later own is = is
@@ -200,7 +197,6 @@ module _ (text : List ℕ) (table : Table) (names : Names) (index : IsIndex text
       sym (list_any-IsPermutation (λ n. bytes_eq n.name word) (named_in (grouped_records text)) names.named index.named)
       ∙ any_named 0 true 1 (records_of text) word own
 
-  -- the groups for the token are those in which a line speaks to it
   group_spoken : (head : Grouped) → Contains (grouped_records text) head → speaks_to (numbered_records text) word head.kind ≡ true → IsGroupFor names word head.group
   group_spoken head stands speaks = chosen (has_name names.named word) _ _
       (λ is.
@@ -236,7 +232,6 @@ module _ (text : List ℕ) (table : Table) (names : Names) (index : IsIndex text
         speaks = cond-false (is_named (numbered_records text) word) (names_token word has.head.kind) (names_everybody has.head.kind) is ∙ has.speaks;
       }
 
-  -- a rule line for the token has its row, and its group is one for the token
   rule_placed : (ruled : Ruled) → IsRuleFor (numbered_records text) word ruled → (group : ℕ) × (Contains table.rows (placed group ruled)) × (IsGroupFor names word group)
   rule_placed ruled is =
       let head = grouped_stands 0 true 1 (records_of text) is.head is.governs.head_stands in
@@ -249,7 +244,6 @@ module _ (text : List ℕ) (table : Table) (names : Names) (index : IsIndex text
         subst (IsGroupFor names word) same (group_spoken one head.1 is.speaks),
       )
 
-  -- a row of a group for the token is that of a rule line for it
   placed_rule : (row : Placed) → Contains table.rows row → IsGroupFor names word row.group → (ruled : Ruled) × (IsRuleFor (numbered_records text) word ruled) × (placed row.group ruled ≡ row)
   placed_rule row stands match =
       let one = of_line (grouped_records text) row
@@ -259,7 +253,6 @@ module _ (text : List ℕ) (table : Table) (names : Names) (index : IsIndex text
       (one.ruled, record { head = numbered_of has.head; speaks = has.speaks; governs = governs }, one.is)
 
   module _ (groups path : List ℕ) (are : (group : ℕ) → Contains groups group ↔ IsGroupFor names word group) where
-    -- a line that applies is a hit
     applies_hit : (ruled : Ruled) → Applies (numbered_records text) word path ruled → (place : ℕ) × (IsHit table.rows groups path place) × (weight_at (row_at table.rows place) ≡ weight_of ruled)
     applies_hit ruled applies =
         let found = rule_placed ruled applies.for_token in
@@ -275,7 +268,6 @@ module _ (text : List ℕ) (table : Table) (names : Names) (index : IsIndex text
           ap weight_at row,
         )
 
-    -- and a hit is a line that applies
     hit_applies : (place : ℕ) → IsHit table.rows groups path place → (ruled : Ruled) × (Applies (numbered_records text) word path ruled) × (placed (row_at table.rows place).group ruled ≡ row_at table.rows place)
     hit_applies place hit =
         let row = row_at table.rows place in
@@ -283,7 +275,6 @@ module _ (text : List ℕ) (table : Table) (names : Names) (index : IsIndex text
         let one = placed_rule row stands ((are row.group).0 hit.governs) in
         (one.0, record { for_token = one.1; matches = subst (λ (r : Placed). Matches r.form path) (sym one.2) hit.matches }, one.2)
 
-    -- of lines that apply, that of the smallest place is the strongest
     strongest_hit : (place : ℕ) (ruled : Ruled) → IsHit table.rows groups path place → ((other : ℕ) → IsHit table.rows groups path other → place ≤ other) →
         Applies (numbered_records text) word path ruled → placed (row_at table.rows place).group ruled ≡ row_at table.rows place → IsStrongest (numbered_records text) word path ruled
     strongest_hit place ruled hit least applies is = record {
@@ -299,7 +290,6 @@ module _ (text : List ℕ) (table : Table) (names : Names) (index : IsIndex text
     decided kinds.Allow place line ruled elsewhere is_kind is_line strongest = record { elsewhere = elsewhere; ruled = ruled; is_line = is_line; is_kind = is_kind; strongest = strongest }
     decided kinds.Disallow place line ruled elsewhere is_kind is_line strongest = record { elsewhere = elsewhere; ruled = ruled; is_line = is_line; is_kind = is_kind; strongest = strongest }
 
-    -- the first hit gives the verdict
     first_decides : (place : ℕ) → (path ≢ robots_path) → FindsLeast (IsHit table.rows groups path) (Some place) →
         IsVerdict (numbered_records text) word path (said_by (row_at table.rows place).kind (row_at table.rows place).line)
     first_decides place elsewhere least =
@@ -314,14 +304,13 @@ module _ (text : List ℕ) (table : Table) (names : Names) (index : IsIndex text
     first_says None elsewhere none = none_decides elsewhere none
     first_says (Some place) elsewhere least = first_decides place elsewhere least
 
--- a token is kept in lower case
 own_case : (is : Bool) (word : List ℕ) → is_token word ≡ is → token_of word ≡ Some word → lower_case word ≡ word
 own_case true word is own =
     ap (λ (o : Option (List ℕ)). unwrap_or o word) (sym (cond-true (is_token word) (Some (lower_case word)) None is) ∙ own)
 own_case false word is own =
     absurd (true≢false (ap is_some (sym own ∙ cond-false (is_token word) (Some (lower_case word)) None is)))
 
--- of the groups for a token the first row that matches gives the verdict
+-- the first matching row in the token's groups gives the verdict
 pub policy_says : (text seen : List ℕ) (table : Table) (names : Names) (word spelled path groups : List ℕ) (first : Option ℕ) → text ≡ seen → IsIndex text table names →
     token_of word ≡ Some word → spelled ≡ word → ((group : ℕ) → Contains groups group ↔ IsGroupFor names spelled group) → (path ≢ robots_path) →
     FindsLeast (IsHit table.rows groups path) first → IsVerdict (numbered_records seen) word path (verdict_at table.rows first)

@@ -1,4 +1,4 @@
--- A walk over the rules for a token keeps the strongest of those that it has passed.
+-- A walk over the rules for a token keeps the strongest one passed.
 -- Used by `verdict_plain`.
 use Rattle.std.proofs.Common.{◌≡◌, ℕ, Bool, true, false, ◌⊎◌, inl, inr, List, [], ◌∷◌, Contains, refl, sym, ap, ◌∙◌, subst}
 use Rattle.std.specs.Prelude.{Option, Some, None}
@@ -27,12 +27,12 @@ abbrev pub IsNotAbove : Weight → Option Weight → Type 0
 IsNotAbove weight None = ⊥
 IsNotAbove weight (Some best) = is_above weight best ≡ false
 
--- the best so far is that of one of the rules, which matches
+-- the best so far is that of a rule that matches
 abbrev pub IsOfOne : List Ruled → List ℕ → Option Weight → Type 0
 IsOfOne all path None = Unit {0}
 IsOfOne all path (Some best) = (ruled : Ruled) × (Contains all ruled) × (Hits path ruled) × (weight_of ruled ≡ best)
 
--- of all rules these are left, and the best of the others is known
+-- these rules are left, and the best of the others is known
 pub record IsWalked (path : List ℕ) (all left : List Ruled) (best : Option Weight) : Type 0 where
   pub rest : (ruled : Ruled) → Contains left ruled → Contains all ruled
   pub passed : (ruled : Ruled) → Contains all ruled → Hits path ruled → Contains left ruled ⊎ IsNotAbove (weight_of ruled) best
@@ -49,14 +49,12 @@ less Greater is = absurd (true≢false (sym is))
 itself : (w : Weight) → is_above w w ≡ false
 itself w = ap is_lt (tied_itself falling_total w)
 
--- what is not above the best is not above what is above the best
 through : (w first best : Weight) (is : Bool) → is_above w first ≡ is → is_above w best ≡ false → is_above first best ≡ true → is ≡ false
 through w first best true above not up =
     let whole = falling_total.trans w first best (less (falling w first) above) (less (falling first best) up) in
     absurd (true≢false (sym (ap is_lt whole) ∙ not))
 through w first best false above not up = refl
 
--- the first of what is left is not above what is then the best
 first_not_above : (first : Weight) (best : Option Weight) → is_above first (stronger best first) ≡ false
 first_not_above first None = itself first
 first_not_above first (Some best) = by (is_above first best) refl
@@ -82,7 +80,6 @@ stronger_of_one all path (Some best) first of_one stands hits = by (is_above (we
     by true is = (first, stands, hits, sym (cond-true (is_above (weight_of first) best) (weight_of first) best is))
     by false is = (of_one.0, of_one.1, of_one.2, of_one.3 ∙ sym (cond-false (is_above (weight_of first) best) (weight_of first) best is))
 
--- a rule that doesn't match is passed over
 pub pass_over : (path : List ℕ) (all left : List Ruled) (best : Option Weight) (first : Ruled) → (Hits path first → ⊥) →
     IsWalked path all (first ∷ left) best → IsWalked path all left best
 pass_over path all left best first misses walked = record {
@@ -97,7 +94,6 @@ pass_over path all left best first misses walked = record {
   of_one = walked.of_one;
 }
 
--- one that matches is weighed
 pub weigh : (path : List ℕ) (all left : List Ruled) (best : Option Weight) (first : Ruled) → Hits path first →
     IsWalked path all (first ∷ left) best → IsWalked path all left (Some (stronger best (weight_of first)))
 weigh path all left best first hits walked = record {
@@ -112,7 +108,6 @@ weigh path all left best first hits walked = record {
   of_one = stronger_of_one all path best first walked.of_one (walked.rest first (first_of first left)) hits;
 }
 
--- once none is left, the best is that of the strongest line
 pub walked_all : (lines : List Numbered) (word path : List ℕ) (all : List Ruled) (best : Option Weight) → AreRulesFor lines word all →
     IsWalked path all [] best → IsBest lines word path best
 walked_all lines word path all None are walked = λ ruled applies.

@@ -1,5 +1,5 @@
--- The order of weights is total, and lines of which neither is stronger are one.
--- Used by the law on verdicts, and by what finds them.
+-- The order of weights is total: lines of which neither is stronger are equal.
+-- Used by the law on verdicts, and by the searches for the strongest.
 use Rattle.std.proofs.Common.{◌≡◌, ℕ, ◌≤◌, Bool, true, false, refl, sym, arith, eqb-true}
 use Rattle.std.specs.Prelude.{◌==◌, nat_lt, cond}
 use Rattle.std.specs.declared.cmp.Ordering.{Ordering}
@@ -19,7 +19,6 @@ falling_total =
     then_total (on_total (λ (w : Weight). w.octets) (back_total nat_cmp_total))
     (then_total (on_total (λ (w : Weight). kind_place w.kind) nat_cmp_total) (on_total (λ (w : Weight). w.line) nat_cmp_total))
 
--- what a first comparison that is not less leaves to the next
 level_by : (x y : ℕ) (next : Ordering) (less same : Bool) → nat_lt x y ≡ less → (x == y) ≡ same →
     is_lt (ordering_then (cond less Less (cond same Equal Greater)) next) ≡ false → (y ≤ x) × (x ≡ y → is_lt next ≡ false)
 level_by x y next true same less_is same_is not = absurd (true≢false not)
@@ -41,7 +40,6 @@ same_kind Disallow Disallow same = refl
 both : (x y : ℕ) → x ≤ y → y ≤ x → x ≡ y
 both x y low high = omega arith
 
--- of two lines neither of which is stronger, kind and number are the same
 pub same_line : (one other : Weight) → is_lt (falling one other) ≡ false → is_lt (falling other one) ≡ false →
     (one.kind ≡ other.kind) × (one.line ≡ other.line)
 same_line one other below above =

@@ -1,5 +1,5 @@
--- The keys by which plain places are sorted: each has the first octets of its pattern beside it, as a number.
--- Cited by the contracts of `Key`.
+-- The keys that sort plain places, with the first octets of their patterns as a number.
+-- Cited by `Key`.
 use Rattle.std.specs.Prelude.{◌≡◌, ℕ, ◌+◌, ◌*◌, ◌^◌, List}
 use Rattle.path_pattern.specs.Texts.{AreOctets, spelled_number}
 use Rattle.std.specs.declared.cmp.Ordering.{Ordering}
@@ -9,23 +9,23 @@ use Rattle.robots_verdict.specs.declared.keys.Key.{Key}
 use Rattle.robots_verdict.specs.Placed.{Placed}
 use Rattle.robots_verdict.specs.Rows.{row_at}
 
--- the number that both halves make
+-- both halves as a number
 abbrev pub number : Key → ℕ
 number key = key.front * 2 ^ 64 + key.next
 
--- the key is that of its place: its group, and the number that the first sixteen octets of its pattern spell
+-- the key of a place: its group, and the first sixteen octets of its pattern as a number
 pub record IsKeyOf (rows : List Placed) (key : Key) : Type 0 where
   pub group : key.group ≡ (row_at rows key.place).group
   pub spelled : number key ≡ spelled_number 16 0 (row_at rows key.place).form
   pub octets : AreOctets (row_at rows key.place).form
 
--- the order of keys of one group: by their numbers, then as plain places are
+-- the order of a group's keys: by number, then as plain places
 abbrev pub compare_patterns : List Placed → Key → Key → Ordering
 compare_patterns rows one other =
     ordering_then (nat_cmp (number one) (number other))
     (ordering_then (slice_cmp nat_cmp (row_at rows one.place).form (row_at rows other.place).form)
     (nat_cmp other.place one.place))
 
--- the order of keys: by groups, then by patterns
+-- keys in order: by group, then by pattern
 abbrev pub compare_keys : List Placed → Key → Key → Ordering
 compare_keys rows one other = ordering_then (nat_cmp one.group other.group) (compare_patterns rows one other)

@@ -1,4 +1,4 @@
--- What contracts say of policies and of answers.
+-- Definitions for the contracts of policies and answers.
 -- RFC 9309, sections 2.2.2 and 2.3.1.
 pub mod Answer
 pub mod Heads

@@ -1,5 +1,5 @@
--- The rule lines of a robots text as rows, and the groups of its names.
--- What the parts of a policy are seen as.
+-- The rule lines of a robots text as rows, and its groups by name.
+-- The view of a policy's parts.
 use Rattle.std.specs.Prelude.{ℕ, List, [], ◌∷◌, ◌++◌}
 use Rattle.path_normal.specs.Normal.{normal_pattern}
 use Rattle.robots_text.specs.declared.record.RuleKind.{RuleKind}
@@ -7,14 +7,14 @@ use Rattle.robots_text.specs.Grouped.{Grouped}
 use Rattle.robots_text.specs.Records.{everybody, token, nobody, Record, agent, rule, other}
 use Rattle.robots_text.specs.Token.{lower_case}
 
--- a rule line with the number of its group and its pattern in normal form
+-- a rule line with its group and its pattern in normal form
 pub record Placed : Type 0 where
   pub group : ℕ
   pub line : ℕ
   pub kind : RuleKind
   pub form : List ℕ
 
--- the rows of a table, and how many octets it keeps for them
+-- the rows of a table, and the octets kept for them
 pub record Table : Type 0 where
   pub rows : List Placed
   pub octets : ℕ
@@ -29,7 +29,7 @@ pub record Names : Type 0 where
   pub named : List NamedGroup
   pub everybody : List ℕ
 
--- the row that a record of a group makes
+-- the row of a record in a group
 abbrev pub placed_at : ℕ → ℕ → Record → List Placed
 placed_at group line (agent who) = []
 placed_at group line (rule kind value) =
@@ -54,7 +54,7 @@ abbrev pub named_in : List Grouped → List NamedGroup
 named_in [] = []
 named_in (first ∷ lines) = named_at first.group first.kind ++ named_in lines
 
--- the group that a record gives to everybody
+-- a record's group for everybody
 abbrev pub everybody_at : ℕ → Record → List ℕ
 everybody_at group (agent everybody) = group ∷ []
 everybody_at group (agent (token name)) = []

@@ -1,5 +1,5 @@
--- The rows of a policy as they are kept: each points to the octets of its pattern.
--- Cited by the contracts of `Rows`.
+-- The rows of a policy as kept: each points to the octets of its pattern.
+-- Cited by `Rows`.
 use Rattle.std.specs.Prelude.{ℕ, ◌+◌, ◌≤◌, Bool, List, [], length, map, take, drop, slice_index_or}
 use Rattle.robots_text.specs.declared.record.RuleKind.TheVariants.{Allow}
 use Rattle.robots_verdict.specs.declared.rule_row.RuleRow.{RuleRow}
@@ -11,7 +11,7 @@ use Rattle.robots_verdict.specs.Weights.{is_above}
 abbrev pub part : List ℕ → ℕ → ℕ → List ℕ
 part octets start len = take len (drop start octets)
 
--- the row that is kept so
+-- a kept row, as seen
 abbrev pub row_seen : List ℕ → RuleRow → Placed
 row_seen octets row =
     record { group = row.group; line = row.line; kind = row.kind; form = part octets row.start row.len }
@@ -24,19 +24,19 @@ rows_seen octets rows = map (row_seen octets) rows
 abbrev pub IsThere : List ℕ → RuleRow → Type 0
 IsThere octets row = row.start + row.len ≤ length octets
 
--- what a row weighs
+-- a row's weight
 abbrev pub weight_at : Placed → Weight
 weight_at placed = record { octets = length placed.form; kind = placed.kind; line = placed.line }
 
--- the one row is stronger than the other
+-- one row is stronger than the other
 abbrev pub is_row_above : Placed → Placed → Bool
 is_row_above one other = is_above (weight_at one) (weight_at other)
 
--- the same of a row as it is kept
+-- a kept row's weight
 abbrev pub weight_kept : RuleRow → Weight
 weight_kept row = record { octets = row.len; kind = row.kind; line = row.line }
 
--- a row that stands for places past the end
+-- a row for places past the end
 abbrev pub no_row : Placed
 no_row = record { group = 0; line = 0; kind = Allow; form = [] }
 

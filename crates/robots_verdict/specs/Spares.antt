@@ -1,5 +1,5 @@
 -- Spare handles of a policy.
--- Cited by the contracts of `Rules`.
+-- Cited by `Rules`.
 use Rattle.std.specs.Prelude.{◌≡◌, ℕ, List}
 use Rattle.std.specs.Arc.{arc_value}
 use Rattle.robots_verdict.specs.declared.rules.Spares.{Spares}
@@ -11,7 +11,7 @@ count kinds.None = 0
 count (kinds.One _) = 1
 count (kinds.Two _ _) = 2
 
--- each is one of the policy of this text
+-- each is of this text's policy
 abbrev pub AreOf : List ℕ → Spares → Type 0
 AreOf text kinds.None = Unit {0}
 AreOf text (kinds.One first) = arc_value first ≡ text

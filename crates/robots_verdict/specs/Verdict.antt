@@ -1,5 +1,5 @@
--- Which line of a robots text allows or denies a path: of all lines that govern the token and match, the
--- strongest. A relation over the set of lines, with no order in which they are tried.
+-- Which line of a robots text allows or denies a path: the strongest of all lines that govern the token
+-- and match. A relation over the set of lines, in no order.
 -- RFC 9309, section 2.2.2.
 use Rattle.std.specs.Prelude.{◌≡◌, ◌≢◌, ℕ, false, List, codes}
 use Rattle.path_normal.specs.Normal.{normal_pattern}
@@ -13,16 +13,16 @@ use Rattle.robots_verdict.specs.declared.decision.Verdict.{Verdict}
 use Rattle.robots_verdict.specs.declared.decision.Verdict.TheVariants.{Allow, Deny}
 use Rattle.robots_verdict.specs.Weights.{is_above, weight_of}
 
--- the path of robots.txt files, which each crawler may fetch
+-- the path of robots.txt, which each crawler may fetch
 abbrev pub robots_path : List ℕ
 robots_path = codes "/robots.txt"
 
--- the rule line is one for the token, and its pattern matches the path
+-- the rule line is for the token, and its pattern matches the path
 pub record Applies (lines : List Numbered) (word path : List ℕ) (ruled : Ruled) : Type 0 where
   pub for_token : IsRuleFor lines word ruled
   pub matches : Matches (normal_pattern ruled.pattern) path
 
--- of all that apply, none is stronger
+-- no line that applies is stronger
 pub record IsStrongest (lines : List Numbered) (word path : List ℕ) (ruled : Ruled) : Type 0 where
   pub applies : Applies lines word path ruled
   pub strongest : (other : Ruled) → Applies lines word path other → is_above (weight_of other) (weight_of ruled) ≡ false

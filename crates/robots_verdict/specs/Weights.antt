@@ -1,4 +1,4 @@
--- How the lines that match a path rank: which of two is the stronger.
+-- How the lines that match a path rank.
 -- RFC 9309, section 2.2.2; of equal lines the first is named.
 use Rattle.std.specs.Prelude.{ℕ, Bool, length}
 use Rattle.std.specs.declared.cmp.Ordering.{Ordering}
@@ -9,22 +9,21 @@ use Rattle.robots_text.specs.declared.record.RuleKind.TheVariants.{Allow, Disall
 use Rattle.robots_text.specs.Groups.{Ruled}
 use Rattle.robots_verdict.specs.declared.weight.Weight.{Weight}
 
--- allow stands before disallow
+-- allow precedes disallow
 abbrev pub kind_place : RuleKind → ℕ
 kind_place Allow = 0
 kind_place Disallow = 1
 
--- the order of lines, strongest first: more octets before fewer, allow before disallow, and the smaller
--- number before the greater
+-- lines in order, strongest first: more octets, then allow before disallow, then the smaller line number
 abbrev pub falling : Weight → Weight → Ordering
 falling one other =
     ordering_then (nat_cmp other.octets one.octets)
     (ordering_then (nat_cmp (kind_place one.kind) (kind_place other.kind)) (nat_cmp one.line other.line))
 
--- the one is stronger than the other
+-- one is stronger than the other
 abbrev pub is_above : Weight → Weight → Bool
 is_above one other = is_lt (falling one other)
 
--- what a rule line weighs: the octets of its pattern in normal form, its kind and its number
+-- a rule line's weight: its pattern's octets in normal form, its kind and its number
 abbrev pub weight_of : Ruled → Weight
 weight_of ruled = record { octets = length (normal_pattern ruled.pattern); kind = ruled.kind; line = ruled.line }

@@ -1,4 +1,4 @@
-//! What a robots fetch of an authority came to.
+//! The result of a robots fetch.
 //! RFC 9309, section 2.3.1.
 ghost use Rattle.std.specs.Prelude.{◌≡◌, ◌<◌, IfOk};
 ghost use Rattle.robots_verdict.specs.Answer.{said, spares_behind, spares_of, spares_of_twin};
@@ -10,23 +10,23 @@ use robots_text::RobotsText;
 use std::alloc::{AllocError, Global};
 use std::sync::Arc;
 
-/// The answer of an authority's robots.txt. Answers are equal where they say the same.
+/// The answer of an authority's robots.txt. Answers are equal if they say the same.
 #[derive(Drop, PartialEq, Eq)]
 pub enum Answer {
-    /// The rules of the robots.txt bind.
+    /// The rules of the robots.txt apply.
     Rules(Rules),
-    /// There is no robots.txt that binds: every page may be fetched.
+    /// No robots.txt applies: every page may be fetched.
     Open(Opening),
-    /// The robots.txt can't be had or read: no page may be fetched.
+    /// The robots.txt can't be fetched or read: no page may be fetched.
     Closed(Closure),
 }
 
 /// Why an answer is open (RFC 9309, sections 2.3.1.2 and 2.3.1.3).
 #[derive(Clone, Copy, Debug, PartialEq, Eq)]
 pub enum Opening {
-    /// The robots.txt was answered with a status from 400 to 499.
+    /// A status from 400 to 499.
     Unavailable,
-    /// A sixth redirect stood where the file should be.
+    /// A sixth redirect instead of the file.
     TooManyRedirects,
 }
 
@@ -37,11 +37,11 @@ pub enum Closure {
     Server,
     /// The connection or the message failed.
     Network,
-    /// A redirect whose target is missing or is no page URL.
+    /// A redirect without a target, or to no page URL.
     BadRedirect,
     /// A redirect to a scheme other than http.
     Scheme,
-    /// A content coding other than identity.
+    /// A Content-Encoding other than identity.
     Coding,
     /// Any other status.
     Other,
@@ -56,7 +56,7 @@ impl Answer {
         Ok(Answer::Rules(Rules::new(alloc, text)?))
     }
 
-    /// An answer that says the same. It takes no memory, but of rules a spare.
+    /// An answer that says the same. Takes no memory, but a spare if it has rules.
     pub fn twin(&mut self) -> Answer
         requires { 0 < spares_of self.old }
         ensures says { said result ≡ said self.old }
@@ -71,7 +71,7 @@ impl Answer {
         }
     }
 
-    /// Makes an index of its rules, where one pays and memory suffices. What it says stays.
+    /// Makes an index of its rules, if it pays and memory suffices. Its meaning stays.
     pub fn make_index(&mut self, alloc: Global)
         ensures { self.new ≡ self.old }
     {
@@ -80,7 +80,7 @@ impl Answer {
         }
     }
 
-    /// Takes the index of a policy, where its rules have the same text and no index. What it says stays.
+    /// Takes a policy's index if the text is the same and its own rules have none. Its meaning stays.
     pub fn take_index(&mut self, policy: Arc<Policy>)
         ensures { self.new ≡ self.old }
     {
@@ -89,7 +89,7 @@ impl Answer {
         }
     }
 
-    /// Takes a policy in place of that of its rules, where it has the same text and no twin was given. What it says stays.
+    /// Replaces its policy by this one, if the text is the same and no twin was given. Its meaning stays.
     pub fn share(&mut self, policy: Arc<Policy>)
         ensures { self.new ≡ self.old }
     {
@@ -98,8 +98,7 @@ impl Answer {
         }
     }
 
-    /// What it says, beside the answer. It takes none of the spares, and no memory for a text; a handle of a
-    /// policy can be refused all the same.
+    /// What the answer says. Takes no spare, and no memory for a text, but a policy handle can be refused.
     pub fn says(&self) -> Result<Said, AllocError>
         ensures { IfOk result (λ says. says ≡ said self.now) }
     {
@@ -110,7 +109,7 @@ impl Answer {
         }
     }
 
-    /// What it says, for a history to keep. It takes no memory.
+    /// What it says, for a history to keep. Takes no memory.
     pub fn into_said(self) -> Said
         ensures { result ≡ said self }
     {
@@ -121,7 +120,7 @@ impl Answer {
         }
     }
 
-    /// How many twins it can still give: always 2 where no rules bind.
+    /// How many twins it can still give: always 2 without rules.
     pub fn spares(&self) -> u8
         ensures { result ≡ spares_of self.now }
     {

@@ -1,4 +1,4 @@
-//! What a policy says of a path, with the line that says so.
+//! What a policy says of a path, and by which line.
 //! RFC 9309, section 2.2.2.
 ghost use Rattle.std.specs.Prelude.{◌≡◌, ◌↔◌, IsTrue};
 ghost use Rattle.robots_verdict.specs.Verdict.{robots_path};
@@ -20,9 +20,9 @@ pub enum Verdict {
 pub enum Allowed {
     /// The line of this number allows it.
     Line(u64),
-    /// No line for the token matches it.
+    /// No line for the token matches.
     NoRule,
-    /// It is the path of the robots.txt itself.
+    /// It is the path of robots.txt.
     RobotsPath,
 }
 

@@ -13,25 +13,25 @@ use std::alloc::{AllocError, Global};
 use std::cmp::Ordering;
 use std::marker::Model;
 
-/// A name in lower case, and the number of a group that has it.
+/// A name in lower case, and the number of a group with it.
 #[derive(Drop)]
 pub(crate) struct Name {
     text: Vec<u8>,
     group: u32,
 }
 
-/// The names as they are read, and the groups of everybody.
+/// The names in reading order, and the groups for `*`.
 #[derive(Drop)]
 pub(crate) struct NamedGroups {
     names: Vec<Name>,
     everybody: Vec<u32>,
 }
 
-/// The names in order, and the groups of everybody.
+/// The sorted names, and the groups for `*`.
 #[derive(Drop)]
 pub(crate) struct Heads {
     names: Vec<Name>,
-    // The groups of the names, place by place.
+    // The groups of the names, index by index.
     groups: Vec<u32>,
     everybody: Vec<u32>,
 }
@@ -65,7 +65,7 @@ impl NamedGroups {
         }
     }
 
-    /// Adds whom a user-agent line names.
+    /// Adds the name of a user-agent line.
     pub(crate) fn push(
         &mut self,
         alloc: Global,
@@ -90,7 +90,7 @@ impl NamedGroups {
 }
 
 impl Heads {
-    /// Puts the names and the groups of everybody in order.
+    /// Sorts the names and the groups for `*`.
     pub(crate) fn of(alloc: Global, names: NamedGroups) -> Result<Heads, AllocError>
         ensures named { IfOk result (λ heads.
             IsPermutation (map name_seen names.names.items) heads.named) }
@@ -111,8 +111,8 @@ impl Heads {
         })
     }
 
-    /// The groups for a token, in lower case: those of its name, or of everybody where none has it.
-    /// Their numbers rise.
+    /// The groups for a token, in lower case: those of its name, or for `*` if there are none. Their
+    /// numbers rise.
     pub(crate) fn groups_for(&self, token: &[u8]) -> &[u32]
         ensures groups { (group : ℕ) → Contains result.now group
             ↔ IsGroupFor self.now token.now group }

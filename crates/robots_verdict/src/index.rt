@@ -1,5 +1,5 @@
-//! The index of a robots text: its rule lines with the strongest first, where each is found, and the names
-//! of its groups. RFC 9309, section 2.2.2.
+//! The index of a robots text: its rule lines, strongest first, the ways to find them, and the names of
+//! its groups. RFC 9309, section 2.2.2.
 ghost use Rattle.std.specs.Prelude.{◌≡◌, ◌+◌, ◌*◌, ◌^◌, ◌<◌, ◌≤◌, ◌++◌, IfOk, length, map};
 ghost use Rattle.robots_text.specs.Lines.{text_limit};
 ghost use Rattle.robots_text.specs.Grouped.{grouped_records, value_octets};
@@ -14,7 +14,7 @@ use crate::rows::Rows;
 use robots_text::{GroupedRecord, RecordKind, RobotsText};
 use std::alloc::{AllocError, Global};
 
-/// The rows, where each is found, and the names.
+/// The rows, how to find them, and the names.
 #[derive(Drop)]
 pub(crate) struct Index {
     pub(crate) rows: Rows,
@@ -28,7 +28,7 @@ impl Index {
         ensures { IfOk result (IsIndexOf text.now) }
     {
         let (mut rows, names) = read(alloc, text)?;
-        // What is left of growing goes before the lists of places are made.
+        // Spare capacity is freed before the lists of places are made.
         rows.fit();
         rows.sort();
         let ranks = RankedRows::of(alloc, &rows)?;
@@ -37,7 +37,6 @@ impl Index {
     }
 }
 
-// The rows of the text in the order of its lines, and its names.
 fn read(alloc: Global, text: &RobotsText) -> Result<(Rows, NamedGroups), AllocError>
     ensures rows { IfOk result (λ parts. parts.0.rows ≡ placed_in (grouped_records text.now)) }
     ensures few { IfOk result (λ parts. length parts.0.rows ≤ text_limit) }
@@ -55,7 +54,6 @@ fn read(alloc: Global, text: &RobotsText) -> Result<(Rows, NamedGroups), AllocEr
     Ok((rows, names))
 }
 
-// Adds what a record says.
 fn take(
     alloc: Global,
     rows: &mut Rows,

@@ -1,4 +1,4 @@
-//! The plain places in order, sorted by keys that have the first octets of their patterns beside them.
+//! The plain places, sorted by keys that hold the first octets of their patterns.
 //! Used by `Plain`: most comparisons of two keys look at no pattern.
 ghost use Rattle.std.specs.Prelude.{◌≡◌, All, drop, IfOk, map};
 ghost use Rattle.std.specs.List.Sorted.{IsPermutation};
@@ -11,8 +11,7 @@ use path_pattern::{compare_texts, front};
 use std::alloc::{AllocError, Global};
 use std::cmp::Ordering;
 
-/// A place and its group, and the numbers that the first eight octets of its pattern spell and those
-/// behind them.
+/// A place and its group, and its pattern's first sixteen octets as two numbers.
 #[derive(Clone, Copy)]
 pub(crate) struct Key {
     front: u64,
@@ -103,12 +102,11 @@ fn compare_patterns(rows: &Rows, one: &Key, other: &Key) -> Ordering
     }
 }
 
-// The number of both halves.
 fn number(key: &Key) -> u128
     ensures { result ≡ number key.now }
 {
     u128::from(key.front) * HALF + u128::from(key.next)
 }
 
-// The numbers that eight octets spell are below it.
+// One more than eight octets can spell.
 const HALF: u128 = 1 << 64;

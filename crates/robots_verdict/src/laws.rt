@@ -1,4 +1,4 @@
-//! What is true of verdicts, and other readings of them to compare the one of `Policy` with.
+//! Laws of verdicts, and other ways to compute them for comparison.
 //! RFC 9309, section 2.2.2.
 ghost use Rattle.std.specs.Prelude.{◌≡◌, ◌↔◌, ℕ, List, IfOk, IsTrue};
 ghost use Rattle.robots_text.specs.Records.{Numbered, numbered_records};
@@ -15,21 +15,20 @@ use path_pattern::{Path, Pattern};
 use robots_text::{RobotsText, Token};
 use std::alloc::{AllocError, Global};
 
-/// There is one verdict of a text for a token and a path.
+/// A text has one verdict for a token and a path.
 pub fn one_verdict()
     ensures { (lines : List Numbered) (word path : List ℕ) (one other : VerdictValue)
         → IsVerdict lines word path one → IsVerdict lines word path other → one ≡ other }
 {}
 
-/// Whether two answers are equal, which they are just where they say the same.
+/// Whether two answers are equal: if they say the same.
 pub fn are_equal(one: &Answer, other: &Answer) -> bool
     ensures { IsTrue result ↔ (said one.now ≡ said other.now) }
 {
     one == other
 }
 
-/// The verdict of a policy by a walk over the rules for the token, one after another, whether it has an index or not.
-/// It takes no memory.
+/// The verdict of a policy by trying each rule for the token, whether indexed or not. Takes no memory.
 pub fn verdict_plain(policy: &Policy, token: &Token, path: &[u8]) -> Verdict
     ensures { IsVerdict (numbered_records policy.now) token.now path.now result }
 {
@@ -39,7 +38,7 @@ pub fn verdict_plain(policy: &Policy, token: &Token, path: &[u8]) -> Verdict
     verdict_of(policy.strongest_by_text(token, &mut Path::new(path)))
 }
 
-/// The verdict of a text by the rules for the token, one after another. It makes a pattern of each.
+/// The verdict of a text by trying each rule for the token. Makes a pattern of each.
 pub fn verdict_by_patterns(
     alloc: Global,
     text: &RobotsText,
@@ -56,7 +55,6 @@ pub fn verdict_by_patterns(
     Ok(verdict_of(best))
 }
 
-// The weight of the strongest line that applies.
 fn strongest(
     alloc: Global,
     text: &RobotsText,

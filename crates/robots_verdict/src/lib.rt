@@ -1,4 +1,4 @@
-//! Policies, which say by which line of a robots.txt a path is allowed or denied, and answers.
+//! Policies, which decide by a line of a robots.txt whether a path is allowed, and answers.
 //! RFC 9309, sections 2.2.2 and 2.3.1.
 #![tactic(auto)]
 

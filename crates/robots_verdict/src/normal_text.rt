@@ -1,4 +1,4 @@
-//! A robots text whose patterns can be read in their normal forms, and the verdict by its lines.
+//! A robots text with the normal forms of its patterns, and the verdict by its lines.
 //! RFC 9309, section 2.2.2.
 ghost use Rattle.std.specs.Prelude.{◌≡◌, Contains, IfOk};
 ghost use Rattle.path_normal.specs.Normal.{normal_pattern};
@@ -14,7 +14,7 @@ use robots_text::{RobotsText, RuleLine, Token};
 use std::alloc::{AllocError, Global};
 use std::marker::Model;
 
-/// A text, and the normal forms of those patterns that it writes otherwise.
+/// A text, and the normal forms of the patterns that are written otherwise.
 #[derive(Drop)]
 pub(crate) struct NormalText {
     text: RobotsText,
@@ -53,7 +53,7 @@ impl NormalText {
         &self.text
     }
 
-    /// The weight of the strongest line for the token that matches the path. It takes no memory.
+    /// The weight of the strongest line for the token that matches the path. Takes no memory.
     pub(crate) fn strongest(&self, token: &Token, path: &mut Path<'_, '_>) -> Option<Weight>
         ensures { IsBest (numbered_records self.now) token.now path.old result }
     {
@@ -76,7 +76,7 @@ impl NormalText {
         best
     }
 
-    // The pattern of a rule line of the text in its normal form, which may be kept near this place.
+    // A line's pattern in normal form, perhaps kept near this place.
     fn form<'s>(&'s self, rule: RuleLine<'s>, near: &mut usize) -> &'s [u8]
         requires { Contains (numbered_records self.now) (record_ruled (rule_seen rule)) }
         ensures { result.now ≡ normal_pattern rule.entry.pattern.now }

@@ -1,4 +1,4 @@
-//! The rows whose pattern has a special character or is empty: they are tried one after another.
+//! The rows whose pattern has a special character or is empty: they are tried one by one.
 //! RFC 9309, section 2.2.2.
 ghost use Rattle.std.specs.Prelude.{◌≡◌, ◌⊎◌, ◌<◌, false, IfOk, IsTrue, ◌↔◌, length};
 ghost use Rattle.std.specs.List.Sorted.{IsNonDecreasing};
@@ -11,12 +11,11 @@ use path_pattern::{Path, matches};
 use std::alloc::{AllocError, Global};
 use std::cmp::Ordering;
 
-/// The places of the rows that are not plain, in the order of their groups, of each group the
-/// strongest first.
+/// The places of the rows that are not plain, by group, and in each group strongest first.
 #[derive(Drop)]
 pub(crate) struct Others {
     places: Vec<u32>,
-    // The groups of the places, index by index: a search looks at many, and seldom at their rows.
+    // The groups of the places: a search rarely looks at the rows.
     groups: Vec<u32>,
 }
 
@@ -37,8 +36,8 @@ impl Others {
         self.places.len()
     }
 
-    /// The place of the strongest other row of the group that matches the path, or the place that
-    /// was found so far where that row is stronger.
+    /// The place of the group's strongest other row that matches the path, or the place found so far if its
+    /// row is stronger.
     pub(crate) fn least(
         &self,
         rows: &Rows,
@@ -67,7 +66,6 @@ impl Others {
     }
 }
 
-// Whether the place that was found so far is that of a row above the one at this place.
 fn is_above(found: Option<usize>, place: usize) -> bool
     ensures { IsTrue result ↔ IsAbove found place }
 {
@@ -77,7 +75,6 @@ fn is_above(found: Option<usize>, place: usize) -> bool
     }
 }
 
-// How many of the groups are before this one.
 fn count_below(groups: &[u32], group: u32) -> usize
     requires { IsNonDecreasing groups.now }
     ensures { IsGroupCut groups.now group result }

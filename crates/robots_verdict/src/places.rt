@@ -1,4 +1,4 @@
-//! The places of the rows of a policy: which of them are plain, and their groups.
+//! The places of a policy's rows: which are plain, and their groups.
 //! RFC 9309, section 2.2.2.
 ghost use Rattle.std.specs.Prelude.{◌≡◌, ◌<◌, ◌≤◌, false, true, IfOk, length};
 ghost use Rattle.path_normal.specs.Normal.{is_anchored};

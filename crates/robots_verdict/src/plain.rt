@@ -1,6 +1,5 @@
-//! The plain rows by their texts: a pattern without special characters matches just the paths that begin
-//! with it.
-//! RFC 9309, section 2.2.2.
+//! The plain rows by their texts: a pattern without special characters matches exactly the paths of which
+//! it is a prefix. RFC 9309, section 2.2.2.
 ghost use Rattle.std.specs.Prelude.{◌≡◌, ◌∷◌, ◌<◌, ◌≤◌, ◌==◌, ℕ, false, true, IfOk, length};
 ghost use Rattle.std.specs.List.Sorted.{IsSortedBy};
 ghost use Rattle.std.specs.Ordering.{is_gt, is_lt, nat_cmp};
@@ -17,13 +16,13 @@ use path_pattern::compare_texts;
 use std::alloc::{AllocError, Global};
 use std::cmp::Ordering;
 
-/// The places of the plain rows, in the order of their groups and texts.
+/// The places of the plain rows, by group and text.
 #[derive(Drop)]
 pub(crate) struct Plain {
     places: Vec<u32>,
-    // The groups of the places, index by index: a search looks at many, and seldom at their rows.
+    // The groups of the places: a search rarely looks at the rows.
     groups: Vec<u32>,
-    // The index of the longest other that begins it, of the same group.
+    // The index of the longest other one that is its prefix, in the same group.
     parents: Vec<Option<u32>>,
 }
 
@@ -45,7 +44,7 @@ impl Plain {
         })
     }
 
-    /// The place of the strongest plain row of the group that begins the path.
+    /// The place of the group's strongest plain row that is a prefix of the path.
     pub(crate) fn least(&self, rows: &Rows, group: u32, path: &[u8]) -> Option<usize>
         requires falling { IsSortedBy is_row_above rows.now.rows }
         requires index { IsPlainIndex rows.now.rows self.now.places.items self.now.groups.items
@@ -82,7 +81,6 @@ fn parents_of(alloc: Global, rows: &Rows, places: &[u32]) -> Result<Vec<Option<u
     Ok(parents)
 }
 
-// How many of the keys are not behind a group and a path.
 fn count_to(rows: &Rows, places: &[u32], groups: &[u32], group: u32, path: &[u8]) -> usize
     requires rise { IsPlainOrder rows.now.rows places.now }
     requires groups { groups.now ≡ groups_at rows.now.rows places.now }
@@ -101,8 +99,8 @@ fn count_to(rows: &Rows, places: &[u32], groups: &[u32], group: u32, path: &[u8]
     low
 }
 
-// The last of the first keys that begins a group and a path, none of them behind these. What begins
-// the path begins the last of them, so the chain of those that begin it has them all.
+// The last prefix of a group and a path among the first keys, none of which is after these. All the path's
+// prefixes are prefixes of the last key, so they are in its chain of parents.
 fn last_begun(
     rows: &Rows,
     places: &[u32],
@@ -139,7 +137,6 @@ fn last_begun(
     Some(last as u32)
 }
 
-// How many octets both texts begin with.
 fn common(one: &[u8], other: &[u8]) -> usize
     ensures { result ≡ common one.now other.now }
 {
@@ -160,7 +157,6 @@ fn common(one: &[u8], other: &[u8]) -> usize
     count
 }
 
-// Whether the pattern of a place, of this group, is behind a group and a path.
 fn is_behind(rows: &Rows, of: u32, place: u32, group: u32, path: &[u8]) -> bool
     ensures { result ≡ is_gt (slice_cmp nat_cmp (of ∷ (row_at rows.now.rows place).form)
         (group ∷ path.now)) }

@@ -1,4 +1,4 @@
-//! A robots text that is ready to be asked for verdicts.
+//! A robots text, ready for verdicts.
 //! RFC 9309, section 2.2.2.
 ghost use Rattle.std.specs.Prelude.{◌≡◌, ◌≢◌, IfOk};
 ghost use Rattle.std.specs.Arc.{arc_value};
@@ -19,34 +19,34 @@ use std::marker::Model;
 use std::sync::Arc;
 use std::sync::atomic::{AtomicU64, Ordering};
 
-// After so many walks over the text an index is made. It takes the time of one or two of them, but up to four times
-// the memory of the text, and a crawl asks most sites less often.
+// An index is made after this many walks over the text. It takes as long as one or two walks, but up to
+// four times the text's memory, and most sites are asked less often.
 const WALKS: u64 = 16;
 
-// The longest text over which a verdict walks in about ten microseconds, and how many patterns with special characters it
-// tries in as long.
+// The longest text that is walked in about ten microseconds, and how many patterns with special characters
+// take as long.
 const SHORT_TEXT: usize = 1_024;
 
 const FEW_OTHERS: usize = 32;
 
-// To put the places of a path in order takes a few milliseconds, a tenth of one where the path is short. It pays where
-// patterns with wildcards may take longer: on a path of more octets than these, over a text of more than those that has
-// more wildcards than this, or by an index with as many such patterns.
+// Sorting a path's places takes a few milliseconds, a tenth of one for a short path. It pays if wildcards
+// may take longer: for a path over `SHORT_PATH` octets, with a text over `LONG_TEXT` that has more than
+// `FEW_STARS` wildcards, or an index with as many such patterns.
 const SHORT_PATH: usize = 512;
 
 const LONG_TEXT: usize = 16_384;
 
 const FEW_STARS: usize = 64;
 
-// A text with more wildcards than these has its index after the first walk that tries them on a long path.
+// A text with more wildcards is indexed after the first walk that tries them on a long path.
 const MANY_STARS: usize = 1_000;
 
-/// A robots text, and an index of its rules, where one was made. Without it, verdicts walk over the text.
+/// A robots text, perhaps indexed. Without an index, verdicts walk over the text.
 #[derive(Drop)]
 pub struct Policy {
     text: Arc<NormalText>,
     index: Option<Index>,
-    // How many verdicts have walked over the text.
+    // How many verdicts walked over the text.
     walks: AtomicU64,
 }
 
@@ -67,8 +67,7 @@ impl Model for Policy {
 }
 
 impl Policy {
-    /// The policy of a text, without an index. It takes memory for the patterns that are not written in
-    /// their normal forms.
+    /// The policy of a text, without an index. Allocates the patterns that are not written in normal form.
     pub fn new(alloc: Global, text: RobotsText) -> Result<Policy, AllocError>
         ensures { IfOk result (λ policy. policy ≡ text) }
     {
@@ -80,7 +79,7 @@ impl Policy {
         })
     }
 
-    /// This policy with an index. It takes memory for its rules, but none for the text.
+    /// This policy with an index. Allocates its rules, but not the text.
     pub fn indexed(&self, alloc: Global) -> Result<Policy, AllocError>
         ensures { IfOk result (λ policy. policy ≡ self.now) }
     {
@@ -97,13 +96,13 @@ impl Policy {
         self.index.is_some()
     }
 
-    /// Whether so many verdicts have walked over the text that an index pays.
+    /// Whether enough verdicts walked over the text for an index to pay.
     pub fn wants_index(&self) -> bool {
         self.index.is_none() && self.walks.load(Ordering::Relaxed) >= WALKS
     }
 
-    /// Whether a verdict takes long, so that no lock should be held for it: without an index by the length of
-    /// the text, with one by how many patterns have special characters. So it does where an index is wanted.
+    /// Whether a verdict is slow, so that no lock should be held for it: by the text's length, or, if
+    /// indexed, by its patterns with special characters. Also true while an index is wanted.
     pub fn is_slow(&self) -> bool {
         match &self.index {
             Some(index) => index.ranks.other_count() > FEW_OTHERS,
@@ -111,15 +110,15 @@ impl Policy {
         }
     }
 
-    /// The text that the policy was made of.
+    /// The text of the policy.
     pub fn text(&self) -> &RobotsText
         ensures { result.now ≡ self.now }
     {
         self.text.text()
     }
 
-    /// Whether a crawler of this token may fetch the path, which is to be in normal form, and by
-    /// which line. It takes no memory.
+    /// Whether a crawler with this token may fetch the path, given in normal form, and by which line. Takes
+    /// no memory.
     pub fn verdict(&self, token: &Token, path: &[u8]) -> Verdict
         ensures { IsVerdict (numbered_records self.now) token.now path.now result }
     {
@@ -133,8 +132,8 @@ impl Policy {
         }
     }
 
-    // Whether to put the places of a path in order pays: where it is long, and where many patterns with special characters
-    // may be tried on it.
+    // Whether sorting the path's places pays: it is long, and many patterns with special characters may be
+    // tried on it.
     fn wants_places(&self, path: &[u8]) -> bool {
         path.len() > SHORT_PATH
             && match &self.index {
@@ -146,8 +145,8 @@ impl Policy {
             }
     }
 
-    // The verdict where many patterns may be tried on a long path. What is kept of the path takes much of the stack,
-    // which other verdicts need not have.
+    // The verdict when many patterns may be tried on a long path. Takes much stack, which other verdicts
+    // don't need.
     #[inline(never)]
     fn slow_verdict(&self, token: &Token, path: &[u8]) -> Verdict
         requires { path.now ≢ robots_path }
@@ -158,14 +157,13 @@ impl Policy {
         self.verdict_elsewhere(token, &mut Path::with(path, &places, &mut room))
     }
 
-    // Counts a walk that tries very many patterns as all those after which an index pays.
+    // Counts a walk that tries very many patterns as enough for an index.
     fn count_slow(&self) {
         if self.index.is_none() && has_more_stars(self.text().bytes(), MANY_STARS) {
             self.walks.fetch_add(WALKS, Ordering::Relaxed);
         }
     }
 
-    // The verdict on a path that is not that of robots.txt files.
     fn verdict_elsewhere(&self, token: &Token, path: &mut Path<'_, '_>) -> Verdict
         requires { path.old ≢ robots_path }
         ensures { IsVerdict (numbered_records self.now) token.now path.old result }
@@ -179,7 +177,6 @@ impl Policy {
         }
     }
 
-    // The verdict by the index, on a path that is not that of robots.txt files.
     fn verdict_by(&self, index: &Index, token: &Token, path: &mut Path<'_, '_>) -> Verdict
         requires index { IsIndexOf self.now index.now }
         requires elsewhere { path.old ≢ robots_path }

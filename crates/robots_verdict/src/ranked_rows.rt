@@ -1,4 +1,4 @@
-//! The strongest row that matches a path, found without a walk past rows that can't match.
+//! The strongest row that matches a path, found without trying rows that can't match.
 //! RFC 9309, section 2.2.2.
 ghost use Rattle.std.specs.Prelude.{◌≡◌, ◌⊎◌, ◌≤◌, IfOk, length};
 ghost use Rattle.std.specs.List.Sorted.{IsSortedBy};
@@ -14,8 +14,7 @@ use crate::rows::Rows;
 use path_pattern::Path;
 use std::alloc::{AllocError, Global};
 
-/// The places of the rows in two lists. A place is a rank: the smaller one is that of the stronger
-/// row.
+/// The places of the rows in two lists. A place is a rank: the smaller, the stronger.
 #[derive(Drop)]
 pub(crate) struct RankedRows {
     plain: Plain,
@@ -34,7 +33,7 @@ impl RankedRows {
         Ok(RankedRows { plain, others })
     }
 
-    /// How many rows have patterns that are not plain.
+    /// How many rows are not plain.
     pub(crate) fn other_count(&self) -> usize {
         self.others.count()
     }
@@ -54,7 +53,7 @@ impl RankedRows {
         let mut found = None;
         let mut last = None;
         for group in groups {
-            // A group stands here once for each of its user-agent lines, one beside the other.
+            // A group is listed once for each of its user-agent lines, side by side.
             if last != Some(*group) {
                 found = self.first_of(rows, *group, path, found);
                 last = Some(*group);
@@ -63,7 +62,7 @@ impl RankedRows {
         found
     }
 
-    // The place of the first such row of one group, or the one that was found so far if that row is stronger.
+    // The first such place in one group, or the place found so far if its row is stronger.
     fn first_of(
         &self,
         rows: &Rows,
@@ -82,7 +81,6 @@ impl RankedRows {
     }
 }
 
-// The smaller of two places.
 fn lesser(one: Option<usize>, other: Option<usize>) -> Option<usize>
     ensures { FindsLeast (λ place. IsFound one place ⊎ IsFound other place) result }
 {

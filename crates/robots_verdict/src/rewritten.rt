@@ -1,4 +1,4 @@
-//! The rule lines of a text whose patterns are not written in their normal forms, with those forms.
+//! The rule lines of a text whose patterns are not in normal form, with their normal forms.
 //! RFC 9309, section 2.2.2.
 ghost use Rattle.std.specs.Prelude.{◌≡◌, ◌+◌, ◌*◌, ◌^◌, ◌∷◌, ◌≤◌, ◌<◌, ◌++◌, [], IfOk, IsTrue, length, map, MatchOption};
 ghost use Rattle.std.specs.List.Sorted.{IsNonDecreasing};
@@ -12,7 +12,7 @@ use robots_text::{GroupedRecord, RecordKind, RobotsText};
 use std::alloc::{AllocError, Global};
 use std::marker::Model;
 
-/// Where the form of a line lies among the octets of all forms.
+/// Where a line's form is among the octets of all forms.
 #[derive(Clone, Copy)]
 pub(crate) struct Form {
     pub line: u32,
@@ -20,7 +20,7 @@ pub(crate) struct Form {
     pub len: u32,
 }
 
-/// Those rule lines, in the order of their lines.
+/// Those rule lines, in line order.
 #[derive(Drop)]
 pub(crate) struct Rewritten {
     octets: Vec<u8>,
@@ -63,7 +63,6 @@ impl Rewritten {
         }
     }
 
-    // Adds a line with its pattern in normal form.
     fn push(&mut self, line: u32, form: &[u8]) -> Result<(), AllocError>
         requires { self.old.octets + length form.now < 2 ^ 32 }
         ensures line { IfOk result (λ _. self.new.of_lines
@@ -80,7 +79,6 @@ impl Rewritten {
         Ok(())
     }
 
-    // Gives back the memory that no form needs.
     fn fit(&mut self)
         ensures { self.new ≡ self.old }
     {
@@ -88,8 +86,8 @@ impl Rewritten {
         self.forms.shrink_to_fit();
     }
 
-    /// The normal form of the pattern of the line of this number, where it is not written so. It is looked for at this place
-    /// first, which is then that of the next line's: a walk over the lines seldom has to search.
+    /// The normal form of this line's pattern, if written otherwise. Tries this place first and sets it to
+    /// the next line's, so a walk over the lines seldom searches.
     pub(crate) fn form_near(&self, line: u64, near: &mut usize) -> Option<&[u8]>
         requires { IsNonDecreasing (map (λ form. form.line) self.now.of_lines) }
         ensures { MatchOption result (HasNoForm self.now.of_lines line)
@@ -118,7 +116,7 @@ impl Rewritten {
         }
     }
 
-    // Whether the forms before this place are of lines before this one, and those from there on of lines behind it.
+    // Whether the forms up to this place are of earlier lines, the others of later ones.
     fn is_gap(&self, line: u64, place: usize) -> bool
         requires { IsNonDecreasing (map (λ form. form.line) self.now.of_lines) }
         ensures { IsTrue result → HasNoForm self.now.of_lines line }
@@ -162,8 +160,7 @@ fn read(alloc: Global, text: &RobotsText) -> Result<Rewritten, AllocError>
     Ok(rewritten)
 }
 
-// Adds the line of a record whose pattern is written otherwise. The form of each pattern is made in
-// the same memory.
+// Adds a record's line if its pattern is not in normal form. Reuses one buffer.
 fn take(
     rewritten: &mut Rewritten,
     form: &mut Vec<u8>,

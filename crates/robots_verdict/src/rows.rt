@@ -1,4 +1,4 @@
-//! The rows of a policy, in one list, with the octets of all their patterns in another.
+//! The rows of a policy in one list, and the octets of their patterns in another.
 //! RFC 9309, section 2.2.2.
 ghost use Rattle.std.specs.Prelude.{◌≡◌, ◌+◌, ◌*◌, ◌^◌, ◌∷◌, ◌++◌, [], ◌<◌, ◌≤◌, length, IfOk, IfSome};
 ghost use Rattle.std.specs.List.Sorted.{IsPermutation, IsSortedBy};
@@ -49,7 +49,7 @@ impl Rows {
         }
     }
 
-    /// Adds a rule line, with its pattern as it stands in the text.
+    /// Adds a rule line, with its pattern as in the text.
     pub(crate) fn push(
         &mut self,
         group: u32,
@@ -77,7 +77,7 @@ impl Rows {
         Ok(())
     }
 
-    /// Gives back the memory that no row needs.
+    /// Frees spare capacity.
     pub(crate) fn fit(&mut self)
         ensures { self.new ≡ self.old }
     {
@@ -85,7 +85,7 @@ impl Rows {
         self.rows.shrink_to_fit();
     }
 
-    /// Puts the strongest first. It takes no memory.
+    /// Sorts the strongest first. Takes no memory.
     pub(crate) fn sort(&mut self)
         ensures permutation { IsPermutation self.old.rows self.new.rows }
         ensures falling { IsSortedBy is_row_above self.new.rows }
@@ -102,7 +102,7 @@ impl Rows {
         self.rows.len()
     }
 
-    /// The number of the row's group, and 0 past the end.
+    /// The row's group, and 0 past the end.
     pub(crate) fn group(&self, place: usize) -> u32
         ensures { result ≡ (row_at self.now.rows place).group }
     {
@@ -125,7 +125,7 @@ impl Rows {
         }
     }
 
-    /// The verdict by the first row that decides, where one does.
+    /// The verdict by the first row that decides, if any.
     pub(crate) fn verdict(&self, first: Option<usize>) -> Verdict
         requires { IfSome first (λ place. place < length self.now.rows) }
         ensures { result ≡ verdict_at self.now.rows first }

@@ -1,10 +1,9 @@
-//! A row of a policy: a rule line, of which the pattern lies among the octets of all patterns.
+//! A row of a policy: a rule line, whose pattern is among the octets of all patterns.
 //! Used by `Rows`.
 
 use robots_text::RuleKind;
 
-/// A rule line: where its pattern in normal form lies, its kind, and the numbers of its line and
-/// group.
+/// A rule line: the location of its pattern in normal form, its kind, its line and its group.
 #[derive(Clone, Copy)]
 pub(crate) struct RuleRow {
     pub start: u32,

@@ -1,4 +1,4 @@
-//! The answer of a robots.txt that could be read: its policy, with spare handles of it.
+//! The answer of a readable robots.txt: its policy, with spare handles.
 //! RFC 9309, section 2.3.1.1.
 ghost use Rattle.std.specs.Prelude.{◌≡◌, ◌+◌, ◌<◌, ℕ, List, IfOk, bytes_eq};
 ghost use Rattle.std.specs.Cmp.{on_equiv, partial_equiv_from_equiv};
@@ -15,7 +15,7 @@ use std::marker::Model;
 use std::mem;
 use std::sync::Arc;
 
-// Handles of the same policy, kept since the clone of an `Arc` can be refused.
+// Handles of the same policy, since cloning an `Arc` can fail.
 #[derive(Drop)]
 enum Spares {
     None,
@@ -23,7 +23,7 @@ enum Spares {
     Two(Arc<Policy>, Arc<Policy>),
 }
 
-/// The policy of an answer, which is shared, and up to two spare handles of it.
+/// The shared policy of an answer, and up to two spare handles.
 #[derive(Drop)]
 pub struct Rules {
     policy: Arc<Policy>,
@@ -54,7 +54,6 @@ impl Rules {
         Rules::of(Arc::new(alloc, Policy::new(alloc, text)?)?)
     }
 
-    // Rules of this policy, with two spares.
     fn of(policy: Arc<Policy>) -> Result<Rules, AllocError>
         ensures { IfOk result (λ rules. rules ≡ record { text = arc_value policy; spares = 2 }) }
     {
@@ -66,7 +65,7 @@ impl Rules {
         })
     }
 
-    /// Rules of the same policy without a spare, made of one of the spares.
+    /// Rules of the same policy without spares; spends a spare.
     pub(crate) fn twin(&mut self) -> Rules
         requires { 0 < self.old.spares }
         ensures twin { result ≡ record { text = self.old.text; spares = 0 } }
@@ -90,14 +89,14 @@ impl Rules {
         }
     }
 
-    /// The policy that binds.
+    /// The policy that applies.
     pub fn policy(&self) -> &Policy
         ensures { result.now ≡ self.now.text }
     {
         &self.policy
     }
 
-    /// A handle of the policy, which takes none of the spares, for a history.
+    /// A handle of the policy for a history; the spares stay.
     pub(crate) fn policy_handle(&self) -> Result<PolicyHandle, AllocError>
         ensures { IfOk result (λ handle. handle ≡ self.now.text) }
     {
@@ -115,7 +114,7 @@ impl Rules {
         }
     }
 
-    /// Makes an index, where one pays and memory suffices.
+    /// Makes an index, if it pays and memory suffices.
     pub fn make_index(&mut self, alloc: Global)
         ensures { self.new ≡ self.old }
     {
@@ -127,7 +126,7 @@ impl Rules {
         }
     }
 
-    /// Takes a policy in place of theirs, where it has the same text and theirs has no index.
+    /// Replaces its policy by this one, if the text is the same and its own has no index.
     pub fn take_index(&mut self, policy: Arc<Policy>)
         ensures { self.new ≡ self.old }
     {
@@ -139,8 +138,8 @@ impl Rules {
         }
     }
 
-    /// Takes a policy in place of theirs, where it has the same text and no spare was spent, so that this lies in memory
-    /// once. Where a handle is refused theirs stays.
+    /// Replaces its policy by this one, if the text is the same and no spare was spent, so that it is in
+    /// memory once. If a handle is refused its own stays.
     pub fn share(&mut self, policy: Arc<Policy>)
         ensures { self.new ≡ self.old }
     {
@@ -152,7 +151,7 @@ impl Rules {
         }
     }
 
-    /// A handle of the policy, which takes none of the spares.
+    /// A handle of the policy; the spares stay.
     pub fn handle(&self) -> Result<Arc<Policy>, AllocError>
         ensures { IfOk result (λ handle. arc_value handle ≡ self.now.text) }
     {
@@ -160,7 +159,7 @@ impl Rules {
     }
 }
 
-/// The policy with an index, where one pays and memory suffices, and else as it is.
+/// The policy with an index if it pays and memory suffices, else unchanged.
 pub fn with_index(alloc: Global, policy: Arc<Policy>) -> Arc<Policy>
     ensures { arc_value result ≡ arc_value policy }
 {
@@ -179,7 +178,7 @@ fn indexed(alloc: Global, policy: &Policy) -> Result<Arc<Policy>, AllocError>
     Ok(Arc::new(alloc, policy.indexed(alloc)?)?)
 }
 
-/// Rules are equal where their texts are, whatever spares they have.
+/// Rules are equal if their texts are.
 impl PartialEq for Rules {
     ghost eq = { λ a b. bytes_eq a.text b.text };
 

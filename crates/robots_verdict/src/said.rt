@@ -1,4 +1,4 @@
-//! What an answer says, whatever spares it has: histories keep it, and compare by it.
+//! What an answer says, without spares: histories keep and compare it.
 //! RFC 9309, section 2.3.1.
 ghost use Rattle.std.specs.Prelude.{◌≡◌, bytes_eq};
 ghost use Rattle.std.specs.Cmp.{partial_equiv_from_equiv};
@@ -9,18 +9,18 @@ use crate::policy::Policy;
 use std::marker::Model;
 use std::sync::Arc;
 
-/// What an answer says. It has no spares, so that no twin can be made of it.
+/// What an answer says. Without spares, it can't make twins.
 #[derive(Drop, PartialEq, Eq)]
 pub enum Said {
-    /// The rules of the robots.txt bind.
+    /// The rules of the robots.txt apply.
     Rules(PolicyHandle),
-    /// There is no robots.txt that binds: every page may be fetched.
+    /// No robots.txt applies: every page may be fetched.
     Open(Opening),
-    /// The robots.txt can't be had or read: no page may be fetched.
+    /// The robots.txt can't be fetched or read: no page may be fetched.
     Closed(Closure),
 }
 
-/// A handle of a policy, which is shared. A clause sees it as the policy's text.
+/// A handle of a shared policy. A clause sees it as the policy's text.
 #[derive(Drop)]
 pub struct PolicyHandle {
     pub(crate) policy: Arc<Policy>,
@@ -40,7 +40,7 @@ impl Model for PolicyHandle {
 }
 
 impl PolicyHandle {
-    /// The policy that binds.
+    /// The policy that applies.
     pub fn policy(&self) -> &Policy
         ensures { result.now ≡ self.now }
     {
@@ -48,7 +48,7 @@ impl PolicyHandle {
     }
 }
 
-/// Handles are equal where the texts of their policies are.
+/// Handles are equal if their policies' texts are.
 impl PartialEq for PolicyHandle {
     ghost eq = { λ a b. bytes_eq a b };
 

@@ -8,8 +8,7 @@ ghost use Rattle.robots_verdict.specs.Strongest.{stronger};
 use robots_text::RuleKind;
 use std::cmp::Ordering;
 
-/// What makes a rule line stronger than another: the octets of its pattern in normal form, then its
-/// kind, then the number of its line.
+/// A rule line's rank: the octets of its pattern in normal form, then its kind, then its line.
 #[derive(Clone, Copy)]
 pub(crate) struct Weight {
     pub octets: usize,
@@ -36,7 +35,7 @@ impl Weight {
     }
 }
 
-/// The order of two kinds in which the stronger one comes first.
+/// The order of two kinds, stronger first.
 pub fn compare_kinds(one: RuleKind, other: RuleKind) -> Ordering
     ensures { result ≡ nat_cmp (kind_place one) (kind_place other) }
 {
@@ -47,7 +46,7 @@ pub fn compare_kinds(one: RuleKind, other: RuleKind) -> Ordering
     }
 }
 
-/// The stronger of the two; of lines that rank alike, the former.
+/// The stronger of the two; if they rank alike, the former.
 pub(crate) fn stronger(best: Option<Weight>, other: Weight) -> Weight
     ensures { result ≡ stronger best other }
 {

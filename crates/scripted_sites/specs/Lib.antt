@@ -1,3 +1,3 @@
--- What sites in memory give, by which tests and contracts know their pages.
+-- What sites in memory give, for tests and contracts.
 -- `crates/scripted_sites/src` has the code.
 pub mod Scripted

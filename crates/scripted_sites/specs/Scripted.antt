@@ -1,5 +1,5 @@
 -- What sites in memory give for a URL.
--- The contracts of `ScriptedSites` cite it.
+-- Used by `ScriptedSites`.
 use Rattle.std.specs.Prelude.{◌≡◌, ℕ, List, [], ◌∷◌, Option, None, Some, Result, Err, MatchOption, bytes_eq, if◌then◌else◌}
 use Rattle.http_wire.specs.declared.fault.WireFault.{WireFault}
 use Rattle.http_wire.specs.declared.fault.WireFault.TheVariants.{Device}
@@ -13,11 +13,11 @@ scripted_response [] url = None
 scripted_response (page ∷ pages) url =
     if bytes_eq page.url.now url then Some page.response.now else scripted_response pages url
 
--- the result is what that response gives within a limit, or the fault of a host that is not there
+-- the result is that response within a limit, or the fault of an unknown host
 abbrev pub IsScripted : List ScriptedPage → List ℕ → ℕ → Result HttpReply WireFault → Type 0
 IsScripted pages url limit result =
     MatchOption (scripted_response pages url) (result ≡ Err Device) (λ response. Tells (Some response) limit result)
 
--- the same, in the order of a fetcher's predicate
+-- `IsScripted` with the arguments of a fetcher's predicate
 abbrev pub GivesScripted : List ScriptedPage → ℕ → List ℕ → Result HttpReply WireFault → Type 0
 GivesScripted pages limit url result = IsScripted pages url limit result

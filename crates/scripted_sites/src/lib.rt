@@ -1,5 +1,5 @@
-//! Sites in memory, which stand in for a network in tests.
-//! The product does not use them: a page of theirs is fetched under the leave that a page over TCP needs.
+//! Sites in memory, as a network for tests.
+//! The product does not use them: fetching their pages needs the same leave as over TCP.
 #![tactic(auto)]
 
 mod sites;

@@ -1,4 +1,4 @@
-//! Sites in memory, whose responses are written down. They stand in for a network in tests.
+//! Sites in memory with written responses, as a network for tests.
 ghost use Rattle.std.specs.Prelude.{◌≡◌};
 ghost use Rattle.std.specs.Option.{option_map};
 ghost use Rattle.scripted_sites.specs.Scripted.{IsScripted, scripted_response};
@@ -11,27 +11,26 @@ use path_normal::{PageUrl, Schemes};
 use robots_text::MAX_TEXT;
 use std::alloc::Global;
 
-// The octets of a robots.txt that are read: what is kept, and one that tells that there are more.
+// The octets read of a robots.txt: those that are kept, and one that shows that there are more.
 const ROBOTS_LIMIT: usize = MAX_TEXT + 1;
 
-/// A page of a site in memory: its URL as `PageUrl::text` gives it, and its response, heads and all.
+/// A page in memory: its URL as by `PageUrl::text`, and its whole response, with head.
 #[derive(Clone, Copy)]
 pub struct ScriptedPage<'a> {
     pub url: &'a str,
     pub response: &'a [u8],
 }
 
-/// What fetches from pages in memory. For a URL that none of them has it gives `Device`, as of a
-/// host that is not there.
+/// Fetches pages in memory. Unknown URLs give `Device`, like an unknown host.
 #[derive(Drop)]
 pub struct ScriptedSites<'a> {
     pub alloc: Global,
-    /// Of two pages with one URL the first counts.
+    /// The first page with a URL counts.
     pub pages: &'a [ScriptedPage<'a>],
 }
 
 impl<'a> ScriptedSites<'a> {
-    // The response that is written down for a URL.
+    // The response for a URL.
     fn response(&self, url: &PageUrl) -> Option<&'a [u8]>
         ensures { option_map (λ response. response.now) result
             ≡ scripted_response self.now.pages.now url.now }
@@ -62,7 +61,7 @@ impl<'a> Fetcher for ScriptedSites<'a> {
 
     ghost follows = { λ _. Http };
 
-    /// Sites in memory are of `http` alone.
+    /// Sites in memory are of `http` only.
     fn schemes(&self) -> Schemes {
         Schemes::Http
     }

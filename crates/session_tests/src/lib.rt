@@ -1,4 +1,4 @@
-//! Tests of a client's sessions over keepers: a book alone, and desks of one gate.
+//! Tests of a client's sessions with keepers: a book alone, and desks of one gate.
 #![tactic(auto)]
 
 #[cfg(test)]

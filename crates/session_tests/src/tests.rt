@@ -1,4 +1,4 @@
-//! Sessions of clients: over memory, at a clock that stands or that the row moves.
+//! Sessions of clients over memory, at a fixed clock or one that the row moves.
 ghost use Rattle.std.specs.Prelude.{◌≡◌, [], IfOk};
 ghost use Rattle.gate_history.specs.Base.{empty_base};
 ghost use Rattle.gate_core.specs.Limits.{AreLimits};
@@ -22,7 +22,7 @@ use std::random::RandomSource;
 use std::sync::Wait;
 use std::test::Fail;
 
-// A clock that stands.
+// A fixed clock.
 #[derive(Clone, Copy)]
 struct FixedClock(u64);
 
@@ -32,7 +32,7 @@ impl Clock for FixedClock {
     }
 }
 
-// The sites of the rows: `a.example` has no robots.txt and one page, `b.example` denies one of its pages.
+// The rows' sites: `a.example` has one page and no robots.txt, `b.example` denies one of its pages.
 const PAGES: [ScriptedPage<'static>; 5] = [
     ScriptedPage {
         url: "http://a.example/robots.txt",
@@ -56,7 +56,6 @@ const PAGES: [ScriptedPage<'static>; 5] = [
     },
 ];
 
-// A book with these limits.
 fn book(rt: &impl RandomSource, alloc: Global, limits: Limits) -> Result<Book, Fail>
     requires { AreLimits limits }
     ensures { IfOk result (λ book. (book.base ≡ empty_base) × (book.entries ≡ [])) }
@@ -68,7 +67,7 @@ fn book(rt: &impl RandomSource, alloc: Global, limits: Limits) -> Result<Book, F
     Ok(Book::new(alloc, config)?)
 }
 
-// A session to its end, at 110.
+// A session to its end, at moment 110.
 fn served<R: Source, W: Sink, K: Keeper>(
     alloc: Global,
     reader: &mut R,
@@ -78,10 +77,8 @@ fn served<R: Source, W: Sink, K: Keeper>(
     serve(alloc, reader, writer, keeper, &FixedClock(110))
 }
 
-// How a session ends, and what its gate is settled to.
 type Ended = (Result<(), SessionFault>, Result<Settled, SettleFault>);
 
-// A session at the only desk of a gate.
 fn session_at<G: Gate, R: Wait>(
     rt: &R,
     alloc: Global,
@@ -100,7 +97,7 @@ fn session_at<G: Gate, R: Wait>(
     Ok((end, settle(rt, alloc, gate, all.as_slice())))
 }
 
-// Holds where the row of this name is as it must be.
+// Fails with the row's name unless both are equal.
 fn demand(given: &[u8], want: &str, name: &str) -> Result<(), Fail> {
     if given == want.as_bytes() {
         Ok(())

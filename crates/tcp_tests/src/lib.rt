@@ -1,5 +1,5 @@
-//! Tests of pages over TCP, and of lines of jobs that several workers draw from.
-//! Each module says whence its rows come.
+//! Tests of pages over TCP, and of lines of jobs for several workers.
+//! Each module names the source of its rows.
 #![tactic(auto)]
 
 #[cfg(test)]

@@ -1,4 +1,4 @@
-//! Tests of what clauses don't show: real connections on the loopback, their servers, their faults and their times.
+//! Tests beyond the clauses: real loopback connections, with their servers, faults and times.
 
 mod endings;
 mod fetches;

@@ -1,4 +1,5 @@
-//! What only code can show of texts, answers and messages; what they are read as is shown by rows of the built program.
+//! What only code can show of texts, answers and messages; rows of the built program show what they are
+//! read as.
 //! RFC 9309, section 2; RFC 9112.
 
 mod answers;

@@ -1,5 +1,5 @@
-//! Tests of the jobs of workers: over sites in memory, and over TCP on the loopback.
-//! Each module says whence its rows come.
+//! Tests of workers' jobs: over sites in memory, and over TCP on the loopback.
+//! Each module describes its rows.
 #![tactic(auto)]
 
 #[cfg(test)]

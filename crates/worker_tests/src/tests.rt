@@ -1,4 +1,5 @@
-//! Tests of what clauses don't show: what workers do in each other's way, their waits, and how often a robots.txt
+//! Tests of what contracts don't show: how workers disturb each other, their waits, and how often a
+//! robots.txt
 //! is fetched.
 
 mod clocks;

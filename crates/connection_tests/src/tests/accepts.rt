@@ -35,7 +35,7 @@ impl Accepts for Failing {
     }
 }
 
-// A name, a number, how often it comes, whether a connection is accepted then, how many calls that takes, and how long.
+// A name, a number, how often it comes, whether a connection then is accepted, and the calls and time.
 const FAULTS: [(&str, i32, u32, bool, u32, u128); 14] = [
     ("none", 0, 0, true, 1, 0),
     ("ECONNABORTED", 103, 1, true, 2, 0),
@@ -80,7 +80,7 @@ fn check_faults(
     assert_eq!(rt; clock.milliseconds(), time, "{name}");
 }
 
-// Errors that have no number of the system are the device's.
+// Errors without a system number are the device's.
 #[test]
 fn no_number(rt: HostRuntime) -> Result<(), Fail> {
     let error = io::Error::from(ErrorKind::ConnectionAborted);

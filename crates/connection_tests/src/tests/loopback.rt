@@ -10,7 +10,7 @@ use std::thread::Threads;
 use std::time::{Duration, Instant};
 use std::{io, thread, time};
 
-// Connects to the listener. Reads wait for 10 seconds at most.
+// Connects to the listener, with a read timeout of 10 seconds.
 fn connect<R: Net<Stream = TcpStream>>(rt: &R, port: u16) -> io::Result<TcpStream> {
     let stream = TcpStream::connect(rt, SocketAddr::from((Ipv4Addr::LOCALHOST, port)))?;
     limit_waits(&stream)?;
@@ -21,8 +21,8 @@ fn limit_waits(stream: &TcpStream) -> io::Result<()> {
     stream.set_read_timeout(Some(Duration::from_secs(10)))
 }
 
-// Sends octets, of which none is read before the answer, and gives what comes back. Its end must be one,
-// and no reset, behind which more octets could not be sent.
+// Sends octets, none read before the answer, and returns what comes back. It must end without a reset,
+// after which no more could be sent.
 fn send<R: Net<Stream = TcpStream> + time::Clock>(
     rt: &R,
     port: u16,
@@ -40,7 +40,7 @@ fn send<R: Net<Stream = TcpStream> + time::Clock>(
     Ok(reply)
 }
 
-// Accepts a client, answers it, and lets it go, with what it has sent unread.
+// Accepts a client, answers it, and closes, with its octets unread.
 fn answer<R: time::Clock>(rt: &R, listener: &Listener) -> io::Result<()> {
     let Ok(stream) = listener.accept(rt) else {
         return Err(io::Error::from(ErrorKind::Other));
@@ -65,7 +65,7 @@ fn the_last_reply_arrives(rt: HostRuntime) -> Result<(), Fail> {
     Ok(())
 }
 
-// Threads that accept at the same listener take a client each.
+// Threads that accept at one listener take a client each.
 #[test]
 fn four_threads(rt: HostRuntime) -> Result<(), Fail> {
     let listener = Listener::bind(&rt, 0)?;
@@ -90,7 +90,7 @@ fn a_port_that_is_taken(rt: HostRuntime) -> Result<(), Fail> {
     Ok(())
 }
 
-// How long a read waits for a client that sends nothing.
+// How long a read waits for a silent client.
 fn wait<R: time::Clock>(rt: &R, stream: &TcpStream, patience: Duration) -> io::Result<Duration> {
     let waiting = Cell::new(Waiting::new(patience));
     let mut client = ClientStream::new(rt, stream, &waiting);

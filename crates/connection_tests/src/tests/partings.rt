@@ -1,4 +1,4 @@
-//! What is read from clients that are let go.
+//! What is read from closing connections.
 //! docs/FORMATS.md, limits. Times are in milliseconds.
 
 use super::scripted::{HandClock, Scripted, Step};
@@ -8,7 +8,7 @@ use std::test::Fail;
 
 const SIXTEEN: &str = "0123456789abcdef";
 
-// A name, what the client does over and over, how many octets are read, and how long that takes.
+// A name, what the client does repeatedly, and the octets and time of reading.
 const PARTINGS: [(&str, &[Step], usize, u128); 7] = [
     ("it closes", &[], 0, 0),
     (

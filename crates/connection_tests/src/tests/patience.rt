@@ -8,11 +8,11 @@ use std::io::{Read, Write};
 use std::process::Abort;
 use std::test::Fail;
 
-// More reads than these are not made.
+// The most reads.
 const MOST_CALLS: u32 = 1_000;
 
-// A name, what the client does over and over, how many reads succeed, and how long they and the first that fails
-// take in all.
+// A name, what the client does repeatedly, how many reads succeed, and the time of these and the first that
+// fails.
 const READS: [(&str, &[Step], u32, u128); 9] = [
     ("nothing comes", &[Step::Moves(900_000, "a")], 0, 300_000),
     (
@@ -81,7 +81,6 @@ fn check_reads(rt: &impl Abort, name: &str, script: &[Step], count: u32, time: u
     assert_eq!(rt; clock.milliseconds(), time, "{name}");
 }
 
-// How many reads succeed before one fails.
 fn reads_of<R: Read>(client: &mut R) -> u32 {
     for count in 0..MOST_CALLS {
         if client.read(&mut [0; 8]).is_err() {
@@ -91,7 +90,7 @@ fn reads_of<R: Read>(client: &mut R) -> u32 {
     MOST_CALLS
 }
 
-// How many writes succeed before one fails. What they write ends lines, but the client doesn't.
+// How many writes succeed before one fails. They end lines, but the client doesn't.
 const WRITES: [(&str, &[Step], u32, u128); 4] = [
     ("nothing is taken", &[Step::Moves(900_000, "a")], 0, 300_000),
     (
@@ -125,7 +124,6 @@ fn check_writes(rt: &impl Abort, name: &str, script: &[Step], count: u32, time: 
     assert_eq!(rt; clock.milliseconds(), time, "{name}");
 }
 
-// How many writes succeed before one fails.
 fn writes_of<W: Write>(client: &mut W) -> u32 {
     for count in 0..MOST_CALLS {
         if client.write(b"\n\n").is_err() {
@@ -135,8 +133,8 @@ fn writes_of<W: Write>(client: &mut W) -> u32 {
     MOST_CALLS
 }
 
-// A name, what each read meets, what each write meets, and which calls succeed: `r` and `w` in the order of the calls,
-// in capitals where they fail.
+// A name, the client's steps for reads and for writes, and the calls in order: `r` and `w`, in capitals if
+// they fail.
 const BOTH: [(&str, &[Step], &[Step], &str); 4] = [
     (
         "the waiting of both sides adds up",

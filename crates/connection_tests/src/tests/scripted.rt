@@ -1,4 +1,4 @@
-//! A clock that is set by hand, and a client that does as a script says.
+//! A clock set by hand, and a client that follows a script.
 
 use client_connections::Closes;
 use http_client::Waits;
@@ -7,7 +7,7 @@ use std::io::{ErrorKind, Read, Write};
 use std::time::Duration;
 use std::{io, time};
 
-/// A clock on which time passes only where somebody waits.
+/// A clock on which only waits take time.
 #[derive(Drop)]
 pub(super) struct HandClock {
     now: Cell<Duration>,
@@ -44,14 +44,12 @@ impl time::Clock for HandClock {
     }
 }
 
-/// What comes of a read or a write, after so many milliseconds.
+/// The result of a read or write, after so many milliseconds.
 #[derive(Clone, Copy)]
 pub(super) enum Step {
-    /// A read is given these octets; a write takes so many.
+    /// A read gets these octets; a write takes so many.
     Moves(u64, &'static str),
-    /// A signal comes.
     Interrupts(u64),
-    /// The connection is reset.
     Resets(u64),
 }
 
@@ -65,18 +63,18 @@ impl Step {
     }
 }
 
-/// A client whose reads and writes follow a script, over and over.
+/// A client whose reads and writes repeat a script.
 #[derive(Drop)]
 pub(super) struct Scripted<'a> {
     clock: &'a HandClock,
     script: &'a [Step],
     at: usize,
-    // How long the step under way was waited for.
+    // How long the current step was waited for.
     waited: Duration,
     limit: Cell<Duration>,
-    /// How many octets were read and written.
+    /// The octets read and written.
     pub(super) moved: usize,
-    /// Whether the ending of writes succeeds.
+    /// Whether ending writes succeeds.
     pub(super) is_there: bool,
 }
 
@@ -93,7 +91,7 @@ impl<'a> Scripted<'a> {
         }
     }
 
-    // The octets of the step under way, once its time has passed.
+    // The octets of the current step, once its time has passed.
     fn wait(&mut self) -> io::Result<&'static [u8]> {
         let Some(step) = self.script.get(self.at).copied() else {
             return Ok(b"");
@@ -113,7 +111,7 @@ impl<'a> Scripted<'a> {
         }
     }
 
-    // The next step begins; behind the last comes the first.
+    // The next step begins; after the last, the first.
     fn go_on(&mut self) {
         self.waited = Duration::ZERO;
         self.at = self.at.saturating_add(1);

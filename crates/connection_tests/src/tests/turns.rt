@@ -1,4 +1,4 @@
-//! How long the gate fetches for lines that a client has sent ahead, and which lines are read together.
+//! How long the gate fetches for lines sent ahead, and which lines are read together.
 //! docs/crawlgate.1.md, `--ahead`.
 
 use super::scripted::{HandClock, Scripted, Step};
@@ -12,12 +12,12 @@ use std::process::Abort;
 use std::test::Fail;
 use std::time::{Clock, Duration};
 
-// How long a client is waited for, in seconds, and how long is fetched for lines that it sent ahead.
+// The patience, and the limit of fetching for lines sent ahead, in seconds.
 const PATIENCE: u64 = 300;
 
 const AHEAD: u64 = 2;
 
-/// A client by a script, of which it is known whether something was sent ahead.
+/// A scripted client that knows whether it has sent ahead.
 #[derive(Drop)]
 struct Watched<'a> {
     script: Scripted<'a>,
@@ -56,8 +56,8 @@ impl<'a> AtHand for Watched<'a> {
     }
 }
 
-// A name, what each read of the connection brings, and what happens: `r` a read, `w` a write, each in capitals where it
-// fails, a number of seconds that work takes, and `+` or `-` where the client has sent something ahead or hasn't.
+// A name, what each read of the connection brings, and the events: `r` a read, `w` a write, in capitals if
+// they fail, a number of seconds of work, and `+` or `-` if the client has sent something ahead or not.
 const TURNS: [(&str, &str, &str); 10] = [
     ("fetches sent ahead, a second for each", "F\n", "+r1r1R"),
     ("refreshes sent ahead", "R\n", "+r1r1R"),
@@ -134,7 +134,7 @@ fn check_turns(
     Ok(())
 }
 
-// A name, what the connection brings at once, how many octets a read takes, and how many octets each read brings.
+// A name, what the connection brings at once, the octets of a read, and those that each read returns.
 const LINES: [(&str, &str, usize, &[usize]); 6] = [
     ("other lines together", "a\nbc\n\nd", 8, &[7]),
     ("a fetch by itself", "F\nS\n", 8, &[2, 2]),

@@ -1,4 +1,4 @@
-//! Rows over a bag: a permit that it holds is started once, and ends once.
+//! A bag: its permit starts once, and ends once.
 //! RFC 9309, section 2.4.
 ghost use Rattle.std.specs.Prelude.{◌≡◌, ◌+◌};
 ghost use Rattle.gate_lock.specs.Bags.{held_in, KeepsBalance};
@@ -19,8 +19,8 @@ use std::test::Fail;
 
 const NUMBER: u64 = 65_536;
 
-// What a permit of the bag comes to: two starts, a back and a finish; and how many entries the desk made
-// before the bag ended, and after it.
+// The results of a bag's permit: two starts, a back and a finish; and the desk's entries before and after
+// the bag ended.
 #[derive(Clone, Copy, Debug, PartialEq, Eq)]
 struct Steps {
     start: Result<Reason, Cause>,
@@ -30,7 +30,7 @@ struct Steps {
     shares: [u64; 2],
 }
 
-// A desk that brings an answer, and a bag that keeps a permit of it.
+// A desk that brings an answer, and a bag with its permit.
 #[derive(Drop)]
 struct BagRow<'r, R: Wait> {
     rt: &'r R,
@@ -52,7 +52,7 @@ fn at_a_desk<G: Gate, R: Wait>(rt: &R, alloc: Global, gate: &GateLock<G>) -> Res
     steps
 }
 
-// Asks for the page, and keeps the permit in a bag.
+// Asks for the page, and bags the permit.
 fn with_permit<G: Gate, R: Wait>(
     rt: &R,
     alloc: Global,
@@ -91,7 +91,6 @@ fn in_a_bag<G: Gate, R: Wait>(
     Ok(steps)
 }
 
-// Keeps a permit, or gives it back.
 pub(super) fn keep<G: Gate, R: Wait>(
     rt: &R,
     desk: &mut Desk<'_, G>,
@@ -137,7 +136,6 @@ fn make_steps<G: Gate, R: Wait>(
     })
 }
 
-// A start of the page under the token.
 pub(super) fn started<G: Gate, R: Wait>(
     rt: &R,
     alloc: Global,

@@ -1,4 +1,4 @@
-//! Calls of desks as the rows make them, in both forms.
+//! Calls of desks for the tests, in both forms.
 //! RFC 9309, sections 2.2 to 2.4.
 ghost use Rattle.std.specs.Prelude.{◌≡◌, IfNone, IfSome, OnErr, IfOk};
 ghost use Rattle.gate_lock.specs.Desks.{HasOut, KeepsOut, out_of};
@@ -18,15 +18,15 @@ use std::alloc::Global;
 use std::sync::Wait;
 use std::test::Fail;
 
-// How the calls that have both forms are made.
+// The form of the calls.
 #[derive(Clone, Copy)]
 pub(super) enum Form {
     Plain,
     Held,
 }
 
-// Begins a turn of the authority, where that is not refused, brings that there is no robots.txt, and
-// tells the turn's number.
+// Begins a turn of the authority if possible, brings that there is no robots.txt, and returns the turn's
+// number.
 pub(super) fn fetch<G: Gate, R: Wait>(
     rt: &R,
     desk: &mut Desk<'_, G>,
@@ -104,7 +104,7 @@ pub(super) fn asked<G: Gate, R: Wait>(
     }
 }
 
-// A desk that brings the answer of a.example, and is closed: its receipts are added.
+// A desk that brings the answer of a.example, and closes: its receipts are added.
 pub(super) fn bring<G: Gate, R: Wait>(
     rt: &R,
     alloc: Global,
@@ -131,11 +131,11 @@ fn bring_for<G: Gate, R: Wait>(
     Ok(())
 }
 
-// What a settlement comes to before a permit is given back, and after it.
+// The settlement before and after a permit is given back.
 type Settlements = [Result<Settled, SettleFault>; 2];
 
-// A desk that asks for the page, gives the permit back, and is closed: its receipts are added. It tells
-// what a settlement without them comes to.
+// A desk that asks for the page, gives the permit back, and closes: its receipts are added. Returns the
+// settlement without them.
 pub(super) fn give_back<G: Gate, R: Wait>(
     rt: &R,
     alloc: Global,
@@ -171,7 +171,7 @@ fn settlements<G: Gate, R: Wait>(
     Some([before, after])
 }
 
-// A round of a fetch that is allowed: whether each step of it is.
+// A round of an allowed fetch: whether each step is.
 pub(super) fn round<G: Gate, R: Wait>(rt: &R, alloc: Global, desk: &mut Desk<'_, G>) -> bool
     ensures no { desk.new.no ≡ desk.old.no }
     ensures out { KeepsOut desk.old desk.new }
@@ -186,7 +186,6 @@ pub(super) fn round<G: Gate, R: Wait>(rt: &R, alloc: Global, desk: &mut Desk<'_,
     true
 }
 
-// A hundred rounds of a desk.
 pub(super) fn rounds<G: Gate, R: Wait>(rt: &R, alloc: Global, desk: &mut Desk<'_, G>)
     requires { out_of desk.old ≡ 0 }
     ensures { out_of desk.new ≡ 0 }
@@ -198,7 +197,7 @@ pub(super) fn rounds<G: Gate, R: Wait>(rt: &R, alloc: Global, desk: &mut Desk<'_
     }
 }
 
-// A desk that is closed after a hundred rounds.
+// A desk that closes after a hundred rounds.
 pub(super) fn worked<G: Gate, R: Wait>(
     rt: &R,
     alloc: Global,
@@ -245,7 +244,7 @@ pub(super) fn state<G: Gate, R: Wait>(
     }
 }
 
-// Why an ask of foobot for the page is denied, if it is; a permit is given back.
+// Why foobot's ask for the page is denied, if so; a permit is given back.
 pub(super) fn denial<G: Gate, R: Wait>(
     rt: &R,
     alloc: Global,

@@ -1,5 +1,5 @@
-//! The size of entries, and what their texts and a base without entries show.
-//! The figure is that of a history of grants, starts and finishes with URLs of 40 octets.
+//! The size of entries, and the output for their texts and for a base without entries.
+//! For grants, starts and finishes with URLs of 40 octets.
 use gate_history::{Base, Entry, FetchText};
 use path_normal::PageUrl;
 use robots_text::Token;
@@ -8,7 +8,7 @@ use std::mem::size_of;
 use std::process::Abort;
 use std::test::Fail;
 
-// A token and the URL of a page, of 40 octets.
+// A token, and a page's URL of 40 octets.
 const TOKEN: &str = "foobot";
 
 const URL: &str = "http://a.example/a/page/of/forty/octets/";
@@ -29,7 +29,7 @@ fn a_fetch_keeps_its_texts(rt: HostRuntime) -> Result<(), Fail> {
 
 #[test]
 fn an_entry_takes_at_most_100_octets(rt: HostRuntime) -> Result<(), Fail> {
-    // A grant has the texts, its start and its finish have none.
+    // A grant has the texts, its start and finish none.
     let octets = 3 * size_of::<Entry>() + TOKEN.len() + URL.len();
     assert_eq!(rt; URL.len(), 40, "the URL's octets");
     assert_eq!(rt; size_of::<Entry>(), 72, "an entry without its texts");

@@ -1,4 +1,4 @@
-//! Rows over a gate that several desks share: its settlement, and the marks of its own entries.
+//! A gate shared by desks: its settlement, and the marks of its own entries.
 //! RFC 9309, sections 2.2 to 2.4.
 ghost use Rattle.std.specs.Prelude.{◌≡◌, ◌≤◌, [], IfOk};
 ghost use Rattle.gate_history.specs.Base.{empty_base};
@@ -24,7 +24,7 @@ pub(super) const PAGE: &str = "http://a.example/x";
 
 const OTHER_PAGE: &str = "http://a.example/y";
 
-// A book with the usual limits, but these.
+// A book with the default limits, except these.
 pub(super) fn book(
     alloc: Global,
     keys: RandomState,
@@ -41,10 +41,10 @@ pub(super) fn book(
     Book::new(alloc, Config { limits, keys })
 }
 
-// What settlements come to: with a permit out, without the last desk's receipts, and with all.
+// Settlements with a permit outstanding, without the last desk's receipts, and with all.
 type Settlements = [Result<Settled, SettleFault>; 3];
 
-// Settles a gate twice too early, and then by the receipts of both its desks.
+// Settles a gate twice too early, and then by both desks' receipts.
 #[derive(Drop)]
 struct SettleRow<'r, R: Wait> {
     rt: &'r R,
@@ -128,8 +128,8 @@ pub(super) fn add_entries(
     Ok(())
 }
 
-// Whether the marks of two desks are the entries of a gate at which the page was asked for; then the same of the
-// receipts that have them.
+// Whether the marks of two desks are a gate's entries after an ask for the page; and whether their receipts
+// are.
 fn are_fit<G: Gate>(alloc: Global, all: &[Receipts<G>]) -> Result<[bool; 2], Fail> {
     let mut entries = Vec::new(alloc);
     are_fit_with(alloc, &mut entries, all)
@@ -153,7 +153,7 @@ fn are_fit_with<G: Gate>(
     Ok([of_marks, of_receipts])
 }
 
-// What a gate's own entries are compared with: marks of this gate, at which this page was asked for.
+// The marks to compare with a gate's own entries: of an ask for this page.
 #[derive(Drop)]
 struct FitRow<'r, R: Wait> {
     rt: &'r R,

@@ -1,5 +1,5 @@
-//! When the rules of an authority get an index: by the ask behind sixteen verdicts, or by one that hands an index in.
-//! That they say the same with it is proved (`Cache::make_index`, `take_index`).
+//! When an authority's rules get an index: at the ask after sixteen verdicts, or with a ready index.
+//! That verdicts stay the same is proved (`Cache::make_index`, `take_index`).
 
 use super::gates::{PAGE, book};
 use authority_cache::{LIFE, TimedAnswer};
@@ -11,7 +11,7 @@ use std::alloc::Global;
 use std::hash::RandomState;
 use std::test::Fail;
 
-// How many verdicts walk over a text before an index pays.
+// How many walks over a text an index pays off after.
 const WALKS: u64 = 16;
 
 const CLOSED: &str = "User-agent: *\nDisallow: /";
@@ -25,7 +25,7 @@ fn an_ask_makes_an_index_or_brings_one(rt: HostRuntime) -> Result<(), Fail> {
     brings_one(alloc, &mut brought)
 }
 
-// The ask behind the last walk makes it.
+// The ask after the last walk makes it.
 fn makes_one(alloc: Global, book: &mut Book) -> Result<(), Fail> {
     load(alloc, book, CLOSED)?;
     for _ in 0..WALKS {
@@ -36,7 +36,7 @@ fn makes_one(alloc: Global, book: &mut Book) -> Result<(), Fail> {
     is_indexed(book, true)
 }
 
-// An index is handed in with an ask, of the same text.
+// An ask brings an index of the same text.
 fn brings_one(alloc: Global, book: &mut Book) -> Result<(), Fail> {
     load(alloc, book, CLOSED)?;
     let Some(policy) = book.hint("a.example", 110) else {
@@ -55,7 +55,6 @@ fn brings_one(alloc: Global, book: &mut Book) -> Result<(), Fail> {
     is_indexed(book, true)
 }
 
-// Begins a turn and brings the rules of the text.
 pub(super) fn load(alloc: Global, book: &mut Book, text: &str) -> Result<(), Fail> {
     let rules = Answer::rules(alloc, RobotsText::read(alloc, text.as_bytes())?)?;
     let answer = TimedAnswer::new(rules, LIFE);
@@ -85,7 +84,6 @@ fn is_denied(refusal: Option<AskRefusal>) -> Result<(), Fail> {
     }
 }
 
-// Whether the policy in force has an index, as it should.
 fn is_indexed(book: &Book, want: bool) -> Result<(), Fail> {
     match book.hint("a.example", 120) {
         Some(policy) if policy.is_indexed() == want => Ok(()),

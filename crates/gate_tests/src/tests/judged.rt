@@ -1,4 +1,4 @@
-//! Rows over an ask that was judged before the lock was taken: the answer in force under it decides.
+//! An ask judged before the lock was taken: the answer in force under the lock decides.
 //! RFC 9309, section 2.2.2.
 ghost use Rattle.std.specs.Prelude.{◌≡◌};
 ghost use Rattle.gate_lock.specs.Desks.{KeepsOut};
@@ -22,8 +22,8 @@ const RULES: &str = "User-agent: foobot\nDisallow: /\nAllow: /example/page.html\
 
 const CLOSED: &str = "User-agent:*\nDisallow:/";
 
-// What stood when the ask was judged, what was brought after it, the moment of the ask, and what it is
-// answered: the number, or the cause.
+// The answer when judging, the answer brought then, the moment of the ask, and its result: the number or
+// the cause.
 const ROWS: &[(&str, Option<&str>, Option<&str>, u64, Result<u64, Cause>)] = &[
     (
         "other rules",
@@ -74,7 +74,7 @@ impl<R: Wait> Visit for JudgedRow<'_, '_, R> {
     }
 }
 
-// Judges by the one text, and brings the other.
+// Judges by one text, and brings the other.
 fn judged_ask<G: Gate, R: Wait>(
     rt: &R,
     alloc: Global,
@@ -93,7 +93,7 @@ fn judged_ask<G: Gate, R: Wait>(
     Ok(judged)
 }
 
-// Begins a turn at 100 and brings its answer at 105: the rules of the text, or that there is none.
+// Begins a turn at 100 and brings at 105 the text's rules, or no robots.txt.
 fn load<G: Gate, R: Wait>(
     rt: &R,
     alloc: Global,
@@ -118,7 +118,7 @@ fn load<G: Gate, R: Wait>(
     Ok(())
 }
 
-// The ask as it is judged by the policy in force, which there is exactly where there are rules.
+// The ask judged by the policy in force, which exists exactly with rules.
 fn judge<G: Gate, R: Wait>(
     rt: &R,
     alloc: Global,
@@ -141,7 +141,7 @@ fn judge<G: Gate, R: Wait>(
     }
 }
 
-// The number that the ask is granted, which is given back, or the cause of its denial.
+// The granted number, which is given back, or the cause of the denial.
 fn ask<G: Gate, R: Wait>(
     rt: &R,
     desk: &mut Desk<'_, G>,

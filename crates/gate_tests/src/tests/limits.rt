@@ -1,4 +1,4 @@
-//! Rows over the limits of a gate: of its desks, and of the authorities that it knows.
+//! A gate's limits of desks and of known authorities.
 //! RFC 9309, sections 2.3 and 2.4.
 ghost use Rattle.gate_lock.specs.Desks.{KeepsOut};
 
@@ -13,7 +13,7 @@ use std::hash::RandomState;
 use std::sync::Wait;
 use std::test::Fail;
 
-// The number of the last desk that can be made, each closed before the next.
+// The number of the last possible desk, each closed before the next.
 #[derive(Drop)]
 struct DeskRow<'r, R: Wait> {
     rt: &'r R,
@@ -40,8 +40,8 @@ fn last_desk<G: Gate, R: Wait>(rt: &R, alloc: Global, gate: &GateLock<G>) -> u64
     made
 }
 
-// What the row of one authority shows: a begin of another one, two sweeps, the state and a begin after
-// them, and why an ask is denied.
+// The results: a begin of another authority, two sweeps, the state and a begin after them, and why an ask
+// is denied.
 #[derive(Clone, Copy, Debug, PartialEq, Eq)]
 struct Limited {
     full: Result<u64, BeginRefusal>,

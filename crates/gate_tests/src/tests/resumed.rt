@@ -1,4 +1,4 @@
-//! Rows over a gate that goes on from a base: it is settled with the receipts of what was before, and not without them.
+//! A gate that continues from a base is settled with the earlier receipts, and not without them.
 //! RFC 9309, sections 2.2 and 2.4.
 ghost use Rattle.std.specs.Prelude.{◌≡◌, ◌^◌, ◌<◌, [], true};
 ghost use Rattle.gate_history.specs.Base.{empty_base};
@@ -17,10 +17,10 @@ use std::marker::Brand;
 use std::sync::Wait;
 use std::test::Fail;
 
-// What settlements come to: without the receipts of what was before, and with them.
+// The settlement without the earlier receipts, and with them.
 type Settlements = [Result<Settled, SettleFault>; 2];
 
-// A book of which five entries were sealed, of a turn and of a fetch.
+// A book with five sealed entries, of a turn and a fetch.
 fn sealed_book(alloc: Global, keys: RandomState) -> Result<Book, Fail> {
     let mut book = book(alloc, keys, 2, 65_536)?;
     load(alloc, &mut book, "User-agent: *\nAllow: /\n")?;
@@ -39,7 +39,7 @@ fn ask(alloc: Global, book: &mut Book) -> Result<PermitNo, Fail> {
     }
 }
 
-// A fetch by a permit, from its start to its end.
+// A permit's fetch, from start to end.
 fn fetch_once(alloc: Global, book: &mut Book, number: PermitNo) -> Result<(), Fail> {
     let token = Token::new(alloc, b"foobot")?;
     let page = PageUrl::parse(alloc, PAGE)?;
@@ -49,7 +49,7 @@ fn fetch_once(alloc: Global, book: &mut Book, number: PermitNo) -> Result<(), Fa
     Ok(())
 }
 
-// Whether the book has made no entry since its base, of which something was sealed and nothing is out.
+// Whether the book has no entry since its base, which followed sealed ones, and nothing outstanding.
 fn is_at_rest(book: &Book) -> bool
     ensures entries { result ≡ true → book.now.entries ≡ [] }
     ensures out { result ≡ true → (book.now.base.in_flight ≡ [])
@@ -66,7 +66,7 @@ fn is_at_rest(book: &Book) -> bool
         && base.started() < 1_000_000
 }
 
-// A gate that goes on from what was sealed.
+// A gate that continues from what was sealed.
 fn from_sealed<G: Gate, R: Wait>(
     rt: &R,
     alloc: Global,
@@ -85,7 +85,7 @@ fn from_sealed<G: Gate, R: Wait>(
     settlements(rt, alloc, &gate, past, &mut all)
 }
 
-// A gate that goes on from nothing: one that is new.
+// A gate that continues from nothing: a new one.
 fn from_nothing<G: Gate, R: Wait>(
     rt: &R,
     alloc: Global,
@@ -101,7 +101,7 @@ fn from_nothing<G: Gate, R: Wait>(
     settlements(rt, alloc, &gate, past, &mut all)
 }
 
-// Two desks make a hundred rounds each, behind which one of them seals and keeps places alone.
+// Two desks make a hundred rounds each; then one of them seals and keeps only places.
 fn settlements<G: Gate, R: Wait>(
     rt: &R,
     alloc: Global,
@@ -121,7 +121,6 @@ fn settlements<G: Gate, R: Wait>(
     Ok([without, settle(rt, alloc, gate, all.as_slice())])
 }
 
-// What comes of a gate that goes on from what was sealed.
 fn settled_behind_a_seal<R: Wait>(
     rt: &R,
     alloc: Global,

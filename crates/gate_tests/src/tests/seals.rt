@@ -1,4 +1,4 @@
-//! Rows over a gate that is sealed while two threads work at it: what is handed out is what their receipts have.
+//! A gate sealed while two threads work at it: their receipts have what is handed out.
 //! RFC 9309, sections 2.2 and 2.4.
 ghost use Rattle.std.specs.Prelude.{◌≡◌, []};
 ghost use Rattle.gate_history.specs.Base.{empty_base};
@@ -18,8 +18,8 @@ use std::test::Fail;
 use std::thread;
 use std::thread::Threads;
 
-// What came of a gate: its settlement, how many entries were handed out, whether all receipts agree with all of
-// them, and whether any of the receipts keep no more than the places of entries.
+// The results: the settlement, the entries handed out, whether all receipts agree with them, and whether
+// any receipts keep only the places of entries.
 #[derive(Clone, Copy, Debug, PartialEq)]
 struct Outcome {
     settled: Result<Settled, SettleFault>,
@@ -28,14 +28,14 @@ struct Outcome {
     condensed: bool,
 }
 
-// What the desk that seals does with its marks behind each seal.
+// The sealing desk's marks after each seal.
 #[derive(Clone, Copy)]
 enum Marks {
     Whole,
     Condensed,
 }
 
-// What a desk was closed with, and what it was handed out.
+// A closed desk's receipts and segments.
 struct ClosedDesk<G: Gate> {
     receipts: Receipts<G>,
     segments: Vec<Segment>,
@@ -57,7 +57,7 @@ fn sealed_by_one<G: Gate + Send + Sync, R: Threads + Wait + Sync>(
     at_a_gate(rt, alloc, &gate, &mut all, marks)
 }
 
-// Two threads make a hundred rounds each, and one of them seals. A third desk seals what is left.
+// Two threads make a hundred rounds each, and one of them seals. A third desk seals the rest.
 fn at_a_gate<G: Gate + Send + Sync, R: Threads + Wait + Sync>(
     rt: &R,
     alloc: Global,
@@ -88,7 +88,7 @@ fn at_a_gate<G: Gate + Send + Sync, R: Threads + Wait + Sync>(
     })
 }
 
-// A desk that is closed after ten rounds each time, behind which it seals, and once more.
+// A desk that seals after each ten rounds, and once more, and closes.
 fn seal_meanwhile<G: Gate, R: Wait>(
     rt: &R,
     alloc: Global,
@@ -136,7 +136,6 @@ fn keep_segment(segments: &mut Vec<Segment>, made: Result<Segment, NoMemory>) {
     }
 }
 
-// Whether the desk was made, and its receipts and segments are added.
 fn keep_sealed<G: Gate>(
     all: &mut Vec<Receipts<G>>,
     segments: &mut Vec<Segment>,

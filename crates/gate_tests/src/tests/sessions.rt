@@ -1,4 +1,4 @@
-//! Two sessions at one gate of one slot, each with a desk and a bag of its own.
+//! Two sessions at a gate of one slot, each with its own desk and bag.
 //! RFC 9309, sections 2.2 and 2.4.
 ghost use Rattle.std.specs.Prelude.{◌≡◌, ◌+◌};
 ghost use Rattle.gate_lock.specs.Desks.{KeepsOut, out_of};
@@ -19,8 +19,8 @@ use std::process::Abort;
 use std::sync::Wait;
 use std::test::Fail;
 
-// What the sessions were answered: the first permit's number; whether the second session was refused for
-// want of a slot, and why the first one's permit can't be started by it; and the second permit's number.
+// The results: the first permit's number; whether the second session found no free slot, and why it can't
+// start the first one's permit; and the second permit's number.
 #[derive(Clone, Copy, Debug, PartialEq, Eq)]
 struct Answers {
     first: Option<u64>,
@@ -29,8 +29,7 @@ struct Answers {
     second: Option<u64>,
 }
 
-// How many entries a desk has seen and made, the places of those that it made, and whether they are the entries
-// that are wanted there.
+// A desk's counts of seen and made entries, the places of the latter, and whether they are the wanted ones.
 #[derive(Clone, Copy, Debug, PartialEq, Eq)]
 struct Looks {
     seen: u64,
@@ -39,7 +38,7 @@ struct Looks {
     fit: bool,
 }
 
-// What both desks show, and what the settlement by their receipts comes to.
+// What both desks show, and the settlement by their receipts.
 type Shown = ([Looks; 2], Result<Settled, SettleFault>);
 
 #[derive(Drop)]
@@ -110,9 +109,8 @@ fn look<G: Gate>(desk: Desk<'_, G>, wanted: &[Entry], all: &mut Vec<Receipts<G>>
     })
 }
 
-// Whether the mark is the entry that is wanted at its place.
 fn is_wanted(mark: &Mark, wanted: &[Entry]) -> bool {
-    // The second permit's entries stand behind a begin and an arrival that are not made again.
+    // The second permit's entries follow a begin and an arrival that are not repeated.
     let place = if mark.place < 4 {
         mark.place
     } else {
@@ -131,8 +129,8 @@ fn place<G: Gate>(receipts: &Receipts<G>, index: usize) -> Option<u64> {
     }
 }
 
-// The first session brings the answer and asks; the second one asks too, before the first one's bag ends
-// and after it.
+// The first session brings the answer and asks; the second one asks before and after the first one's bag
+// ends.
 fn first_session<G: Gate, R: Wait>(
     rt: &R,
     alloc: Global,
@@ -163,7 +161,7 @@ fn first_session<G: Gate, R: Wait>(
     })
 }
 
-// The second session has no permit: whether its ask is refused for want of a slot, and why it can't start.
+// The second session has no permit: whether its ask finds no free slot, and why it can't start.
 fn second_session<G: Gate, R: Wait>(
     rt: &R,
     alloc: Global,
@@ -182,7 +180,7 @@ fn second_session<G: Gate, R: Wait>(
     Ok((full, spent?))
 }
 
-// Whether an ask is refused for want of a slot; a permit is given back.
+// Whether an ask finds no free slot; a permit is given back.
 fn is_full<G: Gate, R: Wait>(rt: &R, alloc: Global, desk: &mut Desk<'_, G>) -> Result<bool, Fail>
     ensures { KeepsOut desk.old desk.new }
 {
@@ -198,7 +196,7 @@ fn is_full<G: Gate, R: Wait>(rt: &R, alloc: Global, desk: &mut Desk<'_, G>) -> R
     }
 }
 
-// The number that is granted to an ask, which is given back.
+// The number granted to an ask, which is given back.
 fn last_ask<G: Gate, R: Wait>(rt: &R, alloc: Global, desk: &mut Desk<'_, G>) -> Option<u64>
     ensures { KeepsOut desk.old desk.new }
 {

@@ -1,4 +1,4 @@
-//! What a desk tells of an authority: each word of what stands, and whether a turn is in flight, in both forms.
+//! A desk's view of an authority: each state of its answer, with and without a turn, in both forms.
 //! RFC 9309, sections 2.3.1 and 2.4.
 ghost use Rattle.std.specs.Prelude.{◌≡◌};
 ghost use Rattle.gate_lock.specs.Desks.{KeepsOut};
@@ -16,7 +16,7 @@ use std::hash::RandomState;
 use std::sync::Wait;
 use std::test::Fail;
 
-// What a turn that began at 100 brings.
+// The answer to bring by a turn that began at 100.
 #[derive(Clone, Copy)]
 enum Brought {
     Open,
@@ -24,7 +24,7 @@ enum Brought {
     Rules,
 }
 
-// What is brought, the life that its reply asks for, the moment at which the desk looks, and what stands then.
+// The answer, its reply's life, the moment of the look, and the state then.
 const ROWS: &[(&str, Brought, u64, u64, Standing)] = &[
     ("no robots file", Brought::Open, 86_400, 120, Standing::Open),
     (
@@ -105,7 +105,7 @@ fn answer(alloc: Global, brought: Brought) -> Result<Answer, AllocError> {
     }
 }
 
-// What is known before the begin, while the turn is in flight, and at the moment.
+// The state before the begin, during the turn, and at the moment.
 fn states<G: Gate, R: Wait>(
     rt: &R,
     alloc: Global,

@@ -1,4 +1,4 @@
-//! Two threads at one gate, each with a desk of its own: all that they made is settled.
+//! Two threads at one gate, each with its own desk: all entries are settled.
 //! RFC 9309, sections 2.2 and 2.4.
 ghost use Rattle.std.specs.Prelude.{◌≡◌, []};
 ghost use Rattle.gate_history.specs.Base.{empty_base};
@@ -49,7 +49,6 @@ fn at_a_gate<G: Gate + Send + Sync, R: Threads + Wait + Sync>(
     Ok(settle(rt, alloc, gate, all.as_slice()))
 }
 
-// Whether the desk was made, and its receipts are added.
 pub(super) fn keep<G: Gate>(
     all: &mut Vec<Receipts<G>>,
     made: Result<Receipts<G>, DesksFull>,

@@ -1,5 +1,5 @@
-//! How much faster an ask is that was judged before the book is at hand, in one run.
-//! That it is answered like any other is proved. That it makes no verdict of its own is seen here alone.
+//! How much faster an ask judged in advance is, in one run.
+//! That its result is the same is proved. Only here is it seen to make no verdict of its own.
 
 use super::gates::book;
 use super::indexes::load;
@@ -13,10 +13,10 @@ use std::sync::Arc;
 use std::test::Fail;
 use std::time::Instant;
 
-// How many rules the text has, all of which are tried.
+// The rules of the text, all of which are tried.
 const RULES: u64 = 10_000;
 
-// How many times as long an ask must take that wasn't judged before. It takes hundreds.
+// How many times as long an ask must take that was not judged before. It takes hundreds.
 const TIMES: u128 = 8;
 
 #[test]
@@ -41,7 +41,7 @@ fn compares(rt: &HostRuntime, book: &mut Book) -> Result<(), Fail> {
     }
 }
 
-// How long an ask takes of a page of 4,000 octets, for whose verdict the policy is at hand or not.
+// The time of an ask for a page of 4,000 octets, with the policy for its verdict known or not.
 fn nanos(rt: &HostRuntime, book: &mut Book, policy: Option<Arc<Policy>>) -> Result<u128, Fail> {
     let token = Token::new(rt.alloc(), b"foobot")?;
     let page = repeated(rt.alloc(), "http://a.example/", "ab", 2_000)?;

@@ -1,4 +1,4 @@
-//! Threads that wait for one another's answers: each of them wakes.
+//! Threads that wait for one another's answers all wake.
 //! RFC 9309, section 2.4.
 ghost use Rattle.std.specs.Prelude.{◌≡◌, []};
 ghost use Rattle.gate_history.specs.Base.{empty_base};
@@ -25,10 +25,10 @@ const THREADS: usize = 16;
 
 const AUTHORITIES: u64 = 100;
 
-// How often the test looks whether all waits have ended, ten milliseconds apart.
+// How often the test checks whether all waits have ended, ten milliseconds apart.
 const LOOKS: u64 = 3_000;
 
-// A gate at which each thread brings or awaits the answer of each authority: whether all met none but open
+// A gate at which each thread brings or awaits each authority's answer: whether all found only open
 // answers.
 fn answered_threads<G: Gate + Send + Sync, R: Threads + Wait + time::Clock + Abort + Sync>(
     rt: &R,
@@ -55,7 +55,7 @@ fn answered_threads<G: Gate + Send + Sync, R: Threads + Wait + time::Clock + Abo
     Ok(met.len() == THREADS && met.iter().all(|open| *open))
 }
 
-// Looks until it is over, and ends the test where it is not in 30 seconds.
+// Checks until it is over, and aborts the test after 30 seconds.
 fn look<R: time::Clock + Abort>(rt: &R, over: &AtomicBool) {
     for _ in 0..LOOKS {
         if over.load(Ordering::SeqCst) {
@@ -66,7 +66,7 @@ fn look<R: time::Clock + Abort>(rt: &R, over: &AtomicBool) {
     assert!(rt; over.load(Ordering::SeqCst), "a wait has not ended");
 }
 
-// Whether a thread at a desk of its own met none but open answers.
+// Whether a thread at its own desk found only open answers.
 fn at_a_desk<G: Gate, R: Wait + time::Clock>(rt: &R, alloc: Global, gate: &GateLock<G>) -> bool {
     let Ok(mut desk) = gate.desk(rt, alloc) else {
         return false;
@@ -92,7 +92,7 @@ fn each_answered<G: Gate, R: Wait + time::Clock>(
     true
 }
 
-// Brings the answer of the authority, or waits for it where another thread brings it.
+// Brings the authority's answer, or waits for another thread to bring it.
 fn is_answered<G: Gate, R: Wait + time::Clock>(
     rt: &R,
     alloc: Global,
@@ -106,7 +106,7 @@ fn is_answered<G: Gate, R: Wait + time::Clock>(
     };
     match desk.begin(rt, &site, 100) {
         Ok(turn) => {
-            // The others come to wait meanwhile.
+            // The others begin to wait meanwhile.
             thread::sleep(rt, Duration::from_millis(1));
             let open = TimedAnswer::new(Answer::Open(Opening::Unavailable), LIFE);
             desk.arrive(rt, turn, open, 105);

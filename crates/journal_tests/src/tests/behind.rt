@@ -1,4 +1,4 @@
-//! A sink behind what comes up, or doesn't.
+//! A sink that waits for something to come up, which may fail.
 
 use counted_io::{DeviceFault, FailAt, Sink};
 use journal_tape::{Behind, ComesUp};
@@ -6,7 +6,7 @@ use std::cell::Cell;
 use std::process::Abort;
 use std::test::Fail;
 
-// It comes up so many times, and counts how often it was asked to.
+// Comes up so many times, and counts the requests.
 #[derive(Drop)]
 struct Times {
     left: Cell<u32>,

@@ -1,5 +1,5 @@
-//! A journal whose tape fails at each call in turn, and what a crash then leaves of its lines.
-//! What is told is a line whose commit was answered Ok.
+//! A journal whose tape fails at each call in turn, and what a crash leaves of its lines.
+//! A line is told if its commit returned Ok.
 
 use journal_tape::{Journal, MemoryTape, Tape, whole_len};
 use std::alloc::Global;
@@ -8,7 +8,7 @@ use std::test::Fail;
 
 const LINES: [&[u8]; 4] = [b"V 2\n", b"B 1 a.example 1\n", b"\n", b"K 1\n"];
 
-// How many calls of a tape the lines take at most, of three octets a call.
+// The most tape calls for the lines, at three octets a call.
 const CALLS: u64 = 20;
 
 #[test]
@@ -35,7 +35,7 @@ fn all_is_told_where_nothing_fails(rt: HostRuntime) -> Result<(), Fail> {
     Ok(())
 }
 
-// Whether a crash behind the first fault leaves the lines that were told, and then a front of lines.
+// Whether a crash after the first fault leaves the told lines, and then a prefix of lines.
 fn leaves_what_was_told(alloc: Global, fails_at: Option<u64>, more: usize) -> Result<bool, Fail> {
     let mut journal = Journal::new(MemoryTape::new(Vec::new(alloc), 3, fails_at));
     let told = told_lines(&mut journal);
@@ -48,7 +48,7 @@ fn leaves_what_was_told(alloc: Global, fails_at: Option<u64>, more: usize) -> Re
     Ok(found && (told == LINES.len() || journal.has_failed()))
 }
 
-// Commits the lines one by one, also behind a fault, and counts those that were answered Ok.
+// Commits the lines one by one, even after a fault, and counts the Ok ones.
 fn told_lines(journal: &mut Journal<MemoryTape>) -> usize {
     let mut told: usize = 0;
     for line in LINES {
@@ -59,7 +59,6 @@ fn told_lines(journal: &mut Journal<MemoryTape>) -> usize {
     told
 }
 
-// The text of the first lines.
 fn text_of(alloc: Global, count: usize) -> Result<Vec<u8>, Fail> {
     let mut text = Vec::new(alloc);
     for line in LINES.iter().take(count) {

@@ -1,5 +1,5 @@
-//! Files of the system as tapes.
-//! A test runs in an empty folder of its own.
+//! System files as tapes.
+//! Each test runs in its own empty folder.
 
 use journal_tape::{FileTape, Journal, Tape};
 use std::fs;

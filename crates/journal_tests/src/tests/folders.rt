@@ -1,5 +1,5 @@
-//! Folders of journals: who may have one.
-//! A test runs in an empty folder of its own.
+//! Journal folders: who may have one.
+//! Each test runs in its own empty folder.
 
 use journal_files::{Folder, FolderFault, file_name};
 use std::fs;
@@ -39,7 +39,7 @@ fn the_last_file_is_the_one_behind_most_entries(rt: HostRuntime) -> Result<(), F
     Ok(())
 }
 
-// The entries before the last file of a folder.
+// The number of entries before a folder's last file.
 fn last_of(rt: HostRuntime) -> Result<Option<u64>, Fail> {
     let Ok(folder) = Folder::open(rt, "three") else {
         return Err(Fail::new("the folder can't be opened"));

@@ -1,4 +1,4 @@
-//! Several threads that come up to one journal: each finds what it entered in the file.
+//! Several threads that share one journal: each finds its entries in the file.
 //! Entries are numbers, a line each.
 ghost use Rattle.std.specs.Prelude.{⊤};
 
@@ -17,7 +17,7 @@ const THREADS: usize = 8;
 
 const ROUNDS: usize = 25;
 
-// So many numbers were entered, the first of them 0.
+// The numbers entered, from 0.
 #[derive(Drop)]
 struct Numbers {
     alloc: Global,
@@ -25,7 +25,7 @@ struct Numbers {
 }
 
 impl Numbers {
-    // The lines of the numbers from one on.
+    // The lines of the numbers in a range.
     fn lines(&self, from: u64, to: u64) -> Result<Vec<u8>, JournalFault> {
         let mut text = Vec::new(self.alloc);
         for number in from..to {
@@ -69,7 +69,7 @@ impl Chronicle for Numbers {
     }
 }
 
-// It seals up to the numbers that were entered.
+// Seals all numbers entered.
 #[derive(Drop)]
 struct Seal {
     alloc: Global,
@@ -146,7 +146,7 @@ fn file(rt: HostRuntime) -> Result<Vec<u8>, Fail> {
     Ok(fs::read(&rt, "journal/00000000000000000000")?)
 }
 
-// Whether the file has the line of a number, behind those of all before it.
+// Whether the file has this number's line, after those of all earlier ones.
 fn has_number(rt: HostRuntime, number: u64) -> bool {
     match fs::read(&rt, "journal/00000000000000000000") {
         Ok(text) => text.iter().filter(|octet| **octet == b'\n').count() as u64

@@ -25,7 +25,7 @@ fn check(rt: &HostRuntime, book: &mut Book) -> Result<(), Fail> {
     demand(holds, "a site without a robots file", 0)
 }
 
-// A robots fetch that finds no file, and a page that is asked for and started.
+// A robots fetch that finds no file, and a page asked for and started.
 fn replies(alloc: Global, book: &mut Book) -> Result<Vec<Reply>, Fail> {
     let calls = calls(alloc)?;
     Ok(run(alloc, book, calls)?)
@@ -95,7 +95,6 @@ fn page(alloc: Global) -> Result<(Token, PageUrl), Fail> {
     Ok((token, PageUrl::parse(alloc, "http://a.example/x")?))
 }
 
-// Whether the turn was taken, the permit granted and started.
 fn is_started(replies: &[Reply]) -> bool {
     match replies {
         [

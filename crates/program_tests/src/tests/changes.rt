@@ -1,4 +1,4 @@
-//! A site whose robots.txt changes between two jobs: the first file decides until a day has passed.
+//! A site whose robots.txt changes between two jobs: the first file decides for a day.
 //! RFC 9309, section 2.4.
 use super::sites::crawl_over;
 use super::{demand, new_writer, reader_of};
@@ -17,8 +17,7 @@ use std::time;
 
 const JOBS: &[u8] = b"foobot http://a.example/x\nfoobot http://a.example/y\n";
 
-// A site without a robots.txt, which has one from the second fetch of it on. After each fetch of a page
-// so many seconds have passed.
+// A site that has a robots.txt from its second fetch on. Each fetch of a page takes so many seconds.
 #[derive(Drop)]
 struct Changing<'a> {
     alloc: Global,
@@ -65,7 +64,7 @@ impl Fetcher for Changing<'_> {
     }
 }
 
-// A clock that is set by others.
+// A clock set by others.
 #[derive(Drop)]
 struct Set<'a>(&'a AtomicU64);
 
@@ -75,7 +74,7 @@ impl Clock for Set<'_> {
     }
 }
 
-// The shift of one worker over the site.
+// A shift of one worker over the site.
 fn crawl<R: AllocGlobal + RandomSource + Threads + Wait + time::Clock + Sync>(
     rt: &R,
     jobs: &mut FailAt,
@@ -92,7 +91,7 @@ fn crawl<R: AllocGlobal + RandomSource + Threads + Wait + time::Clock + Sync>(
     crawl_over(rt, 1, jobs, report, &site, &Set(&now))
 }
 
-// Checks the report where so many seconds pass after the first page.
+// Checks the report if so many seconds pass after the first page.
 fn check<R: AllocGlobal + RandomSource + Threads + Wait + time::Clock + Sync>(
     rt: &R,
     after_page: u64,

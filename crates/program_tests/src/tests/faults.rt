@@ -20,7 +20,6 @@ const REPLIES: [&str; 4] = [
     "GO 65536 open\n",
 ];
 
-// The replies to the first so many lines.
 fn replies(alloc: Global, lines: usize) -> Result<Vec<u8>, Fail> {
     let mut text = Vec::new(alloc);
     for reply in REPLIES.iter().take(lines) {
@@ -51,7 +50,7 @@ fn check_replies(rt: &HostRuntime, written: &[u8], lines: usize, at: usize) -> R
     demand(written == want.as_slice(), "replies", at)
 }
 
-// The end of a session and how many entries it made, and what they must be.
+// Checks the end of a session and its number of entries.
 fn check_end(
     given: (Result<(), SessionFault>, usize),
     want: (Result<(), SessionFault>, usize),

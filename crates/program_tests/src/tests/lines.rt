@@ -9,7 +9,7 @@ const TEXT: &[u8] = b"# c\nUser-agent: FooBot\r\nAllow: /a b\rDisallow:";
 
 const OUTPUT: &[u8] = b"1 other\n2 agent name foobot\n3 allow /a%20b\n4 disallow\n";
 
-// A first line, a comment that passes the limit by an octet, and a line behind it that ends past the limit.
+// A first line, a comment one octet past the limit, and a line that ends past the limit.
 fn long_text(rt: &HostRuntime) -> Result<Vec<u8>, Fail> {
     let mut text = b"User-agent: *\n".to_vec(rt.alloc())?;
     text.resize(14 + 511_978, b'#')?;

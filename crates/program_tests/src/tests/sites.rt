@@ -1,4 +1,4 @@
-//! Shifts over what a fetcher fetches.
+//! Shifts over a fetcher.
 ghost use Rattle.std.specs.Prelude.{◌≡◌, []};
 ghost use Rattle.gate_history.specs.Base.{empty_base};
 ghost use Rattle.job_line.specs.Limits.{IsCrew};
@@ -17,7 +17,7 @@ use std::thread::Threads;
 use std::time;
 use std::time::Duration;
 
-/// A shift of so many workers over a new gate and what a fetcher fetches.
+/// A shift of so many workers over a new gate and a fetcher.
 pub(super) fn crawl_over<
     F: Fetcher + Sync,
     C: Clock + Sync,
@@ -46,7 +46,6 @@ pub(super) fn crawl_over<
     Ok(report_over::<Brand, _, _, _>(&shift, jobs, report, book, Blanks::new()))
 }
 
-// Its report, over a gate of this book.
 fn report_over<
     G: Gate + Send + Sync,
     F: Fetcher + Sync,

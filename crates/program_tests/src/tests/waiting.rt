@@ -1,4 +1,4 @@
-//! That the replies are written before each read that may wait.
+//! The replies are written before each read that may wait.
 
 ghost use Rattle.std.specs.Prelude.{None};
 
@@ -31,7 +31,7 @@ impl<'a> Sink for Tally<'a> {
     }
 }
 
-// A source of such lines that fails where the reply to a whole line that it gave isn't written yet.
+// A source of lines that fails if the reply to a whole line isn't written yet.
 #[derive(Drop)]
 struct Waiting<'a> {
     input: &'a [u8],
@@ -61,7 +61,7 @@ impl<'a> Source for Waiting<'a> {
     }
 }
 
-// How many octets a session wrote that reads at most so many octets at a time, where it ended well.
+// How many octets a session wrote that read at most `cut` at a time and ended well.
 fn written_by(rt: &HostRuntime, input: &[u8], cut: usize) -> Result<usize, Fail> {
     let mut book = new_book(rt)?;
     written_over(rt, &mut book, input, cut)

@@ -1,4 +1,4 @@
-//! A session over a book alone: each of its calls is the book's, and nothing is fetched.
+//! A session over a book alone: each call is the book's, and nothing is fetched.
 ghost use Rattle.std.specs.Prelude.{◌<◌};
 
 use super::{book, demand, served};
@@ -11,7 +11,7 @@ use robots_verdict::{Answer, Opening};
 use std::alloc::Global;
 use std::test::Fail;
 
-// A name, the lines of a client, and the replies. The answer of a.example is open.
+// A name, a client's lines, and the replies. The answer of a.example is open.
 const ROWS: [(&str, &str, &str); 7] = [
     (
         "spent once",
@@ -59,7 +59,7 @@ fn sessions_over_a_book(rt: HostRuntime) -> Result<(), Fail> {
     Ok(())
 }
 
-// Brings the answer that a.example is open.
+// Makes the answer of a.example open.
 pub(super) fn open_site(alloc: Global, book: &mut Book) -> Result<(), Fail> {
     let site = Authority::new(alloc, "a.example")?;
     let turn: TurnNo = book.begin(&site, 100)?;
@@ -86,7 +86,7 @@ fn check_row(
     }
 }
 
-// Octets without an LF, however many a read brings, are read no further than is said.
+// Octets without an LF, however many a read brings, are read no further than promised.
 #[test]
 fn a_line_without_an_end(rt: HostRuntime) -> Result<(), Fail> {
     let mut book = book(&rt, rt.alloc(), Limits::usual())?;

@@ -1,4 +1,4 @@
-//! A session over a book while time passes: each line is answered at a reading of its own.
+//! A session over a book while time passes: each line is answered at its own reading.
 
 use super::books::open_site;
 use super::{book, demand};
@@ -13,7 +13,7 @@ use std::test::Fail;
 // The answer of a.example has expired by then.
 const LATE: u64 = 300_000;
 
-// A name, the moment of each reading, the lines of a client, and the replies. The answer of a.example is open.
+// A name, the moments of the readings, a client's lines, and the replies. The answer of a.example is open.
 const ROWS: [(&str, [u64; 3], &str, &str); 4] = [
     (
         "an answer that expires between two lines",
@@ -42,7 +42,7 @@ const ROWS: [(&str, [u64; 3], &str, &str); 4] = [
     ),
 ];
 
-// A clock of which each reading tells the next of these moments, and the last one ever after.
+// A clock whose readings give these moments in turn, then always the last.
 #[derive(Drop)]
 struct Passing {
     moments: [u64; 3],
@@ -73,7 +73,7 @@ fn time_passes_between_lines(rt: HostRuntime) -> Result<(), Fail> {
     Ok(())
 }
 
-// All lines are at hand from the start, so that no read comes between them.
+// All lines are available from the start, so no read comes between them.
 fn check_row(
     alloc: Global,
     book: &mut Book,

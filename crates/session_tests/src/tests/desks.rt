@@ -1,4 +1,5 @@
-//! A session at a desk: pages and robots.txt files are fetched for it, and what it leaves out is given back.
+//! A session at a desk: pages and robots.txt files are fetched for it, and what it leaves out is given
+//! back.
 
 use super::{book, demand, session_at};
 use counted_io::FailAt;
@@ -9,7 +10,7 @@ use std::random::RandomSource;
 use std::sync::Wait;
 use std::test::Fail;
 
-// A name, the lines of a client, the replies, and how many entries and started fetches the history has then.
+// A name, a client's lines, the replies, and the entries and started fetches of the history.
 const ROWS: [(&str, &str, &str, u64, u64); 7] = [
     (
         "a page",
@@ -70,7 +71,7 @@ const ROWS: [(&str, &str, &str, u64, u64); 7] = [
     ),
 ];
 
-// A session at a new gate: what it is told, and what the gate is settled to.
+// A session at a new gate: its replies, and the gate's settlement.
 #[derive(Drop)]
 struct SessionRow<'r, R: Wait> {
     rt: &'r R,

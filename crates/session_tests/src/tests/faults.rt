@@ -1,5 +1,6 @@
-//! Sessions at a desk whose read or write fails, at each place in turn: nothing stays out, and behind a write that
-//! failed no line is answered.
+//! Sessions at a desk whose read or write fails, at each place in turn: nothing stays out, and after a
+//! failed
+//! write no line is answered.
 
 use super::{Ended, book, session_at};
 use command_server::SessionFault;
@@ -18,10 +19,10 @@ ASK foobot http://a.example/y
 START 65536 foobot http://a.example/x
 ";
 
-// How many octets the replies to them have.
+// The length of the replies in octets.
 const REPLIES: u64 = 61;
 
-// A session whose reads or writes fail behind so many calls, each of one octet.
+// A session whose reads or writes fail after so many calls of one octet.
 #[derive(Drop)]
 struct FaultRow<'r, R: Wait> {
     rt: &'r R,
@@ -78,18 +79,18 @@ fn reads_that_fail(rt: HostRuntime) -> Result<(), Fail> {
     Ok(())
 }
 
-// What the gate is settled to where the write of the octet behind so many fails. The line behind a reply is read
-// once the reply is written, so the lines answered are those up to the one whose reply has that octet; what
-// they left out is given back.
+// The gate's settlement if the write after so many octets fails. The line after a reply is read once that
+// is written, so the lines answered are those up to the one whose reply has that octet; what they left out
+// is given back.
 fn settled_to(written: u64) -> Settled {
     let (events, starts) = match written {
         // The answer.
         0..=20 => (2, 0),
-        // A permit, which is given back.
+        // A permit, given back.
         21..=33 => (4, 0),
-        // Another one.
+        // Another permit.
         34..=46 => (6, 0),
-        // A fetch is started, and ended.
+        // A fetch, started and ended.
         _ => (7, 1),
     };
     Settled { events, starts }

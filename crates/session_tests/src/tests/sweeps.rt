@@ -1,5 +1,5 @@
-//! A server at a clock of the test's own, each reading of which is later by more than a day: what sees to the gate
-//! sweeps it at the clock's moments, and at no later one. RFC 9309, section 2.4.
+//! A server at a test clock that advances by more than a day with each reading: the gate is
+//! swept at the clock's moments, and at no later one. RFC 9309, section 2.4.
 ghost use Rattle.std.specs.Prelude.{◌≡◌, []};
 ghost use Rattle.gate_history.specs.Base.{empty_base};
 
@@ -22,19 +22,20 @@ use std::thread::Threads;
 use std::time;
 use std::time::Duration;
 
-// How many seconds lie between two readings: more than an answer lasts.
+// The seconds between two readings: more than an answer lasts.
 const STEP: u64 = 90_000;
 
-// How long the server waits for the client that says nothing, in milliseconds. It looks after its gate ten times a second.
+// How long the server waits for the silent client, in milliseconds. It maintains its gate ten times a
+// second.
 const PATIENCE: u64 = 600;
 
-// What the client behind that one sends, and what it is told: the answer expires between two readings. It would
-// not where the gate had been swept at a moment that no reading passes.
+// What the client after that one sends, and its replies: the answer expires between two readings. It would
+// not if the gate were swept at a moment that no reading passes.
 const LINES: &[u8] = b"REFRESH a.example\nASK foobot http://a.example/x\nQUIT\n";
 
 const REPLIES: &str = "TAKEN a.example open\nNO a.example expired\nBYE\n";
 
-// The entries of these lines: the begin, the arrival, and the denial. More than these are sweeps.
+// The entries of these lines: the begin, the arrival, and the denial. All others are sweeps.
 const ENTRIES: u64 = 3;
 
 #[derive(Drop)]
@@ -57,7 +58,7 @@ impl Alarm for Unheard {
     fn log_is_full(&self) {}
 }
 
-// Serves the two clients that have connected, and tells how many entries the history has.
+// Serves the two connected clients, and returns the entries of the history.
 fn serve_two<'x, G: Gate + Send + Sync, R: Threads + Wait + time::Clock + Sync>(
     rt: &'x R,
     alloc: Global,

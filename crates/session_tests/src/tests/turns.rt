@@ -1,4 +1,4 @@
-//! Two sessions over one gate of one slot, in two threads, whose lines come in turn.
+//! Two sessions over one gate of one slot, in two threads, whose lines alternate.
 ghost use Rattle.std.specs.Prelude.{◌≡◌, []};
 ghost use Rattle.gate_history.specs.Base.{empty_base};
 
@@ -18,7 +18,7 @@ use std::thread::{Threads, join};
 use std::time::Duration;
 use std::{io, thread, time};
 
-// The lines, each with the session that hands it in. They are handed in in this order.
+// The lines, each with its session, in order.
 const LINES: [(u64, &str); 6] = [
     (0, "REFRESH a.example\n"),
     (0, "ASK foobot http://a.example/x\n"),
@@ -32,19 +32,18 @@ const FIRST: &str = "TAKEN a.example open\nPERMIT 65536\nBYE\n";
 
 const SECOND: &str = "ERR permits\nNO a.example spent\nPERMIT 131072\n";
 
-// A client that hands a line in once it is its turn. A read that comes for the next line says that the one
-// before is answered.
+// A client that sends a line when its turn comes. A read for the next line shows that the one before is
+// answered.
 #[derive(Drop)]
 struct Turns<'t, R: time::Clock> {
     rt: &'t R,
     session: u64,
     turn: &'t AtomicU64,
-    // Whether the line of the turn was handed in.
     handed: bool,
 }
 
 impl<R: time::Clock> Turns<'_, R> {
-    // The line of this session whose turn it is, waited for; none at the end.
+    // Waits for this session's turn and gives its line; none at the end.
     fn next_line(&mut self) -> Option<&'static str> {
         if self.handed {
             self.turn.fetch_add(1, Ordering::SeqCst);
@@ -77,7 +76,6 @@ impl<R: time::Clock> Read for Turns<'_, R> {
     }
 }
 
-// A session to its end: what it was told, and its receipts.
 fn session<G: Gate, R: Wait + time::Clock>(
     rt: &R,
     alloc: Global,
@@ -98,7 +96,7 @@ fn session<G: Gate, R: Wait + time::Clock>(
     let mut writer = FailAt::new(Vec::new(alloc), 65_536, None);
     let mut keeper = DeskKeeper::open(rt, alloc, gate, &sites).ok()?;
     let end = served(alloc, &mut reader, &mut writer, &mut keeper);
-    // The farewell comes behind the end of what was out, and the turn passes on with it.
+    // The farewell follows the end of what was out, and passes the turn on.
     if reader.into_inner().handed {
         turn.fetch_add(1, Ordering::SeqCst);
     }
@@ -107,7 +105,7 @@ fn session<G: Gate, R: Wait + time::Clock>(
     Some((writer, receipts))
 }
 
-// Both sessions over a new gate: what each was told, and what the gate is settled to.
+// Both sessions over a new gate: their replies, and the gate's settlement.
 fn both<G: Gate + Send + Sync, R: Threads + Wait + time::Clock + Sync>(
     rt: &R,
     alloc: Global,
@@ -152,7 +150,6 @@ fn at_a_gate<G: Gate + Send + Sync, R: Threads + Wait + time::Clock + Sync>(
     }
 }
 
-// Looks at what a session was told, and adds its receipts.
 fn keep<G: Gate>(
     all: &mut Vec<Receipts<G>>,
     made: (FailAt, Receipts<G>),

@@ -1,4 +1,4 @@
-//! Servers that are not there, that reset, and that send without end.
+//! Servers that are missing, that reset, or that send without end.
 //! In the texts `|` stands for CR LF.
 
 use super::test_server::{Script, fetch, listen, page_of, patient, run};
@@ -12,8 +12,7 @@ use std::thread::Threads;
 use std::time;
 use std::time::Duration;
 
-// A name, what the server sends first, what it sends again and again, the limit, and what comes of
-// it.
+// A name, the server's first text, the text that it repeats, the limit, and the result.
 const ENDLESS: [(&str, &str, &str, usize, &str); 6] = [
     (
         "header lines",
@@ -99,7 +98,7 @@ fn refused(rt: HostRuntime) -> Result<(), Fail> {
     Ok(())
 }
 
-// A page of a listener that is there no more.
+// A page of a listener that is gone.
 fn closed_page(
     rt: &impl Net<Listener = TcpListener, Stream = TcpStream>,
     alloc: Global,
@@ -108,7 +107,7 @@ fn closed_page(
     page_of(alloc, &listener)
 }
 
-// No server of names is asked for a label of 64 octets.
+// No name server is asked for a label of 64 octets.
 #[test]
 fn no_such_name(rt: HostRuntime) -> Result<(), Fail> {
     let url = PageUrl::parse(rt.alloc(), LONG_NAME)?;

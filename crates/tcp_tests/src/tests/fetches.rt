@@ -1,10 +1,10 @@
-//! Pages that are fetched whole, and answers that are none.
+//! Pages fetched whole, and faulty responses.
 //! In the texts `|` stands for CR LF.
 
 use super::test_server::{Script, patient, run};
 use std::test::Fail;
 
-// A name, what the server sends before it closes, the limit, and what comes of it.
+// A name, what the server sends before it closes, the limit, and the result.
 const ANSWERS: [(&str, &str, usize, &str); 12] = [
     (
         "counted",

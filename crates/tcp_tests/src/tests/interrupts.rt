@@ -1,4 +1,4 @@
-//! Reads and writes that a signal interrupts, and those whose time is over.
+//! Interrupted reads and writes, and those out of time.
 
 use http_client::{Deadline, Failure, TimedStream, Waits};
 use std::io::{ErrorKind, Read, Write};
@@ -7,7 +7,7 @@ use std::test::Fail;
 use std::time::{Duration, Instant};
 use std::{io, time};
 
-// A connection whose first calls a signal interrupts. Then it gives and takes one octet a call.
+// A connection whose first calls a signal interrupts. Later calls move one octet each.
 #[derive(Drop)]
 struct Interrupted(u32);
 
@@ -57,7 +57,7 @@ impl Waits for Interrupted {
     }
 }
 
-// A stream that a signal interrupts so many times, with so many seconds for the whole.
+// A stream interrupted so many times, with so many seconds for the whole.
 fn stream_of<'a, R: time::Clock>(
     rt: &'a R,
     times: u32,
@@ -79,14 +79,12 @@ fn stream_of<'a, R: time::Clock>(
     })
 }
 
-// Whether a read of such a stream succeeds.
 fn reads(rt: &impl time::Clock, times: u32, whole: u64) -> io::Result<bool> {
     let stopped = AtomicBool::new(false);
     let mut stream = stream_of(rt, times, whole, &stopped)?;
     Ok(stream.read(&mut [0, 0]).is_ok())
 }
 
-// Whether a write to such a stream succeeds.
 fn writes(rt: &impl time::Clock, times: u32, whole: u64) -> io::Result<bool> {
     let stopped = AtomicBool::new(false);
     let mut stream = stream_of(rt, times, whole, &stopped)?;
@@ -113,7 +111,7 @@ fn a_time_that_is_over(rt: HostRuntime) -> Result<(), Fail> {
     Ok(())
 }
 
-// Whether a read of a stream that was stopped succeeds, and why it failed.
+// Whether a read of a stopped stream succeeds, and why it failed.
 fn reads_when_stopped(rt: &impl time::Clock) -> io::Result<(bool, Option<Failure>)> {
     let stopped = AtomicBool::new(true);
     let mut stream = stream_of(rt, 0, 60, &stopped)?;
@@ -121,7 +119,7 @@ fn reads_when_stopped(rt: &impl time::Clock) -> io::Result<(bool, Option<Failure
     Ok((reads, stream.failure))
 }
 
-// Whether a write of a stream that was stopped succeeds, and why it failed.
+// Whether a write of a stopped stream succeeds, and why it failed.
 fn writes_when_stopped(rt: &impl time::Clock) -> io::Result<(bool, Option<Failure>)> {
     let stopped = AtomicBool::new(true);
     let mut stream = stream_of(rt, 0, 60, &stopped)?;

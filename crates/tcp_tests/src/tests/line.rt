@@ -1,5 +1,4 @@
-//! Numbers drawn by one thread and by many, of one site and of several, and what is gathered of no
-//! seats, of some and of all.
+//! Numbers drawn by one or many threads, of one or several sites, and gathered from no, some and all seats.
 
 ghost use Rattle.std.specs.Prelude.{◌≡◌};
 
@@ -21,7 +20,7 @@ fn draw_all(line: &JobLine, seat: &mut JobSeat)
     line.draw(seat);
 }
 
-// What is gathered of one seat alone.
+// What one seat alone gathers.
 fn gather_one(alloc: Global, line: JobLine, seat: JobSeat) -> Result<Drawn, AllocError>
     requires { seat.line ≡ line }
 {
@@ -43,7 +42,7 @@ fn all_once(alloc: Global, seats: &[JobSeat]) -> Result<bool, AllocError> {
     Ok(times.iter().all(|count| *count == 1))
 }
 
-// Draws at each of four sites in turn, the first of them by the place, until all have ended.
+// Draws at four sites in turn, from the one at the place, until all have ended.
 fn draw_in_turn(line: &JobLine, seat: &mut JobSeat, place: usize)
     requires { seat.old.line ≡ line.now }
     ensures { seat.new.line ≡ seat.old.line }
@@ -53,7 +52,7 @@ fn draw_in_turn(line: &JobLine, seat: &mut JobSeat, place: usize)
     }
 }
 
-// Whether there is no job at any of three sites, nor at a fourth, which is none; asked twice.
+// Whether none of three sites has a job, nor an unknown fourth; asked twice.
 fn finds_nothing(line: &JobLine, seat: &mut JobSeat) -> bool
     requires { seat.old.line ≡ line.now }
     ensures { seat.new.line ≡ seat.old.line }

@@ -7,7 +7,7 @@ use std::alloc::Global;
 use std::process::Abort;
 use std::test::Fail;
 
-// A name, a URL, and the host and the port of its server.
+// A name, a URL, and its server's host and port.
 const SERVERS: [(&str, &str, &str, u16); 10] = [
     ("a name", "http://a.example/x", "a.example", 80),
     ("a port", "http://a.example:8080/x:9", "a.example", 8_080),

@@ -21,7 +21,7 @@ const STALLS: [(&str, &str); 4] = [
     ),
 ];
 
-// A fetch that came to nothing for this, and not sooner than it may, nor as late as a fetch without limits.
+// A fetch that failed for this, no sooner than it may, nor as late as one without limits.
 fn check_time(rt: &impl Abort, name: &str, told: &Timed, least: u64, why: Failure) {
     assert_eq!(rt; told.text.as_str(), "Device", "{name}");
     assert_eq!(rt; told.failure, Some(why), "{name}");
@@ -47,7 +47,7 @@ const DRIPS: [(&str, &str); 3] = [
     ("a body", "HTTP/1.0 200 OK||"),
 ];
 
-// No read waits for long, and all of them together end after 300 milliseconds.
+// No single read waits for long; all together end after 300 milliseconds.
 #[test]
 fn a_slow_server(rt: HostRuntime) -> Result<(), Fail> {
     for (name, text) in DRIPS {
@@ -64,7 +64,7 @@ fn a_slow_server(rt: HostRuntime) -> Result<(), Fail> {
     Ok(())
 }
 
-// The system takes no more connections for a listener once so many wait that it has not accepted.
+// The system accepts no more connections for a listener once too many are waiting.
 #[test]
 fn a_full_server(rt: HostRuntime) -> Result<(), Fail> {
     let listener = listen(&rt)?;

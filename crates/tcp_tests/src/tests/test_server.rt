@@ -1,4 +1,4 @@
-//! A server on the loopback for one connection, and one fetch from it.
+//! A loopback server for one connection, and one fetch from it.
 
 use http_client::{Failure, TcpClient, TimeLimits};
 use http_wire::{HttpReply, WireFault};
@@ -11,23 +11,21 @@ use std::thread::Threads;
 use std::time::{Duration, Instant};
 use std::{io, thread, time};
 
-/// What the server does after it has read the head of a request. In its texts `|` stands for CR LF.
+/// What the server does after reading a request's head. In its texts `|` stands for CR LF.
 #[derive(Clone, Copy)]
 pub(super) enum Script {
-    /// Sends a text and closes.
     Sends(&'static str),
-    /// Sends a text, and another again and again, until the peer closes or 16 MB are sent.
+    /// Sends a text, and another repeatedly, until the peer closes or 16 MB are sent.
     Repeats(&'static str, &'static str),
     /// Sends a text and an octet every 10 milliseconds, until the peer closes or 1,000 are sent.
     Drips(&'static str),
-    /// Sends a text and waits for the peer to close, at most 10 seconds.
+    /// Sends a text and waits at most 10 seconds for the peer to close.
     Stalls(&'static str),
-    /// Sends a text and resets the connection.
     Resets(&'static str),
 }
 
 impl Script {
-    // The text that it sends first.
+    // The text to send first.
     fn front(self) -> &'static str {
         match self {
             Script::Sends(front)
@@ -39,10 +37,10 @@ impl Script {
     }
 }
 
-/// The most octets that a repeating server sends.
+/// The most octets of a repeating server.
 const MOST_SENT: usize = 16_777_216;
 
-/// What came of a fetch, in words, why its device failed, and how long it took.
+/// A fetch's result in words, its device's failure, and its time.
 #[derive(Drop)]
 pub(super) struct Timed {
     pub(super) text: String,
@@ -50,7 +48,7 @@ pub(super) struct Timed {
     pub(super) time: Duration,
 }
 
-/// Limits that no test of a server that answers passes.
+/// Limits that no test with a responding server reaches.
 pub(super) fn patient() -> TimeLimits {
     TimeLimits {
         connect: Duration::from_secs(20),
@@ -59,7 +57,7 @@ pub(super) fn patient() -> TimeLimits {
     }
 }
 
-/// Limits of milliseconds.
+/// Limits in milliseconds.
 pub(super) fn hasty(step: u64, whole: u64) -> TimeLimits {
     TimeLimits {
         connect: Duration::from_secs(20),
@@ -68,21 +66,20 @@ pub(super) fn hasty(step: u64, whole: u64) -> TimeLimits {
     }
 }
 
-/// A listener on a port of the loopback that was free.
+/// A listener on a free loopback port.
 pub(super) fn listen(
     rt: &impl Net<Listener = TcpListener, Stream = TcpStream>,
 ) -> io::Result<TcpListener> {
     TcpListener::bind(rt, SocketAddr::from((Ipv4Addr::LOCALHOST, 0)))
 }
 
-/// The URL of a page of the listener.
 pub(super) fn page_of(alloc: Global, listener: &TcpListener) -> Result<PageUrl, Fail> {
     let port = listener.local_addr()?.port();
     let text = format!(in alloc; "http://127.0.0.1:{port}/x?q")?;
     Ok(PageUrl::parse(alloc, text.as_str())?)
 }
 
-/// What came of a fetch, in words: a status and a body, or the name of a fault.
+/// A fetch's result in words: a status and a body, or a fault's name.
 fn told(alloc: Global, given: &Result<HttpReply, WireFault>) -> Result<String, AllocError> {
     match given {
         Ok(reply) => reply_text(alloc, reply),
@@ -96,7 +93,7 @@ fn reply_text(alloc: Global, reply: &HttpReply) -> Result<String, AllocError> {
     format!(in alloc; "{} {body}{cut}", reply.status)
 }
 
-/// Fetches a page over TCP, and takes the time.
+/// Fetches a page over TCP, and measures the time.
 pub(super) fn fetch<R: Net<Stream = TcpStream> + time::Clock>(
     rt: &R,
     alloc: Global,
@@ -107,7 +104,7 @@ pub(super) fn fetch<R: Net<Stream = TcpStream> + time::Clock>(
     fetch_by(rt, alloc, &TcpClient::new(rt, limits), url, limit)
 }
 
-/// Fetches a page over TCP by a client of the test, and takes the time.
+/// Fetches a page by a client of the test, and measures the time.
 pub(super) fn fetch_by<R: Net<Stream = TcpStream> + time::Clock>(
     rt: &impl time::Clock,
     alloc: Global,
@@ -137,7 +134,7 @@ fn told_since(
     })
 }
 
-/// Fetches a page of a server that does as the script says.
+/// Fetches a page of a server with this script.
 pub(super) fn run<R>(
     rt: &R,
     alloc: Global,
@@ -182,7 +179,7 @@ fn read_and_send(stream: &mut TcpStream, request: &mut Vec<u8>, reply: &str) -> 
     send(stream, reply)
 }
 
-/// Accepts one connection, whose reads and writes here wait for 10 seconds at most.
+/// Accepts one connection, with timeouts of 10 seconds here.
 pub(super) fn accept(listener: &TcpListener) -> io::Result<TcpStream> {
     let (stream, _) = listener.accept()?;
     limit_waits(&stream)?;
@@ -194,7 +191,7 @@ fn limit_waits(stream: &TcpStream) -> io::Result<()> {
     stream.set_write_timeout(Some(Duration::from_secs(10)))
 }
 
-// Accepts one connection, and does as the script says.
+// Accepts one connection, and runs the script.
 fn serve(
     rt: &impl time::Clock,
     alloc: Global,
@@ -205,7 +202,7 @@ fn serve(
     act(rt, alloc, &mut stream, script)
 }
 
-// A connection that is closed with octets unread is reset, so a script that resets reads none.
+// Closing a connection with unread octets resets it, so a resetting script reads none.
 fn act(
     rt: &impl time::Clock,
     alloc: Global,
@@ -225,13 +222,11 @@ fn act(
     }
 }
 
-// Waits for the peer to close.
 fn stall(stream: &mut TcpStream) -> io::Result<()> {
     stream.read(&mut [0])?;
     Ok(())
 }
 
-/// Reads up to the empty line behind a request's head.
 pub(super) fn read_head(stream: &mut TcpStream, request: &mut Vec<u8>) -> io::Result<()> {
     for _ in 0..8_192 {
         let mut octet = [0];

@@ -1,4 +1,4 @@
-//! The octets that go before the request for a page of https, put together by hand from the PROXY protocol's text.
+//! The octets before an https page's request, written by hand from the PROXY protocol's text.
 //! The PROXY protocol, version 2, sections 2.2 and 2.2.2.
 
 use http_client::{TlsHeaderFault, tls_header_of};
@@ -12,11 +12,11 @@ const V4: &str = "192.0.2.1";
 
 const V6: &str = "2001:db8::abcd:1";
 
-// What begins each header.
+// The start of each header.
 const SIGNATURE: &[u8] = b"\x0d\x0a\x0d\x0a\x00\x0d\x0a\x51\x55\x49\x54\x0a";
 
-// A name, a URL, the address to connect to, and what follows the signature: which kind and how long, the addresses, the ports,
-// and the name.
+// A name, a URL, the address to connect to, and what follows the signature: kind and length, addresses,
+// ports, and name.
 const HEADERS: [(&str, &str, &str, [&[u8]; 4]); 6] = [
     (
         "IPv4",
@@ -112,7 +112,7 @@ fn check_header(
     Ok(())
 }
 
-// A name of 255 octets is sent, and a longer one is not.
+// A name of 255 octets is sent, a longer one is not.
 #[test]
 fn long_names(rt: HostRuntime) -> Result<(), Fail> {
     let address = V4.parse::<IpAddr>()?;
@@ -127,7 +127,7 @@ fn long_names(rt: HostRuntime) -> Result<(), Fail> {
     Ok(())
 }
 
-// A page of a host whose name has so many octets.
+// A page of a host with a name of this length.
 fn https_page(alloc: Global, octets: usize) -> Result<PageUrl, Fail> {
     let mut text = String::from_str(alloc, "https://")?;
     for _ in 0..octets {

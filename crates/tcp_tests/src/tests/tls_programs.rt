@@ -1,4 +1,4 @@
-//! Pages of https, by way of a program that plays the one which opens TLS, and hands on nothing.
+//! Pages of https through a program that plays the TLS program, and forwards nothing.
 //! In the texts `|` stands for CR LF.
 
 use super::test_server::{
@@ -15,7 +15,6 @@ use std::thread::Threads;
 use std::time::Duration;
 use std::{io, thread, time};
 
-// The two addresses.
 fn addresses() -> [IpAddr; 2] {
     [
         IpAddr::from(Ipv6Addr::new(0x2001, 0xdb8, 0, 0, 0, 0, 0, 1)),
@@ -65,20 +64,18 @@ impl<'a, R: time::Clock> time::Clock for TwoAddresses<'a, R> {
     }
 }
 
-// What the program does with a connection, once it has read the header.
+// What the program does with a connection after reading the header.
 #[derive(Clone, Copy)]
 enum Turn {
-    // It reads the request and closes.
     Closes,
-    // It closes with the request unread, so that the connection is reset.
+    // Closes with the request unread, which resets the connection.
     Resets,
-    // It reads the request, sends a text and closes.
     Sends(&'static str),
-    // It reads the request, and waits for the peer to close.
+    // Reads the request, and waits for the peer to close.
     Waits,
 }
 
-// Takes a connection for each turn, and gives all that was read.
+// Accepts a connection for each turn, and returns all that was read.
 fn play(alloc: Global, listener: &TcpListener, turns: &[Turn]) -> io::Result<Vec<u8>> {
     let mut seen = Vec::new(alloc);
     for turn in turns {
@@ -107,7 +104,7 @@ fn take_turn(stream: &mut TcpStream, seen: &mut Vec<u8>, turn: Turn) -> io::Resu
     Ok(())
 }
 
-// Reads a header, whose last two octets of 16 tell how many more there are.
+// Reads a header, whose first 16 octets end with the length of the rest.
 fn read_header(stream: &mut TcpStream, seen: &mut Vec<u8>) -> io::Result<()> {
     let mut front = [0; 16];
     stream.read_exact(&mut front)?;
@@ -120,13 +117,13 @@ fn read_header(stream: &mut TcpStream, seen: &mut Vec<u8>) -> io::Result<()> {
     Ok(())
 }
 
-// What came of a fetch, and what the program read.
+// A fetch's result, and what the program read.
 struct Played {
     told: Timed,
     seen: Vec<u8>,
 }
 
-// Fetches a page of a host with two addresses, by way of a program that takes these turns.
+// Fetches a page of a host with two addresses, through a program with these turns.
 fn run<R>(rt: &R, alloc: Global, turns: &[Turn], limits: TimeLimits) -> Result<Played, Fail>
 where
     R: Net<Listener = TcpListener, Stream = TcpStream> + time::Clock + Threads + Sync,
@@ -153,7 +150,7 @@ fn page(alloc: Global) -> Result<PageUrl, Fail> {
 
 const ANSWER: &str = "HTTP/1.1 200 OK|Content-Length: 5||hello";
 
-// A name, the program's turns, what comes of the fetch, and why it failed.
+// A name, the program's turns, the fetch's result, and why it failed.
 const TURNS: [(&str, &[Turn], &str, Option<Failure>); 7] = [
     ("an answer", &[Turn::Sends(ANSWER)], "200 hello", None),
     (
@@ -204,7 +201,7 @@ fn turns_of_a_tls_program(rt: HostRuntime) -> Result<(), Fail> {
     Ok(())
 }
 
-// A program that sends nothing is waited for as long as a server is, and no other address is tried.
+// A silent program is waited for like a server, and no other address is tried.
 #[test]
 fn a_silent_tls_program(rt: HostRuntime) -> Result<(), Fail> {
     let Played { told, seen: _ } = run(&rt, rt.alloc(), &[Turn::Waits], hasty(50, 20_000))?;
@@ -219,7 +216,7 @@ fn a_silent_tls_program(rt: HostRuntime) -> Result<(), Fail> {
 const REQUEST: &[u8] =
     b"GET /x?q HTTP/1.1\r\nHost: a.example:8443\r\nUser-Agent: crawlgate\r\nAccept: */*\r\nAccept-Encoding: identity\r\nConnection: close\r\n\r\n";
 
-// Each address has its own header, and behind it the request.
+// Each address gets its own header, and then the request.
 #[test]
 fn a_header_for_each_address(rt: HostRuntime) -> Result<(), Fail> {
     let turns = [Turn::Closes, Turn::Sends(ANSWER)];
@@ -234,7 +231,7 @@ fn a_header_for_each_address(rt: HostRuntime) -> Result<(), Fail> {
     Ok(())
 }
 
-// What comes of a page where nothing is sent, and why.
+// The result where nothing is sent, and why.
 fn check_unsent<R: Net<Listener = TcpListener, Stream = TcpStream> + time::Clock + Abort>(
     rt: &R,
     alloc: Global,
@@ -257,7 +254,7 @@ fn no_tls_program(rt: HostRuntime) -> Result<(), Fail> {
     check_unsent(&rt, rt.alloc(), &client, url, Failure::NoTlsProgram)
 }
 
-// Nobody listens at the address of the program.
+// Nobody listens at the program's address.
 #[test]
 fn no_program_there(rt: HostRuntime) -> Result<(), Fail> {
     let gone = listen(&rt)?.local_addr()?;
@@ -273,7 +270,7 @@ fn no_program_there(rt: HostRuntime) -> Result<(), Fail> {
     check_unsent(&rt, rt.alloc(), &client, url, Failure::NoName)
 }
 
-// The address of the page is judged, and not that of the program.
+// The reach applies to the page's address, not the program's.
 #[test]
 fn out_of_reach(rt: HostRuntime) -> Result<(), Fail> {
     let listener = listen(&rt)?;
@@ -295,7 +292,7 @@ fn out_of_reach(rt: HostRuntime) -> Result<(), Fail> {
     )
 }
 
-// A page of http has nothing to do with the program.
+// A page of http does not use the program.
 #[test]
 fn http_goes_straight(rt: HostRuntime) -> Result<(), Fail> {
     let gone = listen(&rt)?.local_addr()?;

@@ -1,4 +1,4 @@
-//! Answers and the twins that they give, and what both say.
+//! Answers and their twins, and what both say.
 //! RFC 9309, section 2.3.1.
 ghost use Rattle.std.specs.Prelude.{◌≡◌, IfOk};
 ghost use Rattle.robots_verdict.specs.Answer.{spares_of};
@@ -63,7 +63,6 @@ fn say_the_same(rt: &impl Abort, said: &Said, twin: &Said) {
     assert!(rt; binds(said), "the text that binds");
 }
 
-// The text of the example binds.
 fn binds(said: &Said) -> bool {
     match said {
         Said::Rules(handle) => handle.policy().text().bytes() == EXAMPLE.as_bytes(),

@@ -1,5 +1,5 @@
-//! Outputs, and the readers and writers of std whose failures are counted.
-//! They say what the definitions of `counted_io` mean on real octets.
+//! Outputs, and std readers and writers with counted failures.
+//! The definitions of `counted_io` on real octets.
 
 use counted_io::{
     Counted, DeviceFault, FailAt, OUTPUT_BUFFER, Output, ReadLineFault, Sink, Source, write_all,
@@ -38,7 +38,6 @@ fn writes_once_full(
     Ok(())
 }
 
-// A std writer that takes nothing.
 #[derive(Drop)]
 struct Stuck;
 

@@ -1,5 +1,5 @@
-//! Reads and writes that fail, one after another, and the lines that lie in a buffer.
-//! They say what the definitions of `counted_io` mean on real octets.
+//! Reads and writes that fail in turn, and the lines in a buffer.
+//! The definitions of `counted_io` on real octets.
 
 use counted_io::{DeviceFault, FailAt, LineReader, ReadLineFault, Source, write_all};
 use std::process::Abort;
@@ -26,7 +26,7 @@ fn tells_one(
     Ok(())
 }
 
-// How many of four reads of a line say that the source failed.
+// How many of four reads of a line report a failed source.
 fn failed_reads(
     rt: &(impl Abort + AllocGlobal),
     source: &mut FailAt,

@@ -1,4 +1,4 @@
-//! Requests that are written, and responses that are read.
+//! Requests written, and responses read.
 
 mod chunks;
 mod freshness;

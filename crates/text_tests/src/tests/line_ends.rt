@@ -1,5 +1,5 @@
-//! The ends of lines: what a line reader gives, whatever each read takes.
-//! They say what the definitions of `counted_io` mean on real octets.
+//! Line ends: what a line reader gives, whatever the size of reads.
+//! The definitions of `counted_io` on real octets.
 ghost use Rattle.std.specs.Prelude.{◌<◌};
 
 use counted_io::{FailAt, LINE_BUFFER, LineEnd, LineReader, NextLine, ReadLineFault};
@@ -104,7 +104,7 @@ const ROWS: [Row; 12] = [
     },
 ];
 
-// Lines and their octets, where LF alone ends a line.
+// Lines and their octets, if only LF ends a line.
 const LF_ROWS: [Row; 4] = [
     Row {
         name: "a carriage return before the line feed stays",
@@ -157,7 +157,6 @@ fn keeps_carriage_returns_where_told(rt: HostRuntime) -> Result<(), ReadLineFaul
     Ok(())
 }
 
-// The row, with as many octets a read as are named.
 fn at_each_size(
     rt: &(impl Abort + AllocGlobal),
     row: &Row,

@@ -1,4 +1,4 @@
-//! Calls over the octets of a path: a pattern, and the verdict of a policy by a walk over its text.
+//! Calls over the octets of a path: a pattern, and a policy's verdict by a walk over its text.
 //! RFC 9309, sections 2.2.2 and 2.2.3.
 
 use super::policies::{EXAMPLE, policy_of};

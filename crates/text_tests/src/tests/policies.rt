@@ -1,5 +1,6 @@
-//! A robots text and its policy, for the tests of verdicts and answers. Which line decides is shown by rows of the
-//! built program, and by `agreement`, where three readings must agree.
+//! A robots text and its policy, for tests of verdicts and answers. Rows of the built program show which
+//! line
+//! decides, and so does `agreement`, where three readings must agree.
 
 use robots_text::RobotsText;
 use robots_verdict::Policy;

@@ -1,5 +1,5 @@
-//! How much faster a verdict by an index is than one by the walk over the text, in one run.
-//! That both give the same is proved. That the gate's reading is no walk is seen here alone.
+//! How much faster a verdict by an index is than one by a walk over the text.
+//! That both agree is proved. Only this test shows that the gate's reading is no walk.
 
 use super::policies::policy_of;
 use robots_text::Token;
@@ -11,10 +11,10 @@ use std::time::Instant;
 // How many rules the text has.
 const RULES: u64 = 16_000;
 
-// How many times as long as a verdict one by the walk must take at least. It takes hundreds.
+// How many times slower the walk must at least be. It takes hundreds.
 const TIMES: u128 = 8;
 
-// How many verdicts are timed, for a path that no rule matches.
+// How many verdicts are timed, for a path without a matching rule.
 const VERDICTS: u64 = 64;
 
 const PATH: &[u8] = b"/part3/side9309";

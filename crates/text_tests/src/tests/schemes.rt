@@ -1,11 +1,11 @@
-//! What pages and authorities of both schemes are read as, where `https` is read and where it is not.
+//! Pages and authorities of both schemes, with `https` read or not.
 //! RFC 9110, sections 4.2.1 and 4.2.2; RFC 9309, section 2.3.
 
 use path_normal::{Authority, AuthorityFault, PageUrl, Schemes, UrlFault};
 use std::alloc::Global;
 use std::test::Fail;
 
-// A text, and what it reads as: the URL, its authority, host and target, and the URL of its robots.txt.
+// A text, and what it reads as: URL, authority, host, target, and robots.txt URL.
 const PAGES: [(&str, &str, &str, &str, &str, &str); 7] = [
     (
         "http://a.example/x?q",
@@ -96,13 +96,11 @@ fn http_alone_is_read(rt: HostRuntime) -> Result<(), Fail> {
     Ok(())
 }
 
-// The text is no page's URL, and the authority none, where `http` alone is read.
 fn are_refused(alloc: Global, text: &str, authority: &str) -> bool {
     is_fault(PageUrl::parse(alloc, text), UrlFault::NotHttp)
         && is_bad(Authority::new(alloc, authority))
 }
 
-// They are read as this URL and this authority.
 fn are_read(alloc: Global, text: &str, url: &str, authority: &str) -> Result<bool, Fail> {
     let page = PageUrl::parse(alloc, text)?;
     let named = Authority::new(alloc, authority)?;
@@ -123,7 +121,7 @@ fn is_bad(authority: Result<Authority, AuthorityFault>) -> bool {
     }
 }
 
-// What is no authority, wherever `https` is read.
+// No authorities, even if `https` is read.
 const NO_AUTHORITIES: [&str; 5] = [
     "https://",
     "https://a.example/",

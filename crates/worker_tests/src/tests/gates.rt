@@ -1,4 +1,4 @@
-//! The books of new gates, and a clock that stands.
+//! Books of new gates, and a fixed clock.
 ghost use Rattle.std.specs.Prelude.{◌≡◌, [], IfOk};
 ghost use Rattle.gate_history.specs.Base.{empty_base};
 ghost use Rattle.gate_core.specs.Limits.{AreLimits};
@@ -10,7 +10,7 @@ use std::hash::RandomState;
 use std::random::RandomSource;
 use std::test::Fail;
 
-/// A clock that stands.
+/// A fixed clock.
 #[derive(Clone, Copy)]
 pub(super) struct FixedClock(pub(super) u64);
 

@@ -1,4 +1,4 @@
-//! Jobs over sites in memory: their hops, their bodies, and what their desks did.
+//! Jobs over sites in memory: their hops, their bodies, and their desks' entries.
 ghost use Rattle.gate_core.specs.Limits.{AreLimits};
 
 use super::gates::{FixedClock, book};
@@ -52,7 +52,6 @@ const JOBS: [(&str, &str); 14] = [
     ("http://e.example/x", "no e.example Closed; ; BAD"),
 ];
 
-// A job at a new gate.
 #[derive(Drop)]
 struct JobRow<'r, R: Wait> {
     rt: &'r R,
@@ -68,7 +67,7 @@ impl<R: Wait> Visit for JobRow<'_, R> {
     }
 }
 
-/// What came of a job, in words.
+/// The result of a job, in words.
 pub(super) fn job_text<G: Gate, R: Wait>(
     rt: &R,
     alloc: Global,
@@ -137,7 +136,6 @@ fn push_outcome(
     push_entries(text, marks)
 }
 
-// A job at a new gate with these limits.
 fn check_job<R: Wait + Abort + RandomSource>(
     rt: &R,
     alloc: Global,
@@ -172,7 +170,7 @@ fn jobs_over_sites(rt: HostRuntime) -> Result<(), Fail> {
     Ok(())
 }
 
-// The one slot is given up for good behind its first permit.
+// The one slot is spent for good after its first permit.
 #[test]
 fn no_slot_is_free(rt: HostRuntime) -> Result<(), Fail> {
     let mut limits = Limits::usual();

@@ -1,4 +1,4 @@
-//! Single fetches of a page, each by a permit of its own.
+//! Single fetches of a page, each with its own permit.
 ghost use Rattle.gate_lock.specs.Desks.{KeepsOut};
 
 use authority_cache::{LIFE, TimedAnswer};
@@ -12,10 +12,9 @@ use std::alloc::{AllocError, Global};
 use std::sync::Wait;
 use std::test::Fail;
 
-// What came of a fetch, where one was made.
 type Given = Option<Result<HttpReply, WireFault>>;
 
-/// Brings the answer that the site of a page is open.
+/// Opens the site of a page.
 pub(super) fn open_site<G: Gate, R: Wait>(
     rt: &R,
     alloc: Global,
@@ -39,7 +38,7 @@ fn open<G: Gate, R: Wait>(rt: &R, desk: &mut Desk<'_, G>, site: &Authority)
     desk.arrive(rt, turn, open, 100);
 }
 
-/// What came of the fetch of a page under a token, in words. Its site must be open.
+/// The result of fetching a page under a token, in words. Its site must be open.
 pub(super) fn page_text<G: Gate, F: Fetcher, R: Wait>(
     rt: &R,
     alloc: Global,
@@ -95,7 +94,7 @@ fn fetch_page<G: Gate, F: Fetcher, R: Wait>(
     Some(reply)
 }
 
-// A status and a body, the name of a fault, or that no fetch was made.
+// A status and a body, a fault's name, or that no fetch was made.
 fn given_text(alloc: Global, given: &Given) -> Result<String, AllocError> {
     let reply = match given {
         Some(Ok(reply)) => reply,

@@ -1,4 +1,4 @@
-//! Workers that fetch at the same time, and robots.txt files that are fetched for all of them.
+//! Workers that fetch at the same time, and robots.txt files fetched once for all.
 
 use super::pages::{job, jobs_of};
 use super::shift::given_of;
@@ -15,7 +15,7 @@ use std::thread::Threads;
 use std::time::Duration;
 use std::{thread, time};
 
-/// A response of this status, with no body.
+/// A response of this status without a body.
 pub(super) fn reply(alloc: Global, status: u16) -> HttpReply {
     HttpReply {
         status,
@@ -26,7 +26,7 @@ pub(super) fn reply(alloc: Global, status: u16) -> HttpReply {
     }
 }
 
-// Answers a page only once the fetch of another has begun, or after ten seconds with a fault.
+// Answers a page only once another fetch has begun, or with a fault after ten seconds.
 #[derive(Drop)]
 struct Together<'r, R: time::Clock> {
     rt: &'r R,
@@ -111,14 +111,14 @@ fn check_overlap<R: Threads + Wait + RandomSource + time::Clock + Abort + Sync>(
     Ok(())
 }
 
-// How many sites there are, how many jobs, and how many workers.
+// The numbers of sites, jobs and workers.
 const SITES: usize = 8;
 
 const JOBS: usize = 64;
 
 const WORKERS: u64 = 16;
 
-// Counts the robots.txt files, for each site, and the pages that it is asked for.
+// Counts the robots.txt fetches of each site, and the page fetches.
 #[derive(Drop)]
 struct Counting {
     alloc: Global,
@@ -162,7 +162,7 @@ impl Fetcher for Counting {
     }
 }
 
-// The number of a site, which is the digit in its name.
+// A site's number: the digit in its name.
 fn site_of(url: &PageUrl) -> usize {
     match url.authority().as_bytes() {
         [b's', digit, ..] => (*digit as usize).wrapping_sub(48),
@@ -170,7 +170,6 @@ fn site_of(url: &PageUrl) -> usize {
     }
 }
 
-// No site has been asked for yet.
 fn no_counts(alloc: Global) -> Result<Vec<AtomicU64>, AllocError> {
     let mut counts = Vec::new(alloc);
     push_counts(&mut counts)?;
@@ -196,8 +195,7 @@ fn numbered(alloc: Global, number: usize) -> Result<Job, Fail> {
     job(alloc, "foobot", url.as_str())
 }
 
-// The state of a site is read and the turn begun under one hold of the lock, so each file is fetched once
-// for all workers.
+// A site's state is read and its turn begun under one lock, so each file is fetched once for all workers.
 #[test]
 fn each_robots_file_is_fetched_once(rt: HostRuntime) -> Result<(), Fail> {
     let mut jobs = Vec::new(rt.alloc());

@@ -1,4 +1,4 @@
-//! Pages of sites in memory, and jobs that lead to them.
+//! Pages of sites in memory, and jobs for them.
 
 use crawl_workers::Job;
 use path_normal::PageUrl;
@@ -7,8 +7,8 @@ use scripted_sites::ScriptedPage;
 use std::alloc::{AllocError, Global};
 use std::test::Fail;
 
-// The pages: of `a.example` anything may be fetched, of `b.example` nothing. The robots.txt of
-// `c.example` is elsewhere, that of `d.example` can't be had, and that of `e.example` is coded.
+// The pages: `a.example` allows everything, `b.example` nothing. The robots.txt of `c.example` is
+// elsewhere, that of `d.example` fails, and that of `e.example` has a coding.
 const PAGES: [(&str, &str); 15] = [
     ("http://a.example/robots.txt", "HTTP/1.1 404 No\r\n\r\n"),
     ("http://a.example/x", "HTTP/1.1 200 OK\r\n\r\nhello"),

@@ -1,4 +1,4 @@
-//! Shifts with a delay between the fetches at a site, which take no less time than these must have.
+//! Shifts with a delay between the fetches at a site take at least the time of their delays.
 ghost use Rattle.std.specs.Prelude.{◌≡◌, []};
 ghost use Rattle.gate_history.specs.Base.{empty_base};
 
@@ -20,10 +20,11 @@ use std::thread::Threads;
 use std::time;
 use std::time::{Duration, Instant};
 
-// How long lies at least between the begins of two fetches.
+// The least time between the starts of two fetches.
 const DELAY_MILLISECONDS: u64 = 100;
 
-// The pages: those of `a.example` and `b.example` lead on, also to `c.example`; those of `d.example` are denied.
+// The pages: those of `a.example` and `b.example` redirect, also to `c.example`; those of `d.example` are
+// denied.
 const PAGES: [(&str, &str); 9] = [
     ("http://a.example/robots.txt", "HTTP/1.1 404 No\r\n\r\n"),
     ("http://a.example/x", "HTTP/1.1 200 OK\r\n\r\nhello"),
@@ -48,7 +49,8 @@ const PAGES: [(&str, &str); 9] = [
     ),
 ];
 
-// A name, the tokens and the URLs of the jobs, what comes of a shift of four workers, and how many delays it takes at least.
+// A name, the tokens and URLs of the jobs, the result of a shift of four workers, and its least number of
+// delays.
 const ROWS: [(&str, &[(&str, &str)], &str, u32); 5] = [
     (
         "each page waits for the one before it, and the first one for the robots file",

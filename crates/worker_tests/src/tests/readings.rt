@@ -1,4 +1,5 @@
-//! Jobs by a clock that goes on with each reading: the moments of their entries, and how often a robots.txt is
+//! Jobs by a clock that advances with each reading: the moments of their entries, and how often a
+//! robots.txt is
 //! fetched. RFC 9309, section 2.4.
 
 use super::gates::book;
@@ -17,9 +18,9 @@ use std::sync::Wait;
 use std::sync::atomic::{AtomicU64, Ordering};
 use std::test::Fail;
 
-// The seconds between two readings of the clock, of which the first is 100; the entries of two jobs of one site, with their
-// moments; and how often its robots.txt was fetched. A job reads the clock to look for an answer, once more where it
-// brings one, to ask and to start.
+// The seconds between two readings of the clock, which starts at 100; the entries of two jobs of one site,
+// with their moments; and how often its robots.txt was fetched. A job reads the clock to look for an
+// answer, once more to bring one, to ask and to start.
 const ROWS: [(&str, u64, &str); 3] = [
     (
         "the clock stands",
@@ -38,7 +39,7 @@ const ROWS: [(&str, u64, &str); 3] = [
     ),
 ];
 
-// A clock that goes on by so many seconds with each reading.
+// A clock that advances by so many seconds with each reading.
 #[derive(Drop)]
 struct Stepping {
     next: AtomicU64,
@@ -51,7 +52,7 @@ impl Clock for Stepping {
     }
 }
 
-// A site without a robots.txt, and how often it was asked for one.
+// A site without a robots.txt that counts the requests for it.
 #[derive(Drop)]
 struct Open {
     alloc: Global,
@@ -91,7 +92,6 @@ impl Fetcher for Open {
     }
 }
 
-// Two jobs, one after the other, at a new gate.
 #[derive(Drop)]
 struct TwoJobs<'r, R: Wait> {
     rt: &'r R,

@@ -15,7 +15,7 @@ use std::random::RandomSource;
 use std::sync::Wait;
 use std::test::Fail;
 
-// An authority, and the word of its answer with the entries of two refreshes.
+// An authority, the word of its answer, and the entries of two refreshes.
 const REFRESHES: [(&str, &str); 5] = [
     ("a.example", "Ok(Open) Ok(Open) BABA"),
     ("b.example", "Ok(Rules) Ok(Rules) BABA"),
@@ -24,7 +24,6 @@ const REFRESHES: [(&str, &str); 5] = [
     ("e.example", "Ok(Closed) Ok(Closed) BABA"),
 ];
 
-// Two refreshes of an authority at a new gate.
 #[derive(Drop)]
 struct RefreshRow<'r, R: Wait> {
     rt: &'r R,
@@ -40,7 +39,6 @@ impl<R: Wait> Visit for RefreshRow<'_, R> {
     }
 }
 
-// What two refreshes came to, in words.
 fn refresh_text<G: Gate, R: Wait>(
     rt: &R,
     alloc: Global,
@@ -91,7 +89,6 @@ fn both_text(
     Ok(text)
 }
 
-// Two refreshes at a new gate with these limits.
 fn check_refreshes<R: Wait + Abort + RandomSource>(
     rt: &R,
     alloc: Global,
@@ -133,7 +130,7 @@ fn refreshes_of_answers(rt: HostRuntime) -> Result<(), Fail> {
     Ok(())
 }
 
-// The log has room for one turn alone.
+// The log has room for only one turn.
 #[test]
 fn a_refused_refresh(rt: HostRuntime) -> Result<(), Fail> {
     let mut limits = Limits::usual();

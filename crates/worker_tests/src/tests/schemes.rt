@@ -1,4 +1,4 @@
-//! Jobs over sites of `http` and of `https`, by a fetcher of the one scheme and by one of both.
+//! Jobs over `http` and `https` sites, with a fetcher of one scheme and one of both.
 //! RFC 9309, sections 2.3 and 2.3.1.2.
 use super::pages::pages_of;
 use super::shift::given_of;
@@ -14,8 +14,8 @@ use std::sync::Wait;
 use std::test::Fail;
 use std::thread::Threads;
 
-// The pages: `a.example` lets in everybody by `http` and nobody by `https`, `b.example` nobody by `http` and all by `https`;
-// the robots.txt of `c.example` leads to `https`, that of `https://d.example` to `http`.
+// The pages: `a.example` allows all by `http` and nothing by `https`, `b.example` the reverse; the
+// robots.txt of `c.example` redirects to `https`, that of `https://d.example` to `http`.
 const PAGES: [(&str, &str); 11] = [
     ("http://a.example/robots.txt", "HTTP/1.1 404 No\r\n\r\n"),
     ("http://a.example/x", "HTTP/1.1 200 OK\r\n\r\nopen"),
@@ -48,7 +48,7 @@ const PAGES: [(&str, &str); 11] = [
     ("https://d.example/x", "HTTP/1.1 200 OK\r\n\r\nd"),
 ];
 
-// A name, the schemes of the fetcher, the URL of the job, and what comes of it.
+// A name, the fetcher's schemes, the job's URL, and the result.
 const ROWS: [(&str, Schemes, &str, &str); 9] = [
     (
         "a page of http",

@@ -25,7 +25,7 @@ const PAGES: [(&str, &str); 3] = [
     ("http://a.example/y", "HTTP/1.1 404 Not Found\r\n\r\n"),
 ];
 
-// A URL, the limit, and what comes of it.
+// A URL, the limit, and the result.
 const FETCHES: [(&str, usize, &str); 4] = [
     ("http://a.example/x", 9, "302 "),
     ("http://A.example:80/y#f", 9, "200 hello"),
@@ -33,7 +33,6 @@ const FETCHES: [(&str, usize, &str); 4] = [
     ("http://b.example/y", 9, "Device"),
 ];
 
-// A fetch at a new gate.
 #[derive(Drop)]
 struct FetchRow<'r, R: Wait> {
     rt: &'r R,

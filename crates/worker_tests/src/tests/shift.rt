@@ -1,5 +1,6 @@
-//! Shifts over sites in memory: the hops of each job, the started fetches, and a gate that another desk
-//! has used. The first row is RFC 9309's example (section 5.1).
+//! Shifts over sites in memory: the hops of each job, the started fetches, and a gate already used by
+//! another
+//! desk. The first row is RFC 9309's example (section 5.1).
 ghost use Rattle.std.specs.Prelude.{◌≡◌, []};
 ghost use Rattle.gate_history.specs.Base.{empty_base};
 ghost use Rattle.gate_lock.specs.Desks.{KeepsOut};
@@ -20,7 +21,7 @@ use std::sync::Wait;
 use std::test::Fail;
 use std::thread::Threads;
 
-// The pages: those of the example, and of a site whose page leads to itself.
+// The pages: the example's, and a site whose page redirects to itself.
 const PAGES: [(&str, &str); 5] = [
     (
         "http://a.example/robots.txt",
@@ -68,7 +69,7 @@ fn shift_text<G: Gate + Send + Sync, F: Fetcher + Sync, R: Threads + Wait + Sync
     Ok(report_text(alloc, &report)?)
 }
 
-// The hops of all jobs in words, without the numbers of their permits, and the started fetches.
+// The hops of all jobs in words, without permit numbers, and the started fetches.
 pub(super) fn report_text<G: Gate>(
     alloc: Global,
     report: &Report<G>,
@@ -87,7 +88,7 @@ fn push_all(alloc: Global, text: &mut String, outcomes: &[Crawled]) -> Result<()
     Ok(())
 }
 
-// A name, the tokens and the URLs of the jobs, and what comes of a shift of two workers.
+// A name, the tokens and URLs of the jobs, and the result of a shift of two workers.
 const SHIFTS: [(&str, &[(&str, &str)], &str); 3] = [
     (
         "the rules of the example",
@@ -141,7 +142,7 @@ fn check_shift<R: Threads + Wait + RandomSource + Abort + Sync>(
     Ok(())
 }
 
-/// What comes of a shift of so many workers at a new gate, in words.
+/// The result of a shift of so many workers at a new gate, in words.
 pub(super) fn given_of<F: Fetcher + Sync, R: Threads + Wait + RandomSource + Sync>(
     rt: &R,
     alloc: Global,
@@ -169,7 +170,7 @@ fn shift_new<G: Gate + Send + Sync, F: Fetcher + Sync, R: Threads + Wait + Sync>
     shift_text(rt, alloc, &gate, jobs, workers, fetcher)
 }
 
-// A shift of no jobs at a gate on which a desk has swept.
+// A shift without jobs at a gate that a desk has swept.
 fn sweep_new<G: Gate + Send + Sync, R: Threads + Wait + Sync>(
     rt: &R,
     alloc: Global,

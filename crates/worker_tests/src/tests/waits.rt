@@ -1,4 +1,4 @@
-//! A job that waits for the answer of another desk's turn, and one whose authority is busy.
+//! A job that waits for another desk's turn, and one whose authority is busy.
 ghost use Rattle.std.specs.Prelude.{◌≡◌, []};
 ghost use Rattle.gate_history.specs.Base.{empty_base};
 ghost use Rattle.gate_lock.specs.Desks.{KeepsOut};
@@ -25,7 +25,7 @@ use std::{thread, time};
 
 const PAGE: &str = "http://a.example/x";
 
-// A desk that begins a turn of the authority, and brings its answer a while later.
+// A desk that begins a turn of the authority, and brings its answer later.
 fn bring_late<G: Gate, R: Wait + time::Clock>(
     rt: &R,
     alloc: Global,
@@ -49,7 +49,7 @@ fn begin_and_bring<G: Gate, R: Wait + time::Clock>(rt: &R, desk: &mut Desk<'_, G
     desk.arrive(rt, turn, open, 100);
 }
 
-// A job that begins once a turn of its authority is in flight.
+// A job begun while a turn of its authority is in flight.
 fn work_meanwhile<G: Gate, R: Wait + time::Clock>(
     rt: &R,
     alloc: Global,
@@ -72,7 +72,6 @@ fn await_turn<G: Gate, R: Wait + time::Clock>(rt: &R, desk: &mut Desk<'_, G>)
     }
 }
 
-// Both of them at a new gate.
 fn both_new<G: Gate + Send + Sync, R: Threads + Wait + time::Clock + Sync>(
     rt: &R,
     alloc: Global,
@@ -103,7 +102,7 @@ fn both<G: Gate + Send + Sync, R: Threads + Wait + time::Clock + Sync>(
     Ok(told)
 }
 
-// The worker's desk has begun no turn of its own.
+// The worker's desk began no turn of its own.
 #[test]
 fn another_desk_refreshes(rt: HostRuntime) -> Result<(), Fail> {
     let site = Authority::new(rt.alloc(), "a.example")?;
@@ -129,7 +128,6 @@ fn given_of_both<R: Threads + Wait + RandomSource + time::Clock + Sync>(
     both_new::<Brand, R>(rt, alloc, book, Blanks::new(), site)
 }
 
-// A job at a gate where a permit for its authority is out.
 #[derive(Drop)]
 struct BusyRow<'r, R: Wait> {
     rt: &'r R,

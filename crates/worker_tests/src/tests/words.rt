@@ -7,7 +7,7 @@ use gate_history::Entry;
 use gate_lock::Mark;
 use std::alloc::{AllocError, Global};
 
-/// Adds the hops, one behind another.
+/// Adds the hops in order.
 pub(super) fn push_hops(alloc: Global, text: &mut String, hops: &[Hop]) -> Result<(), AllocError> {
     let mut between = "";
     for hop in hops {
@@ -18,7 +18,7 @@ pub(super) fn push_hops(alloc: Global, text: &mut String, hops: &[Hop]) -> Resul
     Ok(())
 }
 
-/// Adds the same, each behind the number of its permit where it has one.
+/// Adds the hops, each after its permit's number, if any.
 pub(super) fn push_numbered(
     alloc: Global,
     text: &mut String,
@@ -72,7 +72,7 @@ fn hop_text(alloc: Global, hop: &Hop) -> Result<String, AllocError> {
     }
 }
 
-/// Adds the entries of the marks, a letter each.
+/// Adds a letter for each mark's entry.
 pub(super) fn push_entries(text: &mut String, marks: &[Mark]) -> Result<(), AllocError> {
     for mark in marks {
         text.push_str(entry_letter(&mark.entry))?;
@@ -80,7 +80,7 @@ pub(super) fn push_entries(text: &mut String, marks: &[Mark]) -> Result<(), Allo
     Ok(())
 }
 
-/// Adds the same, one behind another, each with its moment where it has one.
+/// Adds the entries in order, each with its moment, if any.
 pub(super) fn push_moments(
     alloc: Global,
     text: &mut String,

@@ -1,4 +1,4 @@
--- What is kept anew covers the same answers, and room changes no end.
+-- Rebuilt ends cover the same answers, and reserving changes no end.
 use Rattle.std.proofs.Common.{sym, subst}
 use Rattle.authority_cache.specs.Ends.{Covers, KeptEnds}
 use Rattle.authority_cache.proofs.EndLaws.{covers_same}

@@ -1,4 +1,4 @@
--- An authority that was not found is not known, and one that was is.
+-- An authority is known exactly if it was found.
 use Rattle.std.proofs.Common.{◌≡◌, ℕ, ◌≤◌, None, Option, IfNone, false, not, inl, inr, length, sym, ap, subst, arith, ◌∙◌}
 use Rattle.std.specs.Map.{lookup}
 use Rattle.std.specs.Str.{bytes_eq}

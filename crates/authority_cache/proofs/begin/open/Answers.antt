@@ -1,4 +1,4 @@
--- An entry that is there is written, and one that is not is added.
+-- A known entry is written, a new one added.
 use Rattle.std.proofs.Common.{◌≡◌, ℕ, None, Option, Some, IfNone, IfSome, is_some, sym, ap, subst, ◌∙◌}
 use Rattle.std.specs.Prelude.{slice_get}
 use Rattle.std.specs.Map.{lookup}

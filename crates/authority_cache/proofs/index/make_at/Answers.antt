@@ -1,5 +1,4 @@
 -- What was written is what was there.
--- The lemma `written-same` says what that leaves.
 use Rattle.std.proofs.Common.{ap, sym, ◌∙◌}
 use Rattle.indexmap.specs.IndexMap.{set_value_at}
 use Rattle.authority_cache.proofs.EntryLaws.{written-same}

@@ -1,9 +1,8 @@
--- What is past is dropped, and an authority of which nothing is known then is taken away.
+-- An expired answer is dropped, and then an authority of which nothing is known.
 use Rattle.std.proofs.Common.{rules, false, refl, arith}
 use Rattle.authority_cache.proofs.SweepLaws.{dropped, dropped_others, flights_part, removed}
 use Rattle.authority_cache.proofs.sweep.drop_at.Goals as goal
 
--- where the answer is not past, its end is kept
 pub returns-then-not-has_past_at-clause-tended : goal.returns-then-not-has_past_at-clause-tended
 returns-then-not-has_past_at-clause-tended c = record {
   known = c.requires.known;

@@ -1,4 +1,4 @@
--- Each round drops at most one answer, and once no end lies before the moment none is past.
+-- Each round drops at most one answer; when no end is before the moment, none has expired.
 use Rattle.std.proofs.Common.{◌≡◌, ◌+◌, subst, arith}
 use Rattle.authority_cache.specs.Ends.{SweepsPart}
 use Rattle.authority_cache.specs.Kept.{known_in}

@@ -1,4 +1,4 @@
--- The others are covered still, and the one that came to the index is now.
+-- The others stay covered, and so does the one moved to the index.
 use Rattle.authority_cache.proofs.EndLaws.{covers_kept}
 use Rattle.authority_cache.proofs.EntryLaws.{entry-at}
 use Rattle.authority_cache.proofs.SweepLaws.{but_removed}

@@ -1,4 +1,4 @@
--- Each read takes what is left at most.
+-- Each read takes at most what is left.
 use Rattle.std.proofs.Common.{arith}
 use Rattle.client_connections.proofs.Takes.{takes_kept, takes_more}
 use Rattle.client_connections.proofs.closing.read_out.Goals as goal

@@ -1,4 +1,4 @@
--- What was taken and what may still be taken are at most what may be taken in all.
+-- The octets taken, and those allowed yet, stay within the limit.
 use Rattle.std.proofs.Common.{◌≤◌, ◌-◌}
 use Rattle.client_connections.specs.Closing.{closing_octets, TakesAtMost}
 use Rattle.client_connections.proofs.closing.read_out.Given as goal

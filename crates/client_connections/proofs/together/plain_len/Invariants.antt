@@ -1,4 +1,4 @@
--- None of the octets so far begins a line for which the gate may fetch, behind another, and whether the last ends one.
+-- No line so far, after the first, may make the gate fetch; and whether the last octet ends a line.
 use Rattle.std.specs.Prelude.{◌≡◌, ◌<◌, ℕ, suc, true, slice_index_or}
 use Rattle.client_connections.specs.Ahead.{HasNoFetchBefore}
 use Rattle.client_connections.proofs.together.plain_len.Given as goal

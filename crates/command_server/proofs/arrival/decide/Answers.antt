@@ -1,5 +1,4 @@
--- The walk goes on, decides at the last reply, or decides too early or not at all.
--- The lemmas of `Walking` say so.
+-- The walk goes on, decides at the last reply, too early, or never.
 use Rattle.std.proofs.Common.{Option, sym, ◌∙◌, subst, true≢false}
 use Rattle.robots_fetch.specs.declared.reply.RobotsReply.{RobotsReply}
 use Rattle.command_server.specs.Arrival.{TakesReply}

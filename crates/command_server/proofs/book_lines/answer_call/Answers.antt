@@ -1,5 +1,4 @@
--- The call's reply has the text that its pieces make, and tells what the headline says.
--- Used by `answer_call`.
+-- The text of the reply is that of its pieces.
 use Rattle.command_server.proofs.Giving.{gives_ok, cuts_err}
 use Rattle.command_server.proofs.book_lines.answer_call.Goals as goal
 

@@ -1,5 +1,4 @@
--- What was sealed has the text that is pushed.
--- Used by `answer_seal`.
+-- The text pushed is that of what was sealed.
 use Rattle.std.proofs.Common.{refl}
 use Rattle.command_server.proofs.Giving.{gives_ok, cuts_err}
 use Rattle.command_server.proofs.book_lines.answer_seal.Goals as goal

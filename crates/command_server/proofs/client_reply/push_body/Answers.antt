@@ -1,4 +1,4 @@
--- The line of the body's length is pushed, and the body behind it.
+-- The line of the body's length, then the body.
 use Rattle.std.proofs.Common.{ℕ, List, [], ◌∷◌, ◌++◌, length, subst}
 use Rattle.std.specs.Prelude.{codes, decimal}
 use Rattle.counted_io.specs.Device.{AppendsPrefix}

@@ -1,4 +1,4 @@
--- The lines of the hops are pushed, and the body behind them.
+-- The lines of the hops, then the body.
 use Rattle.std.proofs.Common.{◌≡◌}
 use Rattle.std.specs.Prelude.{codes}
 use Rattle.counted_io.proofs.CallerLemmas.{prefix_piece}

@@ -1,4 +1,4 @@
--- The octets are pushed, and the line end behind them.
+-- The octets, then the line end.
 
 use Rattle.counted_io.proofs.CallerLemmas.{prefix_piece}
 use Rattle.line_text.proofs.CallerLemmas.{pushes_cut, pushes_then}

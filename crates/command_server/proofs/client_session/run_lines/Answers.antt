@@ -1,5 +1,4 @@
--- A session from a client's state is one of its keeper and the number of its next reading.
--- By the lemma of `Lent` the keeper also stays the one that is lent.
+-- A session from a client's state is one of its keeper, which stays the lent one, and of the next reading's number.
 use Rattle.command_server.specs.Clients.{AnswersClient}
 use Rattle.command_server.proofs.Lent.{session_seen}
 use Rattle.command_server.proofs.client_session.run_lines.Goals as goal

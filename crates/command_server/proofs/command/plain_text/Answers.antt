@@ -1,4 +1,4 @@
--- A plain line is ASCII, and so it is UTF-8.
+-- A plain line is ASCII, hence UTF-8.
 use Rattle.std.proofs.Common.{◌∙◌, sym}
 use Rattle.command_server.proofs.PlainText.{text_of_plain}
 use Rattle.command_server.proofs.command.plain_text.Goals as goal

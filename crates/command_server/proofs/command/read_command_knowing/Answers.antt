@@ -1,4 +1,4 @@
--- What is read of the words of who has a moment is read of the line.
+-- What is read of the words of a dialogue with a moment is read of the line.
 use Rattle.std.proofs.Common.{sym, subst, ◌∙◌}
 use Rattle.path_normal.specs.Capacity.{IsRead}
 use Rattle.command_server.specs.CallOf.{verb_words_of}

@@ -1,4 +1,4 @@
--- The line of the first hop is pushed, and then those of the others.
+-- The line of the first hop, then the others.
 use Rattle.std.proofs.Common.{◌≡◌, ◌≤◌, ◌+◌, ◌-◌, ℕ, List, [], ◌∷◌, ◌++◌, ap, ◌∙◌, arith, drop, get_or, length, subst, sym, take}
 use Rattle.std.proofs.lemmas.List.{take_all}
 use Rattle.counted_io.specs.Device.{AppendsPrefix}
@@ -11,7 +11,6 @@ use Rattle.crawl_job.specs.declared.hop.Hop.{Hop}
 use Rattle.line_text.specs.Pieces.{piece_text}
 use Rattle.command_server.proofs.hop_lines.+push_hops.Goals as goal
 
--- the text of the hops is that of the first one, and of the others behind it
 next_hops : (lead : List ℕ) (number : ℕ) (hops : List Hop) (hop : Hop) → 1 ≤ length hops → hop ≡ get_or hops 0 hop →
     hops_text lead number hops ≡ (lead_text lead number ++ hop_text hop) ++ hops_text lead (number + 1) (take (length hops - 1) (drop 1 hops))
 next_hops lead number [] hop some is = absurd (omega (arith, some))

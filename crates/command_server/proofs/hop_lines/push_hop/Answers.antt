@@ -1,4 +1,4 @@
--- What leads a line and its hop are pushed one after the other.
+-- The lead of a line, then its hop.
 use Rattle.std.proofs.Common.{ℕ, List, ◌++◌, subst}
 use Rattle.counted_io.specs.Device.{AppendsPrefix}
 use Rattle.counted_io.specs.Output.{Passes, Pushes}

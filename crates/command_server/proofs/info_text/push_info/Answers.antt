@@ -1,4 +1,4 @@
--- The parts of the line are pushed, one behind the other.
+-- The parts of the line are pushed in turn.
 use Rattle.std.proofs.Common.{ℕ, List, ◌++◌, subst}
 use Rattle.counted_io.specs.Device.{AppendsPrefix}
 use Rattle.counted_io.specs.Output.{Passes}

@@ -1,4 +1,4 @@
--- What the pass has found, by what it has passed.
+-- What the pass has found so far.
 use Rattle.std.proofs.Common.{◌≤◌, drop}
 use Rattle.command_server.proofs.LineScan.{HasScanned}
 use Rattle.command_server.proofs.line_words.word_count.Given as goal

@@ -1,4 +1,4 @@
--- The first fault is that of the replies still to be read.
+-- The first fault is that of the remaining replies.
 use Rattle.std.proofs.Common.{◌≡◌, length}
 use Rattle.command_server.specs.Arrival.{replies_fault}
 use Rattle.line_text.specs.Words.{words_left}

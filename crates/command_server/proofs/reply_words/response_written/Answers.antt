@@ -1,5 +1,4 @@
--- The word is cut at its first slash, where it has one.
--- Used by `response_written`.
+-- The word is cut at its first slash, if any.
 use Rattle.std.proofs.Common.{◌≡◌, ◌∙◌, ◌<◌, ℕ, List, Some, None, Bool, true, false, cond, sym, ap, length, arith}
 use Rattle.std.specs.List.{after_first, before_first, position_or_len}
 use Rattle.std.specs.Path.{slash}
@@ -8,20 +7,17 @@ use Rattle.std.proofs.lemmas.Str.Pattern.{split_once_first}
 use Rattle.command_server.specs.Arrival.{has_slash, is_slash, lasting_of, plain_of, response_written}
 use Rattle.command_server.proofs.reply_words.response_written.Goals as goal
 
--- a word says what its parts say, or what it says as a whole
 says_as : (word : List ℕ) (t : Bool) → has_slash word ≡ t →
     cond t (lasting_of (before_first is_slash word) (after_first is_slash word)) (plain_of word) ≡ response_written word
 says_as word t is =
     sym (ap (λ (t : Bool). cond t (lasting_of (before_first is_slash word) (after_first is_slash word)) (plain_of word)) is)
 
--- a word with a slash says what its two parts say
 cut_says : (word status life : List ℕ) → position_or_len is_slash word < length word →
     status ≡ before_first is_slash word → life ≡ after_first is_slash word → lasting_of status life ≡ response_written word
 cut_says word status life inside before after =
     let has : has_slash word ≡ true = grind (arith, nat_tests) in
     ap (λ (s : List ℕ). lasting_of s life) before ∙ ap (lasting_of (before_first is_slash word)) after ∙ says_as word true has
 
--- a word without one is a status
 whole_says : (word : List ℕ) → position_or_len is_slash word ≡ length word → plain_of word ≡ response_written word
 whole_says word whole =
     let has : has_slash word ≡ false = grind (arith, nat_tests) in

@@ -1,5 +1,4 @@
--- The line with the number is pushed, and the text of the segment behind it.
--- The lemma `some_handed` of `SealTexts` says that this is the reply.
+-- The line with the number, then the text of the segment.
 use Rattle.std.proofs.Common.{◌<◌, ℕ, List, ◌++◌, ap, arith, length, sym, subst, ◌∙◌}
 use Rattle.std.proofs.lemmas.Bool.{eqb-false}
 use Rattle.counted_io.specs.Device.{AppendsPrefix}

@@ -1,5 +1,4 @@
--- Each way out of the loop is an end of the session.
--- The lemmas of `Serving` say so for each.
+-- Each exit of the loop ends the session.
 use Rattle.std.proofs.Common.{◌≡◌, [], refl, inl, inr, arith, rules, Ok, Err}
 use Rattle.std.proofs.lemmas.Result.{err_from_is_err_and}
 use Rattle.std.proofs.KnownBytes.{Appends-nil, Consumes-nil}

@@ -1,5 +1,4 @@
--- So many lines were taken and answered, and no read or write has failed.
--- The proof of `run_session` rests on it.
+-- This many lines were taken and answered, and no read or write failed.
 use Rattle.std.proofs.Common.{◌≡◌}
 use Rattle.std.specs.Io.KnownBytes.{prepend_known}
 use Rattle.command_server.proofs.Serving.{Served}

@@ -1,4 +1,4 @@
--- The pieces are pushed, and the line end behind them.
+-- The pieces, then the line end.
 use Rattle.std.proofs.Common.{ℕ, List, [], ◌∷◌, ◌++◌, codes, subst}
 use Rattle.counted_io.specs.Device.{AppendsPrefix}
 use Rattle.counted_io.specs.Lines.{line_feed}

@@ -1,4 +1,4 @@
--- What was read before a fault, and at it, is a front of the input.
+-- What was read up to a fault is a prefix of the input.
 use Rattle.std.proofs.Common.{◌≡◌, ◌≤◌, ◌-◌, ◌+◌, ℕ, List, ◌++◌, Option, length, length-append, sym, subst, ap, ◌∙◌, arith}
 use Rattle.std.proofs.lemmas.List.{length-take}
 use Rattle.std.specs.Io.KnownBytes.{Consumes}
@@ -22,7 +22,6 @@ none_added body after octets added same =
     let sum : length after ≡ length body + length octets = ap length added ∙ length-append body octets in
     omega (arith, sum, same)
 
--- a read that added nothing found the end
 ends_body : (limit : ℕ) (a b c : Option (List ℕ)) (body after : List ℕ) (most : ℕ) → Consumes a b body → length body ≤ limit → ReadsMore b c body after most → length after ≡ length body → ReadsTo limit a c after
 ends_body limit a b c body after most took fits more same = record {
   consumed = subst (Consumes a c) (sym more.added) (Consumes-trans a b c body more.octets took more.consumed);

@@ -1,5 +1,4 @@
 -- Each write adds to what was written before it.
--- The lemma `appends_piece` joins the two.
 use Rattle.std.proofs.Common.{rules}
 use Rattle.std.proofs.lemmas.List.{take_rest}
 use Rattle.counted_io.proofs.Taking.{appends_piece}

@@ -1,5 +1,4 @@
--- So many octets were written, and nothing failed.
--- The proof of `write_all` rests on it.
+-- This many octets were written, and nothing failed.
 use Rattle.std.proofs.Common.{length, take, ◌-◌, ◌≡◌, ◌≤◌}
 use Rattle.std.specs.Io.KnownBytes.{Appends}
 use Rattle.counted_io.proofs.sink.write_all.Given as goal

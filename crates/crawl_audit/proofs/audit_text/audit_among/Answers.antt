@@ -1,4 +1,4 @@
--- Each way out of the loop is the end or a fault, behind the lines of a chain.
+-- The loop ends at the end or at a fault, after the lines of a chain.
 use Rattle.std.proofs.Common.{◌+◌, Bool, Ok, ap, ◌∙◌, subst}
 use Rattle.std.specs.Io.KnownBytes.{prepend_known}
 use Rattle.crawl_audit.specs.Audit.{TakesStep}

@@ -1,4 +1,4 @@
--- So many lines were taken, which are those that begin a chain, and no read has failed.
+-- The lines so far begin a chain, and no read has failed.
 use Rattle.std.proofs.Common.{◌≡◌}
 use Rattle.std.specs.Io.KnownBytes.{prepend_known}
 use Rattle.crawl_audit.specs.Audit.{Heard}

@@ -1,4 +1,4 @@
--- The ends of each list, one list behind the other.
+-- The concatenated ends of each list.
 use Rattle.std.proofs.Common.{ℕ, List, ◌++◌, ap, append_assoc, map, ◌∙◌}
 use Rattle.permit_book.specs.declared.granted_permit.GrantedPermit.{GrantedPermit}
 use Rattle.authority_cache.specs.declared.turn.Turn.{Turn}

@@ -1,4 +1,4 @@
--- One more was added.
+-- One more end was added.
 use Rattle.std.proofs.Common.{ap}
 use Rattle.crawl_audit.specs.Ending.{give_back}
 use Rattle.crawl_audit.proofs.EndingLines.{ends_more}

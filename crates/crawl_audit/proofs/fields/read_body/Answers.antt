@@ -1,4 +1,4 @@
--- The body whose word this is was read.
+-- The body that the word writes was read.
 use Rattle.std.proofs.Common.{rules}
 use Rattle.crawl_audit.proofs.EntriesRead.{body_read}
 use Rattle.crawl_audit.proofs.fields.read_body.Goals as goal

@@ -1,4 +1,4 @@
--- Behind each front of its lines a chain goes on.
+-- A chain continues after each prefix of its lines.
 use Rattle.crawl_audit.proofs.ChainLines.{right_chain}
 use Rattle.crawl_audit.proofs.laws.each_chain_is_right.Goals as goal
 

@@ -1,4 +1,4 @@
--- A line names `https` where what it spells does.
+-- A line names `https` if its entry or row does.
 use Rattle.crawl_audit.proofs.HttpTexts.{http_chain_names, http_chain_right}
 use Rattle.crawl_audit.proofs.laws.each_http_chain_names_http.Goals as goal
 

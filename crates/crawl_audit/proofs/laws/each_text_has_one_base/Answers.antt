@@ -1,4 +1,4 @@
--- Each row of lines ends where another letter begins.
+-- The lines of a kind of row end where another letter begins.
 use Rattle.crawl_audit.proofs.RowSpelling.{one_base}
 use Rattle.crawl_audit.proofs.laws.each_text_has_one_base.Goals as goal
 

@@ -1,4 +1,4 @@
--- What is read of a line is the entry that it spells.
+-- A line is read back as its entry.
 use Rattle.crawl_audit.proofs.Spelling.{one_entry, one_history}
 use Rattle.crawl_audit.proofs.laws.each_text_has_one_history.Goals as goal
 

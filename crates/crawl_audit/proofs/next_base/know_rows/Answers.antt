@@ -1,4 +1,4 @@
--- The pieces of each row say it of that row.
+-- Each row's pieces show it for that row.
 use Rattle.std.proofs.Common.{All, subst, sym, take}
 use Rattle.std.proofs.lemmas.List.{take_more}
 use Rattle.std.proofs.lemmas.List.Elements.{All-push}

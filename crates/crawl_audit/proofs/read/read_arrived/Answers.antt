@@ -1,4 +1,4 @@
--- What the words of a line with this letter name was read, and its answer, so the entry of such a line is read back.
+-- The words and the answer behind this letter are read back as their entry.
 use Rattle.std.proofs.Common.{◌≡◌, ℕ, List, ◌∷◌, Ok, Err, codes, rules, subst, sym}
 use Rattle.std.specs.Prelude.{Result}
 use Rattle.line_text.specs.Words.{words_left}

@@ -1,4 +1,4 @@
--- What is read of the line of an entry is the entry, so no other line is refused.
+-- An entry's line is read back as that entry, so only other lines are refused.
 use Rattle.std.proofs.Common.{◌≡◌, Err, sym, ap, subst, ◌∙◌}
 use Rattle.std.specs.Str.{IsUtf8}
 use Rattle.std.proofs.lemmas.Bool.{true≢false}

@@ -1,4 +1,4 @@
--- The rules whose words these are were read.
+-- The rules that the words write were read.
 use Rattle.std.proofs.Common.{◌≡◌, ℕ, ◌∷◌, codes, rules, subst, sym}
 use Rattle.robots_verdict.specs.declared.said.Said.{Said}
 use Rattle.robots_verdict.specs.Answer.{said}

@@ -1,4 +1,4 @@
--- What the words of a line with this letter name was read, so the entry of such a line is read back.
+-- The words behind this letter are read back as their entry.
 use Rattle.std.proofs.Common.{codes, rules}
 use Rattle.line_text.specs.Words.{words_left}
 use Rattle.gate_history.specs.declared.entry.Entry.TheVariants.{Swept}

@@ -1,4 +1,4 @@
--- The numbers whose words these are were read.
+-- The numbers that the words write were read.
 use Rattle.std.proofs.Common.{Some, rules}
 use Rattle.line_text.specs.Words.{words_left}
 use Rattle.crawl_audit.proofs.RowsRead.{numbers_behind_read}

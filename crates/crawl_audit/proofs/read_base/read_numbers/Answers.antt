@@ -1,4 +1,4 @@
--- What is read of the line of a base's numbers is the numbers, so no other line is refused.
+-- The line of a base's numbers is read back as them, so only other lines are refused.
 use Rattle.std.proofs.Common.{sym, subst, ◌∙◌, rules}
 use Rattle.std.specs.Str.{IsUtf8}
 use Rattle.std.proofs.lemmas.Bool.{true≢false}

@@ -1,4 +1,4 @@
--- The permit whose words these are was read.
+-- The permit that the words write was read.
 use Rattle.std.proofs.Common.{Ok, rules}
 use Rattle.line_text.specs.Words.{words_left}
 use Rattle.crawl_audit.proofs.RowsRead.{permit_read}

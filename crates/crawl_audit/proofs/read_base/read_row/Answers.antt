@@ -1,4 +1,4 @@
--- What is read of the line of a thing is the thing, so no other line is refused.
+-- The line of a thing is read back as that thing, so only other lines are refused.
 use Rattle.std.proofs.Common.{◌≡◌, Err, sym, ap, subst, ◌∙◌}
 use Rattle.std.specs.Str.{IsUtf8}
 use Rattle.std.proofs.lemmas.Bool.{true≢false}

@@ -1,4 +1,4 @@
--- The lines are those that end what the base left open.
+-- The lines are those that end the base.
 use Rattle.std.proofs.Common.{List, Ok, Err, ap, inl, map, subst, ◌∙◌}
 use Rattle.authority_cache.specs.declared.turn.Turn.{Turn}
 use Rattle.gate_history.specs.declared.entry.Entry.{Entry}

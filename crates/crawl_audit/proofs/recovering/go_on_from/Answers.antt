@@ -1,4 +1,5 @@
--- What is out behind the whole lines is ended behind them, by the lemmas of `RecoveredBases`.
+-- What is open behind the whole lines is ended.
+-- By `RecoveredBases`.
 use Rattle.std.proofs.Common.{◌≡◌, ◌↔◌, ◌⊎◌, ℕ, ◌+◌, Bool, true, false, List, Option, Some, Ok, Err, Vec, Global, IsTrue, arith, inl, inr, length, map, subst, sym, refl, true≢false, ◌∙◌}
 use Rattle.path_normal.specs.declared.schemes.Schemes.{Schemes}
 use Rattle.gate_history.specs.Base.{Base}
@@ -14,7 +15,7 @@ use Rattle.crawl_audit.specs.Steps.{Place}
 use Rattle.crawl_audit.proofs.RecoveredBases.{IsBaseOf, Known, Results, Took, known_after, known_before, refuses, results}
 use Rattle.crawl_audit.proofs.recovering.go_on_from.Goals as goal
 
--- whether the auditor has begun, as it says of itself
+-- whether the auditor has begun, by its own word
 abbrev Says : Auditor → Bool → Type 0
 Says a begun = (place : Place) → StandsAt a place → IsTrue begun ↔ HasBegun place
 
@@ -24,7 +25,7 @@ begun_at schemes a lines place begun says begins holds = (says place holds.stand
 is_left : (a : Auditor) (left : Base) → IsLeft a left → IsBaseOf a.open_state left
 is_left a left is = record { says = is.says; is_base = is.is_base; order = is.order }
 
--- the auditor `a` is that of what was read
+-- the auditor `a` is the one that read
 module _ (w : WholeLines) (a : Auditor) (same : a ≡ w.auditor) (begun : Bool) (says : Says a begun) (has : begun ≡ true) where
   here : (schemes : Schemes) (lines : List (List ℕ)) (place : Place) → Holds schemes w.auditor lines place → Holds schemes a lines place
   here schemes lines place holds = subst (λ (b : Auditor). Holds schemes b lines place) (sym same) holds

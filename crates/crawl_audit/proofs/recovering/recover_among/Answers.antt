@@ -1,4 +1,4 @@
--- Each way out of the loop is the end of the whole lines, from which it goes on, or a fault behind some of them.
+-- The loop ends at the end of the whole lines, and continues from there, or at a fault.
 use Rattle.std.proofs.Common.{◌≡◌, ◌+◌, ℕ, Bool, List, Option, Some, Result, Ok, Err, ap, refl, sym, subst, ◌∙◌}
 use Rattle.std.specs.Prelude.{IfOk, IfErr}
 use Rattle.std.specs.Io.KnownBytes.{prepend_known}
@@ -12,7 +12,7 @@ use Rattle.crawl_audit.specs.declared.recover_fault.RecoverFault.TheVariants as 
 use Rattle.crawl_audit.specs.declared.recovering.Recovered.{Recovered}
 use Rattle.crawl_audit.proofs.recovering.recover_among.Goals as goal
 
--- what comes of the whole lines is what the clauses say
+-- the result for the whole lines is what the clauses say
 module _ (schemes : Schemes) (input : Option (List ℕ)) where
   when_ok : (result : Result Recovered RecoverFault) → Recovers schemes input result → IfOk result (λ found. (text : List ℕ) → input ≡ Some text → IsRecovered schemes text found)
   when_ok (Ok found) recovers = recovers
@@ -34,7 +34,6 @@ module _ (schemes : Schemes) (input : Option (List ℕ)) where
   when_read failures (Err faults.Read) recovers = absurd recovers
   when_read failures (Err faults.NoMemory) recovers = refl
 
-  -- and a fault of the auditor is told as one
   of_fault : (fault : AuditFault) → ((text : List ℕ) → input ≡ Some text → IsWholeFault schemes text fault) → (text : List ℕ) → input ≡ Some text → IsRecoverFault schemes text (fault_read fault)
   of_fault (audit_faults.BadLine line) told = told
   of_fault audit_faults.Read told = λ text is. tt

@@ -1,4 +1,4 @@
--- So many whole lines were taken, and no read has failed.
+-- This many whole lines were taken, and no read has failed.
 use Rattle.std.proofs.Common.{◌≡◌}
 use Rattle.std.specs.Io.KnownBytes.{prepend_known}
 use Rattle.crawl_audit.specs.Recovering.{HeardWhole}

@@ -1,4 +1,4 @@
--- One more is there.
+-- One more site was added.
 use Rattle.std.proofs.Common.{◌++◌, ◌∷◌, [], List, ℕ, ap, get_or, map, sym, take, ◌∙◌}
 use Rattle.std.proofs.lemmas.List.{map-append, take_all, take_more}
 use Rattle.authority_cache.specs.declared.turn.Turn.{Turn}

@@ -1,4 +1,4 @@
--- The lines before a fault, and a part of the one at it, are a part of all.
+-- A prefix of the lines is a prefix of the text.
 use Rattle.std.proofs.Common.{◌++◌, ◌∙◌, ap, subst}
 use Rattle.counted_io.specs.Device.{AppendsPrefix, one_more}
 use Rattle.counted_io.specs.Output.{Passes}

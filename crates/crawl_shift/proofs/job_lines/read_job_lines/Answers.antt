@@ -1,4 +1,4 @@
--- The session says which lines were taken, and the reading what they came to.
+-- The session says which lines were taken, and the reading what they gave.
 use Rattle.crawl_shift.proofs.Sorting.{read_badly, read_failed, read_well}
 use Rattle.crawl_shift.proofs.job_lines.read_job_lines.Goals as goal
 

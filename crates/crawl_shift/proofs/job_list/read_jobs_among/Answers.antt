@@ -1,4 +1,4 @@
--- The session says which lines were taken, and the list what they came to.
+-- The session says which lines were taken, and the list what they gave.
 use Rattle.crawl_shift.proofs.Jobs.{read_badly, read_failed, read_well}
 use Rattle.crawl_shift.proofs.job_list.read_jobs_among.Goals as goal
 

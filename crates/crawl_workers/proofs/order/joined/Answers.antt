@@ -1,4 +1,4 @@
--- The numbers of one list more come behind the others.
+-- The numbers of one more list follow the others.
 -- Used by `joined`.
 use Rattle.std.proofs.Common.{◌∙◌, ◌++◌, ap, arith}
 use Rattle.job_line.specs.Sums.{weigh}

@@ -1,4 +1,4 @@
--- The counts so far are of the lists so far, and there is room for the others.
+-- The counts of the lists so far, and room for the others.
 -- Used by `lengths`.
 use Rattle.std.proofs.Common.{◌≡◌, ◌≤◌, ◌+◌, drop, length}
 use Rattle.std.specs.Prelude.{vec_capacity, vec_len}

@@ -1,4 +1,4 @@
--- A job is put at a place of its own.
+-- A job is put at its own place.
 -- Used by `place`.
 use Rattle.std.proofs.Common.{◌≡◌, ◌∙◌, ◌<◌, ◌≤◌, ◌++◌, ◌∷◌, [], ℕ, List, length, slice_set, ap, sym, subst, arith, rules, append_assoc}
 use Rattle.std.proofs.lemmas.List.{length-set}

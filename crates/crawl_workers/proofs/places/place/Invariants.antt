@@ -1,4 +1,4 @@
--- The jobs so far stand at their places, and the other places are as they were.
+-- The jobs so far have their places, and other places are unchanged.
 -- Used by `place`.
 use Rattle.std.proofs.Common.{◌≡◌, ◌++◌, ℕ, List, length}
 use Rattle.std.specs.List.{slice_get}

@@ -1,4 +1,4 @@
--- The jobs of the workers so far stand at their places.
+-- The jobs of the workers so far have their places.
 -- Used by `place_all`.
 use Rattle.std.proofs.Common.{◌≡◌, ◌++◌, List, length, Vec, Global}
 use Rattle.std.specs.Prelude.{map}

@@ -1,4 +1,4 @@
--- What was given for the walk's URL goes on or decides.
+-- The reply for the walk's URL continues the walk or decides.
 use Rattle.std.proofs.Common.{ℕ, List, inl, sym, subst}
 use Rattle.path_normal.specs.declared.schemes.Schemes.{Schemes}
 use Rattle.path_normal.specs.PageText.{robots_url_of}

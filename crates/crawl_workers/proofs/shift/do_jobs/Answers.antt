@@ -1,4 +1,4 @@
--- All jobs are done, each once, and stand at their places.
+-- All jobs are done, each once, and have their places.
 -- Used by `do_jobs`.
 use Rattle.std.proofs.Common.{◌≡◌, ◌∙◌, ◌≤◌, List, ℕ, Vec, Global, length, sym, subst}
 use Rattle.std.specs.Prelude.{map}

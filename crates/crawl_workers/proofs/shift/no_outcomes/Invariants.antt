@@ -1,4 +1,4 @@
--- There are as many as were counted, and there is room for the others.
+-- The outcomes so far, and room for the others.
 -- Used by `no_outcomes`.
 use Rattle.std.proofs.Common.{◌≡◌, ◌≤◌}
 use Rattle.std.specs.Prelude.{vec_len, vec_capacity}

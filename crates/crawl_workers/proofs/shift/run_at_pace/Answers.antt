@@ -1,5 +1,5 @@
 -- All jobs are done, and the gate is settled.
--- The lemma `is_shift` of `Shifting` says what that is.
+-- By the lemma `is_shift` of `Shifting`.
 use Rattle.std.proofs.Common.{ℕ, Vec, Global, sym, subst}
 use Rattle.std.specs.Prelude.{map}
 use Rattle.crawl_workers.specs.Shifts.{AreAllJobs, DoneView}

@@ -1,5 +1,5 @@
--- All jobs are done, and the gate is settled with the receipts of what was before.
--- The lemma `is_later_shift` of `Shifting` says what that is.
+-- All jobs are done, and the gate is settled with the earlier receipts too.
+-- By the lemma `is_later_shift` of `Shifting`.
 use Rattle.std.proofs.Common.{ℕ, Vec, Global, sym, subst, rules}
 use Rattle.std.specs.Prelude.{map}
 use Rattle.crawl_workers.specs.Shifts.{AreAllJobs, DoneView}

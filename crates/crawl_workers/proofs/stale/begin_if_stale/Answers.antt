@@ -1,5 +1,5 @@
 -- An answer of the page's authority is in force.
--- The lemma `has_answer` says that the gate does not lack one.
+-- By the lemma `has_answer` the gate does not lack one.
 use Rattle.std.proofs.Common.{rules, ℕ, List, subst}
 use Rattle.path_normal.specs.PageText.{authority_of}
 use Rattle.gate_core.specs.Gate.{history}

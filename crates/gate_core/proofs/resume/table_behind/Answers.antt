@@ -1,5 +1,5 @@
--- Each grant that is noted is one more that was made before.
--- The lemmas of `ResumedBook` say so.
+-- Each noted grant is one more earlier one.
+-- By the lemmas of `ResumedBook`.
 use Rattle.std.proofs.Common.{get_or, refl, take}
 use Rattle.gate_history.specs.declared.base.SlotGrant.{SlotGrant}
 use Rattle.gate_core.proofs.ResumedBook.{behind_empty, behind_more, behind_none, each_fits}

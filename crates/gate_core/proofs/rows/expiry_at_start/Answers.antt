@@ -1,4 +1,4 @@
--- The start spends the permit that stands.
+-- The start spends the permit.
 -- Used by `expiry_at_start`.
 use Rattle.std.proofs.Common.{refl, arith}
 use Rattle.path_normal.specs.PageText.{authority_of}

@@ -1,4 +1,4 @@
--- The start spends the permit that stands.
+-- The start spends the permit.
 -- Used by `missing_robots`.
 use Rattle.std.proofs.Common.{refl, arith}
 use Rattle.path_normal.specs.PageText.{authority_of}

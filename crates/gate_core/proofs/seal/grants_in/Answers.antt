@@ -1,5 +1,5 @@
 -- Each slot in which something was granted is listed once.
--- The lemmas of `ListedGrants` say so.
+-- By `ListedGrants`.
 use Rattle.std.proofs.Common.{◌≡◌, ◌+◌, ◌++◌, ◌∷◌, [], ◌<◌, ◌≤◌, Vec, Global, List, filter, get_or, length, take, sym, ap, subst, ◌∙◌}
 use Rattle.std.proofs.lemmas.List.{append-nil, get_or_read, take_all}
 use Rattle.permit_book.specs.declared.out.Slot.{Slot}

@@ -1,4 +1,4 @@
--- What is opened and not closed stands.
+-- What is opened and not closed is open.
 use Rattle.gate_history.proofs.LeftOpenLaws as open_laws
 use Rattle.gate_history.proofs.SealLaws as seals
 use Rattle.gate_history.proofs.laws.no_later_entry_closes.Goals as goal

@@ -1,4 +1,4 @@
--- The order of what stands changes nothing.
+-- The order of lists changes nothing.
 use Rattle.gate_history.proofs.OrderLaws as order
 use Rattle.gate_history.proofs.LegalLaws as legal
 use Rattle.gate_history.proofs.Reordering as reordering

@@ -1,4 +1,4 @@
--- The base that a history leads to says what the history does.
+-- The base after a history says what the history does.
 use Rattle.gate_history.proofs.OrderLaws as order
 use Rattle.gate_history.proofs.Soundness as sound
 use Rattle.gate_history.proofs.laws.sealing_changes_nothing.Goals as goal

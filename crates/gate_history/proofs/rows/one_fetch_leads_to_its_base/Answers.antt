@@ -6,7 +6,6 @@ use Rattle.gate_history.specs.Base.{IsBase, empty_base}
 use Rattle.gate_history.specs.Rows.{foobot, page}
 use Rattle.gate_history.proofs.rows.one_fetch_leads_to_its_base.Goals as goal
 
--- nothing stands in the empty base
 is_base : IsBase empty_base
 is_base = record {
   permits = record { numbers_once = λ n. omega arith; numbers_granted = λ n out. absurd (omega arith); slots_once = λ slot. omega arith };

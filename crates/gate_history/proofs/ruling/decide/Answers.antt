@@ -1,4 +1,4 @@
--- What the cache finds is what the lists have.
+-- The cache finds what the lists have.
 use Rattle.robots_verdict.specs.Answer.{said}
 use Rattle.path_normal.specs.PageText.{authority_of}
 use Rattle.gate_history.proofs.Looking.{judges_expired, judges_in_force, judges_unknown}

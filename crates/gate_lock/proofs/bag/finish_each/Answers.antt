@@ -1,5 +1,4 @@
--- One more was spent, which was the last one that was left.
--- So those that were spent are the last ones.
+-- Each step spends the last one left, so those spent are the last ones.
 use Rattle.std.proofs.Common.{◌≡◌, ◌++◌, [], ◌∷◌, List, ap, ◌∙◌, append_assoc, subst, arith}
 use Rattle.std.proofs.lemmas.List.Elements.{All-pop}
 use Rattle.gate_lock.specs.Bags.{kept_in}

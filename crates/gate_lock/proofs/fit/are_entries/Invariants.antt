@@ -1,4 +1,4 @@
--- What is left of the marks are entries exactly where all of them are.
+-- The remaining marks are entries exactly if all are.
 use Rattle.std.proofs.Common.{◌↔◌, length}
 use Rattle.gate_lock.specs.Settling.{AreEntries}
 use Rattle.gate_lock.proofs.fit.are_entries.Given as goal

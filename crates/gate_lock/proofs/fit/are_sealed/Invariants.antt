@@ -1,4 +1,4 @@
--- What is left of the places is sealed exactly where all of them are.
+-- The remaining places are sealed exactly if all are.
 use Rattle.std.proofs.Common.{◌↔◌, length}
 use Rattle.gate_lock.specs.Marks.{AreSealed}
 use Rattle.gate_lock.proofs.fit.are_sealed.Given as goal

@@ -1,4 +1,4 @@
--- What is left of the lists fits exactly where all of them do.
+-- The remaining lists fit exactly if all do.
 use Rattle.std.proofs.Common.{◌↔◌, length}
 use Rattle.gate_lock.specs.Settling.{EachFits}
 use Rattle.gate_lock.proofs.fit.each_fits.Given as goal

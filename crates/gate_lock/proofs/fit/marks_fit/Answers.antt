@@ -1,5 +1,4 @@
 -- The places of lists of marks that fit ascend.
--- The lemma `fit_ascends` of `Merging` says so.
 use Rattle.std.proofs.Common.{map, rules}
 use Rattle.gate_lock.specs.Marks.{alone}
 use Rattle.gate_lock.proofs.Merging.{fit_ascends}

@@ -1,5 +1,4 @@
 -- The places of receipts that fit ascend.
--- The lemma `fit_ascends` of `Merging` says so.
 use Rattle.std.proofs.Common.{rules}
 use Rattle.gate_lock.proofs.Merging.{fit_ascends}
 use Rattle.gate_lock.proofs.fit.receipts_fit.Goals as goal

@@ -1,5 +1,4 @@
 -- One mark more is below.
--- The lemma `below_more` of `Condensing` says so.
 use Rattle.std.proofs.Common.{rules}
 use Rattle.gate_lock.proofs.Condensing.{below_more}
 use Rattle.gate_lock.proofs.mark.count_below.Goals as goal

@@ -1,4 +1,4 @@
--- So many of the first marks were looked at, and are below.
+-- The first marks, as many as were looked at, are below.
 use Rattle.std.proofs.Common.{◌-◌, ◌≤◌, length, map, take}
 use Rattle.gate_lock.specs.Marks.{AreSealed}
 use Rattle.gate_lock.proofs.mark.count_below.Given as goal

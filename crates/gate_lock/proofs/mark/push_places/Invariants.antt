@@ -1,4 +1,4 @@
--- What was pushed and what is left are the places of all marks.
+-- The pushed and the remaining places are those of all marks.
 use Rattle.std.proofs.Common.{◌≡◌, ◌+◌, ◌≤◌, ◌++◌, length, map, vec_capacity}
 use Rattle.gate_lock.proofs.mark.push_places.Given as goal
 

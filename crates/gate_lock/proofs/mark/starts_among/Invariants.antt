@@ -1,4 +1,4 @@
--- What was counted and what is left are those of all marks.
+-- The counted starts and those of the remaining marks are those of all.
 use Rattle.std.proofs.Common.{◌≡◌, ◌+◌, ◌≤◌, length}
 use Rattle.gate_lock.specs.Marks.{starts_in}
 use Rattle.gate_lock.proofs.mark.starts_among.Given as goal

@@ -1,4 +1,4 @@
--- What is left of the places ascends exactly where all of them do.
+-- The remaining places ascend exactly if all do.
 use Rattle.std.proofs.Common.{◌↔◌, length}
 use Rattle.gate_lock.specs.Places.{Ascend}
 use Rattle.gate_lock.proofs.merged_marks.all_ascend.Given as goal

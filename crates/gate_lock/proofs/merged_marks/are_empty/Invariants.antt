@@ -1,4 +1,4 @@
--- What is left of the lists is empty exactly where all of them are.
+-- The remaining lists are empty exactly if all are.
 use Rattle.std.proofs.Common.{◌↔◌, length}
 use Rattle.gate_lock.specs.Places.{AllEmpty}
 use Rattle.gate_lock.proofs.merged_marks.are_empty.Given as goal

@@ -1,5 +1,4 @@
--- The places that are kept ascend, and begin behind the first ones.
--- The lemmas of `Ranging` say what that is for all places.
+-- The single places ascend and begin after the first ones.
 use Rattle.std.proofs.Common.{ap, ◌∙◌, rules}
 use Rattle.gate_lock.specs.Marks.{SealedView}
 use Rattle.gate_lock.proofs.Ranging.{ascend_of, of_ascend}

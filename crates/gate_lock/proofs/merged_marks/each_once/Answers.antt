@@ -1,5 +1,4 @@
--- What is kept ascends, as all does.
--- The lemmas of `Ranging` say so, and what it is that the others are each once.
+-- The single places ascend, as all do.
 use Rattle.std.proofs.Common.{sym, subst, rules}
 use Rattle.gate_lock.specs.Places.{AllAscend}
 use Rattle.gate_lock.proofs.Ranging.{kept_ascend}

@@ -1,5 +1,4 @@
--- Receipts that have first places, where others have them too, and where none has.
--- The lemmas of `Ranging` say so.
+-- First places in these receipts, in others too, or in none.
 use Rattle.std.proofs.Common.{◌∙◌, ap}
 use Rattle.gate_lock.specs.Marks.{SealedView}
 use Rattle.gate_lock.proofs.Ranging.{have_left, none_at_all, two_left}

@@ -1,4 +1,4 @@
--- Of the receipts that were looked at, those that have first places have them once.
+-- Of the receipts looked at, at most one has first places.
 use Rattle.std.proofs.Common.{◌≡◌, ◌+◌, ℕ, nat_lt, drop, map}
 use Rattle.authority_cache.specs.Calls.{one_if}
 use Rattle.gate_lock.specs.Marks.{kept_places, places_of}

@@ -1,4 +1,4 @@
--- The kept places of the receipts that were looked at and of those that are left are those of all.
+-- The places of the receipts looked at and of the remaining ones are all places.
 use Rattle.std.proofs.Common.{◌≡◌, ◌+◌, ◌≤◌, ◌++◌, length, map, vec_capacity}
 use Rattle.gate_lock.specs.Marks.{kept_places}
 use Rattle.gate_lock.proofs.merged_marks.kept_of_all.Given as goal

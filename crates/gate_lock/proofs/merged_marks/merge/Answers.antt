@@ -1,5 +1,4 @@
--- A place that can't be come by, one that was, and the end.
--- The lemmas of `Merging` say so.
+-- A place that can't be passed, one that was, and the end.
 use Rattle.std.proofs.Common.{arith, rules}
 use Rattle.gate_lock.proofs.Merging.{ended, next_below, passes_ascend, passes_times, stuck}
 use Rattle.gate_lock.proofs.Ranging.{too_many}

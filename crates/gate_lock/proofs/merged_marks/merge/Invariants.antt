@@ -1,4 +1,4 @@
--- Of each place from the first one up to this, one was come by; the others are left.
+-- Each place from the first one up to this was passed once; the others are left.
 use Rattle.std.proofs.Common.{◌≡◌, ◌+◌, ◌-◌, ◌≤◌, ℕ, nat_lt}
 use Rattle.authority_cache.specs.Calls.{one_if}
 use Rattle.gate_lock.specs.Places.{AllAscend, times_in_all}

@@ -1,5 +1,4 @@
--- One list has lost the place, or none more can.
--- The lemmas of `Merging` say so.
+-- One list lost the place, or none begins with it.
 use Rattle.std.proofs.Common.{◌+◌, ℕ, List, length, take, subst, rules, arith, sym, ap, ◌∙◌}
 use Rattle.std.specs.Prelude.{slice_set}
 use Rattle.gate_lock.specs.Places.{IsNextOfNone, Passes}

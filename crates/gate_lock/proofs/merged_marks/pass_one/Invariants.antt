@@ -1,4 +1,4 @@
--- It is the next one of no list that was looked at, and nothing has changed.
+-- No list looked at begins with the place; nothing has changed.
 use Rattle.std.proofs.Common.{◌≡◌, ◌-◌, ◌≤◌, length, take}
 use Rattle.gate_lock.specs.Places.{IsNextOfNone}
 use Rattle.gate_lock.proofs.merged_marks.pass_one.Given as goal

@@ -1,4 +1,4 @@
--- The places of the lists that were looked at and of those that are left are those of all.
+-- The places of the lists looked at and of the remaining ones are all places.
 use Rattle.std.proofs.Common.{◌≡◌, ◌+◌, ◌≤◌, ◌++◌, length, map, vec_capacity}
 use Rattle.gate_lock.specs.Marks.{alone, places_of}
 use Rattle.gate_lock.proofs.merged_marks.places_of_lists.Given as goal

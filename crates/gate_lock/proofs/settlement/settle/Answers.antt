@@ -1,5 +1,4 @@
--- Where nothing was handed out, what is settled is a whole history.
--- The lemma `whole_if_settled` of `Whole` says so.
+-- If nothing was handed out, what is settled is a whole history.
 use Rattle.gate_lock.proofs.Whole.{whole_if_settled}
 use Rattle.gate_lock.proofs.settlement.settle.Goals as goal
 

@@ -1,5 +1,4 @@
 -- The places of a history fit its count.
--- The lemma `counted` of `Counting` says so.
 use Rattle.std.proofs.Common.{ap, arith, length}
 use Rattle.gate_history.specs.Base.{Base}
 use Rattle.gate_history.specs.History.{from}

@@ -1,4 +1,4 @@
--- What is left of the count is for what is left of the lists.
+-- The remaining count is that of the remaining lists.
 use Rattle.std.proofs.Common.{◌≡◌, ◌+◌, length}
 use Rattle.gate_lock.specs.Marks.{handed_at_all}
 use Rattle.gate_lock.proofs.started.has_handed.Given as goal

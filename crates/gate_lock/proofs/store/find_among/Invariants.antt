@@ -1,4 +1,4 @@
--- What is sought among those that are left is sought among all, and they are at the places behind.
+-- The value sought is among the remaining ones, whose indices are offset.
 use Rattle.std.proofs.Common.{◌≡◌, ◌+◌, ℕ, length, slice_get}
 use Rattle.std.specs.List.{list_any}
 use Rattle.gate_lock.specs.Bags.{is_sought}

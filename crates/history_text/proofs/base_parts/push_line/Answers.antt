@@ -1,4 +1,4 @@
--- A line and its end are pushed one after the other.
+-- A line, then its end.
 use Rattle.counted_io.proofs.CallerLemmas.{prefix_piece}
 use Rattle.line_text.proofs.CallerLemmas.{pushes_cut, pushes_then}
 use Rattle.line_text.specs.Pieces.{pieces_text}

@@ -1,4 +1,4 @@
--- The parts before a fault, and a front of the one at it, are a front of all.
+-- The parts before a fault and a prefix of the failed one are a prefix of all.
 use Rattle.std.proofs.Common.{◌++◌, All, List, ℕ, ap, ◌∙◌, subst, sym, take}
 use Rattle.std.proofs.lemmas.List.{take_more}
 use Rattle.std.proofs.lemmas.List.Elements.{All-push}

@@ -1,4 +1,4 @@
--- The parts so far passed to the output, and nothing failed.
+-- The parts so far reached the output, and nothing failed.
 use Rattle.std.proofs.Common.{◌≡◌, ◌++◌, All, flat_map, take}
 use Rattle.counted_io.specs.Output.{Passes}
 use Rattle.history_text.specs.Parts.{HasPartFields, part_text}

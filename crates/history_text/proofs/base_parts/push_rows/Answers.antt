@@ -1,4 +1,4 @@
--- The lines before a fault, and a part of the one at it, are a part of all.
+-- The lines before a fault and a prefix of the failed one are a prefix of all.
 use Rattle.std.proofs.Common.{◌++◌, All, List, ℕ, ap, ◌∙◌, subst, sym, take}
 use Rattle.std.proofs.lemmas.List.{take_more}
 use Rattle.std.proofs.lemmas.List.Elements.{All-push}

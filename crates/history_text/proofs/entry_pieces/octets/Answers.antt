@@ -1,4 +1,4 @@
--- What a slice of octets has is octets.
+-- A slice of octets has octets only.
 use Rattle.std.proofs.Common.{◌<◌, arith}
 use Rattle.std.proofs.lemmas.List.Elements.{All-from_get_or}
 use Rattle.history_text.proofs.entry_pieces.octets.Goals as goal

@@ -1,4 +1,4 @@
--- The octets of a robots text are octets, and what is kept of them is they.
+-- A robots text is octets, all of them kept.
 use Rattle.std.proofs.Common.{◌∙◌, sym, subst, ap}
 use Rattle.robots_verdict.specs.Answer.{said}
 use Rattle.history_text.specs.Entries.{IsBody, IsSaid}

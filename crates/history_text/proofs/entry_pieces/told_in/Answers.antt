@@ -1,4 +1,4 @@
--- The octets of a robots text are octets, and what is kept of them is they.
+-- A robots text is octets, all of them kept.
 use Rattle.std.proofs.Common.{◌∙◌, sym, subst}
 use Rattle.history_text.specs.Entries.{IsBody, IsSaid}
 use Rattle.history_text.proofs.entry_pieces.told_in.Goals as goal

@@ -1,4 +1,4 @@
--- The head and the lines are pushed one after the other.
+-- The head, then the lines.
 use Rattle.counted_io.proofs.CallerLemmas.{prefix_piece}
 use Rattle.line_text.proofs.CallerLemmas.{pushes_cut, pushes_then}
 use Rattle.history_text.specs.declared.version.Version.TheVariants.{Two}

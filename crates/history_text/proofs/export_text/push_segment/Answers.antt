@@ -1,4 +1,4 @@
--- The lines of the base and those of the entries are pushed one after the other.
+-- The lines of the base, then those of the entries.
 use Rattle.std.proofs.Common.{ℕ, List, ◌++◌, ◌∙◌, subst, sym}
 use Rattle.counted_io.specs.Device.{AppendsPrefix}
 use Rattle.counted_io.specs.Output.{Pushes}

@@ -1,4 +1,4 @@
--- A port that is written stands behind a colon.
+-- A port follows a colon.
 use Rattle.std.proofs.lemmas.Str.Pattern.{strip_prefix_char}
 use Rattle.std.specs.Prelude.{Some, None}
 use Rattle.http_client.proofs.Servers.{port_parsed, port_missing}

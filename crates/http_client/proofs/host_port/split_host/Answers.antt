@@ -1,4 +1,4 @@
--- The host ends at its bracket, or where the first colon stands.
+-- The host ends at its bracket, or at the first colon.
 use Rattle.std.proofs.lemmas.Str.Pattern.{find_char, strip_prefix_char}
 use Rattle.std.specs.Prelude.{Some, None}
 use Rattle.std.proofs.Common.{◌∙◌, arith, sym}

@@ -1,4 +1,4 @@
--- What is written of the header, and of the request behind it, is written of both.
+-- The output is that of the header and then the request.
 use Rattle.std.proofs.KnownBytes.{Appends-trans}
 use Rattle.std.proofs.lemmas.Result.{on_err_weaker, on_ok_weaker}
 use Rattle.counted_io.proofs.CallerLemmas.{on_err, prefix_longer}

@@ -1,5 +1,4 @@
--- Each end of the reading tells of the whole input.
--- The lemmas of `BodyReads` say so over plain lists.
+-- Each end of the reading determines the answer for the whole input.
 use Rattle.std.proofs.Common.{◌∙◌, sym, subst, ap}
 use Rattle.http_wire.specs.Reading.{ReadsBody}
 use Rattle.http_wire.proofs.BodyReads.{IsFor, broken_read, ended_read, found_read, past_read}

@@ -1,5 +1,4 @@
 -- Chunks that can't be read are refused, whatever follows.
--- The lemma `bad_chunks` says so over plain lists.
 use Rattle.std.proofs.Common.{List, ℕ, drop, subst}
 use Rattle.http_wire.specs.Seeing.{Refuses}
 use Rattle.http_wire.specs.declared.fault.WireFault.TheVariants.{BadChunk}

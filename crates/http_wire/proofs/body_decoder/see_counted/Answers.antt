@@ -1,5 +1,4 @@
 -- A counted body is cut at the limit, or given whole.
--- The lemmas of `BodyLooks` say so over plain lists.
 use Rattle.std.proofs.Common.{arith, ap, length, length-drop}
 use Rattle.http_wire.proofs.BodyLooks.{counted_cut, counted_seen}
 use Rattle.http_wire.proofs.body_decoder.see_counted.Goals as goal

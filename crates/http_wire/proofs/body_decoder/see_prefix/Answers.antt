@@ -1,5 +1,4 @@
--- The octets up to the limit are given where one more stands there.
--- The lemma `prefix_seen` says so over plain lists.
+-- The octets up to the limit are given if there is one more.
 use Rattle.std.proofs.Common.{arith, ap, length, length-drop}
 use Rattle.http_wire.proofs.BodyLooks.{prefix_seen}
 use Rattle.http_wire.proofs.body_decoder.see_prefix.Goals as goal

@@ -1,5 +1,4 @@
 -- What a read into the room leaves.
--- The lemma `read_filled` says so over plain lists.
 use Rattle.std.proofs.Common.{arith}
 use Rattle.http_wire.proofs.Filling.{read_filled}
 use Rattle.http_wire.proofs.buffer.read_behind.Goals as goal

@@ -1,4 +1,4 @@
--- What is left has the same octets before its white space.
+-- The remaining text has the same octets before its white space.
 use Rattle.std.proofs.Common.{◌≡◌, length, reverse}
 use Rattle.httparse.specs.Grammar.{skip_ows}
 use Rattle.http_wire.proofs.fields.trim_end.Given as goal

@@ -1,4 +1,4 @@
--- What is left has the same octets after its white space.
+-- The remaining text has the same octets after its white space.
 use Rattle.std.proofs.Common.{◌≡◌, length}
 use Rattle.httparse.specs.Grammar.{skip_ows}
 use Rattle.http_wire.proofs.fields.trim_start.Given as goal

@@ -1,4 +1,4 @@
--- The name stands in front, and its argument behind it.
+-- The name, then its argument.
 use Rattle.std.proofs.Common.{List, ℕ, ◌++◌, sym, ap, ◌∙◌, take-append-drop}
 use Rattle.std.specs.Prelude.{codes}
 use Rattle.std.proofs.lemmas.Bool.{true≢false}

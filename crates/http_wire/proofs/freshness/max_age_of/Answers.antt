@@ -1,4 +1,4 @@
--- What a member tells beside those left.
+-- What a member and the remaining ones give.
 use Rattle.std.proofs.Common.{List, ℕ, Some, None, sym, subst}
 use Rattle.std.proofs.lemmas.List.Elements.{All-nil}
 use Rattle.http_wire.specs.Freshness.{IsNoMaxAge, TellsMaxAge}

@@ -1,4 +1,4 @@
--- The members passed over are no max-age: what those left tell, all tell.
+-- The members passed are no max-age, so the remaining ones decide.
 use Rattle.std.proofs.Common.{Option, ℕ}
 use Rattle.http_wire.specs.Freshness.{HasMaxAge, TellsMaxAge}
 use Rattle.http_wire.specs.Left.{members_left, pairs}

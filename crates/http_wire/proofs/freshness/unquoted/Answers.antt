@@ -1,4 +1,4 @@
--- What stands between the quotation marks.
+-- The text between the quotation marks.
 use Rattle.http_wire.proofs.MaxAges.{found_quoted}
 use Rattle.http_wire.proofs.freshness.unquoted.Goals as goal
 

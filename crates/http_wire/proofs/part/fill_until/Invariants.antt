@@ -1,4 +1,4 @@
--- All that was read is in the buffer, and what the part knows stands in it.
+-- The buffer has all that was read, and the part's state agrees with it.
 use Rattle.std.proofs.Common.{◌≡◌, ◌≤◌, ◌+◌, ◌-◌, length}
 use Rattle.http_wire.specs.Limits.{max_raw}
 use Rattle.http_wire.specs.Reading.{Grows}

@@ -1,5 +1,4 @@
--- The pieces so far stand in the room, one behind the other.
--- The proof of `gather` rests on it.
+-- The pieces so far are in the room, in a row.
 use Rattle.std.proofs.Common.{◌≡◌, ◌≤◌, length, take}
 use Rattle.http_wire.specs.Request.{joined_pieces}
 use Rattle.http_wire.proofs.request.gather.Given as goal

@@ -1,5 +1,4 @@
 -- The pieces in a row are the request.
--- The lemma `request_joined` says so over plain lists.
 use Rattle.std.proofs.Common.{◌∙◌, subst, OnOk, OnErr}
 use Rattle.std.specs.Io.KnownBytes.{Appends}
 use Rattle.counted_io.specs.Device.{AppendsPrefix}

@@ -1,5 +1,4 @@
--- What was written of a piece stands behind the pieces before it.
--- The lemma `cut_piece` says so over plain lists.
+-- What was written of a piece follows the pieces before it.
 use Rattle.counted_io.proofs.CallerLemmas.{on_err}
 use Rattle.http_wire.proofs.RequestPieces.{cut_piece}
 use Rattle.http_wire.proofs.request.write_pieces.Goals as goal

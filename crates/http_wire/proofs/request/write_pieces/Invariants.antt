@@ -1,5 +1,4 @@
--- The pieces so far were written, and nothing failed.
--- The proof of `write_pieces` rests on it.
+-- The pieces so far were written without a failure.
 use Rattle.std.proofs.Common.{◌≡◌, take}
 use Rattle.std.specs.Io.KnownBytes.{Appends}
 use Rattle.http_wire.specs.Request.{joined_pieces}

@@ -1,4 +1,4 @@
--- What a fault of the reading tells of the input.
+-- The input by a fault of the reading.
 use Rattle.std.proofs.Common.{List, ℕ, [], subst}
 use Rattle.http_wire.specs.Finding.{Fails, Faults}
 use Rattle.http_wire.specs.Parts.{Breaks}

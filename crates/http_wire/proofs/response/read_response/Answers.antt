@@ -1,4 +1,4 @@
--- What stands in the input is found, since an input gives one reply and no fault beside it.
+-- A response in the input is found, since an input gives one reply and no fault besides.
 use Rattle.http_wire.proofs.ResponseLaws.{finds}
 use Rattle.http_wire.proofs.response.read_response.Goals as goal
 

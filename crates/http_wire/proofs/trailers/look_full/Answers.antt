@@ -1,5 +1,4 @@
--- The octets that trailers may have stand there, so what they lack is too long.
--- The lemmas of `TrailerPrefixes` say so over plain lists.
+-- The text has all octets that trailers may have, so an unfinished section is too long.
 use Rattle.std.proofs.Common.{arith, inr, ◌++◌, drop}
 use Rattle.std.proofs.lemmas.List.{length-take}
 use Rattle.http_wire.proofs.TrailerPrefixes.{prefix_whole, prefix_bad}

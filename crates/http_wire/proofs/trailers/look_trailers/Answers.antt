@@ -1,5 +1,4 @@
--- What is said of a long text holds whether it has last or not.
--- Used by `look_trailers`.
+-- What holds of a long text does not depend on `last`.
 use Rattle.http_wire.proofs.trailers.look_trailers.Goals as goal
 
 pub returns-else-text-lt-MAX_TRAILER_BYTES : goal.returns-else-text-lt-MAX_TRAILER_BYTES

@@ -1,4 +1,4 @@
--- Each site begins behind the jobs of those before it.
+-- Each site begins after the jobs of those before it.
 -- Used by `begins`.
 use Rattle.std.proofs.Common.{◌≡◌, ◌+◌, ◌∙◌, ◌∷◌, [], ◌++◌, ap, sym, arith, take}
 use Rattle.std.specs.Prelude.{slice_index}

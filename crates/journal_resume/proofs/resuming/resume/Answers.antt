@@ -1,4 +1,4 @@
--- What was recovered is what the gate goes on from.
+-- The gate continues what was recovered.
 use Rattle.std.proofs.Common.{refl}
 use Rattle.journal_resume.proofs.resuming.resume.Goals as goal
 

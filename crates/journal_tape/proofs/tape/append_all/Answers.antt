@@ -1,5 +1,4 @@
 -- Each call adds to what was appended before it.
--- The lemma `appends_piece` joins the two.
 use Rattle.std.proofs.Common.{rules}
 use Rattle.std.proofs.lemmas.List.{take_rest}
 use Rattle.counted_io.proofs.Taking.{appends_piece}

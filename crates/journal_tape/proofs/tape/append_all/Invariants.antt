@@ -1,5 +1,4 @@
--- So many octets were appended, and nothing failed.
--- The proof of `append_all` rests on it.
+-- This many octets were appended, and nothing failed.
 use Rattle.std.proofs.Common.{length, take, ◌-◌, ◌≡◌, ◌≤◌}
 use Rattle.std.specs.Io.KnownBytes.{Appends}
 use Rattle.journal_tape.proofs.tape.append_all.Given as goal

@@ -1,5 +1,4 @@
--- No line feed comes behind the end.
--- The proof of `whole_len` rests on it.
+-- No line feed follows the end.
 use Rattle.std.proofs.Common.{length, drop, ◌≤◌}
 use Rattle.counted_io.specs.Lines.{HasNoLineFeed}
 use Rattle.journal_tape.proofs.whole.whole_len.Given as goal

@@ -1,4 +1,4 @@
--- The next seat is of the line, as all are that are left.
+-- The next seat is of the line, as all remaining ones are.
 -- Used by `hire`.
 use Rattle.std.proofs.Common.{◌≡◌, rules, subst}
 use Rattle.std.specs.Prelude.{All}

@@ -1,4 +1,4 @@
--- The seats that are left are all of the line.
+-- The remaining seats are all of the line.
 -- Used by `hire`.
 use Rattle.std.proofs.Common.{◌≡◌}
 use Rattle.std.specs.Prelude.{All}

@@ -1,4 +1,4 @@
--- A front that is not found at its place stands nowhere in front of the text.
+-- A text without the front at its start does not begin with it.
 use Rattle.std.proofs.Common.{length, take, ap, ◌∙◌, sym}
 use Rattle.std.proofs.Math.Seq.{take-append_seam}
 use Rattle.std.proofs.lemmas.Bool.{true≢false}

@@ -1,4 +1,4 @@
--- The line is the pieces' where each piece was found and nothing is left.
+-- The line is that of the pieces if each was found and nothing is left.
 use Rattle.std.proofs.Common.{[], sym, ◌∙◌, append-nil}
 use Rattle.std.proofs.lemmas.Bool.{true≢false}
 use Rattle.line_text.specs.Pieces.{piece_text}

@@ -1,4 +1,4 @@
--- The pieces so far stand in front of the rest.
+-- The pieces so far precede the rest.
 use Rattle.std.proofs.Common.{◌≡◌, ◌++◌, take, flat_map}
 use Rattle.line_text.specs.Pieces.{piece_text}
 use Rattle.line_text.proofs.pieces.is_row.Given as goal

@@ -1,4 +1,4 @@
--- The pieces before a fault, and a part of the one at it, are a part of the reply.
+-- A prefix of the pieces is a prefix of the line.
 use Rattle.std.proofs.Common.{◌∙◌, ap}
 use Rattle.counted_io.specs.Device.{one_more}
 use Rattle.line_text.specs.Pieces.{piece_text}

@@ -1,4 +1,4 @@
--- The words behind a cut at the first space, which is a boundary of the text, as is the place behind it.
+-- The cut at the first space, and the place after it, are boundaries of the text.
 use Rattle.std.proofs.Common.{◌≡◌, ◌∷◌, ◌+◌, drop, take, ap, sym, ◌∙◌, arith}
 use Rattle.std.specs.List.{slice_range}
 use Rattle.std.proofs.lemmas.Bool.{eqb-true}

@@ -1,5 +1,4 @@
 -- The law is proved as the lemma `one_site`.
--- Used by `one_site`.
 use Rattle.path_normal.proofs.SchemeLemmas as schemes
 use Rattle.path_normal.proofs.laws.one_site.Goals as goal
 

@@ -1,5 +1,4 @@
 -- The law is proved as the lemma `scheme_parts`.
--- Used by `schemes_part_authorities`.
 use Rattle.path_normal.proofs.SchemeLemmas.{scheme_parts}
 use Rattle.path_normal.proofs.laws.schemes_part_authorities.Goals as goal
 

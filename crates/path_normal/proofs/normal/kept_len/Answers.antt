@@ -1,5 +1,4 @@
--- Before the first octet that is changed all stay, and where none is, all do.
--- The lemmas of `NormalLemmas` say so.
+-- All octets before the first changed one stay; if none changes, all do.
 use Rattle.std.proofs.Common.{sym, ◌∙◌, length, arith}
 use Rattle.std.proofs.lemmas.List.Quantifiers.{position-Some}
 use Rattle.path_normal.specs.Normal.{is_changed}

@@ -1,5 +1,4 @@
--- The normal form of a path is its own normal form.
--- Used by `normal_path`.
+-- A path's normal form is its own normal form.
 use Rattle.std.proofs.Common.{◌≡◌, rules, subst, sym, arith}
 use Rattle.std.proofs.lemmas.List.Elements.{All-from_get_or}
 use Rattle.path_normal.specs.declared.normal.Role.TheVariants.{Path}

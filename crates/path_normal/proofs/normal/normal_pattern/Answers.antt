@@ -1,5 +1,4 @@
--- The normal form of a pattern is its own normal form, with a last `$` and without.
--- Used by `normal_pattern`.
+-- A pattern's normal form is its own, with or without a last `$`.
 use Rattle.std.proofs.Common.{◌≡◌, rules, refl, subst, sym, arith}
 use Rattle.std.proofs.lemmas.List.Elements.{All-from_get_or}
 use Rattle.path_normal.specs.Normal.{is_anchored, normal_pattern}

@@ -1,5 +1,4 @@
--- What was copied, and the normal form of what follows, make the normal form.
--- Used by `push_kept`.
+-- The copied octets and the rest's normal form make the normal form.
 use Rattle.std.proofs.Common.{◌++◌, sym, ap, ◌∙◌}
 use Rattle.std.proofs.lemmas.List.{append_assoc}
 use Rattle.path_normal.specs.Normal.{normal}

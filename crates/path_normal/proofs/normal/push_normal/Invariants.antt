@@ -1,5 +1,4 @@
--- What was appended, and the normal form of what is left, make the normal form.
--- Used by `push_normal`.
+-- What was appended and the rest's normal form make the normal form.
 use Rattle.std.proofs.Common.{◌≡◌, ◌++◌, ◌≤◌, length}
 use Rattle.std.specs.Prelude.{vec_len}
 use Rattle.path_normal.specs.Normal.{normal}

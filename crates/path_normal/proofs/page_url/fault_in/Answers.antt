@@ -1,5 +1,4 @@
--- What passed the tests is a valid URL of a scheme that is read, without user, within the limits.
--- Used by `fault_in`.
+-- A URL that passed the tests is valid, of a scheme that is read, without user, within the limits.
 use Rattle.std.proofs.Common.{◌≡◌, rules, length, ap, arith, true}
 use Rattle.std.proofs.lemmas.Grind.{common_steps}
 use Rattle.path_normal.specs.Schemes.{reads}

@@ -1,5 +1,4 @@
 -- The slice is the host of the URL, with its port.
--- Used by `host_in`.
 use Rattle.std.proofs.Common.{◌∙◌}
 use Rattle.path_normal.proofs.PageLemmas.{host_pieces}
 use Rattle.path_normal.proofs.page_url.host_in.Goals as goal

@@ -1,5 +1,4 @@
 -- The slice is the target of the URL.
--- Used by `target_in`.
 use Rattle.std.proofs.Common.{◌∙◌}
 use Rattle.path_normal.proofs.PageLemmas.{target_pieces}
 use Rattle.path_normal.proofs.page_url.target_in.Goals as goal

@@ -1,4 +1,4 @@
--- What is left of the path is judged as all of it.
+-- The rest of the path decides for all of it.
 use Rattle.std.proofs.Common.{◌≡◌, true, drop}
 use Rattle.path_normal.specs.PlainUrl.{is_plain_path}
 use Rattle.path_normal.proofs.plain_url.is_plain_path.Given as goal

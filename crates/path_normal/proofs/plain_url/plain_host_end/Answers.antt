@@ -1,5 +1,4 @@
 -- The parts that were looked at make a plain URL.
--- The lemma `plain_at` of `PlainLemmas` says so.
 use Rattle.std.proofs.Common.{◌∙◌, sym, arith}
 use Rattle.path_normal.proofs.PlainLemmas.{plain_at}
 use Rattle.path_normal.proofs.plain_url.plain_host_end.Goals as goal

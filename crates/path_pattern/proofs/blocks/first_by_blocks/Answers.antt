@@ -1,5 +1,4 @@
--- A place of a block is the first where no block before has one.
--- Used by `first_by_blocks`.
+-- A block's place is the first if no earlier block has one.
 use Rattle.std.proofs.Common.{◌-◌, length, subst, sym, arith}
 use Rattle.memchr.proofs.lemmas.FindLemmas.{Nowhere-then}
 use Rattle.path_pattern.specs.Blocks.{IsWithin}

@@ -1,5 +1,4 @@
--- The literal stands nowhere before the block, and the octets that tell are of the literal.
--- Used by `first_by_blocks`.
+-- The literal is not before the block, and the telling octets are its own.
 use Rattle.std.proofs.Common.{◌-◌, ◌≤◌}
 use Rattle.memchr.specs.Find.{Nowhere, OccursAt}
 use Rattle.path_pattern.specs.Blocks.{IsWithin}

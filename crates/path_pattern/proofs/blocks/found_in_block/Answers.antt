@@ -1,5 +1,4 @@
--- The pairs leave lanes where the literal stands, and the lowest that is left when all were seen is its first place.
--- Used by `found_in_block`.
+-- The pairs leave the literal's lanes; the lowest left at the end is its first place.
 use Rattle.std.proofs.Common.{◌≡◌, ◌+◌, ◌-◌, ◌<◌, ◌⊎◌, inl, inr, ⊎_elim, List, ℕ, length, min, sym, ◌∙◌, arith}
 use Rattle.std.proofs.lemmas.Bool.{cases_lt, true≢false}
 use Rattle.path_pattern.proofs.BlockLemmas.{first_in_block, left_at_first, left_by_next, nowhere_in_block, some_marked}

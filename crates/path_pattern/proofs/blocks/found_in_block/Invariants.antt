@@ -1,5 +1,4 @@
--- A lane is left where the octets that were seen stand, and there is one.
--- Used by `found_in_block`.
+-- A lane is left exactly where the octets seen are, and there is one.
 use Rattle.std.proofs.Common.{◌+◌, ◌-◌, length}
 use Rattle.path_pattern.specs.Blocks.{IsNoneLeft}
 use Rattle.path_pattern.proofs.BlockLemmas.{IsLeft}

@@ -1,5 +1,4 @@
--- A mask of 0 has no bit, and one without bits is 0.
--- Used by `is_none`.
+-- A mask is 0 exactly if it has no bits.
 use Rattle.std.proofs.Common.{ap, arith, ⊎_elim}
 use Rattle.std.specs.Int.{bit_at}
 use Rattle.std.proofs.lemmas.Nat.Bits.{bit_at-zero}

@@ -1,5 +1,4 @@
 -- The count of trailing zeros is the place of the lowest bit.
--- Used by `lowest`.
 use Rattle.std.proofs.Common.{arith, w64}
 use Rattle.std.proofs.lemmas.Nat.Bits.{bit_at-trailing_zeros}
 use Rattle.path_pattern.proofs.blocks.lowest.Goals as goal

@@ -1,5 +1,4 @@
--- The comparison of the octets from the place on keeps a lane, or leaves 0.
--- Used by `octet_left`.
+-- The comparison of the octets from the place on keeps a lane, or makes it 0.
 use Rattle.std.proofs.Common.{cond, eqb, get_or, replicate, take, drop, sym, ap, ◌∙◌, subst, w8}
 use Rattle.std.proofs.lemmas.Simd.{get_or-chunk, length-chunk, tops_compared}
 use Rattle.std.specs.Simd.Lanes.{sel_l}

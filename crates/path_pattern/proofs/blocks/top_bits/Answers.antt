@@ -1,5 +1,4 @@
 -- The mask of a comparison has the top bits of the lanes.
--- Used by `top_bits`.
 use Rattle.std.proofs.Common.{◌≡◌, ◌↔◌, ◌≤◌, get_or, sym, subst, arith}
 use Rattle.std.specs.Int.{bit_at}
 use Rattle.memchr.proofs.lemmas.LaneLemmas.{bit_at-mask_l, top_bitmask}

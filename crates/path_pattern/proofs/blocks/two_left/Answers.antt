@@ -1,5 +1,4 @@
--- A lane is left where both octets stand.
--- Used by `two_left`.
+-- A lane is left at the places of both octets.
 use Rattle.std.proofs.Common.{refl}
 use Rattle.path_pattern.proofs.BlockLemmas.{left_of_two}
 use Rattle.path_pattern.proofs.blocks.two_left.Goals as goal

@@ -1,5 +1,4 @@
 -- The least of its places is the first.
--- The lemma of `SortedLemmas` says so.
 use Rattle.path_pattern.specs.Kept.{part}
 use Rattle.path_pattern.proofs.SortedLemmas.{finds_least}
 use Rattle.path_pattern.proofs.kept.first_among.Goals as goal

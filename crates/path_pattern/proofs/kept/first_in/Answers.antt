@@ -1,5 +1,4 @@
--- The places at which the literal stands are of the path.
--- The lemmas of `KeptLemmas` and `SortedLemmas` say so.
+-- The literal's places are in the path.
 use Rattle.path_pattern.specs.Kept.{part}
 use Rattle.path_pattern.proofs.KeptLemmas.{within_path}
 use Rattle.path_pattern.proofs.SortedLemmas.{few_places}

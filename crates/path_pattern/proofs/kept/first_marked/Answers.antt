@@ -1,5 +1,4 @@
--- The first bit that is set is that of the first place.
--- The lemmas of `KeptLemmas` say so.
+-- The first set bit is the first place's.
 use Rattle.std.proofs.Common.{◌/◌, ◌%◌, ◌^◌, arith, refl, slice_index}
 use Rattle.path_pattern.proofs.KeptLemmas.{first_here, none_here}
 use Rattle.path_pattern.proofs.kept.first_marked.Goals as goal

@@ -1,5 +1,4 @@
 -- None of the places up to this block is marked.
--- Used by `first_marked`.
 use Rattle.std.proofs.Common.{◌≡◌, ◌*◌, ◌/◌, ◌<◌, ◌≤◌, ℕ}
 use Rattle.path_pattern.specs.Kept.{mark}
 use Rattle.path_pattern.proofs.kept.first_marked.Given as goal

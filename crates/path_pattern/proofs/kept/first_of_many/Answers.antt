@@ -1,5 +1,4 @@
--- The first of the places, by their marks or by all of them.
--- The lemma of `KeptLemmas` says so.
+-- The first place, by marks or by trying all.
 use Rattle.std.proofs.Common.{arith, subst}
 use Rattle.path_pattern.specs.Kept.{HasMarks, part}
 use Rattle.path_pattern.proofs.KeptLemmas.{least_by_marks}

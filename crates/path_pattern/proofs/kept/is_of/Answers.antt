@@ -1,5 +1,4 @@
 -- The octets at the first place are those of the literal.
--- Used by `is_of`.
 use Rattle.std.proofs.Common.{◌∙◌, ap, drop, length, slice_index, subst, sym, take}
 use Rattle.memchr.proofs.lemmas.MatchLemmas.{OccursAt-part}
 use Rattle.path_pattern.specs.Kept.{IsRange}

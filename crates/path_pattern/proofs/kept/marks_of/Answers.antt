@@ -1,5 +1,4 @@
 -- One place more is marked.
--- The lemmas of `KeptLemmas` say so.
 use Rattle.std.proofs.Common.{◌∙◌, arith, refl, slice_index}
 use Rattle.std.proofs.lemmas.Grind.{get_or_default_zero}
 use Rattle.std.proofs.lemmas.List.{length-set}

@@ -1,5 +1,4 @@
 -- The places so far are marked, and no others.
--- Used by `marks_of`.
 use Rattle.std.proofs.Common.{◌≡◌, length, take}
 use Rattle.path_pattern.specs.Kept.{HasMarks}
 use Rattle.path_pattern.proofs.kept.marks_of.Given as goal

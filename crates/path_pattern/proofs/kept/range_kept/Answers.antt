@@ -1,5 +1,4 @@
--- What is kept at the one place goes to the other, and the literal comes there.
--- Used by `range_kept`.
+-- The stand in one slot moves to the other, and the literal takes its slot.
 use Rattle.std.proofs.Common.{◌%◌, ◌/◌, slice_index_or, slice_set}
 use Rattle.std.proofs.lemmas.List.Elements.{All-set}
 use Rattle.path_pattern.specs.Kept.{IsKept}

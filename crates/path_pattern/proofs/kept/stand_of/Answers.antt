@@ -1,5 +1,4 @@
 -- The octets at its first place are those of the literal.
--- The lemma of `KeptLemmas` says so.
 use Rattle.std.proofs.Common.{subst, sym}
 use Rattle.path_pattern.specs.Kept.{IsRange}
 use Rattle.path_pattern.proofs.KeptLemmas.{first_octets}

@@ -1,5 +1,4 @@
--- A wildcard stands for no octet, or for the first octet of the path and for more.
--- Used by `spells`.
+-- A wildcard stands for no octet, or for the path's first octet and more.
 use Rattle.std.proofs.Common.{rules, ◌≡◌, ◌∷◌, ◌∙◌, true, false, not, ap}
 use Rattle.path_pattern.proofs.SpellsLemmas.{cuts_at_end, cuts_here, cuts_later, cuts_none_ended, cuts_none_open}
 use Rattle.path_pattern.proofs.laws.+spells.Goals as goal

@@ -1,5 +1,4 @@
 -- The pattern or the path gets shorter.
--- Used by `spells`.
 use Rattle.std.proofs.Common.{◌+◌, length}
 use Rattle.path_pattern.proofs.laws.+spells.Given as goal
 

@@ -1,5 +1,4 @@
--- The test of the end, as what stands before it.
--- Used by `ends_with`.
+-- The suffix test, by what precedes it.
 use Rattle.path_pattern.proofs.PlaceLemmas.{at_end, ended}
 use Rattle.path_pattern.proofs.literals.ends_with.Goals as goal
 

@@ -1,5 +1,4 @@
--- Before the first place of its last octet the literal does not end, and from there on it is searched for.
--- Used by `first_place`.
+-- The literal can't end before the first place of its last octet; from there on it is searched for.
 use Rattle.std.proofs.Common.{◌≡◌, ◌+◌, ◌-◌, ◌≤◌, List, ℕ, length, take, sym, subst, arith, length-take-le}
 use Rattle.std.proofs.lemmas.List.{take_rest}
 use Rattle.memchr.specs.Find.{FindsNeedle}

@@ -1,5 +1,4 @@
--- That none stands there is the test.
--- The lemmas of `StarLemmas` say so.
+-- The test decides whether there is no `*`.
 use Rattle.path_pattern.proofs.StarLemmas.{found_tells, is_test}
 use Rattle.path_pattern.proofs.literals.has_no_star.Goals as goal
 

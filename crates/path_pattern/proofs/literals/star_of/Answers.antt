@@ -1,5 +1,4 @@
 -- A pattern is cut at its first wildcard in one way.
--- Used by `star_of`.
 use Rattle.std.proofs.Common.{◌≡◌, ◌==◌, ◌++◌, List, ℕ, false, [], ◌∷◌, sym, subst, ◌∙◌}
 use Rattle.std.proofs.lemmas.Bool.{eq-eqb, true≢false}
 use Rattle.std.proofs.lemmas.List.Elements.{All-head, All-tail}

@@ -1,5 +1,4 @@
--- What is first in the part from a place on is first from there on.
--- Used by `first_from`.
+-- The first occurrence in a suffix is the first from there on.
 use Rattle.std.proofs.Common.{subst, sym}
 use Rattle.std.specs.Prelude.{None, Some}
 use Rattle.std.proofs.lemmas.List.{take_rest}

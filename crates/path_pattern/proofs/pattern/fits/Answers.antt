@@ -1,5 +1,4 @@
--- The first literal begins the path, and the wildcard after it stands for any octets.
--- Used by `fits`.
+-- The first literal is a prefix of the path, and the wildcard after it matches any octets.
 use Rattle.std.proofs.Common.{◌≡◌, ◌∷◌, ◌∙◌, ◌↔◌, List, ℕ, Bool, false, IsTrue, drop, length, sym, subst}
 use Rattle.std.proofs.lemmas.Bool.{true≢false}
 use Rattle.memchr.specs.Find.{OccursAt}

@@ -1,5 +1,4 @@
 -- Each literal is taken at its first place.
--- Used by `fits_after_star`.
 use Rattle.std.proofs.Common.{◌∙◌, ◌≤◌, drop, length, refl, subst, sym}
 use Rattle.std.proofs.lemmas.Bool.{true≢false}
 use Rattle.path_pattern.specs.Literals.{IsAfterFirst, StandsNowhere}

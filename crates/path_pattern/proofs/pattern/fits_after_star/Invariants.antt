@@ -1,5 +1,4 @@
--- What is left of the pattern fits what is left of the path exactly where the whole fits.
--- Used by `fits_after_star`.
+-- The remaining pattern matches the remaining path exactly if the whole matches.
 use Rattle.std.proofs.Common.{◌≡◌, ◌↔◌, ◌≤◌, ◌∷◌, drop, length}
 use Rattle.path_pattern.specs.Matches.{Spells}
 use Rattle.path_pattern.proofs.pattern.fits_after_star.Given as goal

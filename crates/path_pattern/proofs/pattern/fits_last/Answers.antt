@@ -1,5 +1,4 @@
--- The last literal fits where it stands anywhere, or at the end if it is anchored.
--- Used by `fits_last`.
+-- The last literal matches anywhere, or at the end if anchored.
 use Rattle.std.proofs.Common.{◌≡◌, ◌↔◌, ◌++◌, ◌∙◌, ℕ, List, IsTrue, ap, drop, subst, sym}
 use Rattle.std.proofs.lemmas.List.{take_rest}
 use Rattle.path_pattern.proofs.SpellsLemmas.{last_ended, last_from}

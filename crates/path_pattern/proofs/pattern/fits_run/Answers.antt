@@ -1,5 +1,4 @@
--- A literal fits where the path begins with it, and ends with it if it is anchored.
--- Used by `fits_run`.
+-- A literal matches as a prefix, and also as a suffix if anchored.
 use Rattle.std.proofs.Common.{rules, ◌≡◌, ◌==◌, ◌∙◌, true, false, ap, drop, length, not, sym}
 use Rattle.std.proofs.lemmas.Bool.{true≢false}
 use Rattle.std.proofs.lemmas.List.{take_rest}

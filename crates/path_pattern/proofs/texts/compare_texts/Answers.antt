@@ -1,5 +1,4 @@
--- The numbers tell the order where they differ, and else what is behind them does.
--- The lemmas of `Spelling` say so.
+-- The numbers decide unless they are equal; then the rest decides.
 use Rattle.std.proofs.Common.{◌≡◌, drop, sym, ap, ◌∙◌, subst}
 use Rattle.std.specs.declared.cmp.Ordering.{Ordering}
 use Rattle.std.specs.Ordering.{nat_cmp, ordering_then}

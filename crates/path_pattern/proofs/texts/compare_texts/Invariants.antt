@@ -1,5 +1,4 @@
--- What is left compares as both do.
--- Used by `compare_texts`.
+-- The rests compare as the whole texts.
 use Rattle.std.proofs.Common.{◌≡◌}
 use Rattle.std.specs.Ordering.{nat_cmp}
 use Rattle.std.specs.Cmp.Lexicographic.{slice_cmp}

@@ -1,5 +1,4 @@
--- The octets spell the number.
--- The lemma of `Spelling` says so.
+-- The octets make the number.
 use Rattle.std.proofs.Common.{arith}
 use Rattle.path_pattern.proofs.Spelling.{first_eight}
 use Rattle.path_pattern.proofs.texts.front.Goals as goal

@@ -1,5 +1,4 @@
--- The octets, and the zeros behind the end of the text, spell the number.
--- The lemma of `Spelling` says so.
+-- The octets, padded with zeros, make the number.
 use Rattle.std.proofs.Common.{arith}
 use Rattle.std.proofs.lemmas.List.{get_or_past}
 use Rattle.path_pattern.proofs.Spelling.{first_eight}

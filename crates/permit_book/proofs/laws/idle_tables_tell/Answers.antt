@@ -1,4 +1,4 @@
--- The lemmas of `IdleTables` say so.
+-- By the lemmas of `IdleTables`.
 use Rattle.permit_book.proofs.IdleTables as laws
 use Rattle.permit_book.proofs.laws.idle_tables_tell.Goals as goal
 

@@ -1,4 +1,4 @@
--- As many slots as turns, and room for the others.
+-- This many slots, and room for the others.
 use Rattle.std.proofs.Common.{◌≡◌, ◌≤◌, replicate, vec_capacity}
 use Rattle.permit_book.specs.Table.{unused}
 use Rattle.permit_book.proofs.permits.unused_slots.Given as goal

@@ -1,4 +1,4 @@
--- The word is not empty, so its lowest bit has a place in it.
+-- The word is not 0, so its lowest bit has a place in it.
 use Rattle.std.proofs.Common.{arith, rules}
 use Rattle.permit_book.proofs.BitLaws.{lowest_bit, within_words}
 use Rattle.permit_book.proofs.words.lowest_in.Goals as goal

@@ -1,4 +1,4 @@
--- What was read is written and noted; where there is no memory for the notes, nothing is written.
+-- What was read is written and noted; without memory for notes, nothing is written.
 use Rattle.std.proofs.Common.{◌≡◌, ◌∙◌, Option, Result, Ok, Err, sym, subst, ℕ, List}
 use Rattle.std.specs.Prelude.{IfOk}
 use Rattle.std.proofs.KnownBytes.{Appends-nil}
@@ -8,12 +8,10 @@ use Rattle.robots_check.specs.Checks.{ReadsBody}
 use Rattle.robots_check.proofs.CallerLemmas.{as_front, prints_of, reads_none}
 use Rattle.program_commands.proofs.records.lines_noted.Goals as goal
 
--- a fact that holds whatever the result
 if_ok : {T E P : Type 0} (r : Result T E) → P → IfOk r (λ _. P)
 if_ok (Ok _) fact = fact
 if_ok (Err _) fact = tt
 
--- what is told of a slice of the body is told of the input
 notes_read : (a b : Option (List ℕ)) (body slice : List ℕ) (written new : Option (List ℕ)) (failures after : ℕ) →
     ReadsBody a b body → slice ≡ body → IsNoted (notes_text slice) written new failures after → NotesText a b written new failures after
 notes_read a b body slice written new failures after reads same noted = record {

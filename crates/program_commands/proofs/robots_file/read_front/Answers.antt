@@ -1,4 +1,4 @@
--- What is read through the limit is the front of what there is.
+-- What is read through the limit is a prefix.
 use Rattle.std.proofs.Common.{◌≡◌, ◌++◌, ◌∙◌, ℕ, List, [], ap, subst, take}
 use Rattle.std.specs.Prelude.{IfSome, None, Option, Some, option_map}
 use Rattle.std.specs.Io.Take.{take_inner, take_limit}

@@ -1,5 +1,5 @@
--- What speaks to those whom the text names is what speaks to the token.
--- The lemmas of `Showing` say what that shows.
+-- The same lines speak to what `whom_for` returns as to the token.
+-- By `Showing`.
 use Rattle.std.proofs.Common.{◌∙◌, ap}
 use Rattle.robots_text.specs.Grouped.{grouped_records}
 use Rattle.robots_text.specs.Groups.{speaks_to}

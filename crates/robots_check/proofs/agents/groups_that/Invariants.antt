@@ -1,4 +1,4 @@
--- The groups so far stand before those of the lines that are left.
+-- The groups so far precede those of the remaining lines.
 use Rattle.std.proofs.Common.{◌≡◌, ◌++◌}
 use Rattle.robots_text.specs.Grouped.{grouped_left}
 use Rattle.robots_text.specs.Walk.{speaks}

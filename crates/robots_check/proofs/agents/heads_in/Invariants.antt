@@ -1,4 +1,4 @@
--- The user-agent lines so far stand before those of the lines that are left.
+-- The user-agent lines so far precede those of the remaining lines.
 use Rattle.std.proofs.Common.{◌≡◌, ◌++◌, map}
 use Rattle.robots_text.specs.Grouped.{grouped_left}
 use Rattle.robots_text.specs.Walk.{speaks}

@@ -1,5 +1,5 @@
--- What is written of the policy is what is told of its text.
--- The lemmas of `Passing` say so.
+-- The answers by the policy are those of its text.
+-- By the lemmas of `Passing`.
 use Rattle.std.proofs.Common.{map, ap, subst, sym, ◌∙◌}
 use Rattle.std.proofs.lemmas.Result.{err_from_is_err_and}
 use Rattle.robots_text.specs.Records.{numbered_records}

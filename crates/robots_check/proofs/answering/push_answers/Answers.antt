@@ -1,5 +1,5 @@
--- The answers before a fault, and a part of the one at it, are a part of all.
--- The lemmas of `Passing` say so.
+-- A prefix of the answers is a prefix of the text.
+-- By `Passing`.
 use Rattle.std.proofs.Common.{◌∙◌}
 use Rattle.counted_io.proofs.CallerLemmas.{on_err}
 use Rattle.robots_check.proofs.Passing.{passing_next, passing_stop}

@@ -1,4 +1,4 @@
--- Nothing stands before a plain answer.
+-- Nothing precedes a plain answer.
 -- Used by `push_before`.
 use Rattle.std.proofs.Common.{◌≡◌, ℕ, List, [], refl, sym, subst, append-nil}
 use Rattle.std.specs.Prelude.{Option}

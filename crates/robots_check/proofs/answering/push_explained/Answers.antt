@@ -1,5 +1,5 @@
 -- What is pushed explains the answer.
--- The lemmas of `Before` say so.
+-- By the lemmas of `Before`.
 use Rattle.std.proofs.Common.{◌≡◌, ℕ, List, map, inr, subst}
 use Rattle.std.specs.Prelude.{option_map}
 use Rattle.counted_io.proofs.CallerLemmas.{on_err}
@@ -14,7 +14,6 @@ use Rattle.robots_check.specs.declared.forms.Formed.{Formed}
 use Rattle.robots_check.proofs.Before.{explains}
 use Rattle.robots_check.proofs.answering.push_explained.Goals as goal
 
--- all is there where it is to be explained
 heads_of_all : (detail : Detail) (lines : List Numbered) (word : List ℕ) (heads : List Shown) → detail ≡ Explained → AreHeadsAt detail lines word heads → heads ≡ agents_for lines word
 heads_of_all detail lines word heads is are = subst (λ d. AreHeadsAt d lines word heads) is are
 

@@ -1,5 +1,5 @@
--- The answer passes behind what stands before it, or is cut.
--- The lemmas of `Before` say so.
+-- The answer passes after the text before it, or is cut.
+-- By the lemmas of `Before`.
 use Rattle.std.proofs.Common.{sym, subst}
 use Rattle.counted_io.proofs.CallerLemmas.{on_err}
 use Rattle.robots_text.specs.Records.{numbered_records}

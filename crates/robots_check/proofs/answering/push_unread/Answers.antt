@@ -1,5 +1,5 @@
--- The answer to a URL that can't be read passes, or is cut.
--- The lemmas of `Before` say so.
+-- The answer to an unreadable URL passes, or is cut.
+-- By the lemmas of `Before`.
 use Rattle.counted_io.proofs.CallerLemmas.{on_err}
 use Rattle.robots_check.proofs.Before.{cuts_unread, passes_unread}
 use Rattle.robots_check.proofs.answering.push_unread.Goals as goal

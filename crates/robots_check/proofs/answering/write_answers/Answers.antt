@@ -1,5 +1,5 @@
 -- What passed to the output is written, or cut there.
--- The lemmas of `Passing` say so.
+-- By the lemmas of `Passing`.
 use Rattle.std.proofs.Common.{refl}
 use Rattle.std.proofs.lemmas.Result.{err_from_is_err_and}
 use Rattle.robots_check.proofs.Passing.{front_none, told_front}

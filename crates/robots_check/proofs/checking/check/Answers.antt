@@ -1,5 +1,5 @@
--- What is told of the text is told of the input.
--- The lemmas of `Reading` say so.
+-- The text's answers are the input's.
+-- By the lemmas of `Reading`.
 use Rattle.robots_check.proofs.Reading.{checks_of, text_read}
 use Rattle.robots_check.proofs.checking.check.Goals as goal
 

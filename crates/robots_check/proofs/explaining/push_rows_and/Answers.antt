@@ -1,4 +1,4 @@
--- The second text passes behind the first, or a part of both was written.
+-- The second text follows the first, or a prefix of both was written.
 use Rattle.counted_io.proofs.CallerLemmas.{prefix_piece}
 use Rattle.line_text.proofs.CallerLemmas.{pushes_cut, pushes_then}
 use Rattle.robots_check.proofs.explaining.push_rows_and.Goals as goal

@@ -1,4 +1,4 @@
--- The pattern of a rule line more stands behind those before.
+-- One more rule line's pattern follows those before.
 use Rattle.std.proofs.Common.{◌≡◌, List, [], ◌∷◌, ◌++◌, map, append_assoc, sym, ap, subst, ◌∙◌}
 use Rattle.std.specs.List.{All}
 use Rattle.std.proofs.lemmas.List.{map-append}

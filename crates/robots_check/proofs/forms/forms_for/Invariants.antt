@@ -1,4 +1,4 @@
--- The rule lines so far, each with its pattern, stand before those that are left.
+-- The rule lines so far have their patterns, and precede the remaining ones.
 use Rattle.std.proofs.Common.{◌≡◌, ◌++◌, map}
 use Rattle.std.specs.List.{All}
 use Rattle.robots_text.specs.Walk.{rules_left}

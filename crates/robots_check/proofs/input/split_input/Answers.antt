@@ -1,5 +1,5 @@
--- The text ends where lines of URLs follow first, and else is all.
--- The lemmas of `Cutting` say so.
+-- The text ends where lines of URLs first follow, else it is all.
+-- By `Cutting`.
 use Rattle.std.proofs.Common.{inl, inr}
 use Rattle.robots_check.proofs.Cutting.{nowhere, passed_on, stops}
 use Rattle.robots_check.proofs.input.split_input.Goals as goal

@@ -1,4 +1,4 @@
--- What follows the empty line with which a text begins is one text.
+-- Only one text follows the leading empty line.
 -- Used by `urls_behind`.
 use Rattle.std.proofs.Common.{◌≡◌, false, ℕ, List, ◌++◌, drop, slice_index, inl, inr, sym, ap, ◌∙◌, arith}
 use Rattle.std.proofs.lemmas.Bool.{false≢true}

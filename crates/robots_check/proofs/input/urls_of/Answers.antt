@@ -1,4 +1,4 @@
--- Where nothing is left, the URLs so far are those of all lines.
+-- At the end the URLs so far are those of all lines.
 -- Used by `urls_of`.
 use Rattle.std.proofs.Common.{map, [], append-nil, subst, arith}
 use Rattle.std.proofs.lemmas.Bool.Decides.{nat_tests}

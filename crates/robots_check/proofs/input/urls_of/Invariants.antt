@@ -1,4 +1,4 @@
--- The URLs so far, with those of the lines that are left, are those of all lines.
+-- The URLs so far, with those of the remaining lines, are all URLs.
 use Rattle.std.proofs.Common.{◌++◌, ℕ, List, length, map}
 use Rattle.robots_check.specs.Input.{AreUrlLines}
 use Rattle.robots_check.proofs.input.urls_of.Given as goal

@@ -1,4 +1,4 @@
--- A row has the octets and the line that its weight has.
+-- A row has its weight's octets and line.
 use Rattle.std.proofs.Common.{◌≡◌, ℕ, Bool, List, length, ap, ◌∙◌}
 use Rattle.path_normal.specs.Normal.{normal_pattern}
 use Rattle.robots_text.specs.Groups.{Ruled}

@@ -1,4 +1,4 @@
--- Before what is left stands no question mark.
+-- No question mark precedes the remaining octets.
 use Rattle.std.proofs.Common.{◌≡◌, length}
 use Rattle.robots_check.specs.Notes.{behind_question}
 use Rattle.robots_check.proofs.notes.behind_question.Given as goal

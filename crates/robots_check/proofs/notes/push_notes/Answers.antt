@@ -1,4 +1,4 @@
--- What is told of the lines passes behind what is told of the whole, or a part of both was written.
+-- The notes on lines follow those on the whole, or a prefix of both was written.
 use Rattle.std.proofs.Common.{◌++◌, subst}
 use Rattle.counted_io.specs.Device.{AppendsPrefix}
 use Rattle.counted_io.specs.Output.{Passes, Pushes}

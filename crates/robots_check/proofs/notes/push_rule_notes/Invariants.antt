@@ -1,4 +1,4 @@
--- What is told of the rule lines so far passed to the output, and nothing failed.
+-- The notes on the rule lines so far passed, and nothing failed.
 use Rattle.std.proofs.Common.{◌≡◌, ◌++◌, take, flat_map}
 use Rattle.counted_io.specs.Output.{Passes}
 use Rattle.robots_check.specs.Notes.{rule_note}

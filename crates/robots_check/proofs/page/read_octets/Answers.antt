@@ -1,4 +1,4 @@
--- A text is read as it stands, and other octets are no URL.
+-- A text is read unchanged, and other octets are no URL.
 -- Used by `read_octets`.
 use Rattle.std.specs.Prelude.{Result}
 use Rattle.std.proofs.Common.{◌≡◌, refl, true, false, ℕ, Bool, List, Ok, Err, None, sym, ◌∙◌, ap}

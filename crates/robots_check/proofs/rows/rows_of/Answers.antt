@@ -1,4 +1,4 @@
--- The row of a rule line more stands behind those before.
+-- One more rule line's row follows those before.
 use Rattle.std.proofs.Common.{◌+◌, ◌∷◌, [], map, take, ap, sym, subst, ◌∙◌}
 use Rattle.std.proofs.lemmas.List.{map-append}
 use Rattle.robots_check.specs.Forms.{formed_rule}

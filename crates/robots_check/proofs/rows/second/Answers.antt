@@ -1,5 +1,5 @@
 -- Each row is weighed or passed over.
--- The lemmas of `Choosing` say what that keeps.
+-- `Choosing` says what that keeps.
 use Rattle.std.specs.Prelude.{option_map}
 use Rattle.robots_check.specs.Rows.{row_seen}
 use Rattle.robots_check.proofs.Choosing.{second_more}

@@ -1,5 +1,5 @@
--- Each step halves what is left between the two.
--- The lemmas of `Placing` say what the line in the middle tells.
+-- Each step halves the range between the two places.
+-- `Placing` says what the line in the middle decides.
 use Rattle.std.proofs.Common.{◌≡◌, ◌<◌, slice_index_or, ℕ, List, length, map, ◌+◌, ◌-◌, ◌/◌, ap, arith}
 use Rattle.robots_text.specs.Walk.{rule_seen}
 use Rattle.robots_text.specs.declared.groups.RuleLine.{RuleLine}

@@ -1,4 +1,4 @@
--- The rule line that is looked for stands between the two.
+-- The wanted rule line is between the two places.
 use Rattle.std.proofs.Common.{◌-◌, map}
 use Rattle.robots_text.specs.Walk.{rule_seen}
 use Rattle.robots_check.proofs.Placing.{IsBetween}

@@ -1,4 +1,4 @@
--- The rule lines so far stand before those among the records that are left.
+-- The rule lines so far precede those of the remaining records.
 use Rattle.std.proofs.Common.{◌≡◌, ◌++◌, length, map}
 use Rattle.robots_text.specs.Left.{records_left}
 use Rattle.robots_text.specs.Walk.{rule_seen}

@@ -1,5 +1,5 @@
--- What was written of the body that was read.
--- The lemmas of `Printing` say so.
+-- The output for the body that was read.
+-- By the lemmas of `Printing`.
 use Rattle.std.proofs.Common.{◌∙◌, sym}
 use Rattle.robots_check.proofs.Printing.{prints_of, reads_none}
 use Rattle.robots_check.proofs.writing.lines.Goals as goal

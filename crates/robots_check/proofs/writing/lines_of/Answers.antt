@@ -11,7 +11,6 @@ use Rattle.robots_text.specs.Records.{Numbered, numbered_records}
 use Rattle.robots_check.specs.LinesText.{numbered_text, lines_text}
 use Rattle.robots_check.proofs.writing.lines_of.Goals as goal
 
--- what was pushed is the text of the body
 pushed_text : (pending text body : List ℕ) (records : List Numbered) → pending ≡ [] → records ≡ numbered_records text → text ≡ kept body →
     pending ++ flat_map numbered_text records ≡ lines_text body
 pushed_text pending text body records none are text_is =

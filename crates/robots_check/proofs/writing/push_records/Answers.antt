@@ -1,4 +1,4 @@
--- The lines before a fault, and a part of the one at it, are a part of all lines.
+-- A prefix of the lines is a prefix of the text.
 use Rattle.std.proofs.Common.{◌≡◌, ℕ, List, ◌∷◌, ◌++◌, Option, flat_map, append_assoc, sym, subst, ap, ◌∙◌}
 use Rattle.counted_io.specs.Device.{AppendsPrefix, one_more}
 use Rattle.counted_io.specs.Output.{Passes}
@@ -8,7 +8,6 @@ use Rattle.line_text.proofs.CallerLemmas.{pushes_cut}
 use Rattle.robots_check.specs.LinesText.{numbered_text}
 use Rattle.robots_check.proofs.writing.push_records.Goals as goal
 
--- the line of one record more
 next_text : (all left rest : List Numbered) (item : Numbered) (done : List ℕ) → flat_map numbered_text all ≡ done ++ flat_map numbered_text left → left ≡ item ∷ rest →
     flat_map numbered_text all ≡ (done ++ numbered_text item) ++ flat_map numbered_text rest
 next_text all left rest item done so_far step =

@@ -1,5 +1,5 @@
--- The lines so far passed to the output, and nothing failed.
--- With those of the records that are left they are all lines.
+-- The lines so far passed, and nothing failed.
+-- With those of the remaining records they are all lines.
 use Rattle.std.proofs.Common.{◌≡◌, ◌++◌, ℕ, List, length, flat_map}
 use Rattle.counted_io.specs.Output.{Passes}
 use Rattle.robots_text.specs.Left.{records_left}

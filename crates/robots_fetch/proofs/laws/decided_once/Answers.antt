@@ -1,5 +1,4 @@
 -- The law is proved as the lemma `once`.
--- Used by `decided_once`.
 use Rattle.robots_fetch.proofs.Deciding.{once}
 use Rattle.robots_fetch.proofs.laws.decided_once.Goals as goal
 

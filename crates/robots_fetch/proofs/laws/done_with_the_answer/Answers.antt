@@ -1,5 +1,4 @@
 -- The law is proved as the lemma `done`.
--- Used by `done_with_the_answer`.
 use Rattle.robots_fetch.proofs.Deciding.{done}
 use Rattle.robots_fetch.proofs.laws.done_with_the_answer.Goals as goal
 

@@ -1,5 +1,4 @@
 -- The law is proved as the lemma `ends_soon`.
--- Used by `goes_on_five_times`.
 use Rattle.robots_fetch.proofs.Deciding.{ends_soon}
 use Rattle.robots_fetch.proofs.laws.goes_on_five_times.Goals as goal
 

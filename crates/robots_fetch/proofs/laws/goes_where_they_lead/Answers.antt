@@ -1,5 +1,4 @@
 -- The law is proved as the lemma `leads`.
--- Used by `goes_where_they_lead`.
 use Rattle.robots_fetch.proofs.Deciding.{leads}
 use Rattle.robots_fetch.proofs.laws.goes_where_they_lead.Goals as goal
 

@@ -1,5 +1,4 @@
 -- The law is proved as the lemma `single`.
--- Used by `one_answer`.
 use Rattle.robots_fetch.proofs.Deciding.{single}
 use Rattle.robots_fetch.proofs.laws.one_answer.Goals as goal
 

@@ -1,5 +1,4 @@
 -- The law is proved as the lemma `as_decided`.
--- Used by `steps_as_decided`.
 use Rattle.robots_fetch.proofs.Deciding.{as_decided}
 use Rattle.robots_fetch.proofs.laws.steps_as_decided.Goals as goal
 

@@ -1,5 +1,4 @@
 -- The law on the numbers of groups.
--- The lemma `group_governs` says so of all lines.
 use Rattle.std.proofs.Common.{true, arith}
 use Rattle.robots_text.specs.Records.{records_of}
 use Rattle.robots_text.proofs.GroupLaws.{group_governs}

@@ -1,5 +1,4 @@
--- The lines are the first one and those behind its end.
--- The lemma `first_at` says so.
+-- The first line and those after its end.
 use Rattle.robots_text.proofs.Cutting.{first_at}
 use Rattle.robots_text.proofs.line.cut_line.Goals as goal
 

@@ -1,5 +1,4 @@
 -- The place of the first line end, or the length.
--- The lemmas of `Places` say so.
 use Rattle.std.proofs.Common.{sym, ◌∙◌}
 use Rattle.robots_text.specs.Lines.{is_line_end}
 use Rattle.robots_text.proofs.Places.{place_found, place_missing}

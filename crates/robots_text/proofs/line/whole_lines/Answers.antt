@@ -1,4 +1,4 @@
--- An octet behind the last line end goes; with a line end last, all is kept.
+-- An octet after the last line end goes; after a last line end, all is kept.
 use Rattle.std.proofs.Common.{sym, ap, ◌∙◌, arith}
 use Rattle.robots_text.specs.Lines.{whole_lines}
 use Rattle.robots_text.proofs.Ends.{whole_end, whole_plain}

@@ -1,4 +1,4 @@
--- The octets that are left have the same whole lines.
+-- The remaining octets have the same whole lines.
 use Rattle.std.proofs.Common.{◌≡◌, ◌≤◌, length}
 use Rattle.robots_text.specs.Lines.{whole_lines}
 use Rattle.robots_text.proofs.line.whole_lines.Given as goal

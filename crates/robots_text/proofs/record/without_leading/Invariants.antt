@@ -1,4 +1,4 @@
--- The octets that are left are the same without their leading blanks.
+-- The remaining octets without leading blanks are the same.
 use Rattle.std.proofs.Common.{◌≡◌, length}
 use Rattle.robots_text.specs.Records.{without_leading}
 use Rattle.robots_text.proofs.record.without_leading.Given as goal

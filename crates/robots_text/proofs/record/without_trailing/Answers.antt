@@ -1,4 +1,4 @@
--- A blank at the end goes; with another octet last, all is kept.
+-- A trailing blank goes; with another octet last, all is kept.
 use Rattle.std.proofs.Common.{sym, ap, ◌∙◌}
 use Rattle.robots_text.specs.Records.{without_trailing}
 use Rattle.robots_text.proofs.Ends.{trailing_blank, trailing_other}

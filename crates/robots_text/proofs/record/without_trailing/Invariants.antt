@@ -1,4 +1,4 @@
--- The octets that are left are the same without their trailing blanks.
+-- The remaining octets without trailing blanks are the same.
 use Rattle.std.proofs.Common.{◌≡◌, length}
 use Rattle.robots_text.specs.Records.{without_trailing}
 use Rattle.robots_text.proofs.record.without_trailing.Given as goal

@@ -1,4 +1,4 @@
--- The whole lines within the limit are the longest front.
+-- The whole lines within the limit are the longest prefix.
 use Rattle.std.proofs.Common.{sym, subst, ap, ◌∙◌}
 use Rattle.robots_text.specs.Lines.{IsLongestFront, whole_lines}
 use Rattle.robots_text.proofs.KeptLaws.{longest_front}

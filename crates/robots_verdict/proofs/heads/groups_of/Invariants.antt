@@ -1,5 +1,4 @@
 -- The groups of the names so far.
--- Used by `groups_of`.
 use Rattle.std.proofs.Common.{◌≡◌, map, take}
 use Rattle.robots_verdict.specs.declared.heads.Name.{Name}
 use Rattle.robots_verdict.proofs.heads.groups_of.Given as goal

@@ -1,5 +1,4 @@
 -- What was read and what is left make up the text.
--- Used by `read`.
 use Rattle.std.proofs.Common.{map}
 use Rattle.robots_text.specs.Grouped.{grouped_left, grouped_records}
 use Rattle.robots_verdict.specs.Heads.{name_seen}

@@ -1,5 +1,4 @@
--- The places stand in the order of their keys.
--- The lemmas of `Keyed` say so.
+-- The places are sorted as their keys.
 use Rattle.std.proofs.Common.{rules, of_calls, List, ℕ, map, sym, ap, ◌∙◌, subst}
 use Rattle.std.specs.List.Sorted.{IsPermutation}
 use Rattle.std.specs.Ordering.{is_lt}

@@ -1,5 +1,4 @@
 -- The group and the pattern are those of the row.
--- Used by `key_at`.
 use Rattle.std.proofs.Common.{◌≡◌, ℕ, sym, ap, ◌∙◌, subst}
 use Rattle.path_pattern.specs.Texts.{AreOctets, spelled_number}
 use Rattle.robots_verdict.specs.Rows.{row_at}

@@ -1,5 +1,4 @@
 -- The halves make the number that the first sixteen octets spell.
--- The lemma `halves` of `path_pattern` says so.
 use Rattle.std.proofs.Common.{◌+◌, ◌*◌, ◌^◌, arith, sym, ap, ◌∙◌}
 use Rattle.path_pattern.specs.Texts.{spelled_number}
 use Rattle.path_pattern.proofs.CallerLemmas.{halves}

@@ -1,5 +1,4 @@
 -- The keys of the places so far.
--- Used by `keys_of`.
 use Rattle.std.proofs.Common.{◌≡◌, All, map, take}
 use Rattle.robots_verdict.specs.Keys.{IsKeyOf}
 use Rattle.robots_verdict.proofs.keys.keys_of.Given as goal

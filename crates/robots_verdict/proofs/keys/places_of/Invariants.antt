@@ -1,5 +1,4 @@
 -- The places of the keys so far.
--- Used by `places_of`.
 use Rattle.std.proofs.Common.{◌≡◌, map, take}
 use Rattle.robots_verdict.proofs.keys.places_of.Given as goal
 

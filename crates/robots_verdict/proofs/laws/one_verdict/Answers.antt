@@ -1,5 +1,4 @@
 -- The law on verdicts.
--- The lemma `one` says so.
 use Rattle.robots_verdict.proofs.OneVerdict.{one}
 use Rattle.robots_verdict.proofs.laws.one_verdict.Goals as goal
 

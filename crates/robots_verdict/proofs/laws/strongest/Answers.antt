@@ -1,5 +1,4 @@
--- Each rule is passed over or weighed.
--- The lemmas of `Walking` say what that keeps.
+-- Each rule is skipped or weighed.
 use Rattle.std.proofs.Common.{◌≡◌, length, sym, ap, ◌∙◌, subst}
 use Rattle.std.specs.Prelude.{Some}
 use Rattle.std.proofs.lemmas.Bool.{true≢false}

@@ -1,5 +1,4 @@
--- The best of the rules that the walk has passed is known.
--- Used by `strongest`.
+-- The best of the rules passed is known.
 use Rattle.robots_text.specs.Walk.{rules_left}
 use Rattle.robots_verdict.proofs.Walking.{IsWalked}
 use Rattle.robots_verdict.proofs.laws.strongest.Given as goal

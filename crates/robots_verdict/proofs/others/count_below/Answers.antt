@@ -1,5 +1,4 @@
 -- The earlier groups come first.
--- The lemmas of `OtherHits` say so.
 use Rattle.std.proofs.Common.{rules, of_calls}
 use Rattle.std.specs.Prelude.{nat_lt}
 use Rattle.std.proofs.lemmas.Fn.{always_returns_same}

@@ -1,5 +1,4 @@
 -- The groups of the places so far.
--- Used by `groups_at`.
 use Rattle.std.proofs.Common.{◌≡◌, take}
 use Rattle.robots_verdict.specs.Search.{groups_at}
 use Rattle.robots_verdict.proofs.places.groups_at.Given as goal

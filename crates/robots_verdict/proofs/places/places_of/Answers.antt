@@ -1,5 +1,4 @@
--- Each place is added to one of the lists, and passed over for the other.
--- The lemmas of `Placing` say what that keeps.
+-- Each place goes to one of the lists.
 use Rattle.std.proofs.Common.{◌+◌, List, ℕ, true, false, sym, ap, ◌∙◌, subst}
 use Rattle.std.proofs.lemmas.Bool.{true≢false}
 use Rattle.robots_verdict.specs.Search.{ArePlaces, is_plain_pattern}

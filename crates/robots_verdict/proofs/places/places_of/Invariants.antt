@@ -1,5 +1,4 @@
 -- The places so far.
--- Used by `places_of`.
 use Rattle.std.proofs.Common.{true, false}
 use Rattle.robots_verdict.specs.Search.{ArePlaces}
 use Rattle.robots_verdict.proofs.places.places_of.Given as goal

@@ -1,5 +1,4 @@
--- What both have begun with so far, and what the rests begin with.
--- Used by `common`.
+-- The common prefix so far, and that of the rests.
 use Rattle.std.proofs.Common.{◌≡◌, ◌+◌, length}
 use Rattle.robots_verdict.specs.Search.{common}
 use Rattle.robots_verdict.proofs.plain.common.Given as goal

@@ -1,5 +1,4 @@
--- Each step halves what is left between the two.
--- The lemmas of `PlainHits` say what the key in the middle tells.
+-- Each step halves the range.
 use Rattle.std.proofs.Common.{◌≡◌, ◌∷◌, ◌+◌, ◌-◌, ◌/◌, ◌<◌, ℕ, List, length, sym, ap, ◌∙◌, arith}
 use Rattle.std.specs.Prelude.{slice_index}
 use Rattle.std.specs.Ordering.{is_gt, nat_cmp}
@@ -11,7 +10,6 @@ use Rattle.robots_verdict.proofs.Placing.{group_at}
 use Rattle.robots_verdict.proofs.PlainHits.{cut_above, cut_below, cut_of}
 use Rattle.robots_verdict.proofs.plain.count_to.Goals as goal
 
--- the test of a key by the group that stands beside its place
 behind_is : (rows : List Placed) (places groups text : List ℕ) → groups ≡ groups_at rows places → (k : ℕ) → k < length places →
     is_gt (slice_cmp nat_cmp (slice_index groups k ∷ (row_at rows (slice_index places k)).form) text) ≡ is_gt (slice_cmp nat_cmp (key_at rows places k) text)
 behind_is rows places groups text are k within = ap (λ (of : ℕ). is_gt (slice_cmp nat_cmp (of ∷ (row_at rows (slice_index places k)).form) text)) (group_at rows places groups are k within)

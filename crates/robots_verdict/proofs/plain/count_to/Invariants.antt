@@ -1,5 +1,4 @@
--- The cut stands between the two.
--- Used by `count_to`.
+-- The cut is between the two.
 use Rattle.std.proofs.Common.{◌∷◌, ◌-◌}
 use Rattle.robots_verdict.proofs.PlainHits.{IsCutWithin}
 use Rattle.robots_verdict.proofs.plain.count_to.Given as goal

@@ -1,5 +1,4 @@
 -- What the lengths say of the chain.
--- Used by `last_begun`.
 use Rattle.std.proofs.Common.{◌≡◌, ◌∷◌, ◌-◌, ◌<◌, ◌≤◌, ℕ, List, length, refl, sym, ap, ◌∙◌, subst, arith}
 use Rattle.std.specs.Prelude.{Option, Some, None, slice_index}
 use Rattle.robots_verdict.specs.Rows.{row_at}

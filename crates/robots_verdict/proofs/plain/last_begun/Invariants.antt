@@ -1,5 +1,4 @@
--- All that begin the path stand in the chain that is left.
--- Used by `last_begun`.
+-- All prefixes of the path are in the remaining chain.
 use Rattle.std.proofs.Common.{◌∷◌, ◌-◌}
 use Rattle.robots_verdict.specs.Search.{key_at}
 use Rattle.robots_verdict.proofs.Chains.{IsNear}

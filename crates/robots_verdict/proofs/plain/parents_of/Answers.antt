@@ -1,5 +1,4 @@
--- The parent of the next key is the last of those before it that begins it.
--- The lemmas of `Chains` say that the keys rise.
+-- The next key's parent is its last prefix before it.
 use Rattle.std.proofs.Common.{◌≡◌, ◌∷◌, ◌+◌, ◌<◌, false, List, ℕ, length, sym, ap, ◌∙◌, subst, arith, length-append, []}
 use Rattle.std.specs.Prelude.{Option}
 use Rattle.std.specs.Ordering.{is_lt, nat_cmp}

@@ -1,5 +1,4 @@
 -- The parents so far.
--- Used by `parents_of`.
 use Rattle.std.proofs.Common.{◌≡◌, length}
 use Rattle.robots_verdict.specs.Search.{AreParents}
 use Rattle.robots_verdict.proofs.plain.parents_of.Given as goal

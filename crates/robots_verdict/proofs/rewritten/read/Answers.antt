@@ -1,5 +1,4 @@
 -- One record more was read.
--- The lemma `read_one` says what that leaves.
 use Rattle.std.proofs.Common.{List, subst}
 use Rattle.robots_text.specs.Grouped.{Grouped, grouped_left, grouped_records, grouped_seen}
 use Rattle.robots_verdict.proofs.Rewriting.{IsRewriting, read_one}

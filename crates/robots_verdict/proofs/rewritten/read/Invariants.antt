@@ -1,5 +1,4 @@
 -- What was read and what is left make up the text.
--- Used by `read`.
 use Rattle.robots_text.specs.Grouped.{grouped_left, grouped_records}
 use Rattle.robots_verdict.proofs.Rewriting.{IsRewriting}
 use Rattle.robots_verdict.proofs.rewritten.read.Given as goal

@@ -1,5 +1,4 @@
 -- A form is at most three times as long as its pattern.
--- The lemma `made_small` says so.
 use Rattle.std.proofs.Common.{ap, arith}
 use Rattle.std.proofs.lemmas.Result.{IfOk-weaker}
 use Rattle.robots_text.specs.Records.{kind_seen}

@@ -8,7 +8,7 @@ use http_wire::WireFault::{BadChunk, EarlyEnd};
 /// The head before each body.
 pub(super) const HEAD: &str = "HTTP/1.1 200 OK|Transfer-Encoding: chunked||";
 
-/// Bodies behind the head.
+/// Bodies after the head.
 pub(super) const ROWS: [Row; 24] = [
     ("two chunks", "3|abc|2|de|0||", 5, Whole(200, "abcde")),
     ("no chunk", "0||", 0, Whole(200, "")),

@@ -4,10 +4,10 @@
 use super::reads::{Row, Want};
 use Want::Fresh;
 
-/// The line before the fields of a final head.
+/// The line before a final head's fields.
 pub(super) const HEAD: &str = "HTTP/1.1 200 OK|";
 
-/// Fields of a final head.
+/// A final head's fields.
 pub(super) const FIELDS: [Row; 31] = [
     ("no field", "|", 9, Fresh(None)),
     (

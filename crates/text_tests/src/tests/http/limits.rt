@@ -1,5 +1,5 @@
-//! Texts at the limits and far beyond them, and where a redirect leads.
-//! The limits are those of `MAX_HEAD`, `MAX_HEADER_LINES`, `MAX_INTERIM_HEADS`, `MAX_TRAILERS`, `MAX_TRAILER_BYTES`
+//! Texts at the limits and far beyond, and where a redirect leads.
+//! The limits are `MAX_HEAD`, `MAX_HEADER_LINES`, `MAX_INTERIM_HEADS`, `MAX_TRAILERS`, `MAX_TRAILER_BYTES`
 //! and `MAX_RAW`.
 
 use super::reads::{LongRow, Row, Want};
@@ -19,10 +19,10 @@ const EXTENSION: &str = "HTTP/1.1 200 OK|Transfer-Encoding: chunked||1;";
 
 const INTERIM: &str = "HTTP/1.1 100 Continue||";
 
-// A head of 19 octets, whose body goes to the end.
+// A head of 19 octets, with a body to the end of the input.
 const BODY: &str = "HTTP/1.0 200 OK||";
 
-/// So many lines as there may be and no end of them are bad at once: a line more would be too many.
+/// The most lines without their end are bad at once: another line would be too many.
 pub(super) const LONG: [LongRow; 21] = [
     ("100 lines", HEAD, "A: b|", 100, "|", 9, Whole(200, "")),
     ("101 lines", HEAD, "A: b|", 101, "|", 9, Fault(HeadTooLong)),
@@ -191,10 +191,10 @@ pub(super) const LONG: [LongRow; 21] = [
     ),
 ];
 
-/// The line before the fields of a redirect.
+/// The line before a redirect's fields.
 pub(super) const REDIRECT: &str = "HTTP/1.1 302 Found|";
 
-/// Fields of a redirect.
+/// A redirect's fields.
 pub(super) const LOCATIONS: [Row; 6] = [
     ("none", "A: b||", 9, Leads(None)),
     ("one", "Location: /s||", 9, Leads(Some("/s"))),

@@ -1,5 +1,5 @@
-//! What the rows of responses give, and the readings of them.
-//! In the text of a row `|` stands for CR LF, and `~` for the octet FF.
+//! The results of response rows, and how they are read.
+//! In a row's text `|` stands for CR LF, and `~` for the octet FF.
 
 use super::{chunks, freshness, limits, responses, stops};
 use Want::{Cut, Fault, Fresh, Leads, Octets, Whole};
@@ -9,8 +9,8 @@ use std::alloc::{AllocError, Global};
 use std::process::Abort;
 use std::test::Fail;
 
-/// What a row gives: a status and a body, whole or cut; the octets of a body and whether it is cut;
-/// how long the response may be used; where it leads; or a fault.
+/// What a row gives: a status and a body, whole or cut; a body's length and whether it is cut; how long the
+/// response may be used; where it leads; or a fault.
 #[derive(Clone, Copy)]
 pub(super) enum Want {
     Whole(u16, &'static str),
@@ -21,10 +21,10 @@ pub(super) enum Want {
     Fault(WireFault),
 }
 
-/// A name, a text, the limit, and what is given.
+/// A name, a text, the limit, and the result.
 pub(super) type Row = (&'static str, &'static str, usize, Want);
 
-/// A name, the front of a text, what stands behind it so many times, its end, the limit, and what is given.
+/// A name, the start of a text, a part and how often it is repeated, the end, the limit, and the result.
 pub(super) type LongRow = (
     &'static str,
     &'static str,
@@ -46,7 +46,7 @@ fn gives_each_row_whatever_the_reads(rt: HostRuntime) -> Result<(), Fail> {
     Ok(())
 }
 
-// (A table is a large value: each has a function of its own.)
+// (A table is a large value: each has its own function.)
 fn give_whole_responses(rt: &(impl Abort + AllocGlobal)) -> Result<(), AllocError> {
     give_rows(rt, "", &responses::ROWS)
 }
@@ -79,7 +79,7 @@ fn give_rows(rt: &(impl Abort + AllocGlobal), head: &str, rows: &[Row]) -> Resul
     Ok(())
 }
 
-// A first read ends at each of the octets, and all are read at once.
+// Each read size, from one octet to all at once.
 fn gives(
     rt: &(impl Abort + AllocGlobal),
     name: &str,
@@ -94,7 +94,6 @@ fn gives(
     Ok(())
 }
 
-// A response, where so many reads fail.
 fn reads(
     rt: &(impl Abort + AllocGlobal),
     name: &str,
@@ -185,7 +184,7 @@ fn fail_within(
     Ok(())
 }
 
-// The source gives one octet a read, and fails behind the last.
+// The source gives one octet a read, and fails after the last.
 #[test]
 fn reads_no_octet_more_than_it_needs(rt: HostRuntime) -> Result<(), Fail> {
     Ok(stop_behind(&rt, &stops::STOPS)?)

@@ -1,5 +1,5 @@
-//! A request, whole at any length of a write, and a prefix of it where a write fails.
-//! They say what the definition means on real octets.
+//! A request, whole at any write size, and a prefix of it if a write fails.
+//! The definition on real octets.
 
 use counted_io::FailAt;
 use http_wire::{WireFault, write_get};
@@ -12,7 +12,7 @@ const PAGE: &str = "http://a.example:8080/x?q";
 const REQUEST: &[u8] = b"GET /x?q HTTP/1.1\r\nHost: a.example:8080\r\nUser-Agent: crawlgate\r\n\
 Accept: */*\r\nAccept-Encoding: identity\r\nConnection: close\r\n\r\n";
 
-// How many octets a write takes at most, and the write that fails. One write of many octets suffices.
+// The most octets of a write, and the failing write. One write of many octets suffices.
 const WRITES: [(usize, Option<u64>); 4] = [(1, None), (2, None), (7, None), (1_000, Some(1))];
 
 #[test]
@@ -27,7 +27,7 @@ fn whole_or_cut_by_a_failed_write(rt: HostRuntime) -> Result<(), Fail> {
     Ok(())
 }
 
-// So many octets of the request are written, and a failure is told where they are not all.
+// So many octets of the request are written, or a failure is reported.
 fn writes(
     rt: &(impl Abort + AllocGlobal),
     page: &PageUrl,
@@ -65,7 +65,7 @@ fn a_long_agent_is_written_whole(rt: HostRuntime) -> Result<(), Fail> {
     Ok(())
 }
 
-// The octets start and end as the request does, and are longer by an agent of this length.
+// The octets start and end like the request, plus an agent of this length.
 fn has_ends(rt: &impl Abort, octets: &[u8], agent: usize) {
     let (before, behind) = REQUEST.split_at(REQUEST.len() / 2);
     assert!(rt; octets.len() == (REQUEST.len() - 9).saturating_add(agent));

@@ -1,4 +1,4 @@
-//! Responses and what is read of them, as docs/FORMATS.md says.
+//! Responses and their readings, as in docs/FORMATS.md.
 //! RFC 9112, sections 2.2, 6.3 and 7.1; RFC 9110, sections 8.6 and 15.2.
 
 use super::reads::{Row, Want};

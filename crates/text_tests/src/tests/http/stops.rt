@@ -1,4 +1,4 @@
-//! Texts that end with the last octet that tells: what is read of them is read with no octet more.
+//! Texts up to the last octet needed: their reading takes no further octet.
 //! RFC 9112, section 6.3.
 
 use super::reads::{Row, Want};
@@ -6,7 +6,7 @@ use Want::{Cut, Fault, Whole};
 use WireFault::{BadChunk, BadHead, BadLength, Coding, TooManyInterim};
 use http_wire::WireFault;
 
-/// Each text up to the last octet that is needed.
+/// Each text, up to the last octet needed.
 pub(super) const STOPS: [Row; 26] = [
     (
         "counted",

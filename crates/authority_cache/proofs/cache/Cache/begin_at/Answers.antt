@@ -1,4 +1,4 @@
--- No more turns are in flight than there are entries, and one more is where one was begun.
+-- There are at least as many entries as turns in flight.
 use Rattle.std.proofs.Common.{Ok, sym, ap, refl, subst, arith}
 use Rattle.authority_cache.specs.declared.site.Flight.{Flight}
 use Rattle.authority_cache.specs.Calls.{Begins, IsFound, one_if}

@@ -1,5 +1,4 @@
--- No authority stands twice.
--- Used by `Cache::flight_count`.
+-- No authority is there twice.
 use Rattle.std.proofs.Common.{subst}
 use Rattle.authority_cache.specs.Sites.{IsApart, Known}
 use Rattle.authority_cache.proofs.SweepLaws.{apart_from}

@@ -1,4 +1,4 @@
--- What is known of an authority that was found is what is known of it.
+-- The state of a found authority is its own.
 use Rattle.std.proofs.Common.{subst}
 use Rattle.authority_cache.specs.Calls.{LooksAt}
 use Rattle.authority_cache.specs.Sites.{State}

@@ -1,4 +1,4 @@
--- What is dropped of the sites is dropped of what is known.
+-- What the sites lose, the authorities lose.
 use Rattle.std.proofs.Common.{subst, sym, refl, ◌∙◌}
 use Rattle.authority_cache.specs.Calls.{Sweeps}
 use Rattle.authority_cache.specs.Kept.{known_in}

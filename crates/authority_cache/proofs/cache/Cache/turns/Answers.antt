@@ -1,5 +1,4 @@
 -- Each state has its turns listed once.
--- The lemmas of `ListedLaws` say so.
 use Rattle.std.proofs.Common.{◌≡◌, ℕ, ◌++◌, List, Some, filter, length, take, refl, sym, ap, subst, ◌∙◌, arith}
 use Rattle.std.specs.Prelude.{slice_get}
 use Rattle.std.proofs.lemmas.List.{length-map, take_all}

@@ -1,4 +1,4 @@
--- A farewell that was cut is still the reply to QUIT.
+-- A farewell that was cut is the reply to QUIT.
 use Rattle.std.proofs.Common.{true, refl, sym, ap, ◌∙◌, subst, inl}
 use Rattle.std.specs.Prelude.{Result, Ok}
 use Rattle.counted_io.proofs.CallerLemmas.{on_err}

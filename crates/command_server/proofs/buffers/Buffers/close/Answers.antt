@@ -1,5 +1,4 @@
--- A flush that fails behind the last words leaves a part of them.
--- The lemma `Passes-cut` joins the push and the flush.
+-- A flush that fails after the last words leaves a part of them.
 use Rattle.std.proofs.lemmas.Result.{err_from_is_err_and}
 use Rattle.counted_io.proofs.CallerLemmas.{Passes-cut-all}
 use Rattle.command_server.proofs.buffers.Buffers.close.Goals as goal

@@ -1,5 +1,4 @@
--- A write fault before the read takes nothing, and one after it takes a part of a line.
--- The pending replies are then written in part.
+-- A write fault before the read takes nothing; one after it takes a part of a line.
 use Rattle.std.proofs.Common.{◌≡◌, [], refl, inl, inr}
 use Rattle.std.specs.Prelude.{◌⊎◌}
 use Rattle.std.specs.Io.KnownBytes.{Appends}

@@ -1,5 +1,4 @@
--- What the client is told passes to the output, or is cut there.
--- The next line has the readings behind those of this one.
+-- The reply reaches the output, or is cut there.
 use Rattle.std.proofs.Common.{refl, rules}
 use Rattle.counted_io.proofs.CallerLemmas.{on_err}
 use Rattle.command_server.specs.Answers.{ends_session}

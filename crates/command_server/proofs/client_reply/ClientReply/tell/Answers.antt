@@ -1,5 +1,4 @@
--- What is pushed is written out, or is cut there.
--- Used by `ClientReply::tell`.
+-- What is pushed is written, or cut.
 use Rattle.std.proofs.Common.{[], append-nil, sym, rules}
 use Rattle.counted_io.specs.Output.{Passes}
 use Rattle.counted_io.proofs.CallerLemmas.{Passes-cut-all, Passes-further}

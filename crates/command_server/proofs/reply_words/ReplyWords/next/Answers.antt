@@ -1,5 +1,4 @@
--- The words stand in twos.
--- The lemmas of `ReplyTexts` say so.
+-- The number of words is even.
 use Rattle.command_server.proofs.ReplyTexts.{second_follows}
 use Rattle.command_server.proofs.reply_words.ReplyWords.next.Goals as goal
 

@@ -1,5 +1,4 @@
 -- A read copies the front of what was unread.
--- The lemmas `read_front` and `read_nothing` say so over plain lists.
 use Rattle.std.proofs.Common.{rules, arith, ◌≡◌, ◌≤◌, length, take, drop, min, length-append, length-drop}
 use Rattle.std.proofs.lemmas.List.{length-take}
 use Rattle.counted_io.proofs.Taking.{read_front, read_nothing}

@@ -1,5 +1,4 @@
--- What leaves the buffer is the part that the line gets.
--- The lemmas of `Taking` say so over plain lists.
+-- The line gets exactly what leaves the buffer.
 use Rattle.std.proofs.Common.{rules, arith, sym, ap, ◌∙◌, ◌≡◌, ◌<◌, ◌≤◌, ◌-◌, ◌++◌, length, take, take-append-drop, length-append}
 use Rattle.std.proofs.lemmas.Grind.{common_steps}
 use Rattle.std.proofs.lemmas.List.{length-take, length-take-le}

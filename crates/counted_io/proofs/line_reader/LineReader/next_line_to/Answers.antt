@@ -1,5 +1,4 @@
 -- Each step adds to what was consumed before it.
--- The lemmas of `Taking` join the two.
 use Rattle.std.proofs.Common.{rules, arith, subst, ◌∙◌, ◌<◌, length}
 use Rattle.counted_io.specs.Lines.{HasNoLineFeed}
 use Rattle.counted_io.proofs.Taking.{feed_absurd, taken-still, part_taken, moves_line-takes, moves_too_long-finds}

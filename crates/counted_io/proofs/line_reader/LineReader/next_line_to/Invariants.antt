@@ -1,5 +1,4 @@
--- The line's front was consumed, with no line feed in it and within the limit and a carriage return.
--- The proof of `next_line_to` rests on it.
+-- The line's prefix was consumed, without a line feed, within the limit and a carriage return.
 use Rattle.std.proofs.Common.{◌≡◌, ◌≤◌, ◌+◌, ◌-◌, vec_len}
 use Rattle.std.specs.Prelude.{Contains}
 use Rattle.std.specs.Io.KnownBytes.{Consumes, prepend_known}

@@ -1,5 +1,4 @@
 -- A skip moves the start of the range that the buffer holds.
--- The lemma `range_skipped` says so over plain lists.
 use Rattle.std.proofs.Common.{sym}
 use Rattle.counted_io.proofs.Taking.{range_skipped}
 use Rattle.counted_io.proofs.line_reader.LineReader.skip.Goals as goal

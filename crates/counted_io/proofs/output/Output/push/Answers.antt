@@ -1,5 +1,4 @@
--- Octets that don't fit go to the sink behind the pending ones.
--- The lemmas of `Writing` say so over plain lists.
+-- Octets that don't fit go to the sink after the pending ones.
 use Rattle.std.proofs.Common.{rules}
 use Rattle.std.proofs.lemmas.Result.{on_ok_weaker, on_err_weaker}
 use Rattle.counted_io.proofs.Writing.{prefix_after, prefix_longer, passes_straight, on_err}

@@ -1,4 +1,4 @@
--- Each line leads behind those before it.
+-- Each line follows those before it.
 use Rattle.std.proofs.Common.{◌+◌, ◌++◌, Err, ◌∷◌, [], All, List, ap, map, refl, subst, sym, take, drop, length, ◌∙◌, arith}
 use Rattle.std.proofs.lemmas.List.{take_all}
 use Rattle.std.proofs.lemmas.List.Elements.{All-head}

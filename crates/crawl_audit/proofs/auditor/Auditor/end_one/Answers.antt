@@ -1,4 +1,4 @@
--- The line is that of the entry, and leads behind it.
+-- The line is the entry's, and leads to the place after it.
 use Rattle.std.proofs.Common.{◌+◌, List, ℕ, Err, Ok, ap, refl, subst, ◌∙◌}
 use Rattle.crawl_audit.specs.declared.fault.AuditFault.TheVariants.{BadLine}
 use Rattle.crawl_audit.specs.Audit.{AddsLine}

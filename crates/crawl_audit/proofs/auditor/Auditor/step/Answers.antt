@@ -1,4 +1,4 @@
--- Where the auditor stands says what the line may be.
+-- The auditor's place says what the line may be.
 use Rattle.std.proofs.Common.{ℕ, Bool, true, false, List, Ok, Err, refl, sym, ap, subst, ◌∙◌}
 use Rattle.crawl_audit.specs.declared.open_state.OpenState.{OpenState}
 use Rattle.crawl_audit.specs.declared.next_base.BaseLine.TheVariants.{Last, Taken}

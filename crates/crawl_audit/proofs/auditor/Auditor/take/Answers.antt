@@ -1,4 +1,4 @@
--- Each way out is a line, the end, or a fault.
+-- Each exit is a line, the end, or a fault.
 use Rattle.std.proofs.Common.{◌≡◌, ℕ, ◌+◌, List, refl, sym, subst, ◌∙◌, true≢false, arith}
 use Rattle.std.specs.Io.KnownBytes.{prepend_known}
 use Rattle.crawl_audit.specs.Audit.{Heard}

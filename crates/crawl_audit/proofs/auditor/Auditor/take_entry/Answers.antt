@@ -1,4 +1,4 @@
--- An entry that was entered is one more, and one that may not come leads nowhere.
+-- An entry that may come is counted, and another leads nowhere.
 use Rattle.std.proofs.Common.{◌≡◌, ◌+◌, cond, ap, sym, ◌∙◌, refl, arith}
 use Rattle.crawl_audit.specs.Records.{entry_of}
 use Rattle.crawl_audit.proofs.AuditSteps.{enters_one, other_entry}

@@ -1,4 +1,4 @@
--- A line that leads somewhere was taken.
+-- A line that leads to a place was taken.
 use Rattle.std.proofs.Common.{◌≡◌, ◌+◌, ◌<◌, ◌∙◌, sym, subst, length, refl, arith, true≢false}
 use Rattle.path_normal.specs.declared.schemes.Schemes.{Schemes}
 use Rattle.crawl_audit.specs.ChainAudit.{IsAmong}

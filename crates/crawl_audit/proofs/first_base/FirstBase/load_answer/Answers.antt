@@ -1,4 +1,4 @@
--- An answer that may stand was loaded.
+-- A possible answer was loaded.
 use Rattle.std.proofs.Common.{refl}
 use Rattle.crawl_audit.proofs.LoadedRows.{answer_loaded}
 use Rattle.crawl_audit.proofs.first_base.FirstBase.load_answer.Goals as goal

@@ -1,4 +1,4 @@
--- A slot's greatest generation that may stand was loaded.
+-- A slot's possible greatest generation was loaded.
 use Rattle.std.proofs.Common.{refl}
 use Rattle.crawl_audit.proofs.LoadedPermits.{grant_loaded}
 use Rattle.crawl_audit.proofs.first_base.FirstBase.load_grant.Goals as goal

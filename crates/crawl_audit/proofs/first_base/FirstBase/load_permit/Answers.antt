@@ -1,4 +1,4 @@
--- A permit that is out and may stand was loaded.
+-- A possible outstanding permit was loaded.
 use Rattle.std.proofs.Common.{Some, ap, refl}
 use Rattle.crawl_audit.proofs.LoadedPermits.{permit_loaded}
 use Rattle.crawl_audit.proofs.first_base.FirstBase.load_permit.Goals as goal

@@ -1,4 +1,4 @@
--- A turn that may stand was loaded.
+-- A possible turn was loaded.
 use Rattle.std.proofs.Common.{refl}
 use Rattle.crawl_audit.proofs.LoadedRows.{turn_loaded}
 use Rattle.crawl_audit.proofs.first_base.FirstBase.load_turn.Goals as goal

@@ -1,4 +1,4 @@
--- The tests decide whether a row may stand.
+-- The tests decide whether a row may come next.
 use Rattle.std.proofs.Common.{sym, ap, ◌∙◌}
 use Rattle.std.specs.Prelude.{unwrap_or}
 use Rattle.std.proofs.lemmas.Bool.{true≢false}

@@ -1,4 +1,4 @@
--- The line of numbers is taken where there is a base of them.
+-- The line of numbers is taken if a base can have them.
 use Rattle.std.proofs.Common.{refl, sym, subst, ◌∙◌}
 use Rattle.std.proofs.lemmas.Bool.{true≢false}
 use Rattle.crawl_audit.specs.declared.open_state.OpenState.{OpenState}

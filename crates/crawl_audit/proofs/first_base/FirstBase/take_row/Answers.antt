@@ -1,4 +1,4 @@
--- A row is taken where it may stand.
+-- A row is taken if it may come next.
 use Rattle.std.proofs.Common.{◌≡◌, Err, ap, sym, subst, ◌∙◌, rules}
 use Rattle.std.proofs.lemmas.Bool.{true≢false}
 use Rattle.crawl_audit.specs.FirstBase.{TakesBaseLine}

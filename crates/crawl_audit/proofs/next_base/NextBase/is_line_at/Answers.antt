@@ -1,4 +1,4 @@
--- The place behind the rows before it says in which list a line stands.
+-- The place, less the rows before it, selects the list that has the line.
 use Rattle.std.proofs.Common.{◌≡◌, ℕ, ◌-◌, ◌<◌, Global, Vec, length, vec_len, arith}
 use Rattle.std.proofs.lemmas.Bool.Decides.{nat_tests}
 use Rattle.gate_history.specs.Base.{Base}
@@ -7,7 +7,6 @@ use Rattle.history_text.specs.SpellBase.{answer_line, grant_line, running_line, 
 use Rattle.crawl_audit.proofs.NextLines.{at_answers, at_end, at_grants, at_last, at_permits, at_runs, at_turns, from_grants, from_permits, from_runs, from_turns, in_list, last_line, past_end}
 use Rattle.crawl_audit.proofs.next_base.NextBase.is_line_at.Goals as goal
 
--- the length of a vector is that of the list of its items
 long : {X : Type 0} (v : Vec X Global) (n : ℕ) → n ≡ vec_len v → n ≡ length v.items
 long v n is = let ok = v.ok in omega arith
 

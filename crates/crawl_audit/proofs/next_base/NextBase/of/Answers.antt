@@ -1,4 +1,4 @@
--- The lists are put in order, and their fields are those of lines.
+-- The lists are sorted, and their fields are those of lines.
 use Rattle.std.proofs.Common.{refl}
 use Rattle.crawl_audit.proofs.next_base.NextBase.of.Goals as goal
 

@@ -1,4 +1,4 @@
--- A line is the next one of the base, or another one.
+-- A line is the next one of the base, or another.
 use Rattle.std.proofs.Common.{inl, inr, refl, sym, true≢false}
 use Rattle.crawl_audit.proofs.NextTaking.{Stops, awaited, last_line, more_line, other_line}
 use Rattle.crawl_audit.proofs.next_base.NextBase.take.Goals as goal

@@ -1,5 +1,5 @@
--- Each number has its permit listed once, among those of its phase.
--- The lemmas of `ListedNumbers` say so.
+-- Each number has its permit listed once, in the list of its phase.
+-- By the lemmas of `ListedNumbers`.
 use Rattle.std.proofs.Common.{arith}
 use Rattle.permit_book.specs.Outstanding.{is_numbered}
 use Rattle.crawl_audit.specs.Tables.{running_under, unspent_under}

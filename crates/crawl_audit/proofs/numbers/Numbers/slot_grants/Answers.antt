@@ -1,5 +1,5 @@
 -- Each slot has its greatest generation listed once.
--- The lemmas of `ListedNumbers` say so.
+-- By the lemmas of `ListedNumbers`.
 use Rattle.std.proofs.Common.{arith}
 use Rattle.gate_history.specs.Grants.{is_in}
 use Rattle.crawl_audit.specs.Tables.{grants_under}

@@ -1,4 +1,4 @@
--- What the tables have makes a base, which says what the history does of which they tell.
+-- The tables make a base that agrees with the history.
 use Rattle.std.proofs.Common.{refl}
 use Rattle.crawl_audit.proofs.RecoveredBases.{fits_base, fits_slots, made_says}
 use Rattle.crawl_audit.proofs.open_state.OpenState.base.Goals as goal

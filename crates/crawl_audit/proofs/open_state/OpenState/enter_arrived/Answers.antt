@@ -1,5 +1,5 @@
--- An arrival is legal where it comes in time for the turn in flight.
--- The lemmas of `Following` say so of the answer that is made of what was read.
+-- An arrival is legal if it is in time for the turn in flight.
+-- By `Following`, of the answer made from what was read.
 use Rattle.std.proofs.Common.{ℕ, sym, subst, ◌∙◌}
 use Rattle.std.proofs.lemmas.Bool.{true≢false}
 use Rattle.authority_cache.specs.Calls.{Arrives, Changes}

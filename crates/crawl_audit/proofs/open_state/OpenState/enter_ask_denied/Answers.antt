@@ -1,4 +1,4 @@
--- A denied ask is legal where it comes in time with the cause that the answer gives.
+-- A denied ask is legal if it is in time, with the answer's cause.
 use Rattle.std.proofs.Common.{sym, subst, ◌∙◌}
 use Rattle.authority_cache.specs.Lists.{TellsCache}
 use Rattle.authority_cache.specs.Sites.{Known}

@@ -1,4 +1,4 @@
--- A begin is legal where it comes in time, no turn is in flight, and it is the next.
+-- A begin is legal if it is in time, the next, and no turn is in flight.
 use Rattle.std.proofs.Common.{◌+◌, ap, sym, ◌∙◌}
 use Rattle.std.proofs.lemmas.Bool.{true≢false}
 use Rattle.gate_history.specs.History.{now}

@@ -1,4 +1,4 @@
--- A finish is legal where it names a running fetch.
+-- A finish is legal if it names a running fetch.
 use Rattle.std.proofs.Common.{sym, ◌∙◌}
 use Rattle.std.proofs.lemmas.Bool.{true≢false}
 use Rattle.crawl_audit.proofs.Following.{finished_follows, running_of}

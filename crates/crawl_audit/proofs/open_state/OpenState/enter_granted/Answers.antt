@@ -1,4 +1,4 @@
--- A grant is legal where it comes in time, its number is new, and its fetch is allowed.
+-- A grant is legal if it is in time, its number is new, and its fetch is allowed.
 use Rattle.std.proofs.Common.{sym, ◌∙◌}
 use Rattle.gate_history.specs.History.{now}
 use Rattle.gate_history.specs.Standing.{in_flight, standing}

@@ -1,4 +1,4 @@
--- A return is legal where it names an unspent permit.
+-- A return is legal if it names an unspent permit.
 use Rattle.std.proofs.Common.{ap, not, sym, ◌∙◌}
 use Rattle.std.proofs.lemmas.Bool.{true≢false}
 use Rattle.crawl_audit.specs.Tables.{phases_of}

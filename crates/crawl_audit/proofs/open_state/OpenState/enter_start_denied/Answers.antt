@@ -1,4 +1,4 @@
--- A denied start is legal where it spends a permit with its cause.
+-- A denied start is legal if it spends a permit with its cause.
 use Rattle.crawl_audit.proofs.Following.{start_denied_follows}
 use Rattle.crawl_audit.proofs.open_state.OpenState.enter_start_denied.Goals as goal
 

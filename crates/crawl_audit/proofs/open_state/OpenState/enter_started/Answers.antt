@@ -1,4 +1,4 @@
--- A start is legal where it spends a permit with its reason.
+-- A start is legal if it spends a permit with its reason.
 use Rattle.crawl_audit.proofs.Following.{started_follows}
 use Rattle.crawl_audit.proofs.open_state.OpenState.enter_started.Goals as goal
 

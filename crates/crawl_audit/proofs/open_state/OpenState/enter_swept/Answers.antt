@@ -1,4 +1,4 @@
--- A sweep is legal where it comes in time and counts what it ends.
+-- A sweep is legal if it is in time and counts what it ends.
 use Rattle.std.proofs.Common.{sym, ◌∙◌}
 use Rattle.gate_history.specs.History.{now}
 use Rattle.crawl_audit.proofs.Following.{late, swept_count, swept_follows}

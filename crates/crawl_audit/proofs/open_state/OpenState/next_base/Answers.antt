@@ -1,4 +1,4 @@
--- What the tables have makes the base.
+-- The tables make the base.
 use Rattle.std.proofs.Common.{codes, ◌∷◌, [], refl}
 use Rattle.std.proofs.lemmas.Result.{IfOk-weaker}
 use Rattle.gate_history.specs.History.{History}

@@ -1,4 +1,4 @@
--- No line was read, of no octet.
+-- No line and no octet was read.
 use Rattle.std.proofs.Common.{◌≡◌, ℕ, List, [], ◌∷◌, arith, length, refl, sym, ◌∙◌}
 use Rattle.history_text.specs.SpellBase.{lines_text}
 use Rattle.crawl_audit.proofs.whole_lines.WholeLines.new.Goals as goal

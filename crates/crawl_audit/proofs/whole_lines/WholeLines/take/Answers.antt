@@ -1,4 +1,4 @@
--- Each way out is a whole line, the end of these, or a fault.
+-- Each exit is a whole line, the end of these, or a fault.
 use Rattle.std.proofs.Common.{◌≡◌, ℕ, ◌+◌, List, arith, length, refl, subst, sym}
 use Rattle.std.specs.Io.KnownBytes.{prepend_known}
 use Rattle.crawl_audit.specs.declared.whole_lines.WholeLines.{WholeLines}

@@ -1,4 +1,4 @@
--- The line of a site, with the words of what closed it.
+-- A site's line, with the words for what closed it.
 use Rattle.std.proofs.Common.{◌++◌, ◌∙◌, ap, codes, string_bytes}
 use Rattle.crawl_shift.specs.Causes.{words_text}
 use Rattle.crawl_shift.proofs.closed_sites.ClosedSite.pieces.Goals as goal

@@ -1,4 +1,4 @@
--- The place of a hop is pushed, and behind it what came of the hop.
+-- A hop's place is pushed, and then its outcome.
 use Rattle.std.proofs.Common.{ℕ, List, [], ◌∷◌, ◌++◌, subst}
 use Rattle.counted_io.specs.Device.{AppendsPrefix}
 use Rattle.counted_io.specs.Output.{Passes}

@@ -1,4 +1,4 @@
--- What came of a hop and its cause are pushed one after the other.
+-- A hop's outcome and its cause are pushed in order.
 use Rattle.std.proofs.Common.{ℕ, List, [], ◌∷◌, ◌++◌, subst}
 use Rattle.counted_io.specs.Device.{AppendsPrefix}
 use Rattle.counted_io.specs.Output.{Passes, Pushes}

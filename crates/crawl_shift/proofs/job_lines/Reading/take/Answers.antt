@@ -1,4 +1,4 @@
--- A line that is no job leaves the list as it was, and its fault is met.
+-- A line that is no job leaves the list unchanged, and its fault is kept or ends the reading.
 use Rattle.std.proofs.Common.{refl}
 use Rattle.command_server.specs.Answers.{ends_session}
 use Rattle.crawl_shift.proofs.Sorting.{met_of}

@@ -1,4 +1,4 @@
--- New workers, who all end.
+-- New workers all end.
 -- Used by `do_all`.
 use Rattle.std.proofs.Common.{◌∙◌, ap, arith}
 use Rattle.std.specs.Prelude.{length}

@@ -1,4 +1,4 @@
--- The job that is worked on is the one of the number, once more.
+-- The copied job is the numbered one.
 -- Used by `Crew::do_job`.
 use Rattle.std.proofs.Common.{◌≡◌, refl, subst}
 use Rattle.crawl_job.specs.declared.job.Job.{Job}

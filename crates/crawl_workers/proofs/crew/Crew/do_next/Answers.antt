@@ -1,4 +1,4 @@
--- The job that was drawn is done behind the others.
+-- The drawn job is done after the others.
 -- Used by `Crew::do_next`.
 use Rattle.std.proofs.Common.{◌≡◌, ◌∙◌, ◌++◌, ◌∷◌, [], ap, sym}
 use Rattle.std.specs.Prelude.{map}

@@ -1,4 +1,4 @@
--- What was drawn is done, and told by the desk's marks.
+-- Drawn jobs are done, by the desk's marks.
 -- Used by `Crew::draw_all`.
 use Rattle.gate_lock.specs.Desks.{KeepsOut, receipt_of}
 use Rattle.crawl_workers.specs.Crews.{HasWorked, StaysAt}

@@ -1,4 +1,4 @@
--- The index that was drawn is one of a job, which is done.
+-- The drawn index is that of a job, which is done.
 -- Used by `Crew::draw_one`.
 use Rattle.std.proofs.Common.{◌∙◌, ◌++◌, ◌∷◌, [], ap, arith, length, refl}
 use Rattle.std.specs.Prelude.{slice_index}

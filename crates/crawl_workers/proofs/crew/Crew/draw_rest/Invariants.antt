@@ -1,4 +1,4 @@
--- The ends of the sites so far are found, and what was drawn is done.
+-- The ends of the sites so far are found, and drawn jobs are done.
 -- Used by `Crew::draw_rest`.
 use Rattle.std.proofs.Common.{◌≡◌, ◌<◌, ℕ, true}
 use Rattle.gate_lock.specs.Desks.{KeepsOut, receipt_of}

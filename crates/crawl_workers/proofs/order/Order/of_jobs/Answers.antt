@@ -1,4 +1,4 @@
--- The numbers of all lists, one list behind the other.
+-- The numbers of all lists, concatenated.
 -- Used by `Order::of_jobs`.
 use Rattle.std.proofs.Common.{◌≡◌, ◌∙◌, ℕ, List, Vec, Global, ap, arith, length}
 use Rattle.job_line.specs.Sums.{weigh, weigh_all, weigh_below}

@@ -1,4 +1,4 @@
--- A site that does not stand in the line leaves room for one more.
+-- A site outside the queue leaves room for one more.
 -- Used by `Turns::line_up`.
 use Rattle.std.proofs.Common.{arith}
 use Rattle.crawl_workers.proofs.Queuing.{one_taken}

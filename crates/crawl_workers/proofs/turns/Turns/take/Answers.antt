@@ -1,4 +1,4 @@
--- A site that leaves the line frees a place at most.
+-- A site that leaves the queue frees at most one place.
 -- Used by `Turns::take`.
 use Rattle.std.proofs.Common.{arith}
 use Rattle.crawl_workers.proofs.Queuing.{one_freed}

@@ -1,4 +1,4 @@
--- A turn that began brings its answer, and what is only looked at makes no turn.
+-- A turn that began brings its answer; a mere look makes no turn.
 use Rattle.std.proofs.Common.{subst}
 use Rattle.std.specs.Prelude.{Option, Ok}
 use Rattle.path_normal.specs.PageText.{authority_of}

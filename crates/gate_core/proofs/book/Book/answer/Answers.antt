@@ -1,5 +1,5 @@
--- A call tells what the headline says, since the history before it is legal.
--- The lemma `step_told` of `Headlines` says so.
+-- A reply is true by the headline, since the history before it is legal.
+-- By `step_told` of `Headlines`.
 use Rattle.gate_core.proofs.Headlines.{step_told}
 use Rattle.gate_core.proofs.book.Book.answer.Goals as goal
 

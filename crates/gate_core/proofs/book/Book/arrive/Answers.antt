@@ -1,5 +1,5 @@
--- The answer stands.
--- The lemmas of `Keeping` say what that keeps.
+-- The answer is now the authority's.
+-- `Keeping` says what that keeps.
 use Rattle.std.proofs.Common.{◌≡◌, ◌∷◌, ◌++◌, [], ℕ, List, true, sym, ap, ◌∙◌, subst, arith}
 use Rattle.std.specs.Prelude.{Option, unwrap_or}
 use Rattle.authority_cache.specs.Calls.{Changes}

@@ -1,5 +1,5 @@
 -- An ask is what the answer in force, the places and the grant say.
--- The lemma `asks_by` of `Calling` says so.
+-- By `asks_by` of `Calling`.
 use Rattle.std.proofs.Common.{ℕ, Err, Ok, subst, sym}
 use Rattle.permit_book.specs.declared.out.Fetch.{Fetch}
 use Rattle.gate_history.specs.Cause.{Decides}

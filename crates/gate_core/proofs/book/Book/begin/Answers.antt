@@ -1,5 +1,5 @@
 -- A begin is what its last step says.
--- The lemmas of `Calling`, `Keeping` and `Refusing` say so.
+-- By `Calling`, `Keeping` and `Refusing`.
 use Rattle.std.proofs.Common.{◌≡◌, ◌+◌, ◌∷◌, ◌++◌, [], ℕ, List, false, Some, Err, sym, ap, ◌∙◌, subst, arith, refl}
 use Rattle.std.specs.Prelude.{Ok}
 use Rattle.std.proofs.lemmas.Bool.{true≢false}

@@ -1,4 +1,4 @@
--- What stands by the book's cache is what stands by its history.
+-- The book's cache has the answers of its history.
 -- The contract of `decide` says what that decides.
 use Rattle.std.proofs.Common.{subst}
 use Rattle.path_normal.specs.PageText.{authority_of}

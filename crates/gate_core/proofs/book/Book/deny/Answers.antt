@@ -1,5 +1,5 @@
 -- A denied ask is an entry, and else nothing changes.
--- The lemmas of `Keeping` say what that keeps.
+-- `Keeping` says what that keeps.
 use Rattle.std.proofs.Common.{◌∷◌, ◌++◌, [], sym, ap, ◌∙◌, subst, arith}
 use Rattle.gate_history.specs.declared.entry.Entry.TheVariants.{AskDenied}
 use Rattle.gate_history.specs.Legal.{MayFollow}

@@ -1,5 +1,5 @@
 -- The permit is spent.
--- The lemmas of `Keeping` say what that keeps.
+-- `Keeping` says what that keeps.
 use Rattle.std.proofs.Common.{Err, sym, subst}
 use Rattle.gate_history.specs.declared.entry.Entry.TheVariants.{StartDenied}
 use Rattle.gate_history.specs.Legal.{MayFollow, SpendsAs}

@@ -1,5 +1,5 @@
 -- The permit runs from now on.
--- The lemmas of `Keeping` say what that keeps.
+-- `Keeping` says what that keeps.
 use Rattle.std.proofs.Common.{Ok, sym, subst, arith}
 use Rattle.gate_history.specs.declared.entry.Entry.TheVariants.{Started}
 use Rattle.gate_history.specs.Legal.{MayFollow, SpendsAs}

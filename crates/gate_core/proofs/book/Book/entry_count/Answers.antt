@@ -1,5 +1,5 @@
 -- The base and the entries since are counted.
--- The lemma `entries_many` of `Keeping` says so.
+-- By `entries_many` of `Keeping`.
 use Rattle.std.proofs.Common.{ap, arith}
 use Rattle.gate_history.specs.History.{entry_count}
 use Rattle.gate_core.specs.Gate.{Gate, history}

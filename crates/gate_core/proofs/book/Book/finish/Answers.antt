@@ -1,5 +1,5 @@
--- The permit is out no more.
--- The lemmas of `Keeping` and `Ending` say what that keeps, and what is refused.
+-- The permit is no longer outstanding.
+-- `Keeping` and `Ending` say what that keeps, and what is refused.
 use Rattle.std.proofs.Common.{◌≡◌, true, refl, sym, ◌∙◌, subst}
 use Rattle.gate_history.specs.declared.entry.Entry.TheVariants.{Finished}
 use Rattle.gate_history.specs.Outstanding.{is_running}

@@ -1,5 +1,5 @@
 -- The cache counts the turns in flight.
--- The lemmas of `Keeping` say so.
+-- By the lemmas of `Keeping`.
 use Rattle.std.proofs.Common.{◌∙◌, length, ap}
 use Rattle.gate_history.specs.Standing.{in_flight}
 use Rattle.gate_core.specs.Gate.{Gate, history}

@@ -1,5 +1,5 @@
 -- The next number is granted.
--- The lemmas of `Keeping` and `Refusing` say what that keeps, and what is refused.
+-- `Keeping` and `Refusing` say what that keeps, and what is refused.
 use Rattle.std.proofs.Common.{◌∷◌, ◌++◌, [], sym, ap, ◌∙◌, subst, arith, Err}
 use Rattle.permit_book.specs.declared.out.Fetch.{Fetch}
 use Rattle.gate_history.specs.declared.entry.Entry.TheVariants.{Granted}

@@ -1,5 +1,5 @@
 -- The rules that were found are in force.
--- The lemmas of `Looking` say so.
+-- By the lemmas of `Looking`.
 use Rattle.std.proofs.Common.{◌≡◌, ℕ, List, Ok, Err, sym, ap, subst}
 use Rattle.std.specs.Prelude.{IfOk, IfSome, Result}
 use Rattle.std.specs.Arc.{arc_value}
@@ -14,7 +14,6 @@ use Rattle.gate_history.proofs.CallerLemmas.{IsInForce}
 use Rattle.gate_core.proofs.Looking.{rules_in_force, stands_in_force}
 use Rattle.gate_core.proofs.book.Book.hint.Goals as goal
 
--- a handle that was given is of the text that was found
 handed : {A E : Type 0} (value : A → List ℕ) (P : List ℕ → Type 0) (text : List ℕ) (r : Result A E) → IfOk r (λ a. value a ≡ text) → P text → IfSome (result_ok r) (λ a. P (value a))
 handed value P text (Ok a) is holds = subst P (sym is) holds
 handed value P text (Err e) is holds = tt

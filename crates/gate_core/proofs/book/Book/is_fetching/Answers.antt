@@ -1,5 +1,5 @@
 -- The cache says what the history says.
--- The lemmas of `Looking` say so.
+-- By the lemmas of `Looking`.
 use Rattle.std.proofs.Common.{◌∙◌, ap}
 use Rattle.gate_history.specs.Standing.{is_fetching}
 use Rattle.gate_core.specs.Gate.{Gate, history}

@@ -1,5 +1,5 @@
 -- The table says what the history says.
--- The lemmas of `Keeping` say so.
+-- By the lemmas of `Keeping`.
 use Rattle.std.proofs.Common.{◌∙◌, ap}
 use Rattle.gate_history.specs.Outstanding.{is_unspent}
 use Rattle.gate_core.specs.Gate.{Gate, history}

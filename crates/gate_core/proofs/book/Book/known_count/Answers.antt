@@ -1,5 +1,5 @@
 -- The cache counts the authorities that are known.
--- The lemmas of `Keeping` say so.
+-- By the lemmas of `Keeping`.
 use Rattle.std.proofs.Common.{◌∙◌, ap}
 use Rattle.gate_history.specs.Standing.{known_count}
 use Rattle.gate_core.specs.Gate.{Gate, history}

@@ -1,5 +1,5 @@
--- Nothing stands in an empty history.
--- The lemma `kept_new` says so.
+-- An empty history has nothing open.
+-- By `kept_new`.
 use Rattle.gate_core.proofs.Keeping.{kept_new}
 use Rattle.gate_core.proofs.book.Book.new.Goals as goal
 

@@ -1,5 +1,5 @@
--- What the tables list says what the history does, in whatever order.
--- The lemmas of `NextBase` say so.
+-- The tables list what the history left open, in any order.
+-- By the lemmas of `NextBase`.
 use Rattle.std.proofs.Common.{refl, ap, subst, sym, ◌∙◌}
 use Rattle.gate_history.specs.Base.{Base, IsBase}
 use Rattle.gate_history.specs.History.{entry_count, from}

@@ -1,5 +1,5 @@
 -- Both tables count what the history left open.
--- The lemmas of `Keeping` say so.
+-- By the lemmas of `Keeping`.
 use Rattle.std.proofs.Common.{ap, arith}
 use Rattle.gate_core.specs.Gate.{Gate, history, promised}
 use Rattle.gate_core.proofs.Keeping.{few_promised, flights_many, running_many, unspent_many}

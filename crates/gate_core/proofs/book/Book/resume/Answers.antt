@@ -1,5 +1,5 @@
--- Nothing is out in the base, and the table is behind what was granted in it.
--- The lemma `resumed_kept` says so.
+-- The base has nothing outstanding, and the table has its earlier grants.
+-- By `resumed_kept`.
 use Rattle.std.proofs.Common.{◌≡◌, ◌≤◌, true, List, ap, subst, sym, ◌∙◌, arith}
 use Rattle.std.specs.List.{list_all}
 use Rattle.authority_cache.proofs.CallerLemmas.{limit_tells}

@@ -1,5 +1,5 @@
--- The book goes on from a base that says what its history did.
--- The lemmas of `SealedBook` say so.
+-- The book continues from a base that says what its history did.
+-- By the lemmas of `SealedBook`.
 use Rattle.std.proofs.Common.{◌≡◌, ◌≤◌, ◌<◌, [], Vec, Global, length, refl, sym, ap, subst, ◌∙◌, arith}
 use Rattle.std.specs.Prelude.{vec_capacity, vec_len}
 use Rattle.std.proofs.lemmas.Bool.{eqb-false}

@@ -1,5 +1,5 @@
 -- The cache has the answer that the history says.
--- The lemmas of `Looking` say so.
+-- By the lemmas of `Looking`.
 use Rattle.std.proofs.Common.{◌∙◌, ap}
 use Rattle.std.specs.Option.{option_map}
 use Rattle.authority_cache.specs.Lists.{answer_for}

@@ -1,5 +1,5 @@
 -- The table says what the history says.
--- The lemmas of `Calling` say so.
+-- By the lemmas of `Calling`.
 use Rattle.std.proofs.Common.{◌∙◌}
 use Rattle.gate_core.proofs.Calling.{stands_as}
 use Rattle.gate_core.proofs.book.Book.stands.Goals as goal

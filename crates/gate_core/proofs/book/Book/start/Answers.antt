@@ -1,5 +1,5 @@
 -- A start that finds no permit is denied as spent.
--- The lemma `start_spent` of `Calling` says so.
+-- By `start_spent` of `Calling`.
 use Rattle.std.proofs.Common.{◌∙◌, sym}
 use Rattle.gate_core.proofs.Calling.{start_spent}
 use Rattle.gate_core.proofs.book.Book.start.Goals as goal

@@ -1,5 +1,5 @@
 -- A start is what the permit and the answer say.
--- The lemmas of `Calling` say so.
+-- By the lemmas of `Calling`.
 use Rattle.std.proofs.Common.{ℕ, Err, Ok, refl, subst}
 use Rattle.gate_history.specs.declared.entry.Entry.TheVariants.{StartDenied, Started}
 use Rattle.gate_history.specs.Cause.{Decides}

@@ -1,5 +1,5 @@
--- What was found stands.
--- The lemmas of `Looking` say so.
+-- The state found is the history's.
+-- By the lemmas of `Looking`.
 use Rattle.std.proofs.Common.{ℕ, sym, ◌∙◌, subst}
 use Rattle.robots_verdict.specs.Answer.{said}
 use Rattle.authority_cache.specs.declared.look.Look.TheVariants.{Unknown, Expired, InForce}

@@ -1,5 +1,5 @@
 -- The answers that the history says are gone are gone.
--- The lemmas of `Keeping` say what that keeps.
+-- `Keeping` says what that keeps.
 use Rattle.std.proofs.Common.{◌∷◌, ◌++◌, [], ℕ, sym, ap, ◌∙◌, subst, arith}
 use Rattle.gate_history.specs.declared.entry.Entry.TheVariants.{Swept}
 use Rattle.gate_history.specs.Standing.{past_count}

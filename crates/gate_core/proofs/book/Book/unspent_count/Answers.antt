@@ -1,5 +1,5 @@
 -- The table counts what the history left open.
--- The lemmas of `Keeping` say so.
+-- By the lemmas of `Keeping`.
 use Rattle.std.proofs.Common.{◌∙◌, length, ap}
 use Rattle.gate_history.specs.Outstanding.{unspent}
 use Rattle.gate_core.specs.Gate.{Gate, history}

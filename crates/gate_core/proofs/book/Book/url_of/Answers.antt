@@ -1,5 +1,5 @@
 -- The table says what the history says.
--- The lemmas of `Calling` and `Keeping` say so.
+-- By `Calling` and `Keeping`.
 use Rattle.std.proofs.Common.{◌≡◌, false, sym, ap, ◌∙◌}
 use Rattle.std.specs.Option.{option_copied}
 use Rattle.gate_history.specs.Outstanding.{is_unspent}

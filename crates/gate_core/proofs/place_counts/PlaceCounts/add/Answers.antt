@@ -1,5 +1,5 @@
 -- One more is counted at the authority's index, and the others stay.
--- The lemma `adds_at` of `Counting` says so.
+-- By `adds_at` of `Counting`.
 use Rattle.std.proofs.Common.{◌≡◌, ◌+◌, ℕ, Option, Some, IfSome, String, Global, ap, subst, string_bytes}
 use Rattle.std.specs.Prelude.{slice_get}
 use Rattle.gate_core.proofs.Counting.{adds_at}

@@ -1,5 +1,5 @@
 -- The first permit of an authority is counted, and the others stay.
--- The lemma `adds_one` of `Counting` says so.
+-- By `adds_one` of `Counting`.
 use Rattle.std.proofs.Common.{◌≡◌, ◌+◌, List, ℕ, Some, OnOk, sym, ap, subst}
 use Rattle.std.specs.Prelude.{unwrap_or}
 use Rattle.gate_core.specs.PlaceCounts.{AddsOne, held_by}

@@ -1,5 +1,5 @@
 -- One less is counted for the authority of the URL that was out under the number.
--- The lemma `leaves` of `Counting` says so.
+-- By `leaves` of `Counting`.
 use Rattle.std.proofs.Common.{List, ℕ, subst}
 use Rattle.permit_book.specs.Table.{out_under}
 use Rattle.gate_core.specs.PlaceCounts.{TakesOne, held_by}

@@ -1,5 +1,5 @@
 -- One less is counted at the authority's index, and the others stay.
--- The lemmas `takes_one` and `takes_at` of `Counting` say so.
+-- By `takes_one` and `takes_at` of `Counting`.
 use Rattle.std.proofs.Common.{◌≡◌, ◌-◌, ℕ, List, Option, Some, None, IfSome, String, Global, is_some, sym, ap, ◌∙◌, subst, arith, string_bytes, true≢false}
 use Rattle.std.specs.Prelude.{slice_get}
 use Rattle.std.specs.HashMap.{UpdatesBy}

@@ -1,4 +1,4 @@
--- The name is found under its turn, and the others where they were.
+-- The turn has its name, and the others are unchanged.
 -- Used by `TurnNames::put`.
 use Rattle.std.proofs.Common.{ℕ, Some, subst}
 use Rattle.gate_core.specs.TurnNames.{KeepsName, names_by}

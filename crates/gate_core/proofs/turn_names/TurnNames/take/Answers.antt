@@ -1,4 +1,4 @@
--- The name is gone, and the others are where they were.
+-- The name is gone, and the others are unchanged.
 -- Used by `TurnNames::take`.
 use Rattle.std.proofs.Common.{ℕ, None, subst}
 use Rattle.gate_core.specs.TurnNames.{KeepsName, names_by}

@@ -1,5 +1,5 @@
--- What was put in order says what it said, so it is a base.
--- The law of order says so.
+-- Sorted lists say what they said, so the result is a base.
+-- By the law of order.
 use Rattle.std.proofs.lemmas.List.Sorted.{All-permutation}
 use Rattle.gate_history.specs.Grants.{IsSlotGrant}
 use Rattle.gate_history.specs.History.{from}

@@ -1,5 +1,4 @@
--- Each list stands in the order of its keys, and has what it had.
--- Sorting says so.
+-- Each list is sorted by key, with the same elements.
 use Rattle.std.proofs.Common.{rules, of_calls, refl}
 use Rattle.std.specs.Ordering.{is_lt, nat_cmp}
 use Rattle.std.specs.Cmp.Lexicographic.{slice_cmp}

@@ -1,5 +1,4 @@
--- The desk between the permits and the fetches.
--- It is as the first part leaves it.
+-- Between the permits and the fetches the desk is as the first part leaves it.
 use Rattle.std.proofs.Common.{subst}
 use Rattle.gate_lock.specs.Bags.{FinishesEach, ReturnsEach}
 use Rattle.gate_lock.proofs.bag.Bag.end.Goals as goal

@@ -1,5 +1,4 @@
--- The fetch that was taken out is of the desk, and so are those that are left.
--- The lemma `less` of `Holding` says so.
+-- The fetch taken out and the fetches left are of the desk.
 use Rattle.std.proofs.Common.{sym, ap, ◌∙◌, length, arith}
 use Rattle.gate_lock.specs.Bags.{kept_in}
 use Rattle.gate_lock.specs.Desks.{Run}

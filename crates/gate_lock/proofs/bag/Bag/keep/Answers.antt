@@ -1,5 +1,4 @@
--- The permit that was put in is of the desk, and so are the others.
--- The lemma `more` of `Holding` says so.
+-- The permit put in and the other permits are of the desk.
 use Rattle.std.proofs.Common.{rules, sym, ap, ◌∙◌, length, arith}
 use Rattle.gate_lock.specs.Bags.{kept_in}
 use Rattle.gate_lock.specs.Desks.{Pass}

@@ -1,5 +1,4 @@
--- The permit that was taken out is the one of this number, token and URL, and becomes a fetch or is spent.
--- The lemmas of `Holding` say what is held then.
+-- The permit that was taken out has this number, token and URL; it becomes a fetch or is spent.
 use Rattle.std.proofs.Common.{◌≡◌, ◌==◌, ◌&&◌, true, ◌∷◌, sym, ap, ◌∙◌, length, subst, IfSome, Ok, Err, IsPermutation, arith}
 use Rattle.std.specs.Str.{bytes_eq}
 use Rattle.gate_lock.specs.Bags.{kept_in, pass_of}

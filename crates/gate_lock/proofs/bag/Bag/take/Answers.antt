@@ -1,5 +1,4 @@
--- The permit that was taken out is of the desk, and so are those that are left.
--- The lemma `less` of `Holding` says so.
+-- The permit taken out and the permits left are of the desk.
 use Rattle.std.proofs.Common.{◌∙◌, ap, length, arith}
 use Rattle.gate_lock.specs.Bags.{kept_in}
 use Rattle.gate_lock.specs.Desks.{Pass}

@@ -1,5 +1,4 @@
--- The permit that is kept at the spot is one of the bag's, of the number that was sought.
--- The lemma `kept_passes` of `Keeping` says so.
+-- The permit at the spot is in the bag and has the number sought.
 use Rattle.std.proofs.Common.{◌≡◌, ◌==◌, ◌&&◌, Bool, true, refl, sym, subst, ◌∙◌, IfSome}
 use Rattle.std.specs.List.{list_any}
 use Rattle.std.specs.Str.{bytes_eq}

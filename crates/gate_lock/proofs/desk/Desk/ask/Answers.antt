@@ -1,5 +1,4 @@
--- An ask for whose texts memory was refused.
--- The lemma `refused` of `Replying` says what it is answered.
+-- An ask for whose texts memory ran out.
 use Rattle.std.proofs.Common.{rules}
 use Rattle.gate_lock.proofs.Replying.{refused}
 use Rattle.gate_lock.proofs.desk.Desk.ask.Goals as goal

@@ -1,5 +1,4 @@
--- The permit that was granted, and its mark; or a refusal without an entry.
--- The lemmas of `Replying` say so of the mark and of the latter; each other part is found by itself.
+-- The granted permit and its mark, or a refusal without an entry.
 use Rattle.std.proofs.Common.{◌∙◌, rules, arith}
 use Rattle.std.proofs.lemmas.Grind.{common_steps}
 use Rattle.gate_lock.proofs.Starts.{starts_in_push}

@@ -1,4 +1,4 @@
--- The turn that was begun is one more that must be spent, and there is room for its marks.
+-- The new turn must be spent; there is room for its marks.
 use Rattle.std.proofs.Common.{arith, rules}
 use Rattle.std.proofs.lemmas.Grind.{common_steps}
 use Rattle.gate_lock.proofs.Starts.{starts_in_push}

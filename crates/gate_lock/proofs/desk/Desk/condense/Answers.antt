@@ -1,5 +1,4 @@
--- As many marks are kept, one way or the other.
--- The lemmas of `Condensing` say so.
+-- The number of marks stays.
 use Rattle.std.proofs.Common.{◌≤◌, map, take, refl, ap, sym, ◌∙◌, arith, rules}
 use Rattle.gate_lock.specs.Marks.{AreSealed, SealedView, sealed_with}
 use Rattle.gate_lock.specs.Desks.{DeskView}

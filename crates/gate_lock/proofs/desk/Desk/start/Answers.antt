@@ -1,5 +1,4 @@
--- A permit that stands is not denied as spent.
--- The lemma `not_spent` says so of the second way.
+-- A good permit is not denied as spent.
 use Rattle.gate_lock.proofs.Denying.{not_spent}
 use Rattle.gate_lock.proofs.desk.Desk.start.Goals as goal
 

@@ -1,5 +1,4 @@
 -- The start, its entry, and its mark.
--- Each part is found by itself.
 use Rattle.std.proofs.Common.{rules, arith}
 use Rattle.std.proofs.lemmas.Grind.{common_steps}
 use Rattle.gate_lock.proofs.desk.Desk.start_in.Goals as goal

@@ -1,4 +1,4 @@
--- What is left of the marks agrees exactly where all of them do.
+-- The remaining marks agree exactly if all do.
 use Rattle.std.proofs.Common.{◌↔◌, length}
 use Rattle.gate_lock.specs.Settling.{Agrees}
 use Rattle.gate_lock.proofs.receipts.Receipts.agrees.Given as goal

@@ -1,5 +1,4 @@
 -- The entry ends what the share counted.
--- The lemmas of `Counting` say so.
 use Rattle.std.proofs.Common.{ap}
 use Rattle.gate_history.specs.declared.entry.Entry.TheVariants.{Finished}
 use Rattle.gate_core.specs.Gate.{history}

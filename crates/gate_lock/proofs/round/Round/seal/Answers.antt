@@ -1,5 +1,4 @@
--- A seal leaves what is counted as it was, but for what is handed out, which is all that was sealed.
--- The lemmas of `Counting` say so.
+-- A seal changes nothing that is counted except what is handed out, which is all that was sealed.
 use Rattle.std.proofs.Common.{◌+◌, ℕ, length, sym, ap, ◌∙◌, subst, arith}
 use Rattle.std.specs.Prelude.{Ok}
 use Rattle.gate_core.specs.Gate.{history}

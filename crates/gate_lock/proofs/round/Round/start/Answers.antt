@@ -1,5 +1,4 @@
 -- The start is an entry, and moves the permit or ends it.
--- The lemmas of `Counting` and `Replying` say so.
 use Rattle.std.proofs.Common.{◌≡◌, true, sym, ap, subst, ◌∙◌}
 use Rattle.gate_history.specs.declared.entry.Entry.TheVariants.{StartDenied, Started}
 use Rattle.gate_history.specs.Outstanding.{stands}

@@ -1,5 +1,4 @@
 -- Nothing is kept in either part.
--- The lemmas of `Keeping` say so.
 use Rattle.std.proofs.Common.{sym, ap, ◌∙◌, length}
 use Rattle.gate_lock.specs.Bags.{kept_in}
 use Rattle.gate_lock.proofs.Keeping.{none_first, none_twin}

@@ -1,5 +1,4 @@
--- The first of the number is looked at, and then the others.
--- The lemmas of `Keeping` say what is not among the first ones.
+-- The first value of the number is tested, then the twins.
 use Rattle.std.proofs.Common.{◌≡◌, false, true, sym, subst, ◌∙◌, IfSome, IsSome, slice_get, rules}
 use Rattle.std.specs.List.{list_any}
 use Rattle.gate_lock.specs.Bags.{is_sought, kept_in}

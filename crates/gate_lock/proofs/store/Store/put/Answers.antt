@@ -1,5 +1,4 @@
--- A new number is the last of the first ones, and one that is there already is the last twin.
--- The lemmas of `Keeping` say what is kept then.
+-- A new number is appended to the first ones, a known one to the twins.
 use Rattle.std.proofs.Common.{◌≡◌, eqb, ◌++◌, ◌∷◌, sym, subst, ◌∙◌, IsPermutation, All}
 use Rattle.std.proofs.lemmas.List.Elements.{All-push}
 use Rattle.std.specs.Map.{values_of}

@@ -1,5 +1,4 @@
 -- What is taken out, from the first ones or from the twins.
--- The lemmas of `Keeping` say what is left.
 use Rattle.std.proofs.Common.{◌++◌, ◌∷◌, length, slice_get, IsSome, refl, sym, ap, subst, ◌∙◌, IsPermutation}
 use Rattle.std.proofs.lemmas.Option.{slice_get_read}
 use Rattle.std.specs.Map.{values_of}

@@ -1,4 +1,4 @@
--- Nothing is out between two rounds.
+-- Nothing is outstanding between two rounds.
 use Rattle.std.proofs.Common.{◌≡◌}
 use Rattle.gate_lock.specs.Desks.{out_of}
 use Rattle.gate_tests.proofs.tests.desk_calls.rounds.Given as goal

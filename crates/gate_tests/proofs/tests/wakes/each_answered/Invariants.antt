@@ -1,4 +1,4 @@
--- Nothing is out between two authorities.
+-- Nothing is outstanding between two authorities.
 use Rattle.std.proofs.Common.{◌≡◌}
 use Rattle.gate_lock.specs.Desks.{out_of}
 use Rattle.gate_tests.proofs.tests.wakes.each_answered.Given as goal

@@ -1,5 +1,5 @@
 -- The last fault was one of a fetch.
--- The proof of `fetch_by_tls` rests on it.
+-- Used by `fetch_by_tls`.
 use Rattle.std.specs.Prelude.{None, Err}
 use Rattle.http_wire.specs.Response.{Tells}
 use Rattle.http_client.proofs.tcp_client.TcpClient.fetch_by_tls.Given as goal

@@ -1,4 +1,4 @@
--- The octets of a connection are nobody's to know, so the exchange tells what some octets give.
+-- A connection's octets are unknown, so the exchange's result is that of some octets.
 use Rattle.http_client.proofs.Exchanges.{exchange_tells}
 use Rattle.http_client.proofs.tcp_client.TcpClient.fetch_straight.Goals as goal
 

@@ -1,5 +1,4 @@
--- What the last look tells of the bytes is told of the whole input.
--- The lemmas of `BodyLooks` say so.
+-- What the last look finds in the bytes holds of the whole input.
 use Rattle.std.proofs.Common.{sym, subst}
 use Rattle.http_wire.specs.Reading.{TellsBody}
 use Rattle.http_wire.specs.Seeing.{framing_in}

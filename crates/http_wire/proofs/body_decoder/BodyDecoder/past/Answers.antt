@@ -1,5 +1,4 @@
--- What the last look tells of the bytes is told of all that follow too.
--- The lemmas of `BodyLooks` say so.
+-- What the last look finds in the bytes holds whatever follows.
 use Rattle.std.proofs.Common.{arith, refl}
 use Rattle.http_wire.proofs.BodyLooks.{given_past, open_past, full_past}
 use Rattle.http_wire.proofs.body_decoder.BodyDecoder.past.Goals as goal

@@ -1,5 +1,4 @@
--- The decoder stands for the octets at each step, and each step moves its place on.
--- The proof of `look` rests on it.
+-- The decoder's state agrees with the octets at each step, and each step moves on.
 use Rattle.std.proofs.Common.{◌-◌, length}
 use Rattle.http_wire.specs.Decoding.{KeepsBounds, Stands}
 use Rattle.http_wire.proofs.chunked.ChunkDecoder.look.Given as goal

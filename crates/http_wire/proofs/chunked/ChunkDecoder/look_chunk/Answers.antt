@@ -1,5 +1,4 @@
--- A chunk of which a part stands there is open, and one with no end behind it is bad.
--- The lemmas of `ChunkPlaces` say so over plain lists.
+-- A partial chunk can go on; one without an end is bad.
 use Rattle.std.proofs.Common.{◌<◌, ◌≤◌, arith, ap, length, drop}
 use Rattle.std.proofs.lemmas.List.{take_rest}
 use Rattle.http_wire.specs.declared.chunked.ChunkState.TheVariants as places

@@ -1,5 +1,4 @@
--- What the trailers tell is told of the body.
--- The lemma `end_decodes` says so over plain lists.
+-- The trailers decide the body.
 use Rattle.std.proofs.Common.{subst}
 use Rattle.std.proofs.lemmas.List.{take_rest}
 use Rattle.http_wire.specs.Decoding.{TrailersTell}

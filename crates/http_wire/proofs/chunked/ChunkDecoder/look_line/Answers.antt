@@ -1,5 +1,4 @@
--- A chunk line that was read moves the place behind it.
--- The lemmas of `ChunkPlaces` and `ChunkMoves` say so over plain lists.
+-- A chunk line moves the place past it.
 use Rattle.std.proofs.Common.{◌<◌, arith, sym, ap, ◌∙◌}
 use Rattle.http_wire.specs.declared.chunked.ChunkState.TheVariants as places
 use Rattle.http_wire.proofs.ChunkPlaces.{line_read, line_last}

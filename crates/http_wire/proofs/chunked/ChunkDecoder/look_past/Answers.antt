@@ -1,5 +1,4 @@
--- With the octet after the last that there is room for, the body is cut.
--- The lemmas of `ChunkPlaces` say so over plain lists.
+-- The octet past the room cuts the body.
 use Rattle.std.proofs.Common.{◌≡◌, ◌<◌, ◌≤◌, ◌+◌, ◌++◌, arith, ap, subst, sym, ◌∙◌, length, drop, take}
 use Rattle.std.proofs.lemmas.List.{take_rest}
 use Rattle.http_wire.specs.declared.chunked.ChunkState.TheVariants as places

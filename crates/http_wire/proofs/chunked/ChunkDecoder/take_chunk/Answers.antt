@@ -1,5 +1,4 @@
--- A chunk that stands whole moves the place behind it, and its octets are kept.
--- The lemmas of `ChunkPlaces` and `ChunkMoves` say so over plain lists.
+-- A whole chunk moves the place past it, and its octets are kept.
 use Rattle.std.proofs.Common.{◌≡◌, ◌≤◌, ◌+◌, ◌++◌, arith, ap, subst, sym, ◌∙◌, length, drop, take, length-append}
 use Rattle.std.proofs.lemmas.List.{take_rest, length-drop, drop-drop}
 use Rattle.httparse.specs.Ascii.{crlf_bytes}

@@ -1,4 +1,4 @@
--- The finder stands behind interim heads, each of which brings it on.
+-- The finder is after interim heads, each of which moves it on.
 use Rattle.std.proofs.Common.{◌-◌}
 use Rattle.http_wire.specs.Finding.{Passes}
 use Rattle.http_wire.specs.Limits.{max_interim_heads}

@@ -1,4 +1,4 @@
--- What the parser tells of the octets that have come.
+-- What the parser finds in the octets received.
 use Rattle.std.proofs.Common.{◌<◌, length, refl, length-take, drop, ap, sym, ◌∙◌, arith}
 use Rattle.std.proofs.lemmas.Bool.{false≢true}
 use Rattle.http_wire.specs.Limits.{max_head}

@@ -1,4 +1,4 @@
--- What a head's status tells.
+-- The class of a head's status.
 use Rattle.std.proofs.Common.{◌+◌, List, ℕ, take, map, refl, subst, arith}
 use Rattle.httparse.specs.Spans.{header_bytes}
 use Rattle.http_wire.specs.Finding.{IsHeadAt, IsPlan, HasNoPlan, Faults}

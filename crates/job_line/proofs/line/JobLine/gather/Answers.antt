@@ -1,4 +1,4 @@
--- The rule is kept as the seats are taken in, and who has all parts has all lists.
+-- Taking in seats keeps the rule, and all parts together have all lists.
 -- Used by `JobLine::gather`.
 use Rattle.std.proofs.Common.{Vec, Global, ℕ, ◌≡◌, ◌∙◌, List, [], ◌∷◌, ◌++◌, length, length-append, append_assoc, append-nil, ap, sym, refl, subst, arith}
 use Rattle.std.specs.Prelude.{All, map}

@@ -1,4 +1,4 @@
--- The seats so far have a part each and have drawn nothing, and the last one has the others.
+-- The seats so far have a part each without draws, and the last one has the rest.
 -- Used by `JobLine::of_sites`.
 use Rattle.std.proofs.Common.{◌≡◌, ◌≤◌, ◌+◌, [], false, length, replicate}
 use Rattle.std.specs.Prelude.{All, vec_len, vec_capacity}

@@ -1,4 +1,4 @@
--- Where the sync fails, all octets are a front of themselves.
+-- If the sync fails, all octets are a prefix of themselves.
 use Rattle.std.proofs.Common.{subst, sym}
 use Rattle.journal_tape.specs.Journal.{Writes}
 use Rattle.journal_tape.proofs.Failing.{written_then_fails}

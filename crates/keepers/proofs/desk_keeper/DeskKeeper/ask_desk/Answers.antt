@@ -1,5 +1,4 @@
--- Where the bag has room it keeps the permit, so that none is given back.
--- What the desk refuses the keeper does, by the lemma `refused` of `Refusing`.
+-- If the bag has room it keeps the permit, so none is given back.
 use Rattle.std.proofs.Common.{◌≡◌, ◌∙◌, ℕ, ◌<◌, Result, Err, subst, sym, rules}
 use Rattle.std.proofs.lemmas.Bool.{false≢true}
 use Rattle.gate_core.specs.declared.refusal.AskRefusal.{AskRefusal}

@@ -1,4 +1,4 @@
--- One round more is a sweep at the next reading, or none.
+-- One more round is a sweep at the next reading, or none.
 -- By the lemma `one_gone` of `Rounds`.
 use Rattle.std.proofs.Common.{rules}
 use Rattle.line_server.proofs.Rounds.{one_gone}

@@ -1,5 +1,5 @@
--- The desk keeps its number, has out what it had, and has swept at readings of the clock.
--- The proof of `Server::go_round` rests on it.
+-- The desk keeps its number and its permits, and has swept at the clock's readings.
+-- Used by `Server::go_round`.
 use Rattle.std.proofs.Common.{◌≡◌}
 use Rattle.gate_lock.specs.Desks.{KeepsOut}
 use Rattle.line_server.proofs.Rounds.{HasGone}

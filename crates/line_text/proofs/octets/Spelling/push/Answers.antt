@@ -1,4 +1,4 @@
--- The octets before a fault, and a part of the one at it, are a part of all.
+-- A prefix of the octets is a prefix of the text.
 use Rattle.std.proofs.Common.{◌≡◌, ℕ, true, List, [], ◌∷◌, flat_map, refl, sym, ap, ◌∙◌, arith}
 use Rattle.std.specs.List.{list_all}
 use Rattle.std.specs.Char.{to_ascii_lowercase}

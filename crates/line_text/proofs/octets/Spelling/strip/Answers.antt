@@ -1,4 +1,4 @@
--- Where an octet is not found, the octets are no front of the text.
+-- If an octet is not found, the text does not begin with the octets.
 use Rattle.line_text.specs.Escapes.{spelled_octet}
 use Rattle.line_text.proofs.Stripping.{row_lacks}
 use Rattle.line_text.proofs.octets.Spelling.strip.Goals as goal

@@ -1,4 +1,4 @@
--- The octets so far stand in front of the rest.
+-- The octets so far precede the rest.
 use Rattle.std.proofs.Common.{◌≡◌, ◌++◌, take, flat_map}
 use Rattle.line_text.specs.Escapes.{spelled_octet}
 use Rattle.line_text.proofs.octets.Spelling.strip.Given as goal

@@ -1,4 +1,4 @@
--- How many words were counted, beside those that are left.
+-- The counted words, and those that are left.
 use Rattle.std.proofs.Common.{◌≡◌, ◌+◌, length}
 use Rattle.line_text.specs.Words.{words_left}
 use Rattle.line_text.proofs.words.Words.count_is_within.Given as goal

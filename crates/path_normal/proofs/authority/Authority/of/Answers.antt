@@ -1,5 +1,4 @@
--- The authority of a page is one that reads as itself.
--- Used by `Authority::of`.
+-- A page's authority reads as itself.
 use Rattle.std.proofs.Common.{◌∙◌, sym, subst}
 use Rattle.path_normal.specs.Authority.{IsAuthority}
 use Rattle.path_normal.proofs.AuthorityLemmas.{authority_is}

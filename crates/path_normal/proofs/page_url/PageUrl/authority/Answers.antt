@@ -1,5 +1,4 @@
--- What stands before the stored end of the host is the authority, where the scheme is `https`.
--- Used by `PageUrl::authority`.
+-- For `https`, the text before the stored end of the host is the authority.
 use Rattle.std.proofs.Common.{◌∙◌, ap, sym}
 use Rattle.std.specs.Prelude.{slice_range}
 use Rattle.path_normal.specs.PageText.{authority_of, host_of, is_https, named}

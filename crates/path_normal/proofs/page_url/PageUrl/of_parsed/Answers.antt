@@ -1,5 +1,4 @@
--- What has no fault is a page, and has the parts of the URL.
--- Used by `PageUrl::of_parsed`.
+-- A text without a fault is a page with the URL's parts.
 use Rattle.std.proofs.Common.{◌∙◌, sym, ap, subst, IsAscii}
 use Rattle.path_normal.specs.Normal.{normal_path}
 use Rattle.path_normal.specs.PageText.{host_start}

@@ -1,5 +1,4 @@
--- A plain URL is a page, which splits where its host ends.
--- The lemmas of `PlainLemmas` say so.
+-- A plain URL is a page, which splits at the end of its host.
 use Rattle.std.proofs.Common.{◌≡◌, ◌+◌, ◌∙◌, List, ℕ, sym, ap, subst, length}
 use Rattle.path_normal.specs.Normal.{normal_path}
 use Rattle.path_normal.specs.PageText.{host_of, host_start, target_of}

@@ -1,5 +1,4 @@
--- The text is the URL of a page, and the path is in normal form.
--- Used by `PageUrl::of_robots`.
+-- The text is a page URL, and the path is in normal form.
 use Rattle.std.proofs.Common.{◌∙◌, ◌-◌, length, sym, ap, subst}
 use Rattle.path_normal.specs.Normal.{normal_path}
 use Rattle.path_normal.specs.PageText.{authority_of, host_start}

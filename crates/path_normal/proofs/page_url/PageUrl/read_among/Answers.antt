@@ -1,5 +1,4 @@
--- A plain URL reads as itself, and has the parts that the parser finds.
--- The lemma `plain_parsed` of `PlainLemmas` says so.
+-- A plain URL reads as itself, with the parser's parts.
 use Rattle.std.proofs.Common.{◌≡◌, ◌≤◌, ◌∙◌, ℕ, List, None, Ok, length, sym, subst, arith}
 use Rattle.std.proofs.lemmas.Bool.Decides.{nat_tests}
 use Rattle.url.specs.Parser.{parse_url}

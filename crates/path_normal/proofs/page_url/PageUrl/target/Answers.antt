@@ -1,5 +1,4 @@
--- What follows the stored end of the host is the target.
--- Used by `PageUrl::target`.
+-- The text after the stored end of the host is the target.
 use Rattle.std.proofs.Common.{◌∙◌, ap, drop}
 use Rattle.path_normal.proofs.PageLemmas.{target_at}
 use Rattle.path_normal.proofs.page_url.PageUrl.target.Goals as goal

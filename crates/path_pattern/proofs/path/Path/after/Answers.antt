@@ -1,5 +1,4 @@
 -- What follows the first place of the literal.
--- The lemmas of `PlaceLemmas` say so.
 use Rattle.std.proofs.Common.{◌≡◌, ◌+◌, ◌-◌, ◌≤◌, ap, arith, drop, length, subst, sym}
 use Rattle.std.specs.Prelude.{MatchOption}
 use Rattle.path_pattern.specs.Literals.{IsAfterFirst, StandsNowhere}

@@ -1,5 +1,4 @@
--- The text is what is seen of the path.
--- Used by `Path::first`.
+-- The text is the path's view.
 use Rattle.std.proofs.Common.{subst}
 use Rattle.memchr.specs.Find.{FindsNeedle}
 use Rattle.path_pattern.proofs.path.Path.first.Goals as goal

@@ -1,5 +1,4 @@
 -- No literal is kept, and none has marks.
--- Used by `Path::with`.
 use Rattle.std.proofs.Common.{refl, subst, sym, arith}
 use Rattle.std.proofs.lemmas.List.Elements.{All-replicate}
 use Rattle.path_pattern.specs.Kept.{IsKept, IsMarked}

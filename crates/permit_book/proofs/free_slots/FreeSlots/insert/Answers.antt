@@ -1,4 +1,4 @@
--- The bits of all three levels are set, so each sums up the one below it.
+-- The bits of all three levels are set, so each level summarizes the one below.
 use Rattle.std.proofs.Common.{◌/◌, rules}
 use Rattle.std.proofs.lemmas.List.{with_items_is}
 use Rattle.permit_book.specs.Bits.{KeepsOthers, SetsBit}

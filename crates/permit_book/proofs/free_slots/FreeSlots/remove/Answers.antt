@@ -1,4 +1,4 @@
--- A bit is cleared, and each level above looks at the word below that may have lost its last bit.
+-- A bit is cleared, and each level above checks whether the word below it is now 0.
 use Rattle.std.proofs.Common.{◌/◌, rules}
 use Rattle.std.proofs.lemmas.List.{with_items_is}
 use Rattle.permit_book.specs.Bits.{KeepsEmpty, KeepsOthers, SumsUp}

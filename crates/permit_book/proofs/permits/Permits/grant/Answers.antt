@@ -1,4 +1,4 @@
--- The slot was free: nothing was out in it.
+-- The slot was free: it had nothing outstanding.
 use Rattle.std.proofs.Common.{◌≡◌, ◌+◌, true, sym, subst, arith}
 use Rattle.permit_book.specs.declared.out.Slot.{Slot}
 use Rattle.permit_book.specs.Numbers.{slot_of}

@@ -1,4 +1,4 @@
--- Nothing is out in the slot, which is free unless its last generation was granted.
+-- The slot is idle, and free unless its last generation was granted.
 use Rattle.std.proofs.Common.{◌≡◌, ◌<◌, true, length, refl, sym, ap, subst, ◌∙◌, arith}
 use Rattle.std.proofs.lemmas.List.{get_or_read}
 use Rattle.permit_book.specs.declared.out.Slot.{Slot}

@@ -1,5 +1,5 @@
 -- Each slot has its permit at the stage listed once.
--- The lemmas of `ListedPermits` say so.
+-- By the lemmas of `ListedPermits`.
 use Rattle.std.proofs.Common.{◌≡◌, ◌+◌, ◌++◌, ◌<◌, ◌≤◌, List, filter, get_or, length, take, sym, ap, subst, ◌∙◌, arith}
 use Rattle.std.proofs.lemmas.List.{get_or_read, take_all}
 use Rattle.permit_book.specs.declared.granted_permit.GrantedPermit.{GrantedPermit}

@@ -1,4 +1,4 @@
--- An unspent permit was out in the slot, and its fetch runs there now.
+-- The slot had an unspent permit, whose fetch runs now.
 use Rattle.std.proofs.Common.{◌≡◌, ◌+◌, ◌-◌, true, refl, sym, subst, arith}
 use Rattle.std.proofs.lemmas.List.{get_or_read}
 use Rattle.permit_book.specs.declared.out.Slot.{Slot}

@@ -1,4 +1,4 @@
--- All slots are free, and nothing is out.
+-- All slots are free.
 use Rattle.permit_book.proofs.TableLaws.{IsKept-new}
 use Rattle.permit_book.proofs.permits.Permits.with_slots.Goals as goal
 

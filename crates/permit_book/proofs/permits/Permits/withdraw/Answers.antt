@@ -1,4 +1,4 @@
--- An unspent permit was out in the slot.
+-- The slot had an unspent permit.
 use Rattle.std.proofs.Common.{◌≡◌, ◌-◌, true, sym, subst, arith, rules}
 use Rattle.std.proofs.lemmas.List.{with_items_is}
 use Rattle.permit_book.specs.Numbers.{slot_of}

@@ -1,5 +1,5 @@
--- The line that decides stands among the rules, and the one at its place gives the verdict.
--- The lemmas of `Judging` say so.
+-- The winning line is among the rules, and the one at its place gives the verdict.
+-- By `Judging`.
 use Rattle.std.proofs.Common.{map, subst}
 use Rattle.path_normal.specs.Normal.{normal_path}
 use Rattle.path_normal.specs.PageText.{target_of}

@@ -3,7 +3,7 @@ use Rattle.robots_text.specs.Left.{records_left}
 use Rattle.robots_text.specs.Walk.{rules_left}
 use Rattle.robots_text.proofs.groups.RulesForIterator.next.Given as goal
 
--- what is left stays, as long as no rule comes
+-- what is left stays until a rule comes
 abbrev pub invariant-loop-record : goal.invariant-loop-record
 invariant-loop-record l = rules_left l.self ≡ rules_left l.initial.self
 

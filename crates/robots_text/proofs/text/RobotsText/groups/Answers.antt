@@ -1,5 +1,4 @@
--- The records with their groups are no more than the octets, and what they name lies in the text once.
--- The lemmas of `Bounds` say so.
+-- There are at most as many records as octets, which name each part of the text once.
 use Rattle.std.proofs.Common.{◌≤◌, true, false, All, List, length, sym, ap, ◌∙◌, subst, arith}
 use Rattle.robots_text.specs.Grouped.{Grouped, IsWithin, grouped_from, values_octets}
 use Rattle.robots_text.specs.Lines.{lines_from, text_limit}

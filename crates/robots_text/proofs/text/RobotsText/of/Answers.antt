@@ -1,4 +1,4 @@
--- What is kept of a body is its front.
+-- A body's prefix is kept.
 use Rattle.std.proofs.Common.{List, ℕ, length, take, ap, ◌∙◌}
 use Rattle.robots_text.specs.Lines.{kept}
 use Rattle.robots_text.proofs.KeptLaws.{kept_taken}

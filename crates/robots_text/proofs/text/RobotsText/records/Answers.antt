@@ -1,5 +1,4 @@
 -- There are no more records than octets.
--- The lemma `few_records` says so.
 use Rattle.std.proofs.Common.{◌≤◌, length, sym, subst, arith}
 use Rattle.robots_text.specs.Lines.{text_limit}
 use Rattle.robots_text.specs.Records.{Numbered}

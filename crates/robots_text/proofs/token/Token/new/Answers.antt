@@ -1,5 +1,4 @@
--- The text that is kept is UTF-8 and reads as itself.
--- Used by `Token::new`.
+-- The kept text is UTF-8 and reads as itself.
 use Rattle.std.proofs.Common.{rules, ◌≡◌, Some, List, ℕ, true, true≢false, ap, sym, subst, ◌∙◌}
 use Rattle.std.specs.Str.{IsUtf8}
 use Rattle.robots_text.specs.Token.{is_token, token_of}

@@ -1,5 +1,4 @@
--- The names that are the token stand side by side.
--- Used by `Heads::groups_for`.
+-- The names equal to the token are adjacent.
 use Rattle.std.proofs.Common.{rules, of_calls, [], ◌∷◌, ◌≡◌, ◌<◌, ◌≤◌, ◌-◌, ℕ, true, false, not, List, length, map, drop, take, Contains, sym, ap, ◌∙◌, subst, refl, arith}
 use Rattle.std.specs.Prelude.{◌↔◌}
 use Rattle.std.specs.List.Sorted.{IsNonDecreasing, IsPartitionPoint, IsSortedBy}
@@ -14,7 +13,6 @@ use Rattle.robots_verdict.specs.Placed.{NamedGroup, Names}
 use Rattle.robots_verdict.proofs.HeadLemmas.{before_falls, behind_falls, choose, has_run, IsRun, no_run, partitioned_kept, point_seen, run_groups, run_of, run_rises}
 use Rattle.robots_verdict.proofs.heads.Heads.groups_for.Goals as goal
 
--- the literal of the token among the names, as both searches find it
 run : (names : List Name) (token : List ℕ) (low high : ℕ) → low ≤ length names → high ≤ length names →
     IsPartitionPoint (λ (n : Name). is_lt (slice_cmp nat_cmp n.text.items token) ≡ true) (λ (n : Name). is_lt (slice_cmp nat_cmp n.text.items token) ≡ false) names low →
     IsPartitionPoint (λ (n : Name). not (is_gt (slice_cmp nat_cmp n.text.items token)) ≡ true) (λ (n : Name). not (is_gt (slice_cmp nat_cmp n.text.items token)) ≡ false) names high →
@@ -25,7 +23,6 @@ run names token low high low_fits fits lows highs =
     (point_seen name_seen (λ n. is_lt (slice_cmp nat_cmp n.name token)) names low low_fits lows)
     (point_seen name_seen (λ n. not (is_gt (slice_cmp nat_cmp n.name token))) names high fits highs)
 
--- the groups of the literal are those for the token
 found : (names : Names) (groups token : List ℕ) (low high : ℕ) → groups ≡ map (λ (n : NamedGroup). n.group) names.named → IsRun names.named token low high → low < high →
     (group : ℕ) → Contains (take (high - low) (drop low groups)) group ↔ IsGroupFor names token group
 found names groups token low high are run order group =
@@ -33,7 +30,6 @@ found names groups token low high are run order group =
     (λ _. run_groups names.named groups token low high are run group)
     (λ none. absurd (true≢false (sym (has_run names.named token low high run order) ∙ none)))
 
--- where the literal is empty, those of everybody are
 missing : (names : Names) (token : List ℕ) (low high : ℕ) → IsRun names.named token low high → high ≤ low →
     (group : ℕ) → Contains names.everybody group ↔ IsGroupFor names token group
 missing names token low high run order group =
@@ -41,7 +37,6 @@ missing names token low high run order group =
     (λ some. absurd (true≢false (sym some ∙ no_run (has_name names.named token) names.named token low high refl run order)))
     (λ _. (λ is. is, λ is. is))
 
--- the same of the names as both searches read them
 run_kept : (names one other : List Name) (token : List ℕ) (low high : ℕ) → one ≡ names → other ≡ names → low ≤ length one → high ≤ length other →
     IsPartitionPoint (λ (n : Name). is_lt (slice_cmp nat_cmp n.text.items token) ≡ true) (λ (n : Name). is_lt (slice_cmp nat_cmp n.text.items token) ≡ false) one low →
     IsPartitionPoint (λ (n : Name). not (is_gt (slice_cmp nat_cmp n.text.items token)) ≡ true) (λ (n : Name). not (is_gt (slice_cmp nat_cmp n.text.items token)) ≡ false) other high →

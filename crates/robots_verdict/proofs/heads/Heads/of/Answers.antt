@@ -1,5 +1,4 @@
--- The order of the names is that of what they are seen as.
--- Used by `Heads::of`.
+-- The names are sorted as what they are seen as.
 use Rattle.std.proofs.Common.{rules, of_calls, ℕ, List, map, ap, ◌∙◌}
 use Rattle.std.proofs.lemmas.Fn.{always_returns_same}
 use Rattle.std.proofs.lemmas.List.Sorted.{IsNonDecreasingBy-from_sort, IsPermutation-map, ranks_by}

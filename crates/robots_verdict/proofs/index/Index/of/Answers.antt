@@ -1,5 +1,4 @@
--- The rows are as few when they are in order.
--- Used by `Index::of`.
+-- Sorting keeps the number of rows.
 use Rattle.std.proofs.Common.{ap, arith, length}
 use Rattle.robots_verdict.specs.Placed.{Table}
 use Rattle.robots_verdict.proofs.index.Index.of.Goals as goal

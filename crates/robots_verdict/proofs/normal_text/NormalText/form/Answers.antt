@@ -1,5 +1,4 @@
--- A form that is kept is that of the line, and where none is the pattern is written so.
--- The lemmas of `Rewriting` say so.
+-- A kept form is the line's; without one the pattern is already normal.
 use Rattle.std.proofs.Common.{ℕ, List, map, Contains, ◌∙◌, sym, subst}
 use Rattle.std.specs.List.Sorted.{IsNonDecreasing}
 use Rattle.robots_text.specs.Groups.{record_ruled}

@@ -1,5 +1,4 @@
--- The best of the rules that the walk has passed is known.
--- Used by `NormalText::strongest`.
+-- The best of the rules passed is known.
 use Rattle.std.proofs.Common.{◌≡◌}
 use Rattle.robots_text.specs.Walk.{rules_left}
 use Rattle.robots_verdict.proofs.Walking.{IsWalked}

@@ -1,5 +1,4 @@
--- The first that matches, where nothing stronger was found before.
--- The lemmas of `OtherHits` say so.
+-- The first match, if nothing stronger was found before.
 use Rattle.std.proofs.Common.{◌≡◌, List, ℕ, sym, ◌∙◌, subst}
 use Rattle.std.proofs.lemmas.Bool.{true≢false}
 use Rattle.path_pattern.specs.Matches.{Matches}
@@ -9,7 +8,6 @@ use Rattle.robots_verdict.proofs.OtherHits.{at_end, at_hit, at_other_group, at_w
 use Rattle.robots_verdict.proofs.others.Others.least.Goals as goal
 use Rattle.robots_verdict.proofs.others.Others.least.Goals.{then-groups-index-via-then-groups-index, then-groups-index-via-else-groups-index+then-is_above}
 
--- the index in what the slices hold
 same_index : (rows : List Placed) (places places' groups groups' : List ℕ) → places ≡ places' → groups ≡ groups' → IsOtherIndex rows places' groups' → IsOtherIndex rows places groups
 same_index rows places places' groups groups' one other index =
     subst (λ (l : List ℕ). IsOtherIndex rows l groups) (sym one) (subst (IsOtherIndex rows places') (sym other) index)

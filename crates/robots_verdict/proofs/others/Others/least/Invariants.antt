@@ -1,5 +1,4 @@
 -- No row so far matches.
--- Used by `Others::least`.
 use Rattle.std.proofs.Common.{◌≡◌}
 use Rattle.robots_verdict.specs.Search.{IsPassed}
 use Rattle.robots_verdict.proofs.others.Others.least.Given as goal

@@ -1,5 +1,4 @@
 -- The places are put in order.
--- The lemmas of `Placing` and `OtherHits` say so.
 use Rattle.std.proofs.Common.{rules, of_calls, ℕ, false, length, ap, ◌∙◌}
 use Rattle.std.specs.Ordering.{is_lt}
 use Rattle.std.proofs.lemmas.Fn.{always_returns_same}

@@ -1,5 +1,4 @@
--- The last plain key that begins the group and the path is that of the strongest plain row.
--- The lemmas of `PlainHits` say so.
+-- The last plain key that is a prefix of the group and the path is the strongest plain row's.
 use Rattle.std.proofs.Common.{◌≡◌, ◌<◌, List, ℕ, get_or, sym, ap, ◌∙◌, subst, arith, length}
 use Rattle.std.specs.Prelude.{Some, slice_index}
 use Rattle.std.proofs.lemmas.List.{get_or_default}

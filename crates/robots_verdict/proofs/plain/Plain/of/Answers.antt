@@ -1,5 +1,4 @@
--- The places are put in order, and each gets its parent.
--- The lemmas of `Placing` say so.
+-- The places are sorted, and each gets its parent.
 use Rattle.std.proofs.Common.{List, ℕ, true, length, sym, ap, ◌∙◌, subst, arith}
 use Rattle.std.proofs.lemmas.List.Sorted.{length_permutation}
 use Rattle.robots_verdict.specs.Search.{AreParents, groups_at, IsPlainOrder}

@@ -1,5 +1,4 @@
 -- The first row that matches gives the verdict.
--- The lemma `policy_says` says so.
 use Rattle.std.proofs.Common.{◌∙◌, refl, sym, subst}
 use Rattle.robots_text.specs.Records.{numbered_records}
 use Rattle.robots_verdict.specs.Verdict.{IsVerdict}

@@ -1,5 +1,4 @@
--- One group more, or the last one again.
--- The lemmas of `Joining` say what is the least then.
+-- One more group, or the last one again.
 use Rattle.std.proofs.Common.{◌≡◌, ◌⊎◌, ◌+◌, ℕ, suc, List, ◌∷◌, [], ◌++◌, get_or, take, ap, sym, subst, ◌∙◌, arith}
 use Rattle.std.specs.Prelude.{Contains, IfSome, Option}
 use Rattle.std.proofs.Math.Seq.{take-suc}

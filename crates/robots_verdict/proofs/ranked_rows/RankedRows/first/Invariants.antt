@@ -1,5 +1,4 @@
--- What was found is the least of the groups so far, of which the last one is known.
--- Used by `RankedRows::first`.
+-- The least of the groups so far was found; the last group is known.
 use Rattle.std.proofs.Common.{◌≡◌, take}
 use Rattle.std.specs.Prelude.{Contains, IfSome}
 use Rattle.robots_verdict.specs.Index.{FindsLeast, IsHit}

@@ -1,5 +1,4 @@
 -- The least of the plain rows, then of the others.
--- The lemmas of `Joining` say so.
 use Rattle.std.proofs.Common.{subst}
 use Rattle.robots_verdict.specs.Index.{FindsLeast}
 use Rattle.robots_verdict.specs.Search.{IsPlainHit}

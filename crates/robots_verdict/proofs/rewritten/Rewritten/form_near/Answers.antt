@@ -1,5 +1,4 @@
--- What the search finds is the form of the line, and what it doesn't find is not there.
--- The lemma `found` of `Forms` says what it finds.
+-- The search finds the line's form exactly if there is one.
 use Rattle.std.proofs.Common.{rules, of_calls, map, ap, ◌∙◌, subst}
 use Rattle.std.specs.Prelude.{Err, Ok}
 use Rattle.std.specs.List.Sorted.{IsBinarySearchResult}

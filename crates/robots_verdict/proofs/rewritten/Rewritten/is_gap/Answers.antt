@@ -1,5 +1,4 @@
--- What is before and behind the place is so of all forms.
--- The lemma of `Forms` says so.
+-- What holds before and after the place holds of all forms.
 use Rattle.std.proofs.Common.{◌≡◌, ◌⊎◌, ◌∙◌, ◌-◌, ◌<◌, ◌≤◌, inl, inr, ap, arith, length, sym}
 use Rattle.std.proofs.lemmas.Bool.{leb-false, ltb-true}
 use Rattle.std.proofs.lemmas.List.{length-map}

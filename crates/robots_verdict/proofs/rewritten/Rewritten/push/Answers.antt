@@ -1,5 +1,4 @@
--- A form more, whose octets were appended.
--- Used by `Rewritten::push`.
+-- One more form, with its octets appended.
 use Rattle.std.proofs.Common.{◌++◌, ◌∷◌, [], All, List, ℕ, sym, ap, ◌∙◌, subst, arith}
 use Rattle.robots_verdict.specs.Rewritten.{Forms, HasOctets}
 use Rattle.robots_verdict.proofs.Forms.{form_pushed}

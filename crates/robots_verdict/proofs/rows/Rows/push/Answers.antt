@@ -1,5 +1,4 @@
--- A row more, of which the pattern's octets were appended.
--- Used by `Rows::push`.
+-- One more row, with its pattern's octets appended.
 use Rattle.std.proofs.Common.{◌≡◌, ◌-◌, ℕ, List, ◌++◌, ◌∷◌, [], ◌+◌, length, refl, ap, ◌∙◌, arith, length-append}
 use Rattle.path_normal.specs.Normal.{is_anchored, normal_pattern}
 use Rattle.path_normal.proofs.CallerLemmas.{pattern_small}
@@ -12,7 +11,6 @@ invariant_of-self c =
     there_more c.self.inside.octets.items c.push_normal_pattern.new.form.items c.self.inside.rows.items
     (omega (arith, c.self.inside.octets.ok.0, c.push_normal_pattern.new.form.ok.0, c.push_normal_pattern.ensures.grows)) c.self.invariant
 
--- how long the parts are
 grown : (octets form new : List ℕ) → new ≡ octets ++ form → length new ≡ length octets + length form
 grown octets form new is = ap length is ∙ length-append octets form
 

@@ -1,5 +1,4 @@
--- The order of the rows is that of their weights.
--- Used by `Rows::sort`.
+-- Rows are sorted by their weights.
 use Rattle.std.proofs.Common.{rules, of_calls, List, ap, subst}
 use Rattle.std.specs.List.Sorted.{IsPermutation}
 use Rattle.std.proofs.lemmas.Fn.{always_returns_same}

@@ -1,5 +1,4 @@
--- Each spare is one of the policy itself.
--- The invariant of `Rules` says so.
+-- Each spare is of the policy itself.
 use Rattle.std.proofs.Common.{ℕ, List, ap, ◌∙◌}
 use Rattle.robots_verdict.specs.Kept.{KeptRules}
 use Rattle.robots_verdict.proofs.rules.Rules.twin.Goals as goal

@@ -1,4 +1,4 @@
--- The desk must spend what it had to.
+-- The desk's unspent values stay.
 use Rattle.gate_lock.specs.Desks.{KeepsOut}
 use Rattle.worker_tests.proofs.tests.waits.await_turn.Given as goal
 
