@@ -29,7 +29,7 @@ use Rattle.crawl_audit.specs.Loading.{risen, with_numbers}
 use Rattle.crawl_audit.specs.NextBase.{Expects, TakesNextLine}
 use Rattle.history_text.specs.SpellBase.{base_lines}
 use Rattle.crawl_audit.specs.Steps.{among, inside, IsBaseFor, Place, start, Steps, TakesEntry, TakesLine}
-use Rattle.crawl_audit.specs.Tables.{EntersAll, MayCome, TellsAll}
+use Rattle.crawl_audit.specs.Tables.{EntersAll, EntersLegally, MayCome, TellsAll}
 use Rattle.crawl_audit.proofs.CountedLines.{entry_counted, in_base, IsUncounted, start_counted}
 use Rattle.crawl_audit.proofs.NextSaying.{risen_alike}
 use Rattle.crawl_audit.proofs.Spelling.{one_entry}
@@ -118,6 +118,16 @@ other_entry a v rising h n line d are is spelled unfit next takes =
     let is' = subst (λ (w : Version). IsEntry w d) are.version_is is in
     let same = one_entry v takes.entry d takes.spelled is' (sym takes.line_is ∙ spelled ∙ ap (λ w. entry_line w d) are.version_is) in
     unfit (subst (λ (r : Bool). MayCome r h d) (sym are.rising_is) (subst (MayCome rising h) same takes.may))
+
+-- the line of an entry that was refused leads nowhere, unless memory was refused
+pub refused_entry : (a : Auditor) (v : Version) (rising : Bool) (h : History) (n : ℕ) (line : List ℕ) (d : Entry) → AreEntries a v rising h n → IsEntry a.version d → line ≡ entry_line a.version d →
+    (r : Result (Unit {0}) UnreadLine) (cause : UnreadLine) → r ≡ Err cause → (entered : OpenState) (new : Auditor) → EntersLegally a.open_state h d (Err cause) entered → EntersLine v rising h n line a r new
+refused_entry a v rising h n line d are is spelled r cause same entered new legal =
+    subst (λ r. EntersLine v rising h n line a r new) (sym same) (by_cause cause legal)
+  where
+    by_cause : (cause : UnreadLine) → EntersLegally a.open_state h d (Err cause) entered → EntersLine v rising h n line a (Err cause) new
+    by_cause unread.NotOne unfit = other_entry a v rising h n line d are is spelled unfit
+    by_cause unread.NoMemory legal = tt
 
 -- ---- heads
 

@@ -19,8 +19,8 @@ use Rattle.crawl_audit.specs.declared.numbers.Numbers.{Numbers}
 use Rattle.crawl_audit.specs.declared.numbers.Phase.{Phase}
 use Rattle.crawl_audit.specs.declared.numbers.Phase.TheVariants.{Unspent, Running}
 use Rattle.crawl_audit.specs.declared.open_state.OpenState.{OpenState}
-use Rattle.crawl_audit.specs.declared.open_state.Unfit.{Unfit}
-use Rattle.crawl_audit.specs.declared.open_state.Unfit.TheVariants.{Illegal, NoMemory}
+use Rattle.crawl_audit.specs.declared.unread_line.UnreadLine.{UnreadLine}
+use Rattle.crawl_audit.specs.declared.unread_line.UnreadLine.TheVariants.{NoMemory, NotOne}
 
 -- the phase of each outstanding number
 abbrev pub Phases : Type 0
@@ -199,13 +199,13 @@ pub record EntersAll (rising : Bool) (h : History) (new : OpenState) : Type 0 wh
   pub still : new.numbers.rising ≡ rising
 
 -- the entry may come next and the tables have it, or it may not, or memory was refused
-abbrev pub FollowsLegally : OpenState → History → Entry → Result (Unit {0}) Unfit → OpenState → Type 0
+abbrev pub FollowsLegally : OpenState → History → Entry → Result (Unit {0}) UnreadLine → OpenState → Type 0
 FollowsLegally old h e (Ok _) new = MayCome old.numbers.rising h e × Enters old.numbers.rising (h ▸ e) new
-FollowsLegally old h e (Err Illegal) new = MayCome old.numbers.rising h e → ⊥
+FollowsLegally old h e (Err NotOne) new = MayCome old.numbers.rising h e → ⊥
 FollowsLegally old h e (Err NoMemory) new = Unit {0}
 
--- like `FollowsLegally`, for the tables and counts
-abbrev pub EntersLegally : OpenState → History → Entry → Result (Unit {0}) Unfit → OpenState → Type 0
+-- like `FollowsLegally`, for the tables and the counts
+abbrev pub EntersLegally : OpenState → History → Entry → Result Bool UnreadLine → OpenState → Type 0
 EntersLegally old h e (Ok _) new = MayCome old.numbers.rising h e × EntersAll old.numbers.rising (h ▸ e) new
-EntersLegally old h e (Err Illegal) new = MayCome old.numbers.rising h e → ⊥
+EntersLegally old h e (Err NotOne) new = MayCome old.numbers.rising h e → ⊥
 EntersLegally old h e (Err NoMemory) new = Unit {0}

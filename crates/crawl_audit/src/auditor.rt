@@ -12,7 +12,7 @@ ghost use Rattle.crawl_audit.specs.Steps.{MayEnd, Place, among, start};
 use crate::fault::{AuditFault, Audited};
 use crate::first_base::FirstBase;
 use crate::next_base::{BaseLine, NextBase};
-use crate::open_state::{OpenState, Unfit, is_start};
+use crate::open_state::OpenState;
 use crate::read::read_line;
 use crate::unread_line::UnreadLine;
 use counted_io::{LineEnd, LineReader, NextLine, ReadLineFault, Source};
@@ -242,16 +242,11 @@ impl Auditor {
             return Err(UnreadLine::NotOne);
         }
         let found = read_line(alloc, self.version, self.line.as_slice())?;
-        let start = is_start(&found);
-        match self.open_state.enter(found) {
-            Ok(()) => {}
-            Err(Unfit::Illegal) => return Err(UnreadLine::NotOne),
-            Err(Unfit::NoMemory) => return Err(UnreadLine::NoMemory),
-        }
+        let is_start = self.open_state.enter(found)?;
         self.stage = AuditState::Entries;
         self.count += 1;
         self.events = self.events.saturating_add(1);
-        if start {
+        if is_start {
             self.starts = self.starts.saturating_add(1);
         }
         Ok(())

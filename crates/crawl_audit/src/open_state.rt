@@ -1,6 +1,6 @@
 //! The open_state: what the entries so far say, in tables that judge the next entry.
 //! RFC 9309, sections 2.2.2, 2.3.1 and 2.4.
-ghost use Rattle.std.specs.Prelude.{◌≡◌, ◌+◌, ◌<◌, ◌↔◌, IsTrue, false};
+ghost use Rattle.std.specs.Prelude.{◌≡◌, ◌+◌, ◌<◌, ◌↔◌, IfOk, IsTrue, false};
 ghost use Rattle.robots_verdict.specs.Answer.{said};
 ghost use Rattle.authority_cache.specs.Lives.{life_of};
 ghost use Rattle.gate_history.specs.declared.entry.Entry.TheVariants.{AskDenied, Arrived, Begun, Finished, Granted, Returned, StartDenied, Started, Swept};
@@ -14,34 +14,15 @@ ghost use Rattle.gate_core.specs.Limits.{greatest_number};
 
 use crate::numbers::Numbers;
 use crate::record::Record;
+use crate::unread_line::UnreadLine;
 use authority_cache::{Cache, TimedAnswer, TurnNo};
 use gate_history::{Cause, Reason, decide};
 use history_text::Version;
 use path_normal::Authority;
 use permit_book::{Fetch, PermitNo};
 use robots_verdict::Answer;
-use std::alloc::{AllocError, Global};
+use std::alloc::Global;
 use std::hash::RandomState;
-
-/// Why an entry was refused.
-#[derive(Clone, Copy, PartialEq, Eq)]
-pub(crate) enum Unfit {
-    /// It is not legal after the entries before it.
-    Illegal,
-    /// Out of memory.
-    NoMemory,
-}
-
-impl From<AllocError> for Unfit {
-    ghost use Rattle.std.specs.Prelude.{◌≡◌};
-    ghost use Rattle.crawl_audit.specs.declared.open_state.Unfit.{Unfit};
-
-    ghost from_gives = { λ _ unfit. unfit ≡ Unfit.NoMemory };
-
-    fn from(_: AllocError) -> Unfit {
-        Unfit::NoMemory
-    }
-}
 
 /// What the entries so far say. Unusable after a refused entry.
 #[derive(Drop)]
@@ -72,26 +53,24 @@ impl OpenState {
         }
     }
 
-    /// Enters an entry, if it is legal after those so far.
-    pub(crate) fn enter(&mut self, found: Record) -> Result<(), Unfit>
+    /// Enters an entry, if it is legal after those so far, and returns whether it starts a fetch.
+    pub(crate) fn enter(&mut self, found: Record) -> Result<bool, UnreadLine>
         requires life { HasLife Version.Two (entry_of found) }
         requires room { self.old.entries < greatest_number }
-        ensures { (h : History) → IsLegal h → TellsAll self.old h
+        ensures enters { (h : History) → IsLegal h → TellsAll self.old h
             → EntersLegally self.old h (entry_of found) result self.new }
+        ensures start { IfOk result (λ starts. starts ≡ is_start (entry_of found)) }
     {
-        let start = is_start(&found);
-        match self.enter_open(found) {
-            Ok(()) => {}
-            Err(unfit) => return Err(unfit),
-        }
+        let is_start = is_start(&found);
+        self.enter_open(found)?;
         self.entries += 1;
-        if start {
+        if is_start {
             self.started = self.started.saturating_add(1);
         }
-        Ok(())
+        Ok(is_start)
     }
 
-    fn enter_open(&mut self, found: Record) -> Result<(), Unfit>
+    fn enter_open(&mut self, found: Record) -> Result<(), UnreadLine>
         requires { HasLife Version.Two (entry_of found) }
         ensures tells { (h : History) → IsLegal h → Tells self.old h
             → FollowsLegally self.old h (entry_of found) result self.new }
@@ -136,16 +115,21 @@ impl OpenState {
         }
     }
 
-    fn enter_begun(&mut self, moment: u64, authority: &Authority, turn: TurnNo) -> Result<(), Unfit>
+    fn enter_begun(
+        &mut self,
+        moment: u64,
+        authority: &Authority,
+        turn: TurnNo,
+    ) -> Result<(), UnreadLine>
         ensures tells { (h : History) → Tells self.old h
             → FollowsLegally self.old h (Begun moment authority.now turn) result self.new }
         ensures counts { KeepsCounts self.old self.new }
     {
         if moment < self.clock || self.cache.in_flight(authority.text()) || !self.is_next(turn) {
-            return Err(Unfit::Illegal);
+            return Err(UnreadLine::NotOne);
         }
         if self.cache.begin(authority, turn, moment).is_err() {
-            return Err(Unfit::NoMemory);
+            return Err(UnreadLine::NoMemory);
         }
         self.clock = moment;
         self.begins = turn.number();
@@ -165,7 +149,7 @@ impl OpenState {
         turn: TurnNo,
         answer: Answer,
         life: u64,
-    ) -> Result<(), Unfit>
+    ) -> Result<(), UnreadLine>
         requires { life_of (said answer) life ≡ life }
         ensures tells { (h : History) → IsLegal h → Tells self.old h
             → FollowsLegally self.old h (Arrived moment authority.now turn (said answer) life)
@@ -173,34 +157,44 @@ impl OpenState {
         ensures counts { KeepsCounts self.old self.new }
     {
         if moment < self.clock {
-            return Err(Unfit::Illegal);
+            return Err(UnreadLine::NotOne);
         }
         let brought = TimedAnswer::new(answer, life);
         if self.cache.arrive(authority, turn, brought).is_err() {
-            return Err(Unfit::Illegal);
+            return Err(UnreadLine::NotOne);
         }
         self.clock = moment;
         Ok(())
     }
 
-    fn enter_granted(&mut self, moment: u64, number: PermitNo, fetch: Fetch) -> Result<(), Unfit>
+    fn enter_granted(
+        &mut self,
+        moment: u64,
+        number: PermitNo,
+        fetch: Fetch,
+    ) -> Result<(), UnreadLine>
         ensures tells { (h : History) → Tells self.old h
             → FollowsLegally self.old h (Granted moment number fetch) result self.new }
         ensures counts { KeepsCounts self.old self.new }
     {
         if moment < self.clock || !self.numbers.is_new(number) {
-            return Err(Unfit::Illegal);
+            return Err(UnreadLine::NotOne);
         }
         self.cache.make_index(fetch.url.authority());
         if decide(&self.cache, &fetch.token, &fetch.url, None, moment).is_err() {
-            return Err(Unfit::Illegal);
+            return Err(UnreadLine::NotOne);
         }
         self.numbers.grant(number, fetch)?;
         self.clock = moment;
         Ok(())
     }
 
-    fn enter_ask_denied(&mut self, moment: u64, fetch: &Fetch, cause: Cause) -> Result<(), Unfit>
+    fn enter_ask_denied(
+        &mut self,
+        moment: u64,
+        fetch: &Fetch,
+        cause: Cause,
+    ) -> Result<(), UnreadLine>
         ensures tells { (h : History) → Tells self.old h
             → FollowsLegally self.old h (AskDenied moment fetch.now cause) result self.new }
         ensures counts { KeepsCounts self.old self.new }
@@ -208,19 +202,24 @@ impl OpenState {
         self.cache.make_index(fetch.url.authority());
         let decided = decide(&self.cache, &fetch.token, &fetch.url, None, moment);
         if moment < self.clock || !is_same(decided, Err(cause)) {
-            return Err(Unfit::Illegal);
+            return Err(UnreadLine::NotOne);
         }
         self.clock = moment;
         Ok(())
     }
 
-    fn enter_started(&mut self, moment: u64, number: PermitNo, reason: Reason) -> Result<(), Unfit>
+    fn enter_started(
+        &mut self,
+        moment: u64,
+        number: PermitNo,
+        reason: Reason,
+    ) -> Result<(), UnreadLine>
         ensures tells { (h : History) → Tells self.old h
             → FollowsLegally self.old h (Started moment number reason) result self.new }
         ensures counts { KeepsCounts self.old self.new }
     {
         if moment < self.clock || !self.decides(number, moment, Ok(reason)) {
-            return Err(Unfit::Illegal);
+            return Err(UnreadLine::NotOne);
         }
         self.numbers.start(number)?;
         self.clock = moment;
@@ -232,13 +231,13 @@ impl OpenState {
         moment: u64,
         number: PermitNo,
         cause: Cause,
-    ) -> Result<(), Unfit>
+    ) -> Result<(), UnreadLine>
         ensures tells { (h : History) → Tells self.old h
             → FollowsLegally self.old h (StartDenied moment number cause) result self.new }
         ensures counts { KeepsCounts self.old self.new }
     {
         if moment < self.clock || !self.decides(number, moment, Err(cause)) {
-            return Err(Unfit::Illegal);
+            return Err(UnreadLine::NotOne);
         }
         self.numbers.end(number);
         self.clock = moment;
@@ -259,44 +258,44 @@ impl OpenState {
         }
     }
 
-    fn enter_returned(&mut self, number: PermitNo) -> Result<(), Unfit>
+    fn enter_returned(&mut self, number: PermitNo) -> Result<(), UnreadLine>
         ensures tells { (h : History) → Tells self.old h
             → FollowsLegally self.old h (Returned number) result self.new }
         ensures counts { KeepsCounts self.old self.new }
     {
         if self.numbers.unspent(number).is_none() {
-            return Err(Unfit::Illegal);
+            return Err(UnreadLine::NotOne);
         }
         self.numbers.end(number);
         Ok(())
     }
 
-    fn enter_finished(&mut self, number: PermitNo) -> Result<(), Unfit>
+    fn enter_finished(&mut self, number: PermitNo) -> Result<(), UnreadLine>
         ensures tells { (h : History) → Tells self.old h
             → FollowsLegally self.old h (Finished number) result self.new }
         ensures counts { KeepsCounts self.old self.new }
     {
         if !self.numbers.is_running(number) {
-            return Err(Unfit::Illegal);
+            return Err(UnreadLine::NotOne);
         }
         self.numbers.end(number);
         Ok(())
     }
 
-    fn enter_swept(&mut self, moment: u64, count: u64) -> Result<(), Unfit>
+    fn enter_swept(&mut self, moment: u64, count: u64) -> Result<(), UnreadLine>
         ensures tells { (h : History) → Tells self.old h
             → FollowsLegally self.old h (Swept moment count) result self.new }
         ensures counts { KeepsCounts self.old self.new }
     {
         if moment < self.clock || self.cache.sweep(moment) != count {
-            return Err(Unfit::Illegal);
+            return Err(UnreadLine::NotOne);
         }
         self.clock = moment;
         Ok(())
     }
 }
 
-pub(crate) fn is_start(found: &Record) -> bool
+fn is_start(found: &Record) -> bool
     ensures { result ≡ is_start (entry_of found.now) }
 {
     matches!(found, Record::Started { .. })

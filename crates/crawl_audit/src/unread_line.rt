@@ -1,5 +1,5 @@
-//! Why a line was not read as an entry, or as a line of a base.
-//! Used by every reader of lines.
+//! Why a line was not read as an entry or as a line of a base, or why its entry was refused.
+//! Used by every reader of lines, and by the tables that entries go into.
 use std::alloc::AllocError;
 
 /// Why a line was not read.
