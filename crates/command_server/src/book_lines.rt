@@ -11,7 +11,7 @@ ghost use Rattle.command_server.specs.Session.{Session, failures_after_reads, fa
 
 use crate::answerer::{Answerer, Flow};
 use crate::arrival::{Arrival, decide};
-use crate::command::{Command, read_command_among};
+use crate::command::{Command, read_command_knowing};
 use crate::fault::LineFault;
 use crate::reply_text::{bye_pieces, fault_pieces, reply_pieces, state_pieces};
 use crate::seal_text::push_sealed;
@@ -43,7 +43,7 @@ impl Answerer<Book> for BookLines {
         output: &mut Output,
         sink: &mut W,
     ) -> Result<Flow, DeviceFault> {
-        match read_command_among(alloc, self.schemes, Dialogue::Replay, line) {
+        match read_command_knowing(alloc, self.schemes, Dialogue::Replay, line, &*book) {
             Ok(Command::Call(call)) => {
                 answer_call(book, call, output, sink)?;
                 Ok(Flow::Goes)

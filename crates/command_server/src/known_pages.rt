@@ -1,5 +1,6 @@
 //! The pages of permits, which START lines repeat.
 //! Used by `calls`: a URL with the octets of such a page is not read again.
+use gate_core::Book;
 use keepers::Keeper;
 use path_normal::PageUrl;
 use permit_book::PermitNo;
@@ -10,7 +11,14 @@ pub(crate) trait KnownPages {
     fn page_of(&self, number: PermitNo) -> Option<&PageUrl>;
 }
 
-/// No known pages: a replay reads each URL.
+/// The pages of the book's unspent permits.
+impl KnownPages for Book {
+    fn page_of(&self, number: PermitNo) -> Option<&PageUrl> {
+        self.url_of(number)
+    }
+}
+
+/// No known pages, for a line that is read by itself.
 #[derive(Drop)]
 pub(crate) struct NoPages;
 
