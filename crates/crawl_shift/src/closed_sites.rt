@@ -9,7 +9,7 @@ use crate::causes::{CauseWords, closing_words};
 use counted_io::{DeviceFault, Output, Sink};
 use crawl_job::{Job, Outcome};
 use crawl_workers::{ClosedBy, Event, Failure, Watcher};
-use line_text::{Piece, Pieces};
+use line_text::{AsPieces, Piece, Pieces, push_each};
 use std::alloc::{AllocError, Global};
 use std::sync::{Mutex, Wait};
 
@@ -41,7 +41,7 @@ impl<'a, R: Wait> ClosedSites<'a, R> {
     /// Writes a line for each site, in the order of closing.
     pub fn tell<E: Sink>(self, errors: &mut E) -> Result<(), DeviceFault> {
         let mut output = Output::new(self.alloc).map_err(|_| DeviceFault)?;
-        push_sites(self.sites.into_inner().as_slice(), &mut output, errors)?;
+        push_each(self.sites.into_inner().as_slice(), &mut output, errors)?;
         output.flush(errors)
     }
 }
@@ -82,25 +82,12 @@ fn keep(
     Ok(())
 }
 
-fn push_sites<E: Sink>(
-    sites: &[ClosedSite],
-    output: &mut Output,
-    errors: &mut E,
-) -> Result<(), DeviceFault>
-    ensures { Pushes (E.written errors.old) (E.written errors.new)
-        (E.failures errors.old) (E.failures errors.new) output.old output.new
-        (flat_map closed_site_text sites.now) result }
-{
-    for site in sites {
-        site.pieces().push(output, errors)?;
-    }
-    Ok(())
-}
+impl AsPieces for ClosedSite {
+    ghost use Rattle.crawl_shift.specs.ClosedText.{closed_site_text};
 
-impl ClosedSite {
-    fn pieces(&self) -> Pieces<'_>
-        ensures { pieces_text result ≡ closed_site_text self.now }
-    {
+    ghost text = { closed_site_text };
+
+    fn pieces(&self) -> Pieces<'_> {
         line_of(
             self.authority.as_str(),
             " is closed: ",

@@ -10,7 +10,7 @@ use crate::job_lines::BadJobLine;
 use command_server::{LineFault, refusal_word};
 use counted_io::{DeviceFault, Output, Sink};
 use crawl_job::Refusal;
-use line_text::{Piece, Pieces};
+use line_text::{AsPieces, Piece, Pieces, push_each};
 use std::alloc::Global;
 
 /// Writes a line for each, with its number and fault. If memory runs out, nothing is written.
@@ -37,30 +37,16 @@ fn write_bad_lines<E: Sink>(
         (λ _. Appends (E.written errors.old) (E.written errors.new)
         (flat_map bad_line_text bad.now)) }
 {
-    push_bad_lines(bad, output, errors)?;
+    push_each(bad, output, errors)?;
     output.flush(errors)
 }
 
-fn push_bad_lines<E: Sink>(
-    bad: &[BadJobLine],
-    output: &mut Output,
-    errors: &mut E,
-) -> Result<(), DeviceFault>
-    ensures { Pushes (E.written errors.old) (E.written errors.new)
-        (E.failures errors.old) (E.failures errors.new) output.old output.new
-        (flat_map bad_line_text bad.now) result }
-{
-    for line in bad {
-        line.pieces().push(output, errors)?;
-    }
-    Ok(())
-}
+impl AsPieces for BadJobLine {
+    ghost use Rattle.crawl_shift.specs.JobLines.{bad_line_text};
 
-impl BadJobLine {
-    /// Its line.
-    pub fn pieces(self) -> Pieces<'static>
-        ensures { pieces_text result ≡ bad_line_text self }
-    {
+    ghost text = { bad_line_text };
+
+    fn pieces(&self) -> Pieces<'_> {
         Pieces::of(&[
             Piece::Text("line "),
             Piece::Number(self.number),

@@ -2,6 +2,7 @@
 //! Used by all that reads commands or writes replies, records or entries.
 #![tactic(auto)]
 
+mod as_pieces;
 mod limits;
 mod numbers;
 mod octets;
@@ -10,6 +11,7 @@ mod pieces;
 mod rule_words;
 mod words;
 
+pub use as_pieces::{AsPieces, push_each};
 pub use limits::MAX_LONG_LINE;
 pub use numbers::{is_numeral, number_of};
 pub use piece::Piece;

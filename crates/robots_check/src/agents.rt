@@ -11,7 +11,7 @@ ghost use Rattle.robots_check.specs.AgentText.{AreHeadsAt, agent_line_text, agen
 
 use crate::detail::Detail;
 use counted_io::{DeviceFault, Output, Sink};
-use line_text::{Piece, Pieces};
+use line_text::{AsPieces, Piece, Pieces, push_each};
 use robots_text::{
     Agent, GroupedRecord, GroupedRecords, RecordKind, RobotsText, Token, Whom, speaks, whom_for,
 };
@@ -127,38 +127,27 @@ pub(crate) fn push_agents<W: Sink>(
     if agents.is_empty() {
         return Pieces::whole("agent none\n").push(output, sink);
     }
-    push_lines(agents, output, sink)
+    push_each(agents, output, sink)
 }
 
-fn push_lines<W: Sink>(
-    agents: &[AgentLine<'_>],
-    output: &mut Output,
-    sink: &mut W,
-) -> Result<(), DeviceFault>
-    ensures { Pushes (W.written sink.old) (W.written sink.new)
-        (W.failures sink.old) (W.failures sink.new) output.old output.new
-        (flat_map (λ head. agent_text (head_seen head)) agents.now) result }
-{
-    for agent in agents {
-        agent_pieces(*agent).push(output, sink)?;
-    }
-    Ok(())
-}
+impl AsPieces for AgentLine<'_> {
+    ghost use Rattle.robots_check.specs.AgentText.{agent_text, head_seen};
 
-fn agent_pieces(head: AgentLine<'_>) -> Pieces<'_>
-    ensures { pieces_text result ≡ agent_text (head_seen head.entry) }
-{
-    match head.kind {
-        RecordKind::Agent(Agent::Name(name)) => {
-            named_pieces(head.line, " name ", Piece::LowerCase(name), head.speaks)
+    ghost text = { λ head. agent_text (head_seen head) };
+
+    fn pieces(&self) -> Pieces<'_> {
+        match self.kind {
+            RecordKind::Agent(Agent::Name(name)) => {
+                named_pieces(self.line, " name ", Piece::LowerCase(name), self.speaks)
+            }
+            RecordKind::Agent(Agent::All) => {
+                named_pieces(self.line, " all", Piece::Text(""), self.speaks)
+            }
+            RecordKind::Agent(Agent::Nobody) => {
+                named_pieces(self.line, " none", Piece::Text(""), self.speaks)
+            }
+            _ => named_pieces(self.line, "", Piece::Text(""), self.speaks),
         }
-        RecordKind::Agent(Agent::All) => {
-            named_pieces(head.line, " all", Piece::Text(""), head.speaks)
-        }
-        RecordKind::Agent(Agent::Nobody) => {
-            named_pieces(head.line, " none", Piece::Text(""), head.speaks)
-        }
-        _ => named_pieces(head.line, "", Piece::Text(""), head.speaks),
     }
 }
 

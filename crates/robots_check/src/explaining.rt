@@ -13,7 +13,7 @@ use crate::agents::{AgentLine, push_agents};
 use crate::finding::Finding;
 use crate::rows::{ComparedRule, second};
 use counted_io::{DeviceFault, Output, Sink};
-use line_text::{Piece, Pieces, gap_before, rule_word};
+use line_text::{AsPieces, Piece, Pieces, gap_before, push_each, rule_word};
 use path_normal::normal_pattern;
 use robots_text::RuleLine;
 use std::alloc::{AllocError, Global};
@@ -45,39 +45,29 @@ fn push_rows_and<W: Sink>(
         (W.failures sink.old) (W.failures sink.new) output.old output.new
         (flat_map (λ row. row_text (row_seen row)) rows.now ++ pieces_text reason.entry) result }
 {
-    push_rows(rows, output, sink)?;
+    push_each(rows, output, sink)?;
     reason.push(output, sink)
 }
 
-fn push_rows<W: Sink>(
-    rows: &[ComparedRule<'_>],
-    output: &mut Output,
-    sink: &mut W,
-) -> Result<(), DeviceFault>
-    ensures { Pushes (W.written sink.old) (W.written sink.new)
-        (W.failures sink.old) (W.failures sink.new) output.old output.new
-        (flat_map (λ row. row_text (row_seen row)) rows.now) result }
-{
-    for row in rows {
-        row_pieces(*row).push(output, sink)?;
-    }
-    Ok(())
-}
+impl AsPieces for ComparedRule<'_> {
+    ghost use Rattle.robots_check.specs.Explained.{row_text};
+    ghost use Rattle.robots_check.specs.Rows.{row_seen};
 
-fn row_pieces(row: ComparedRule<'_>) -> Pieces<'_>
-    ensures { pieces_text result ≡ row_text (row_seen row.entry) }
-{
-    Pieces::of(&[
-        Piece::Text("rule line "),
-        Piece::Number(row.rule.line),
-        Piece::Text(" "),
-        Piece::Text(rule_word(row.rule.kind)),
-        Piece::Text(gap_before(row.rule.pattern)),
-        Piece::Escaped(row.rule.pattern),
-        Piece::Text(" octets "),
-        Piece::Number(row.octets as u64),
-        Piece::Text(hits_word(row.matches)),
-    ])
+    ghost text = { λ row. row_text (row_seen row) };
+
+    fn pieces(&self) -> Pieces<'_> {
+        Pieces::of(&[
+            Piece::Text("rule line "),
+            Piece::Number(self.rule.line),
+            Piece::Text(" "),
+            Piece::Text(rule_word(self.rule.kind)),
+            Piece::Text(gap_before(self.rule.pattern)),
+            Piece::Escaped(self.rule.pattern),
+            Piece::Text(" octets "),
+            Piece::Number(self.octets as u64),
+            Piece::Text(hits_word(self.matches)),
+        ])
+    }
 }
 
 fn hits_word(hits: bool) -> &'static str

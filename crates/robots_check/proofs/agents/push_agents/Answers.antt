@@ -27,5 +27,5 @@ returns-then-is_empty g c =
 pub returns : goal.returns
 returns g c =
     let some = c.if-is_empty.ensures {u = tt} in
-    subst (λ text. Pushes (g.W.Sink.written c.args.sink.now) (g.W.Sink.written c.push_lines.new.sink) (g.W.Sink.failures c.args.sink.now) (g.W.Sink.failures c.push_lines.new.sink) c.args.output.now c.push_lines.new.output text c.push_lines.result)
-    (some_text c.args.agents.now (λ none. grind (arith, nat_tests, some, none))) c.push_lines.ensures
+    subst (λ text. Pushes (g.W.Sink.written c.args.sink.now) (g.W.Sink.written c.push_each.new.sink) (g.W.Sink.failures c.args.sink.now) (g.W.Sink.failures c.push_each.new.sink) c.args.output.now c.push_each.new.output text c.push_each.result)
+    (some_text c.args.agents.now (λ none. grind (arith, nat_tests, some, none))) c.push_each.ensures

@@ -1,7 +1,7 @@
 -- A site's line, with the words for what closed it.
 use Rattle.std.proofs.Common.{◌++◌, ◌∙◌, ap, codes, string_bytes}
 use Rattle.crawl_shift.specs.Causes.{words_text}
-use Rattle.crawl_shift.proofs.closed_sites.ClosedSite.pieces.Goals as goal
+use Rattle.crawl_shift.proofs.closed_sites.ClosedSiteAsPieces.pieces.Goals as goal
 
 pub returns : goal.returns
 returns c =
