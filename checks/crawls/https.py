@@ -40,7 +40,7 @@ class Ended(Replies):
 
 
 class Moved:
-    """A site whose pages and robots file have all moved to another site, each to the target that it has here."""
+    """A site whose pages and robots.txt have all moved to another site, each to the target that it has here."""
 
     def __init__(self, to):
         self.to = to
@@ -93,7 +93,7 @@ class TwoSchemes:
 
 
 def asked(site):
-    """Returns how often a site was asked for its robots file, and the targets of pages that it was asked for."""
+    """Returns how often a site was asked for its robots.txt, and the targets of pages that it was asked for."""
     return site.robots, sorted(site.targets)
 
 
@@ -202,7 +202,7 @@ async def https_pages(opener, folder, contexts):
 
 
 async def https_moved(opener, folder, contexts):
-    """A site of http that has moved to https, its robots file and each page. Its file is fetched once, and leads to that of
+    """A site of http that has moved to https, its robots.txt and each page. Its file is fetched once, and leads to that of
     https, which is fetched once more when its own pages come. Rules behind the redirect are those of the site of http too."""
     secure = await site_of(Replies(RULES, PAGE), contexts["good"])
     plain = await site_of(Moved(secure))
@@ -215,7 +215,7 @@ async def https_moved(opener, folder, contexts):
 
 
 async def https_apart(opener, folder, contexts):
-    """Two hosts, each of both schemes at one port: the robots file of one scheme allows, and that of the other denies. Each
+    """Two hosts, each of both schemes at one port: the robots.txt of one scheme allows, and that of the other denies. Each
     page is decided by the file of its own scheme."""
     files = [(NO_ROBOTS, DENY_ALL), (DENY_ALL, NO_ROBOTS)]
     hosts = [TwoSchemes(Replies(it, PAGE), Replies(other, PAGE), contexts["good"]) for it, other in files]

@@ -14,7 +14,7 @@ SLOW = 3.0
 
 
 async def answer(site, writer, target):
-    """A site without a robots file, and a page for every other target."""
+    """A site without a robots.txt, and a page for every other target."""
     writer.write(NO_ROBOTS if target == "/robots.txt" else PAGE)
 
 
@@ -82,7 +82,7 @@ async def crawl(words, jobs, before=(), meanwhile=None):
 
 
 class Replies:
-    """A site whose robots file and page are these octets; a page of None hangs, and an empty one is reset."""
+    """A site whose robots.txt and page are these octets; a page of None hangs, and an empty one is reset."""
 
     def __init__(self, robots, page):
         self.replies = {"/robots.txt": robots}
@@ -111,7 +111,7 @@ async def drip_on(writer):
 
 
 async def drip(site, writer, target):
-    """The robots file comes an octet at a time."""
+    """The robots.txt comes an octet at a time."""
     if target != "/robots.txt":
         return await answer(site, writer, target)
     writer.write(b"HTTP/1.1 200 OK\r\n\r\n")
@@ -122,7 +122,7 @@ async def drip(site, writer, target):
 
 
 async def hang(site, writer, target):
-    """Nothing comes of a robots file."""
+    """Nothing comes of a robots.txt."""
     if target != "/robots.txt":
         return await answer(site, writer, target)
     await asyncio.sleep(SLOW)
@@ -136,7 +136,7 @@ async def hang_at_last(site, writer, target):
 
 
 async def lead_on(site, writer, target):
-    """The robots file is behind slow redirects."""
+    """The robots.txt is behind slow redirects."""
     if target not in ("/robots.txt", "/1", "/2"):
         return await answer(site, writer, target)
     await asyncio.sleep(SLOW / 3)

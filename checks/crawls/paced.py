@@ -15,7 +15,7 @@ def least_pause(sites):
 
 
 async def paced():
-    """With a delay of a second each of two sites is asked once in a second, by four workers: for its robots file, and for three
+    """With a delay of a second each of two sites is asked once in a second, by four workers: for its robots.txt, and for three
     pages. Each is asked while the other rests, and pages that are denied take no turn. (A request may come late, and then the
     next one the sooner behind it.)"""
     sites = await sites_of(be_mixed, turn_aside)

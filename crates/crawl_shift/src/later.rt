@@ -5,17 +5,19 @@ ghost use Rattle.crawl_workers.specs.World.{world_of};
 ghost use Rattle.job_line.specs.Limits.{IsCrew, max_jobs};
 
 use crate::both::Both;
+use crate::flushing::{Flushes, ShiftWork, flush_in_time};
 use crate::not_shifted::NotShifted;
 use crate::progress::Progress;
-use crate::shifting::Shift;
+use crate::shifting::{Shift, is_crew};
 use crate::table::Table;
 use counted_io::Sink;
 use crawl_job::Job;
 use crawl_workers::{Clock, Fetcher, Report, ShiftFault, Watcher, run_later_shift};
 use gate_lock::{Gate, GateLock, Receipts};
+use job_line::MAX_JOBS;
 use std::sync::Wait;
 use std::thread::Threads;
-use std::time;
+use std::{thread, time};
 
 impl<
     E: Sink + Send,
@@ -38,7 +40,7 @@ impl<
     {
         let before = starts_of(past.as_slice());
         let progress = Progress::new(self.rt, self.alloc, writer, self.fetcher, jobs.len())?;
-        let report = self.run_both_later(jobs, gate, past, &progress, watcher)?;
+        let report = self.run_later_flushed(jobs, gate, past, &progress, watcher)?;
         let starts = report.settled.starts.saturating_sub(before);
         progress.finish(report.outcomes.as_slice(), starts)?;
         Ok(())
@@ -56,9 +58,47 @@ impl<
         requires workers { IsCrew self.now.workers }
     {
         let table = Table::new(self.rt, self.alloc, writer, self.fetcher)?;
-        self.run_later(jobs, gate, past, &table)?;
+        self.run_later_flushed(jobs, gate, past, &table, &())?;
         table.finish()?;
         Ok(())
+    }
+
+    // Like `run_both_later`, with a thread that flushes the first watcher in time.
+    fn run_later_flushed<G: Gate + Send + Sync, A: Watcher + Flushes + Sync, B: Watcher + Sync>(
+        &self,
+        jobs: &[Job],
+        gate: &GateLock<G>,
+        past: Vec<Receipts<G>>,
+        first: &A,
+        second: &B,
+    ) -> Result<Report<G>, ShiftFault> {
+        let work = ShiftWork::not_begun();
+        let (report, ()) = thread::join(
+            self.rt,
+            || self.run_later_to_end(jobs, gate, past, first, second, &work),
+            || flush_in_time(self.rt, first, &work),
+        );
+        report
+    }
+
+    // Like `run_both_later`, and says when the work begins and ends. The checks are those of `run_to_end`.
+    fn run_later_to_end<G: Gate + Send + Sync, A: Watcher + Sync, B: Watcher + Sync>(
+        &self,
+        jobs: &[Job],
+        gate: &GateLock<G>,
+        past: Vec<Receipts<G>>,
+        first: &A,
+        second: &B,
+        work: &ShiftWork,
+    ) -> Result<Report<G>, ShiftFault> {
+        work.begin(self.rt);
+        let report = if jobs.len() as u64 <= MAX_JOBS && is_crew(self.workers) {
+            self.run_both_later(jobs, gate, past, first, second)
+        } else {
+            Err(ShiftFault::DesksFull)
+        };
+        work.end(self.rt);
+        report
     }
 
     // Does the jobs for both watchers and the status line.

@@ -5,6 +5,7 @@
 mod both;
 mod causes;
 mod closed_sites;
+mod flushing;
 mod hop_row;
 mod job_lines;
 mod job_list;

@@ -1,4 +1,5 @@
 //! The report of a shift, written during the work: each job's lines follow those of all jobs before it.
+use crate::flushing::{Flushes, Unwritten};
 use crate::report_text::sums;
 use command_server::push_hops;
 use counted_io::{Counted, DeviceFault, Output, Sink};
@@ -10,18 +11,19 @@ use std::sync::{Mutex, Wait};
 
 /// A watcher that writes the report. Its lock is taken only by a worker that holds no other lock.
 #[derive(Drop)]
-pub(crate) struct Progress<'a, W: Sink, F: Fetcher, R: Wait> {
+pub(crate) struct Progress<'a, 's, W: Sink, F: Fetcher, R: Wait> {
     rt: &'a R,
     fetcher: &'a F,
-    lines: Mutex<Lines<'a, W>>,
+    lines: Mutex<Lines<'s, W>>,
 }
 
 // The written lines, and those that wait for others.
 #[derive(Drop)]
-struct Lines<'a, W: Sink> {
-    sink: &'a mut W,
+struct Lines<'s, W: Sink> {
+    sink: &'s mut W,
     output: Output,
-    // How many jobs, from the first, have their lines written.
+    unwritten: Unwritten,
+    // How many jobs, from the first on, have their lines written or buffered.
     next: u64,
     // The lines of jobs done before earlier ones, by job number.
     waiting: Vec<Option<Vec<u8>>>,
@@ -31,16 +33,16 @@ struct Lines<'a, W: Sink> {
     failed: bool,
 }
 
-impl<'a, W: Sink, F: Fetcher, R: Wait> Progress<'a, W, F, R> {
-    /// The report of this many jobs, none of them done. All its memory is allocated here, except for
-    /// waiting lines: without memory these are written at the end.
+impl<'a, 's, W: Sink, F: Fetcher, R: Wait> Progress<'a, 's, W, F, R> {
+    /// The report of so many jobs, of which none is done. All memory that the report needs is taken
+    /// here, but for lines that wait for others: without it they are written at the end.
     pub(crate) fn new(
         rt: &'a R,
         alloc: Global,
-        sink: &'a mut W,
+        sink: &'s mut W,
         fetcher: &'a F,
         jobs: usize,
-    ) -> Result<Progress<'a, W, F, R>, AllocError> {
+    ) -> Result<Progress<'a, 's, W, F, R>, AllocError> {
         let mut waiting = Vec::with_capacity(alloc, jobs)?;
         for _ in 0..jobs {
             waiting.push(None)?;
@@ -48,6 +50,7 @@ impl<'a, W: Sink, F: Fetcher, R: Wait> Progress<'a, W, F, R> {
         let lines = Mutex::new(Lines {
             sink,
             output: Output::new(alloc)?,
+            unwritten: Unwritten::none(),
             next: 0,
             waiting,
             spelling: Output::new(alloc)?,
@@ -62,8 +65,8 @@ impl<'a, W: Sink, F: Fetcher, R: Wait> Progress<'a, W, F, R> {
     }
 }
 
-/// After a failed write nothing more is fetched.
-impl<W: Sink, F: Fetcher, R: Wait> Watcher for Progress<'_, W, F, R> {
+/// Once a write has failed nothing more is fetched.
+impl<W: Sink, F: Fetcher, R: Wait> Watcher for Progress<'_, '_, W, F, R> {
     fn sees(&self, _number: u64, _event: Event<'_>) {}
 
     fn done(&self, number: u64, _job: &Job, outcome: &Outcome) {
@@ -79,8 +82,25 @@ impl<W: Sink, F: Fetcher, R: Wait> Watcher for Progress<'_, W, F, R> {
     }
 }
 
+/// Once a write has failed nothing more is fetched.
+impl<W: Sink, F: Fetcher, R: Wait> Flushes for Progress<'_, '_, W, F, R> {
+    fn begin(&self) {
+        self.lines.lock(self.rt).unwritten.begin();
+    }
+
+    fn flush(&self) {
+        let mut lines = self.lines.lock(self.rt);
+        if lines.unwritten.take() && !lines.failed {
+            lines.failed = lines.flush().is_err();
+        }
+        if lines.failed {
+            self.fetcher.stop();
+        }
+    }
+}
+
 impl<W: Sink> Lines<'_, W> {
-    // A job is done: its lines are written, or wait for those before them.
+    // Takes the lines of a job, which may have to wait for those of earlier jobs.
     fn take(&mut self, number: u64, hops: &[Hop]) {
         if self.failed {
             return;
@@ -95,7 +115,7 @@ impl<W: Sink> Lines<'_, W> {
         }
     }
 
-    // Writes the next job's lines, and those that waited for it.
+    // Buffers the lines of the next job, and those that waited for it.
     fn write(&mut self, hops: &[Hop]) -> Result<(), DeviceFault> {
         let behind = self.next.saturating_add(1);
         push_hops(Piece::Number(behind), 1, hops, &mut self.output, self.sink)?;
@@ -107,6 +127,17 @@ impl<W: Sink> Lines<'_, W> {
             self.output.push(self.sink, text.as_slice())?;
             self.next = number + 1;
         }
+        // (each job has at least one line)
+        if self
+            .unwritten
+            .add(self.next.saturating_sub(behind).saturating_add(1))
+        {
+            return self.flush();
+        }
+        Ok(())
+    }
+
+    fn flush(&mut self) -> Result<(), DeviceFault> {
         self.output.flush(self.sink)
     }
 

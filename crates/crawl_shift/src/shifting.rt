@@ -1,12 +1,13 @@
 //! A shift over job lines: several workers do the jobs, and the results are written.
 //! `crawlgate shift` runs it over standard input and output.
-ghost use Rattle.std.specs.Prelude.{◌≡◌, ◌≤◌, [], IfOk, OnOk, length};
+ghost use Rattle.std.specs.Prelude.{◌≡◌, ◌≤◌, [], IfOk, IsTrue, OnOk, length};
 ghost use Rattle.crawl_workers.specs.Shifts.{IsShift};
 ghost use Rattle.crawl_workers.specs.World.{world_of};
 ghost use Rattle.job_line.specs.Limits.{IsCrew, max_jobs};
 ghost use Rattle.crawl_shift.specs.Histories.{AreWholeHistory, WritesJobs, WritesReceipts, WritesShift};
 
 use crate::both::Both;
+use crate::flushing::{Flushes, ShiftWork, flush_in_time};
 use crate::job_list::read_jobs_among;
 use crate::not_shifted::NotShifted;
 use crate::progress::Progress;
@@ -17,11 +18,12 @@ use crawl_job::Job;
 use crawl_workers::{Clock, Fetcher, Report, ShiftFault, Watcher, run_shift_paced};
 use gate_lock::{Gate, GateLock, Held, Receipts, SettleFault, settle_in};
 use history_text::export;
+use job_line::{MAX_JOBS, MAX_WORKERS};
 use std::alloc::Global;
 use std::sync::Wait;
 use std::thread::Threads;
-use std::time;
 use std::time::Duration;
+use std::{thread, time};
 
 /// The settings of a shift: how many workers fetch with `fetcher` by `clock`, the delay between the begins
 /// of two fetches at a site, and the `status` line.
@@ -69,13 +71,13 @@ impl<
         requires workers { IsCrew self.now.workers }
     {
         let progress = Progress::new(self.rt, self.alloc, writer, self.fetcher, jobs.len())?;
-        let report = self.run_both(jobs, gate, &progress, watcher)?;
+        let report = self.run_flushed(jobs, gate, &progress, watcher)?;
         progress.finish(report.outcomes.as_slice(), report.settled.starts)?;
         Ok(())
     }
 
-    /// Reads and does the jobs as `report` does, and writes a table: a line for each hop as soon as it
-    /// ends.
+    /// Reads and does the jobs as `report` does, and writes a table: a line for each hop soon after its
+    /// end.
     pub fn table<G: Gate + Send + Sync, S: Source, W: Sink + Send>(
         &self,
         reader: &mut S,
@@ -99,7 +101,7 @@ impl<
         requires workers { IsCrew self.now.workers }
     {
         let table = Table::new(self.rt, self.alloc, writer, self.fetcher)?;
-        self.run_told(jobs, gate, &table)?;
+        self.run_flushed(jobs, gate, &table, &())?;
         table.finish()?;
         Ok(())
     }
@@ -141,6 +143,44 @@ impl<
         let report = self.run_told(jobs, gate, watcher)?;
         let held = gate.lend(self.rt);
         write_receipts(self.alloc, &held, &report.receipts, &mut output, writer)
+    }
+
+    // Like `run_both`, with a thread that flushes the first watcher in time. Without a second thread each line
+    // is written at once.
+    fn run_flushed<G: Gate + Send + Sync, A: Watcher + Flushes + Sync, B: Watcher + Sync>(
+        &self,
+        jobs: &[Job],
+        gate: &GateLock<G>,
+        first: &A,
+        second: &B,
+    ) -> Result<Report<G>, ShiftFault> {
+        let work = ShiftWork::not_begun();
+        let (report, ()) = thread::join(
+            self.rt,
+            || self.run_to_end(jobs, gate, first, second, &work),
+            || flush_in_time(self.rt, first, &work),
+        );
+        report
+    }
+
+    // Like `run_both`, and says when the work begins and ends. The numbers of jobs and workers are checked again, since
+    // the closure of a thread can't rely on its maker's conditions.
+    fn run_to_end<G: Gate + Send + Sync, A: Watcher + Sync, B: Watcher + Sync>(
+        &self,
+        jobs: &[Job],
+        gate: &GateLock<G>,
+        first: &A,
+        second: &B,
+        work: &ShiftWork,
+    ) -> Result<Report<G>, ShiftFault> {
+        work.begin(self.rt);
+        let report = if jobs.len() as u64 <= MAX_JOBS && is_crew(self.workers) {
+            self.run_both(jobs, gate, first, second)
+        } else {
+            Err(ShiftFault::DesksFull)
+        };
+        work.end(self.rt);
+        report
     }
 
     // Does the jobs for both watchers and the status line.
@@ -194,7 +234,14 @@ impl<
     }
 }
 
-// Writes the locked gate's history, if the receipts match it.
+// Whether a shift may have so many workers.
+pub(crate) fn is_crew(workers: u64) -> bool
+    ensures { IsTrue result → IsCrew workers }
+{
+    1 <= workers && workers <= MAX_WORKERS
+}
+
+// Writes the locked gate's history, if the receipts are all of it.
 fn write_receipts<G: Gate, W: Sink>(
     alloc: Global,
     held: &Held<'_, G>,

@@ -1,4 +1,5 @@
-//! The table of a shift's hops, written during the work: a line for each hop as soon as it ends.
+//! The table of a shift's hops, written during the work: a line for each hop soon after its end.
+use crate::flushing::{Flushes, Unwritten};
 use crate::hop_row::columns;
 use crate::under_way::UnderWay;
 use counted_io::{DeviceFault, Output, Sink};
@@ -13,18 +14,19 @@ use std::time::Instant;
 
 /// A watcher that writes the table. Its lock is taken only by a worker that holds no other lock.
 #[derive(Drop)]
-pub(crate) struct Table<'a, W: Sink, F: Fetcher, R: Wait + time::Clock> {
+pub(crate) struct Table<'a, 's, W: Sink, F: Fetcher, R: Wait + time::Clock> {
     rt: &'a R,
     fetcher: &'a F,
-    rows: Mutex<Rows<'a, W>>,
+    rows: Mutex<TableRows<'s, W>>,
 }
 
 // The output, and what is known for the next lines.
 #[derive(Drop)]
-struct Rows<'a, W: Sink> {
+struct TableRows<'s, W: Sink> {
     alloc: Global,
-    sink: &'a mut W,
+    sink: &'s mut W,
     output: Output,
+    unwritten: Unwritten,
     under_way: UnderWay,
     // What closed each closed authority, except those without memory.
     closings: BTreeMap<String, ClosedBy>,
@@ -32,18 +34,19 @@ struct Rows<'a, W: Sink> {
     wrote: Result<(), DeviceFault>,
 }
 
-impl<'a, W: Sink, F: Fetcher, R: Wait + time::Clock> Table<'a, W, F, R> {
-    /// A table with its first line.
+impl<'a, 's, W: Sink, F: Fetcher, R: Wait + time::Clock> Table<'a, 's, W, F, R> {
+    /// A table that has its first line.
     pub(crate) fn new(
         rt: &'a R,
         alloc: Global,
-        sink: &'a mut W,
+        sink: &'s mut W,
         fetcher: &'a F,
-    ) -> Result<Table<'a, W, F, R>, AllocError> {
-        let mut rows = Rows {
+    ) -> Result<Table<'a, 's, W, F, R>, AllocError> {
+        let mut rows = TableRows {
             alloc,
             sink,
             output: Output::new(alloc)?,
+            unwritten: Unwritten::none(),
             under_way: UnderWay::new(alloc)?,
             closings: BTreeMap::new(alloc),
             wrote: Ok(()),
@@ -56,13 +59,16 @@ impl<'a, W: Sink, F: Fetcher, R: Wait + time::Clock> Table<'a, W, F, R> {
         })
     }
 
+    /// Writes the waiting lines. Returns whether all was written.
     pub(crate) fn finish(self) -> Result<(), DeviceFault> {
-        self.rows.into_inner().wrote
+        let mut rows = self.rows.into_inner();
+        rows.wrote?;
+        rows.flush()
     }
 }
 
-/// After a failed write nothing more is fetched.
-impl<W: Sink, F: Fetcher, R: Wait + time::Clock> Watcher for Table<'_, W, F, R> {
+/// Once a write has failed nothing more is fetched.
+impl<W: Sink, F: Fetcher, R: Wait + time::Clock> Watcher for Table<'_, '_, W, F, R> {
     fn sees(&self, number: u64, event: Event<'_>) {
         let now = Instant::now(self.rt).ok();
         let mut rows = self.rows.lock(self.rt);
@@ -81,7 +87,24 @@ impl<W: Sink, F: Fetcher, R: Wait + time::Clock> Watcher for Table<'_, W, F, R> 
     }
 }
 
-impl<W: Sink> Rows<'_, W> {
+/// Once a write has failed nothing more is fetched.
+impl<W: Sink, F: Fetcher, R: Wait + time::Clock> Flushes for Table<'_, '_, W, F, R> {
+    fn begin(&self) {
+        self.rows.lock(self.rt).unwritten.begin();
+    }
+
+    fn flush(&self) {
+        let mut rows = self.rows.lock(self.rt);
+        if rows.unwritten.take() && rows.wrote.is_ok() {
+            rows.wrote = rows.flush();
+        }
+        if rows.wrote.is_err() {
+            self.fetcher.stop();
+        }
+    }
+}
+
+impl<W: Sink> TableRows<'_, W> {
     fn name_columns(&mut self) -> Result<(), DeviceFault> {
         columns().push(&mut self.output, self.sink)?;
         self.output.flush(self.sink)
@@ -125,6 +148,13 @@ impl<W: Sink> Rows<'_, W> {
             return Ok(());
         };
         place.row(hop, closed_by).push(&mut self.output, self.sink)?;
+        if self.unwritten.add(1) {
+            return self.flush();
+        }
+        Ok(())
+    }
+
+    fn flush(&mut self) -> Result<(), DeviceFault> {
         self.output.flush(self.sink)
     }
 
