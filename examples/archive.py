@@ -20,7 +20,7 @@ Until then each page lies in FOLDER/waiting, in a file of its own: a line of JSO
 SIGINT and SIGTERM end the archive behind the page at hand, with a seal; what a killed one leaves waiting has no record.
 
 A response record has two fields of its own: `WARC-Crawlgate-Permit`, the number of the permit, and
-`WARC-Crawlgate-Reason`, by what it was allowed: `line <n>` of the robots file, `norule`, `robots` or `open`. So
+`WARC-Crawlgate-Reason`, by what it was allowed: `line <n>` of the robots.txt, `norule`, `robots` or `open`. So
 `grep -h "^S [0-9]* 65536 " FOLDER/*.segment` finds the start of the page's fetch.
 
 What FETCH replies is the status, the reason and the body of the last page, and no header field: the head in a record is

@@ -1,4 +1,4 @@
-"""What the lines of a replay take over robots files that are made to cost much."""
+"""What the lines of a replay take over robots.txt files that are made to cost much."""
 import re
 import subprocess
 import time
@@ -60,7 +60,7 @@ class Conversation:
 
 
 def lines_over(text):
-    """The lines of a session over a robots file: enough asks of each path for walks, for the index, and by it."""
+    """The lines of a session over a robots.txt: enough asks of each path for walks, for the index, and by it."""
     yield from ["1 BEGIN a.example", f"1 ARRIVE a.example 1 200 {spelled(text[:TEXT_LIMIT])}"]
     for path in PATHS * 4:
         yield f"2 ASK foobot http://a.example{path}"
@@ -109,7 +109,7 @@ def try_costs(tried, only=None):
 
 def print_costs(program):
     """Prints a table: what an arrival, a walk, the ask that makes an index, and an ask by it take, and the memory."""
-    print("| robots file of 500,000 octets | `ARRIVE` | walk | with the index | by the index | memory |")
+    print("| robots.txt of 500,000 octets | `ARRIVE` | walk | with the index | by the index | memory |")
     print("|---|---|---|---|---|---|")
     for name, text in TEXTS.items():
         rounds = [measure(program, text) for _ in range(3)]

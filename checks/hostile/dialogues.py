@@ -20,7 +20,7 @@ ODD_URLS = ["foo", "http:/a.example/x", "http:a.example/x", "https://a.example/x
 
 
 def file_of(dice):
-    """Draws a robots file."""
+    """Draws a robots.txt."""
     if dice.randrange(3) == 0:
         return dice.choice(drawn.SMALL) + dice.choice(drawn.SMALL)
     rule = lambda: dice.choice(drawn.KINDS) + b"/" + "".join(dice.choices(drawn.PIECES, k=dice.randrange(6))).encode() + b"\n"

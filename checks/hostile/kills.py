@@ -22,7 +22,7 @@ FULL = b"crawlgate: device: journal: File too large (os error 27)\n"
 
 
 class Site(sites.Site):
-    """A site whose every page is there, and whose robots file may take its time."""
+    """A site whose every page is there, and whose robots.txt may take its time."""
 
     def __init__(self):
         super().__init__({})

@@ -1,4 +1,4 @@
-"""Crawls of hostile sites: each robots file, page and redirect is drawn, and the report of a shift must be the one that
+"""Crawls of hostile sites: each robots.txt, page and redirect is drawn, and the report of a shift must be the one that
 docs/FORMATS.md and the second reading of RFC 9309 tell."""
 import re
 import time

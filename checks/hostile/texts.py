@@ -1,4 +1,4 @@
-"""Hostile robots files: what `lines`, `check` and `check --explain` write of them, and what is told of them on standard
+"""Hostile robots.txt files: what `lines`, `check` and `check --explain` write of them, and what is told of them on standard
 error, against the second reading of RFC 9309 in checks/reading."""
 import re
 import tempfile
@@ -118,7 +118,7 @@ def is_split(text):
 
 
 def soup(dice):
-    """Octets that are nearly a robots file."""
+    """Octets that are nearly a robots.txt."""
     text = octet_soup(dice, dice.choice([30, 300, 3_000]))
     return dice.choice([text, b"\xef\xbb\xbf" + text, text.replace(b"\n", b"\r"), text.replace(b"a", b"\xc3\xa9"), text + PLAIN])
 
@@ -135,7 +135,7 @@ def groups(dice):
 
 
 def otherwise_coded(dice):
-    """A robots file in UTF-16, or a page that is none."""
+    """A robots.txt in UTF-16, or a page that is none."""
     html = b"<!doctype html><html><title>User-agent: *</title>\nDisallow: /a\n</html>" * dice.randrange(1, 40)
     return dice.choice([PLAIN.decode().encode(it) for it in ("utf-16", "utf-16-le", "utf-16-be", "utf-32")] + [html, b"\0" + PLAIN, PLAIN.replace(b"\n", b"\0\n")])
 
@@ -166,7 +166,7 @@ def is_told(url):
 
 
 def try_text(tried, dice):
-    """Compares what is written of a robots file."""
+    """Compares what is written of a robots.txt."""
     text = dice.choices([it for _, it in KINDS], [it for it, _ in KINDS])[0](dice)
     records = [reading.record_of(line) for line in reading.lines_of(text)]
     lines = "".join(f"{reading.line_text(number, it)}\n" for number, it in enumerate(records, 1))
@@ -179,7 +179,7 @@ def try_text(tried, dice):
 
 
 def try_checks(tried, dice, text, records, notes, file):
-    """Compares what checks write of a robots file that is the input, a part of it, or in a file."""
+    """Compares what checks write of a robots.txt that is the input, a part of it, or in a file."""
     for token in dice.sample(TOKENS, 2):
         urls = urls_of(dice)
         for options in ([], ["--explain"]):

@@ -1,4 +1,4 @@
-"""Small robots files, all of them or drawn, with tokens and paths that are asked for, and soups of their octets."""
+"""Small robots.txt files, all of them or drawn, with tokens and paths that are asked for, and soups of their octets."""
 import itertools
 
 

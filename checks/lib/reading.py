@@ -101,7 +101,7 @@ def verdict(records, token, path):
     return (True, "norule") if best is None else (not best[1], f"line {best[2]}")
 
 
-# docs/FORMATS.md: a robots file as a word of a line
+# docs/FORMATS.md: a robots.txt as a word of a line
 
 
 def spelled(body):

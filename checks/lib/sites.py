@@ -56,7 +56,7 @@ class Requests:
 
 
 class Site(Requests):
-    """A site: responses by their targets, and 404 for every other target, the robots file too. A response may be behind
+    """A site: responses by their targets, and 404 for every other target, the robots.txt too. A response may be behind
     seconds to wait for it. It keeps the targets that it was asked for."""
 
     def __init__(self, pages, host=HOST):
@@ -80,7 +80,7 @@ OCTETS = bytes(range(256)) * 3
 
 
 def open_site(pages=None):
-    """A site with a page of five octets and with these, and without a robots file, if there is none among them."""
+    """A site with a page of five octets and with these, and without a robots.txt, if there is none among them."""
     return Site({"/x": response(200, b"hello"), **(pages or {})})
 
 

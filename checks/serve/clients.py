@@ -161,7 +161,7 @@ def client_goes_on():
 
 
 def closed_site_is_tried_again():
-    """The client in Python has the robots file of a closed site fetched again for a permit, once its time has come."""
+    """The client in Python has the robots.txt of a closed site fetched again for a permit, once its time has come."""
     client = python_client()
 
     def play(retry_closed, wanted):
@@ -181,7 +181,7 @@ def closed_site_is_tried_again():
 
 
 def clients_wait_for_a_robots_fetch():
-    """A client that has no answer while another session has the robots file fetched does without a fetch of its own."""
+    """A client that has no answer while another session has the robots.txt fetched does without a fetch of its own."""
 
     def play(kind):
         site = open_site({"/robots.txt": (1.0, response(404))})

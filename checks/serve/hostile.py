@@ -352,7 +352,7 @@ def memory():
 
 
 def refreshed_again_and_again():
-    """A robots file of 500,000 octets that stays as it is lies in memory once, however often it is fetched."""
+    """A robots.txt of 500,000 octets that stays as it is lies in memory once, however often it is fetched."""
     rules = b"user-agent: *\n" + b"disallow: /private/of/somebody\n" * 16_000
     site = open_site({"/robots.txt": response(200, rules)})
     with Server("--workers", "1") as server, Session(server) as it:

@@ -73,7 +73,7 @@ def journal_has_what_is_told():
 
 
 def journal_of_fetches():
-    """While a page is on its way, its start is in the file; while a robots file is, its begin is."""
+    """While a page is on its way, its start is in the file; while a robots.txt is, its begin is."""
     found = []
     with tempfile.TemporaryDirectory() as folder, Recorded(folder) as server:
 

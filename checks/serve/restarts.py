@@ -81,7 +81,7 @@ def goes_on_again_and_again():
 
 
 def a_turn_that_was_killed():
-    """A robots file that was on its way is fetched anew at once, so that its site is not closed for a day."""
+    """A robots.txt that was on its way is fetched anew at once, so that its site is not closed for a day."""
     site = open_site({"/robots.txt": (30, response(200, b"User-agent: *\nDisallow: /no\n"))})
     with tempfile.TemporaryDirectory() as folder:
         with Recorded(folder) as server, Session(server) as it:
@@ -198,7 +198,7 @@ def shift(folder, jobs, *words):
 
 
 def shift_goes_on_in_a_journal():
-    """A shift goes on where the one before it ended: the robots file is not fetched again, and it tells of its own starts
+    """A shift goes on where the one before it ended: the robots.txt is not fetched again, and it tells of its own starts
     alone. A server goes on behind it."""
     site = site_with_rules()
     jobs = f"foobot {site.url('/octets')}\nfoobot {site.url('/private/x')}\n"

@@ -189,7 +189,7 @@ def look_inside():
         same(it.say("INFO"), info(0, 0, 0, 0, 0, 0, 100))
         same(it.say(f"REFRESH {a}"), f"TAKEN {a} open")
         same(it.say_all([f"ASK foobot {x}", f"ASK foobot {x}", f"START 65536 foobot {x}"]), ["PERMIT 65536", "PERMIT 65537", "GO 65536 open"])
-        # two entries of the robots file, two grants, a start; a start and an end are promised to a permit, an end to a fetch
+        # two entries of the robots.txt, two grants, a start; a start and an end are promised to a permit, an end to a fetch
         same([each.say("INFO") for each in (other, it)], [info(5, 5, 1, 1, 1, 1, 92)] * 2)
         same(len(sealed(it)), 6)
         same(other.say("INFO"), info(0, 5, 1, 1, 1, 1, 97))

@@ -101,9 +101,9 @@ def _connected(path, timeout):
     return peer
 
 
-# how long a reply may take, in seconds: a page with its robots file and five redirects takes an hour at most
+# how long a reply may take, in seconds: a page with its robots.txt and five redirects takes an hour at most
 TIMEOUT = 3_900
-# how long a site stays closed before its robots file is fetched again for a permit, in seconds
+# how long a site stays closed before its robots.txt is fetched again for a permit, in seconds
 RETRY_CLOSED = 600
 
 
@@ -111,8 +111,8 @@ class Gate:
     """A session of a line server. It raises an OSError where the connection ends or nothing comes for `timeout` seconds.
 
     Where the server has ended a session that has nothing out, as one that was silent for long, the next line connects
-    anew. A site that is closed, as one whose robots file could not be fetched, is tried again for a permit once
-    `retry_closed` seconds have passed since this Gate fetched its robots file; with None never."""
+    anew. A site that is closed, as one whose robots.txt could not be fetched, is tried again for a permit once
+    `retry_closed` seconds have passed since this Gate fetched its robots.txt; with None never."""
 
     def __init__(self, host, port, timeout=TIMEOUT, retry_closed=RETRY_CLOSED):
         self._begin(lambda: _connected_to(host, port, timeout), retry_closed)
@@ -128,7 +128,7 @@ class Gate:
 
     def _begin(self, connect, retry_closed):
         self._connect, self._retry_closed = connect, retry_closed
-        # the numbers of permits that are out, and when robots files were fetched
+        # the numbers of permits that are out, and when robots.txt files were fetched
         self._out, self._refreshed = set(), {}
         self._take(connect())
 
@@ -189,14 +189,14 @@ class Gate:
         return word, turn == "fetching"
 
     def refresh(self, authority):
-        """Has the robots file of an authority fetched, and returns 'rules', 'open' or 'closed'. It is Refused as
+        """Has the robots.txt of an authority fetched, and returns 'rules', 'open' or 'closed'. It is Refused as
         'inflight' while another session has it fetched."""
         word = self._say("TAKEN", "REFRESH", authority).partition(" ")[2]
         self._refreshed[authority] = time.monotonic()
         return word
 
     def fetch(self, token, url):
-        """Has the gate fetch a page, the robots file before it where none is in force, and the pages to which it leads."""
+        """Has the gate fetch a page, the robots.txt before it where none is in force, and the pages to which it leads."""
         hops = []
         reply = self._send("FETCH", token, url)
         while reply.startswith("HOP "):
@@ -236,7 +236,7 @@ class Gate:
     @contextlib.contextmanager
     def permit(self, token, url):
         """Starts the fetch of a page, which the caller makes itself, and ends it on the way out. It gives a Permit. The
-        robots file is fetched first, where none is in force."""
+        robots.txt is fetched first, where none is in force."""
         url = self.written(url)
         number = self._ask_informed(token, url)
         try:
@@ -259,7 +259,7 @@ class Gate:
             return self.ask(token, url)
 
     def _is_to_be_retried(self, denied):
-        """Whether the site is closed, and its robots file was not fetched by this Gate of late."""
+        """Whether the site is closed, and its robots.txt was not fetched by this Gate of late."""
         if denied.cause != "closed" or self._retry_closed is None:
             return False
         refreshed = self._refreshed.get(denied.authority)
@@ -270,7 +270,7 @@ class Gate:
         return time.monotonic() - refreshed >= self._retry_closed
 
     def _inform(self, authority):
-        """Has a robots file fetched, or waits until another session has done so."""
+        """Has a robots.txt fetched, or waits until another session has done so."""
         try:
             self.refresh(authority)
         except Refused as refused:

@@ -7,7 +7,7 @@
 #        crawlgate.sh PORT seal
 #
 # `fetch` has the gate fetch a page, and writes its body; its hops go to standard error. `run` asks for a permit, has the
-# robots file fetched where none is in force, starts the fetch, runs the command, which fetches the page, and ends the
+# robots.txt fetched where none is in force, starts the fetch, runs the command, which fetches the page, and ends the
 # fetch:
 #
 #   crawlgate.sh 8300 run foobot http://a.example/ curl --silent --user-agent foobot '{}'
@@ -50,7 +50,7 @@ expect() {
     [ "${reply%% *}" = "$word" ] || fail "$reply"
 }
 
-# Has a robots file fetched, or waits until another session has had it fetched.
+# Has a robots.txt fetched, or waits until another session has had it fetched.
 inform() {
     say REFRESH "$1"
     case $reply in

@@ -20,7 +20,7 @@ GAUGES = {
     "entries": ("entries", "Entries of the history since the last seal."),
     "permits": ("permits", "Permits that are out and not spent."),
     "running": ("running", "Fetches of pages under way."),
-    "turns": ("turns", "Fetches of robots files under way."),
+    "turns": ("turns", "Fetches of robots.txt files under way."),
     "authorities": ("authorities", "Authorities that have an answer or a turn."),
     "room": ("room", "Entries that the history has room for."),
     "clients": ("clients", "Clients that are being served."),

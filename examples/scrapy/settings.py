@@ -12,5 +12,5 @@ DOWNLOAD_HANDLERS = {
 }
 # (Scrapy by itself takes any certificate)
 DOWNLOADER_CLIENTCONTEXTFACTORY = "scrapy.core.downloader.contextfactory.BrowserLikeContextFactory"
-# the gate reads the robots files
+# the gate reads the robots.txt files
 ROBOTSTXT_OBEY = False

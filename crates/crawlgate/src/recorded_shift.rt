@@ -55,7 +55,7 @@ pub(crate) fn shift_recorded<
     };
     match GroupJournal::begin(shift.alloc, &chronicle, folder, sync) {
         Ok(journal) => {
-            let recorded = Recorded {
+            let recorded = RecordedShift {
                 chronicle: &chronicle,
                 journal: &journal,
             };
@@ -71,7 +71,7 @@ pub(crate) fn shift_recorded<
 
 // A gate and its journal.
 #[derive(Clone, Copy)]
-struct Recorded<'r, 'a, G: Gate, J: Recorder, R: Wait> {
+struct RecordedShift<'r, 'a, G: Gate, J: Recorder, R: Wait> {
     chronicle: &'r Recording<'a, G, R>,
     journal: &'r J,
 }
@@ -82,7 +82,7 @@ impl<
     G: Gate + Send + Sync,
     J: Recorder + Sync,
     R: Threads + Wait + time::Clock + Sync,
-> Recorded<'r, 'a, G, J, R> {
+> RecordedShift<'r, 'a, G, J, R> {
     // Does the jobs, and records meanwhile what nobody waits for. Without threads, what is named first runs
     // last.
     fn work<E: Sink + Send, F: Fetcher + Sync, C: Clock + Sync>(

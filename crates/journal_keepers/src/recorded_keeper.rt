@@ -68,14 +68,16 @@ impl<'a, K: Keeper, H: Chronicle, J: Recorder, R: Wait> Keeper for RecordedKeepe
       can_fetch = λ k. K.deals.can_fetch k.sealer.keeper;
       schemes = λ k. K.deals.schemes k.sealer.keeper;
       asks = λ k token url m result k2. K.deals.asks k.sealer.keeper token url m result k2.sealer.keeper;
-      starts = λ k number token url m result k2. K.deals.starts k.sealer.keeper number token url m result k2.sealer.keeper;
+      starts = λ k number token url m result k2.
+          K.deals.starts k.sealer.keeper number token url m result k2.sealer.keeper;
       urls = λ k number url. K.deals.urls k.sealer.keeper number url;
       returns = λ k number result k2. K.deals.returns k.sealer.keeper number result k2.sealer.keeper;
       finishes = λ k number result k2. K.deals.finishes k.sealer.keeper number result k2.sealer.keeper;
       counts = λ k counts. K.deals.counts k.sealer.keeper counts;
       answers = λ k authority result. K.deals.answers k.sealer.keeper authority result;
       reads = λ k authority m state k2. K.deals.reads k.sealer.keeper authority m state k2.sealer.keeper;
-      refreshes = λ reads k authority told k2. K.deals.refreshes reads k.sealer.keeper authority told k2.sealer.keeper;
+      refreshes = λ reads k authority told k2.
+          K.deals.refreshes reads k.sealer.keeper authority told k2.sealer.keeper;
       fetches = λ reads k job told k2. K.deals.fetches reads k.sealer.keeper job told k2.sealer.keeper;
       seals = λ k result k2. K.deals.seals k.sealer.keeper result k2.sealer.keeper;
       ends = λ k k2. K.deals.ends k.sealer.keeper k2.sealer.keeper;
