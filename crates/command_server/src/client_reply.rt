@@ -64,7 +64,7 @@ pub(crate) enum ClientReply {
         counts: Counts,
         visitors: Visitors,
     },
-    /// The answer in force for the authority.
+    /// The authority's standing answer, in force or not.
     Explained {
         authority: Authority,
         result: Result<Option<StandingAnswer>, NoMemory>,

@@ -41,7 +41,7 @@ pub enum Command<'a> {
     Url(PageUrl),
     /// How much the gate keeps.
     Info,
-    /// The answer in force for an authority.
+    /// The standing answer of an authority.
     Why { authority: Authority },
     /// The end of the session.
     Quit,

@@ -1,4 +1,4 @@
-//! The reply to WHY: the answer in force for an authority, as in the text of a history (docs/FORMATS.md,
+//! The reply to WHY: the standing answer of an authority, as in the text of a history (docs/FORMATS.md,
 //! replies).
 //! Used by `ClientReply`. RFC 9309, section 2.4.
 ghost use Rattle.std.specs.Prelude.{◌≡◌};
